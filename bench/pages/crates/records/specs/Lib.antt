@@ -1,0 +1,5 @@
+pub mod Fields
+pub mod Page
+pub mod Records
+pub mod Read
+pub mod Lends

@@ -1,0 +1,36 @@
+-- What a contract says of a stream with a note of what it has told.
+use Rattle.std.specs.Prelude.{ℕ, ◌≡◌, ◌<◌, ◌≤◌, List, ◌++◌, length, take, Option}
+use Rattle.std.specs.Io.KnownBytes.{Keeps, Appends, Consumes, IsAtEnd}
+use Rattle.connection.specs.declared.noted.Noted.{Noted}
+use Rattle.connection.specs.declared.noted.Told.{Told}
+use Rattle.connection.specs.declared.noted.Told.TheVariants as told
+use Rattle.connection.specs.declared.noted.Input.{Input}
+use Rattle.connection.specs.declared.noted.Input.TheVariants.{Bytes, End, Failure}
+
+-- the stream itself
+abbrev pub stream_of : {S : Type 0} → Noted S → S
+stream_of noted = noted.stream
+
+-- what it has told
+abbrev pub told_of : {S : Type 0} → Noted S → Told
+told_of noted = noted.told
+
+-- how many tries it has left
+abbrev pub tries_of : {S : Type 0} → Noted S → ℕ
+tries_of noted = noted.tries
+
+-- What a read gave, where the bytes that the stream has left are known before and after it: those at the start of the buffer, or none.
+abbrev pub IsRead : Option (List ℕ) → Option (List ℕ) → List ℕ → Input → Type 0
+IsRead old new buffer (Bytes count) = (0 < count) × (count ≤ length buffer) × Consumes old new (take count buffer)
+IsRead old new buffer End = Keeps old new × IsAtEnd new
+IsRead old new buffer Failure = Keeps old new
+
+-- what a stream has told after a read
+abbrev pub told_after : Input → Told → Told
+told_after (Bytes count) old = old
+told_after End old = told.End
+told_after Failure old = told.Failure
+
+-- a beginning of the text was appended, where what the stream holds is known
+abbrev pub AppendsBeginning : Option (List ℕ) → Option (List ℕ) → List ℕ → Type 0
+AppendsBeginning old new text = (begins more : List ℕ) × (text ≡ begins ++ more) × Appends old new begins

@@ -1,0 +1,5 @@
+//! One connection: requests are read, answered by the engine, and their replies written.
+#![tactic(auto)]
+
+pub mod noted;
+pub mod resp_write;

@@ -1,0 +1,115 @@
+#![tactic(auto)]
+//! Devices: where the pages of a log go when they leave their frames.
+//!
+//! A page is written once, and read by the receipt that the write gave, as on the devices below the
+//! hybrid log of FASTER (SIGMOD 2018). Each thread owns one opening of a device, and a receipt may be
+//! read through any opening of the device that gave it.
+//!
+//! A receipt shows the page that was written for it, whatever becomes of the device. Whether a read
+//! gives that page is the device's promise: an honest device serves a receipt, so that reads give its
+//! page, from its write until it is released, and a steady one serves it for good. A device may also
+//! promise neither, as one over a file does, and is then proved safe alone.
+//!
+//! `Device` and `Shows` state this, and `MemoryDevice` is steady.
+
+ghost use Rattle.std.specs.Prelude.{◌≡◌, ℕ, ◌+◌, List, Some, codes, IsTrue, IfOk, OnOk, OnErr};
+
+use records::Page;
+use std::alloc::AllocError;
+use std::error::Error;
+use std::fmt;
+
+mod failures;
+mod memory;
+#[cfg(test)]
+mod tests;
+
+pub use failures::FailureCount;
+pub use memory::{MemoryDevice, MemoryReceipt};
+
+/// A call of a device failed, and the opening has counted it.
+#[derive(Clone, Copy, Debug, PartialEq, Eq)]
+pub struct DeviceFault;
+
+impl fmt::Display for DeviceFault {
+    ghost output = { λ _. Some (codes "device fault") };
+
+    fn fmt<W: fmt::Write>(&self, f: &mut fmt::Formatter<W>) -> fmt::Result {
+        write!(f, "device fault")
+    }
+}
+
+impl Error for DeviceFault {}
+
+/// A receipt: what a device gives for a page that was written to it. It shows that page.
+pub trait Shows: Drop {
+    // The page shown: the bytes of the page that was written.
+    ghost shown: { Self → List ℕ };
+
+    // What a receipt has in common with its copies.
+    ghost identity: { Self → List ℕ };
+
+    // The receipts are those of an honest device.
+    ghost is_honest: { Type 0 };
+
+    /// A copy: it shows the same page, and has the same identity. `Err` only for want of memory.
+    fn again(&self) -> Result<Self, AllocError>
+        ensures shown { IfOk result (λ r. shown r ≡ shown self.now) }
+        ensures identity { IfOk result (λ r. identity r ≡ identity self.now) };
+
+    /// Whether this is the same receipt as `other`: true of a receipt and its copies, and at an
+    /// honest device of no receipts but those with one identity, which show one page. Takes no
+    /// memory.
+    fn same(&self, other: &Self) -> bool
+        ensures copies { identity self.now ≡ identity other.now → IsTrue result }
+        ensures only_copies { is_honest → IsTrue result → identity self.now ≡ identity other.now };
+
+    // Receipts with one identity show one page.
+    ghost one_page: { (r s : Self) → identity r ≡ identity s → shown r ≡ shown s };
+}
+
+/// One opening of a device.
+///
+/// It counts the calls that failed: a call answers `DeviceFault` exactly where the count grows by one
+/// in it, and else the count stays.
+pub trait Device: Drop {
+    /// What `write` gives.
+    type Receipt: Shows;
+
+    // How many calls of this opening have failed.
+    ghost failures: { Self → ℕ };
+
+    // The device, as it is, gives for this receipt the page that it shows.
+    ghost serves: { Self → Self.Receipt → Type 0 };
+
+    // The device is steady.
+    ghost is_steady: { Type 0 };
+
+    /// Writes a page, and gives a receipt that shows it. An honest device then serves the receipt.
+    fn write(&mut self, page: &Page) -> Result<Self::Receipt, DeviceFault>
+        ensures shown { IfOk result (λ r. Self.Receipt.shown r ≡ page.now) }
+        ensures served { Self.Receipt.is_honest → IfOk result (λ r. serves self.new r) }
+        ensures still_served { (r : Self.Receipt) → serves self.old r → serves self.new r }
+
+        ensures failure { OnErr result (failures self.new ≡ failures self.old + 1) }
+        ensures no_failure { OnOk result (failures self.new ≡ failures self.old) };
+
+    /// Reads the page that a receipt shows into `page`. After an `Err`, and where the device does not
+    /// serve the receipt, `page` may have any bytes.
+    fn read(&mut self, receipt: &Self::Receipt, page: &mut Page) -> Result<(), DeviceFault>
+        ensures page { serves self.old receipt.now → OnOk result (page.new ≡ Self.Receipt.shown receipt.now) }
+        ensures still_served { (r : Self.Receipt) → serves self.old r → serves self.new r }
+
+        ensures failure { OnErr result (failures self.new ≡ failures self.old + 1) }
+        ensures no_failure { OnOk result (failures self.new ≡ failures self.old) };
+
+    // A copy is served where the receipt is.
+    ghost copies: { (d : Self) (r s : Self.Receipt) → Self.Receipt.identity r ≡ Self.Receipt.identity s
+        → serves d r → serves d s };
+
+    // A steady device is honest.
+    ghost honest: { is_steady → Self.Receipt.is_honest };
+
+    // A steady device serves each receipt, through each opening.
+    ghost steady: { is_steady → (d : Self) (r : Self.Receipt) → serves d r };
+}

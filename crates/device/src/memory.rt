@@ -1,0 +1,119 @@
+// A device that keeps its pages in memory.
+
+ghost use Rattle.std.specs.Prelude.{◌≡◌, ℕ, IfOk, IsOk, replicate};
+
+use crate::failures::FailureCount;
+use crate::{Device, DeviceFault, Shows};
+use records::Page;
+use std::alloc::{AllocError, Global};
+use std::marker::Model;
+use std::sync::Arc;
+
+/// A receipt of a `MemoryDevice`: a page that its copies share. To a contract it is the page's bytes.
+#[derive(Drop)]
+pub struct MemoryReceipt {
+    page: Arc<Page>,
+}
+
+impl Model for MemoryReceipt {
+    ghost use Rattle.std.specs.Prelude.{ℕ, List};
+    ghost use Rattle.std.specs.Arc.{arc_value};
+
+    ghost Value = { List ℕ };
+
+    ghost view = { λ r. arc_value r.page };
+}
+
+// Two receipts are the same where they show the same bytes.
+impl Shows for MemoryReceipt {
+    ghost shown = { λ r. r };
+
+    ghost identity = { λ r. r };
+
+    ghost is_honest = { Unit {0} };
+
+    ghost one_page = { λ r s e. e };
+
+    fn again(&self) -> Result<MemoryReceipt, AllocError> {
+        Ok(MemoryReceipt {
+            page: Arc::try_clone(&self.page)?,
+        })
+    }
+
+    fn same(&self, other: &MemoryReceipt) -> bool {
+        *self.page == *other.page
+    }
+}
+
+/// One opening of a device that keeps its pages in memory. It is steady, and each opening reads every
+/// receipt, without a lock: a receipt holds its page, which is freed with its last copy. To a contract
+/// an opening is the number of its failures.
+///
+/// A write takes memory for one page, 16,384 bytes, and fails where it finds none.
+#[derive(Drop)]
+pub struct MemoryDevice {
+    alloc: Global,
+    failures: FailureCount,
+}
+
+impl Model for MemoryDevice {
+    ghost use Rattle.std.specs.Prelude.{ℕ};
+
+    ghost Value = { ℕ };
+
+    ghost view = { λ d. d.failures };
+}
+
+impl MemoryDevice {
+    /// `n` openings of one device, which have not failed.
+    pub fn openings(alloc: Global, n: usize) -> Result<Vec<MemoryDevice>, AllocError>
+        ensures { IfOk result (λ v. v.items ≡ replicate n 0) }
+    {
+        let mut openings = Vec::with_capacity(alloc, n)?;
+        for _ in 0..n {
+            openings.push(MemoryDevice {
+                alloc,
+                failures: FailureCount::new(),
+            })?;
+        }
+        Ok(openings)
+    }
+}
+
+impl Device for MemoryDevice {
+    type Receipt = MemoryReceipt;
+
+    ghost failures = { λ d. d };
+
+    ghost serves = { λ d r. Unit {0} };
+
+    ghost is_steady = { Unit {0} };
+
+    ghost copies = { λ d r s same served. served };
+
+    ghost honest = { λ s. s };
+
+    ghost steady = { λ s d r. tt };
+
+    fn write(&mut self, page: &Page) -> Result<MemoryReceipt, DeviceFault> {
+        let mut copy = Page::new(0);
+        copy.copy_from(page);
+        match Arc::new(self.alloc, copy) {
+            Ok(page) => Ok(MemoryReceipt { page }),
+            Err(_) => {
+                self.failures.note();
+                Err(DeviceFault)
+            }
+        }
+    }
+
+    /// Never fails.
+    fn read(&mut self, receipt: &MemoryReceipt, page: &mut Page) -> Result<(), DeviceFault>
+        ensures succeeds { IsOk result }
+        ensures page { page.new ≡ receipt.now }
+        ensures unchanged { self.new ≡ self.old }
+    {
+        page.copy_from(&receipt.page);
+        Ok(())
+    }
+}

@@ -1,0 +1,54 @@
+//! `garnetd`: a RESP2 server over a store in memory. `garnetd --help` tells its command line.
+#![tactic(auto)]
+
+mod command_line;
+
+use anyhow::Result;
+use clap::error::ErrorKind;
+use command_line::options_of;
+use server::{Endings, Options, ServerFault, listen, run_workers};
+use std::env;
+use std::net::{Net, TcpListener, TcpStream};
+use std::process::ExitCode;
+use std::rt::Clock;
+use std::sync::Wait;
+
+/// The exit status where the server stopped before its time.
+const STOPPED: u8 = 1;
+
+fn main(rt: HostRuntime) -> Result<ExitCode> {
+    let words: Vec<String> = env::args(&rt)?.collect(rt.alloc())?;
+    let options = match options_of(rt.alloc(), words.as_slice()) {
+        Ok(options) => options,
+        Err(error) if error.kind() == ErrorKind::OutOfMemory => {
+            return stopped(&rt, ServerFault::OutOfMemory);
+        }
+        Err(error) => {
+            error.print(&rt)?;
+            return Ok(ExitCode::from(error.exit_code() as u8));
+        }
+    };
+    match serve(&rt, &options) {
+        Ok(()) => Ok(ExitCode::SUCCESS),
+        Err(fault) => stopped(&rt, fault),
+    }
+}
+
+/// Listens, says where, and serves until the last connection has ended.
+fn serve<R>(rt: &R, options: &Options) -> Result<(), ServerFault>
+where
+    R: AllocGlobal + Print + Clock + Wait + Net<Listener = TcpListener, Stream = TcpStream>,
+{
+    let listener = listen(rt, options)?;
+    let address = listener.local_addr().map_err(|_| ServerFault::CannotListen)?;
+    // Nobody has to read where the server listens.
+    let _ = println!(rt; "listening on {address}");
+    let endings = Endings::new(rt.alloc()).map_err(|_| ServerFault::OutOfMemory)?;
+    run_workers(rt, listener, options, &endings)
+}
+
+/// Tells on standard error why the server stopped.
+fn stopped(rt: &impl Eprint, fault: ServerFault) -> Result<ExitCode> {
+    eprintln!(rt; "{fault}")?;
+    Ok(ExitCode::from(STOPPED))
+}

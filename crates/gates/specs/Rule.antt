@@ -1,0 +1,97 @@
+-- The rule of the gates: what is shared, what each pass knows, and what holds of both between any two steps.
+use Rattle.std.specs.Prelude.{◌≡◌, ◌≢◌, ◌⊎◌, ℕ, zero, suc, ◌+◌, ◌*◌, ◌^◌, ◌<◌, ◌≤◌, List, [], ◌∷◌, ◌++◌, length, map, cond, Bool, true, false, slice_index}
+use mathlib.Core.Option.{Option, none, some}
+use lib.ListN.{get_elem?}
+use Rattle.atomic_table.specs.Table.{State}
+use Rattle.words.specs.declared.history.Entry.{Entry}
+use Rattle.words.specs.Store.{Store}
+use Rattle.words.specs.History.{History, Legal, after, subhistory}
+use Rattle.words.specs.Stripes.{IsPart, LeavesStripe}
+use Rattle.gates.specs.declared.view.Note.{Note}
+use Rattle.gates.specs.declared.view.Knowledge.{Knowledge}
+use Rattle.gates.specs.declared.view.View.{View}
+use Rattle.gates.specs.Sets.{times}
+
+-- The table's words: the commit word, and then a word for each stripe, each on cache lines of its own.
+abbrev pub commit_word : ℕ
+commit_word = 0
+
+abbrev pub word_of : ℕ → ℕ
+word_of stripe = 16 * (stripe + 1)
+
+-- each of the entries leaves the stripe
+abbrev pub AllLeave : (stripes stripe : ℕ) → History → Type 0
+AllLeave stripes stripe [] = Unit {0}
+AllLeave stripes stripe (entry ∷ before) = LeavesStripe stripes stripe entry.operation × AllLeave stripes stripe before
+
+-- a sum over all views
+abbrev pub total : {V : Type 0} → (V → ℕ) → List V → ℕ
+total f [] = 0
+total f (v ∷ views) = f v + total f views
+
+-- The log goes on from what a pass has seen, by entries that leave each stripe that it holds, and its own entries are all that the log
+-- has of it.
+pub record Fits (stripes : ℕ) (log : History) (held : List ℕ) (knows : Knowledge) : Type 0 where
+  pub more : History
+  pub begins : log ≡ more ++ knows.seen
+  pub leave : (stripe : ℕ) → 0 < times stripe held → AllLeave stripes stripe more
+  pub mine : knows.mine ≡ subhistory log knows.number
+  pub mine_seen : knows.mine ≡ subhistory knows.seen knows.number
+
+abbrev pub EachFits : (stripes : ℕ) → History → (held : List ℕ) → List Knowledge → Type 0
+EachFits stripes log held [] = Unit {0}
+EachFits stripes log held (knows ∷ others) = Fits stripes log held knows × EachFits stripes log held others
+
+-- a stripe's word names the one pass that a seat stands for
+pub record Names (words : List ℕ) (stripe : ℕ) (passes : List Knowledge) : Type 0 where
+  pub knows : Knowledge
+  pub single : passes ≡ knows ∷ []
+  pub word : slice_index words (word_of stripe) ≡ knows.number + 1
+
+module _ {T : Type 0} where
+  -- how many passes a seat stands for; it is one but while `new` deals them and while two of them meet
+  abbrev pub weight : View T → ℕ
+  weight v = length v.passes
+
+  -- how often a seat stands for the pass of this number
+  abbrev pub stands_for : ℕ → View T → ℕ
+  stands_for number v = times number (map (λ (k : Knowledge). k.number) v.passes)
+
+  -- 1 for a seat that may add to the commit word
+  abbrev pub armed_by : View T → ℕ
+  armed_by v = cond v.armed 1 0
+
+  -- what the rule says of one view
+  pub record FitsView (stripes : ℕ) (words : List ℕ) (log : History) (v : View T) : Type 0 where
+    pub fits : EachFits stripes log v.held v.passes
+    pub ready : armed_by v ≤ weight v
+    pub names : (stripe : ℕ) → 0 < times stripe v.held → (stripe < stripes) × Names words stripe v.passes
+
+  -- a stripe is free: its word is 0, and its part is at home and reads as its part of what the log leaves
+  pub record IsFree (contents : T → Store) (s : State T (View T)) (log : History) (stripe : ℕ) : Type 0 where
+    pub word : slice_index s.words (word_of stripe) ≡ 0
+    pub part : T
+    pub home : get_elem? s.homes stripe ≡ some (some part)
+    pub reads : IsPart (length s.homes) stripe (contents part) (after log)
+
+  -- a stripe is held: its part is out, and its word names a pass that holds it
+  pub record IsHeld (s : State T (View T)) (stripe : ℕ) : Type 0 where
+    pub seat : ℕ
+    pub view : View T
+    pub there : get_elem? s.views seat ≡ some view
+    pub holds : 0 < times stripe view.held
+    pub away : get_elem? s.homes stripe ≡ some none
+
+  -- The rule. There is one legal log, as long as the commit word counts.
+  pub record Ruled (contents : T → Store) (passes : ℕ) (s : State T (View T)) : Type 0 where
+    pub log : History
+    pub legal : Legal log
+    pub wide : length s.words ≡ word_of (length s.homes)
+    pub few : passes < 2 ^ 62
+    pub counts : slice_index s.words commit_word ≡ length log
+    -- the commit word never wraps, since each pass adds to it once for each time that it read it below 2^62
+    pub room : length log + total armed_by s.views ≤ 2 ^ 62 + passes
+    pub dealt : total weight s.views ≡ passes
+    pub once : (number : ℕ) → total (stands_for number) s.views ≤ 1
+    pub views : (seat : ℕ) (v : View T) → get_elem? s.views seat ≡ some v → FitsView (length s.homes) s.words log v
+    pub stripes : (stripe : ℕ) → stripe < length s.homes → IsFree contents s log stripe ⊎ IsHeld s stripe

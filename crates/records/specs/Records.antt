@@ -1,0 +1,150 @@
+-- The records of a page. A record has a header of 24 bytes (link, 8; hash of the key, 8; key length, 2; value
+-- length, 2; value capacity, 2; kind, 1; form, 1), then the key, then as many bytes as its capacity: the value, then
+-- zero bytes. Numbers are little-endian, the kind is 1 for a value and 2 for a tombstone, the form is 1, and a
+-- record's size is a multiple of 8.
+use Rattle.std.specs.Prelude.{◌≡◌, ◌<◌, ◌≤◌, ◌⊎◌, ℕ, zero, suc, ◌+◌, ◌-◌, ◌*◌, ◌/◌, ◌%◌, ◌^◌, List, [], ◌∷◌, ◌++◌, length, take, drop, map, replicate, slice_index, Option, None, Some, unwrap_or, nat_lt, ◌==◌, if◌then◌else◌}
+use Rattle.std.specs.List.{All, AllByRecursion, AllPairs, Contains, flat_map}
+use Rattle.records.specs.Fields.{u16_bytes, u64_bytes, u16_at, u64_at}
+use Rattle.records.specs.Page.{header, number_of, used_end}
+
+-- what a record says. The link is the address of the next older record of its bucket, or 0; a record with no value is
+-- a tombstone; a value of at most `capacity` bytes fits in place
+pub record Stored : Type 0 where
+  pub link : ℕ
+  pub hash : ℕ
+  pub key : List ℕ
+  pub value : Option (List ℕ)
+  pub capacity : ℕ
+
+-- the bytes of a value, and none of a tombstone
+abbrev pub value_bytes : Option (List ℕ) → List ℕ
+value_bytes value = unwrap_or value []
+
+abbrev pub kind_of : Option (List ℕ) → ℕ
+kind_of None = 2
+kind_of (Some bytes) = 1
+
+-- a record of this kind may have a value of this length
+abbrev pub IsKindFor : ℕ → ℕ → Type 0
+IsKindFor kind value_length = ((kind ≡ 1) ⊎ (kind ≡ 2)) × (kind ≡ 2 → value_length ≡ 0)
+
+-- what a record of this kind holds whose value has these bytes
+abbrev pub value_of_kind : ℕ → List ℕ → Option (List ℕ)
+value_of_kind kind bytes = if kind == 2 then None else Some bytes
+
+-- how many bytes a record takes
+abbrev pub size_of : Stored → ℕ
+size_of r = 24 + length r.key + r.capacity
+
+-- how many bytes a new record takes, by the lengths of its key and its value: 24 and both, rounded up to a multiple of 8
+abbrev pub size_for : ℕ → ℕ → ℕ
+size_for key_length value_length = (24 + key_length + value_length + 7) / 8 * 8
+
+-- a new record, whose capacity is all that its size leaves
+abbrev pub new_record : ℕ → ℕ → List ℕ → Option (List ℕ) → Stored
+new_record link hash key value =
+    record { link = link; hash = hash; key = key; value = value; capacity = size_for (length key) (length (value_bytes value)) - 24 - length key }
+
+-- a record that can be spelled
+pub record IsStored (r : Stored) : Type 0 where
+  pub link_fits : r.link < 2 ^ 64
+  pub hash_fits : r.hash < 2 ^ 64
+  pub key_fits : length r.key ≤ 512
+  pub value_fits : length (value_bytes r.value) ≤ r.capacity
+  pub capacity_fits : r.capacity < 2 ^ 16
+  pub aligned : size_of r % 8 ≡ 0
+
+-- the bytes of a record's header
+unfoldable pub head : ℕ → ℕ → ℕ → ℕ → ℕ → ℕ → List ℕ
+head link hash key_length value_length capacity kind =
+    u64_bytes link ++ (u64_bytes hash ++ (u16_bytes key_length ++ (u16_bytes value_length ++ (u16_bytes capacity ++ (kind ∷ 1 ∷ [])))))
+
+-- the bytes of a value and of the zeros after it, up to a capacity
+abbrev pub filled : Option (List ℕ) → ℕ → List ℕ
+filled value capacity = value_bytes value ++ replicate (capacity - length (value_bytes value)) 0
+
+-- the bytes of a record
+unfoldable pub spelling : Stored → List ℕ
+spelling r =
+    head r.link r.hash (length r.key) (length (value_bytes r.value)) r.capacity (kind_of r.value) ++ (r.key ++ filled r.value r.capacity)
+
+-- the offset at which records end that stand one after the other from an offset on
+abbrev pub end_from : ℕ → List Stored → ℕ
+end_from offset [] = offset
+end_from offset (r ∷ rs) = end_from (offset + size_of r) rs
+
+-- those records, each with its offset
+abbrev pub placed : ℕ → List Stored → List (ℕ × Stored)
+placed offset [] = []
+placed offset (r ∷ rs) = (offset, r) ∷ placed (offset + size_of r) rs
+
+-- the page with this number and these records
+pub record IsPage (number : ℕ) (records : List Stored) (page : List ℕ) : Type 0 where
+  pub number_fits : number < 2 ^ 64
+  pub each : AllByRecursion IsStored records
+  pub within : end_from 16 records ≤ 16384
+  pub bytes : page ≡ header number (end_from 16 records) ++ (flat_map spelling records ++ replicate (16384 - end_from 16 records) 0)
+
+-- what the bytes at an offset say as a record, whatever they are
+unfoldable pub fields_at : List ℕ → ℕ → Stored
+fields_at page offset =
+    let key_length : ℕ = u16_at page (offset + 16) in
+    let value_length : ℕ = u16_at page (offset + 18) in
+    record {
+      link = u64_at page offset;
+      hash = u64_at page (offset + 8);
+      key = take key_length (drop (offset + 24) page);
+      value = value_of_kind (slice_index page (offset + 22)) (take value_length (drop (offset + 24 + key_length) page));
+      capacity = u16_at page (offset + 20)
+    }
+
+-- the records from an offset to the end of the used part, each with its offset, and at most n of them
+unfoldable pub records_from : ℕ → List ℕ → ℕ → List (ℕ × Stored)
+records_from zero page offset = []
+records_from (suc n) page offset =
+    if nat_lt offset (used_end page) then (offset, fields_at page offset) ∷ records_from n page (offset + size_of (fields_at page offset)) else []
+
+-- the records of a page, oldest first, each with its offset
+unfoldable pub records_of : List ℕ → List (ℕ × Stored)
+records_of page = records_from (length page) page 16
+
+-- a record stands at this offset of a page whose used part has this end
+pub record IsPlaced (end : ℕ) (entry : ℕ × Stored) : Type 0 where
+  pub stored : IsStored entry.1
+  pub past_header : 16 ≤ entry.0
+  pub aligned : entry.0 % 8 ≡ 0
+  pub within : entry.0 + size_of entry.1 ≤ end
+
+-- the page is as this crate writes it: its header, records without gaps from offset 16 to the end of the used part,
+-- and zero bytes after it. What the last three fields say follows from the others, and speaks of no byte.
+pub record IsLaidOut (page : List ℕ) : Type 0 where
+  pub stored : List Stored
+  pub is_page : IsPage (number_of page) stored page
+  pub used : used_end page ≡ end_from 16 stored
+  pub records : records_of page ≡ placed 16 stored
+  pub in_page : used_end page ≤ 16384
+  pub each : All (IsPlaced (used_end page)) (records_of page)
+  pub in_order : AllPairs (λ a b. a.0 + size_of a.1 ≤ b.0) (records_of page)
+
+-- one of the records stands at this offset, and has room for a value of n bytes
+pub record HasRoomAt (records : List (ℕ × Stored)) (offset n : ℕ) : Type 0 where
+  pub stored : Stored
+  pub listed : Contains records (offset, stored)
+  pub fits : n ≤ stored.capacity
+
+-- a record with its offset, where the record at this offset takes another value, or none, in place
+abbrev pub with_value : ℕ → Option (List ℕ) → ℕ × Stored → ℕ × Stored
+with_value offset value entry = if entry.0 == offset then (entry.0, record entry.1 { value = value }) else entry
+
+-- a record may be read at this offset, whatever the bytes of the page are
+pub record IsRecordAt (page : List ℕ) (offset : ℕ) : Type 0 where
+  pub ends_in_page : used_end page ≤ 16384
+  pub past_header : 16 ≤ offset
+  pub used : offset < used_end page
+  pub aligned : offset % 8 ≡ 0
+  pub form : slice_index page (offset + 23) ≡ 1
+  pub kind : IsKindFor (slice_index page (offset + 22)) (u16_at page (offset + 18))
+  pub key_length : u16_at page (offset + 16) ≤ 512
+  pub value_length : u16_at page (offset + 18) ≤ u16_at page (offset + 20)
+  pub size : (24 + u16_at page (offset + 16) + u16_at page (offset + 20)) % 8 ≡ 0
+  pub within : offset + (24 + u16_at page (offset + 16) + u16_at page (offset + 20)) ≤ used_end page

@@ -1,0 +1,260 @@
+// The records of a page.
+
+ghost use Rattle.std.specs.Prelude.{◌≡◌, ◌<◌, ◌≤◌, ◌↔◌, ℕ, ◌+◌, ◌-◌, ◌*◌, ◌/◌, ◌%◌, ◌^◌, [], ◌∷◌, ◌++◌, length, map, replicate, IsErr, IfOk, IsOkAnd, OnOk, OnErr, MatchResult, Contains};
+ghost use Rattle.std.specs.Option.{option_copied};
+ghost use Rattle.records.specs.Page.{number_of, used_end};
+ghost use Rattle.records.specs.Fields.{u16_bytes, u64_bytes};
+ghost use Rattle.records.specs.Read.{shown};
+ghost use Rattle.records.specs.Records.{Stored, IsKindFor, value_of_kind, kind_of, size_of, size_for, new_record, value_bytes, filled, spelling, fields_at, records_of, IsLaidOut, HasRoomAt, IsRecordAt, with_value};
+
+use crate::fields;
+use crate::pages::{HEADER_SIZE, PAGE_SIZE, Page};
+
+/// The bytes of a record's header.
+pub const RECORD_HEADER: usize = 24;
+
+/// The longest key, in bytes.
+pub const MAX_KEY: usize = 512;
+
+/// The form of the records that this crate writes.
+const FORM: u8 = 1;
+
+/// The kind of a record with a value.
+const VALUE: u8 = 1;
+
+/// The kind of a tombstone.
+const TOMBSTONE: u8 = 2;
+
+/// A record as it lies in a page: its key and its value are lent from there.
+#[derive(Clone, Copy, Debug)]
+pub struct Record<'a> {
+    /// The address of the next older record of the bucket, or 0.
+    pub link: u64,
+    /// The hash of the key.
+    pub hash: u64,
+    /// The key, of at most 512 bytes.
+    pub key: &'a [u8],
+    /// The value, or `None` for a tombstone.
+    pub value: Option<&'a [u8]>,
+    /// How long a value may be that takes the place of this one.
+    pub capacity: usize,
+}
+
+/// The page has no room left for the record.
+#[derive(Clone, Copy, Debug, PartialEq, Eq)]
+pub struct NoRoom;
+
+/// No record can be read at the offset.
+#[derive(Clone, Copy, Debug, PartialEq, Eq)]
+pub struct NotARecord;
+
+/// The bytes that a record takes whose key and value have these lengths: its header and both,
+/// rounded up to a multiple of 8.
+#[inline]
+pub fn record_size(key_length: usize, value_length: usize) -> usize
+    requires { 24 + key_length + value_length + 7 < 2 ^ 64 }
+    ensures { result ≡ size_for key_length value_length }
+{
+    (RECORD_HEADER + key_length + value_length + 7) / 8 * 8
+}
+
+/// The record at an offset of a page, whose bytes may be any.
+///
+/// Refuses every offset of a page whose used end passes the page's end, an offset in the page's
+/// header, at or past the used end or no multiple of 8, a form or kind that is not known, a key
+/// length over 512, a value length over the capacity, a size that is no multiple of 8 or passes the
+/// used end, and a tombstone with a value length above 0.
+#[inline]
+pub fn record_at(page: &Page, offset: usize) -> Result<Record<'_>, NotARecord>
+    ensures exact { MatchResult result (λ r. IsRecordAt page.now offset × (shown r ≡ fields_at page.now offset)) (λ _. ¬ IsRecordAt page.now offset) }
+    ensures found { IsLaidOut page.now → (r : Stored) → Contains (records_of page.now) (offset, r) → IsOkAnd result (λ x. shown x ≡ r) }
+{
+    let bytes = page.bytes();
+    let end = page.used_end() as usize;
+    if end > PAGE_SIZE || offset < HEADER_SIZE || offset % 8 != 0 {
+        return Err(NotARecord);
+    }
+    if offset >= end || end - offset < RECORD_HEADER {
+        return Err(NotARecord);
+    }
+    let key_length = fields::u16_at(bytes, offset + 16) as usize;
+    let value_length = fields::u16_at(bytes, offset + 18) as usize;
+    let capacity = fields::u16_at(bytes, offset + 20) as usize;
+    let size = RECORD_HEADER + key_length + capacity;
+    if key_length > MAX_KEY || value_length > capacity || size % 8 != 0 || size > end - offset {
+        return Err(NotARecord);
+    }
+    if bytes[offset + 23] != FORM {
+        return Err(NotARecord);
+    }
+    let key_end = offset + RECORD_HEADER + key_length;
+    let value = value_of_kind(bytes[offset + 22], &bytes[key_end..key_end + value_length])?;
+    Ok(Record {
+        link: fields::u64_at(bytes, offset),
+        hash: fields::u64_at(bytes, offset + 8),
+        key: &bytes[offset + RECORD_HEADER..key_end],
+        value,
+        capacity,
+    })
+}
+
+/// Puts a record at the end of the page's used part, and answers its offset. `None` puts a
+/// tombstone.
+///
+/// Refuses a record that does not fit, and the page is then unchanged.
+#[inline]
+pub fn put_record(
+    page: &mut Page,
+    link: u64,
+    hash: u64,
+    key: &[u8],
+    value: Option<&[u8]>,
+) -> Result<usize, NoRoom>
+    requires laid_out { IsLaidOut page.old }
+    requires key { length key.now ≤ MAX_KEY }
+    ensures refused { IsErr result ↔ (PAGE_SIZE < used_end page.old + size_for (length key.now) (length (value_bytes (option_copied value.entry)))) }
+    ensures unchanged { OnErr result (page.new ≡ page.old) }
+    ensures offset { IfOk result (λ offset. offset ≡ used_end page.old) }
+    ensures appended { OnOk result (records_of page.new ≡ records_of page.old ++ (used_end page.old, new_record link hash key.now (option_copied value.entry)) ∷ []) }
+    ensures end { OnOk result (used_end page.new ≡ used_end page.old + size_for (length key.now) (length (value_bytes (option_copied value.entry)))) }
+    ensures number { number_of page.new ≡ number_of page.old }
+    ensures laid_out { IsLaidOut page.new }
+{
+    let value_length = length_of(value);
+    if value_length > PAGE_SIZE {
+        return Err(NoRoom);
+    }
+    let end = page.used_end() as usize;
+    let size = record_size(key.len(), value_length);
+    if size > PAGE_SIZE - end {
+        return Err(NoRoom);
+    }
+    let bytes = page.bytes_mut();
+    bytes[8..12].copy_from_slice(&((end + size) as u32).to_le_bytes());
+    write_record(&mut bytes[end..end + size], link, hash, key, value);
+    Ok(end)
+}
+
+/// Puts another value, or with `None` a tombstone, into the record at `offset`, in place.
+#[inline]
+pub fn overwrite(page: &mut Page, offset: usize, value: Option<&[u8]>)
+    requires laid_out { IsLaidOut page.old }
+    requires fits { HasRoomAt (records_of page.old) offset (length (value_bytes (option_copied value))) }
+    ensures changed { records_of page.new ≡ map (with_value offset (option_copied value.entry)) (records_of page.old) }
+    ensures end { used_end page.new ≡ used_end page.old }
+    ensures number { number_of page.new ≡ number_of page.old }
+    ensures laid_out { IsLaidOut page.new }
+{
+    let bytes = page.bytes_mut();
+    let key_length = fields::u16_at(bytes, offset + 16) as usize;
+    let capacity = fields::u16_at(bytes, offset + 20) as usize;
+    let end = offset + RECORD_HEADER + key_length + capacity;
+    rewrite_value(&mut bytes[offset..end], key_length, value);
+}
+
+// What a record of this kind holds where these are the bytes of its value.
+#[inline]
+fn value_of_kind(kind: u8, bytes: &[u8]) -> Result<Option<&[u8]>, NotARecord>
+    ensures { MatchResult result (λ value. IsKindFor kind (length bytes.now) × (option_copied value ≡ value_of_kind kind bytes.now)) (λ _. ¬ IsKindFor kind (length bytes.now)) }
+{
+    match kind {
+        VALUE => Ok(Some(bytes)),
+        TOMBSTONE if bytes.is_empty() => Ok(None),
+        _ => Err(NotARecord),
+    }
+}
+
+// The length of a value, 0 for a tombstone.
+#[inline]
+fn length_of(value: Option<&[u8]>) -> usize
+    ensures { result ≡ length (value_bytes (option_copied value.entry)) }
+{
+    match value {
+        Some(bytes) => bytes.len(),
+        None => 0,
+    }
+}
+
+// The kind of a record with this value.
+#[inline]
+fn kind_of(value: Option<&[u8]>) -> u8
+    ensures { result ≡ kind_of (option_copied value.entry) }
+{
+    match value {
+        Some(_) => VALUE,
+        None => TOMBSTONE,
+    }
+}
+
+// Writes a record into the bytes that it takes.
+#[inline]
+#[tactic(auto, unfolding(crate::specs::Records::spelling, crate::specs::Records::head))]
+fn write_record(slot: &mut [u8], link: u64, hash: u64, key: &[u8], value: Option<&[u8]>)
+    requires key { length key.now ≤ MAX_KEY }
+    requires value { 24 + length key.now + length (value_bytes (option_copied value)) ≤ length slot.old }
+    requires size { length slot.old ≤ 16384 }
+    ensures { slot.new ≡ spelling (record { link = link; hash = hash; key = key.now; value = option_copied value.entry; capacity = length slot.old - 24 - length key.now }) }
+{
+    let capacity = slot.len() - RECORD_HEADER - key.len();
+    let (head, rest) = slot.split_at_mut(RECORD_HEADER);
+    let (addresses, lengths) = head.split_at_mut(16);
+    write_addresses(addresses, link, hash);
+    write_lengths(lengths, key.len() as u16, length_of(value) as u16, capacity as u16, kind_of(value));
+    let (key_part, room) = rest.split_at_mut(key.len());
+    key_part.copy_from_slice(key);
+    write_value(room, value);
+}
+
+// Writes the first two fields of a record.
+#[inline]
+#[tactic(auto, unfolding(crate::specs::Fields::u64_bytes))]
+fn write_addresses(head: &mut [u8], link: u64, hash: u64)
+    requires { length head.old ≡ 16 }
+    ensures { head.new ≡ u64_bytes link ++ u64_bytes hash }
+{
+    let (link_field, hash_field) = head.split_at_mut(8);
+    link_field.copy_from_slice(&link.to_le_bytes());
+    hash_field.copy_from_slice(&hash.to_le_bytes());
+}
+
+// Writes the other fields of a record.
+#[inline]
+#[tactic(auto, unfolding(crate::specs::Fields::u16_bytes))]
+fn write_lengths(head: &mut [u8], key_length: u16, value_length: u16, capacity: u16, kind: u8)
+    requires { length head.old ≡ 8 }
+    ensures { head.new ≡ u16_bytes key_length ++ (u16_bytes value_length ++ (u16_bytes capacity ++ (kind ∷ 1 ∷ []))) }
+{
+    let (key_field, rest) = head.split_at_mut(2);
+    key_field.copy_from_slice(&key_length.to_le_bytes());
+    let (value_field, rest) = rest.split_at_mut(2);
+    value_field.copy_from_slice(&value_length.to_le_bytes());
+    let (capacity_field, rest) = rest.split_at_mut(2);
+    capacity_field.copy_from_slice(&capacity.to_le_bytes());
+    rest.copy_from_slice(&[kind, FORM]);
+}
+
+// Writes a value and zeros after it.
+#[inline]
+fn write_value(room: &mut [u8], value: Option<&[u8]>)
+    requires { length (value_bytes (option_copied value)) ≤ length room.old }
+    ensures { room.new ≡ filled (option_copied value.entry) (length room.old) }
+{
+    let (value_part, spare) = room.split_at_mut(length_of(value));
+    if let Some(bytes) = value {
+        value_part.copy_from_slice(bytes);
+    }
+    fields::fill_zeros(spare);
+}
+
+// Writes another value into the bytes of a record.
+#[inline]
+fn rewrite_value(slot: &mut [u8], key_length: usize, value: Option<&[u8]>)
+    requires size { length slot.old ≤ 16384 }
+    requires value { 24 + key_length + length (value_bytes (option_copied value)) ≤ length slot.old }
+    ensures { (r : Stored) → slot.old ≡ spelling r → length slot.old ≡ size_of r → key_length ≡ length r.key → slot.new ≡ spelling (record r { value = option_copied value.entry }) }
+{
+    let (head, rest) = slot.split_at_mut(RECORD_HEADER);
+    head[18..20].copy_from_slice(&(length_of(value) as u16).to_le_bytes());
+    head[22] = kind_of(value);
+    write_value(&mut rest[key_length..], value);
+}

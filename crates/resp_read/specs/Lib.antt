@@ -1,0 +1,4 @@
+pub mod Lines
+pub mod Scanned
+pub mod Taken
+pub mod Faults

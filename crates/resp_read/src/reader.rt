@@ -1,0 +1,117 @@
+//! A client's bytes on their way to requests.
+
+ghost use Rattle.std.specs.Prelude.{◌≡◌, [], ◌++◌, OnOk, OnErr, IfOk, IfErr, IfSome, IfNone, OnSome};
+ghost use Rattle.words.specs.Spelling.{spelling, IsRequest};
+ghost use Rattle.words.specs.Stream.{front, Part, Whole};
+
+use crate::scan::{Found, Progress, scan};
+use crate::take::words_of;
+use bytes::{Bytes, BytesMut};
+use std::alloc::Global;
+use std::marker::Model;
+use words::reply::ProtocolFault;
+use words::word::{OutOfMemory, Words};
+
+/// Why the reader gives no request.
+#[derive(Clone, Copy, Debug, PartialEq, Eq)]
+pub enum ReadFault {
+    /// The bytes are no request. The reader answers this from now on.
+    Protocol(ProtocolFault),
+    /// The allocator refused the room for the words of a whole request. Nothing was taken, and it can
+    /// be tried again.
+    OutOfMemory,
+}
+
+/// The bytes of one client that were fed and are not yet given as requests. Contracts see it as these
+/// bytes.
+///
+/// No byte of a waiting request is scanned again for each piece that comes: the reader keeps which
+/// whole lines and words it has scanned, so a request costs time in its length however it is cut (a
+/// line of at most 6 bytes that is not yet whole is looked at again from its sign). It takes memory
+/// for its buffer alone until a request is whole; then words of at most `WORD_INLINE` bytes, and the
+/// first `WORDS_INLINE` of them, take none.
+///
+/// # Memory
+///
+/// A part of a request within the limits has at most 66,694 bytes: 6 of the line of its count, 9 of the
+/// line and the line end of each of 128 words, and 65,536 of the words. Where pieces of at most 16,384
+/// bytes are fed, each only after [`next`] gave `None`, the buffer holds at most 83,078 bytes, and its
+/// capacity is at most twice that, since it grows by doubling. It is kept from request to request, and
+/// a reader holds no other memory.
+///
+/// [`next`]: Reader::next
+#[derive(Drop)]
+pub struct Reader {
+    buffer: BytesMut,
+    progress: Progress,
+}
+
+impl Model for Reader {
+    ghost use Rattle.std.specs.Prelude.{ℕ, List};
+    ghost use Rattle.resp_read.specs.Scanned.{IsScanned};
+
+    ghost Value = { List ℕ };
+
+    ghost view = { λ reader. reader.buffer.items };
+
+    ghost invariant = { λ reader. IsScanned reader.buffer.items reader.progress };
+}
+
+impl Reader {
+    ghost use Rattle.resp_read.specs.Faults.{TellsFault};
+
+    /// A reader with nothing fed. It takes no memory.
+    pub fn new(alloc: Global) -> Reader
+        ensures { result ≡ [] }
+    {
+        Reader {
+            buffer: BytesMut::new(alloc),
+            progress: Progress::START,
+        }
+    }
+
+    /// Adds a piece at the end, also an empty one. Where there is no room for it and no memory, the
+    /// piece comes back and the reader is unchanged.
+    pub fn feed(&mut self, piece: Bytes) -> Result<(), (Bytes, OutOfMemory)>
+        ensures ok { OnOk result (self.new ≡ self.old ++ piece) }
+        ensures err { OnErr result (self.new ≡ self.old) }
+        ensures returned { IfErr result (λ refused. refused.0 ≡ piece) }
+    {
+        if self.buffer.is_empty() {
+            self.buffer.clear();
+        }
+        let _ = self.buffer.try_reclaim(piece.len());
+        match self.buffer.extend_from_slice(piece.as_slice()) {
+            Ok(()) => Ok(()),
+            Err(error) => Err((piece, error)),
+        }
+    }
+
+    /// Takes the first request and gives its words, or `None` where more bytes are due. After a
+    /// protocol fault it answers the same for good, since the bytes stay.
+    pub fn next(&mut self) -> Result<Option<Words>, ReadFault>
+        ensures request { IfOk result (λ given. IfSome given (λ words. IsRequest words)) }
+        ensures words { IfOk result (λ given. IfSome given (λ words. self.old ≡ spelling words ++ self.new)) }
+        ensures whole { IfOk result (λ given. OnSome given (front self.old ≡ Whole self.new)) }
+        ensures none { IfOk result (λ given. IfNone given (front self.old ≡ Part)) }
+        ensures waits { IfOk result (λ given. IfNone given (self.new ≡ self.old)) }
+        ensures fault { IfErr result (λ fault. TellsFault self.old fault) }
+        ensures err { OnErr result (self.new ≡ self.old) }
+    {
+        let unread = self.buffer.as_slice();
+        match scan(unread, &mut self.progress) {
+            Found::Part => Ok(None),
+            Found::Faulty(fault) => Err(ReadFault::Protocol(fault)),
+            Found::Whole(width) => {
+                let alloc = *self.buffer.allocator();
+                let words = match words_of(alloc, &unread[..width]) {
+                    Ok(words) => words,
+                    Err(_) => return Err(ReadFault::OutOfMemory),
+                };
+                self.buffer.advance(width);
+                self.progress = Progress::START;
+                Ok(Some(words))
+            }
+        }
+    }
+}

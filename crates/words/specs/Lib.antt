@@ -1,0 +1,11 @@
+pub mod Sizes
+pub mod Lines
+pub mod Store
+pub mod Commands
+pub mod Spelling
+pub mod Stream
+pub mod Encoding
+pub mod History
+pub mod Stripes
+pub mod Session
+pub mod Frames
