@@ -1,5 +1,5 @@
 -- What a contract says of a stream with a note of what it has told.
-use Rattle.std.specs.Prelude.{ℕ, ◌≡◌, ◌<◌, ◌≤◌, List, ◌++◌, length, take, Option}
+use Rattle.std.specs.Prelude.{ℕ, ◌≡◌, ◌<◌, ◌≤◌, Bool, true, false, ⊤, List, ◌++◌, length, take, Option, Some, None, Result, Ok, Err}
 use Rattle.std.specs.Io.KnownBytes.{Keeps, Appends, Consumes, IsAtEnd}
 use Rattle.connection.specs.declared.noted.Noted.{Noted}
 use Rattle.connection.specs.declared.noted.Told.{Told}
@@ -25,12 +25,33 @@ IsRead old new buffer (Bytes count) = (0 < count) × (count ≤ length buffer) �
 IsRead old new buffer End = Keeps old new × IsAtEnd new
 IsRead old new buffer Failure = Keeps old new
 
+-- whether a read gave bytes
+abbrev pub IsBytes : Input → Type 0
+IsBytes (Bytes count) = Unit {0}
+IsBytes End = ⊥
+IsBytes Failure = ⊥
+
 -- what a stream has told after a read
 abbrev pub told_after : Input → Told → Told
 told_after (Bytes count) old = old
 told_after End old = told.End
 told_after Failure old = told.Failure
 
+-- what a stream has told after a write that succeeded or failed
+abbrev pub told_when : Bool → Told → Told
+told_when true old = old
+told_when false old = told.Failure
+
+-- What a write that took some bytes appended, where what the stream holds is known; nothing where it took none.
+abbrev pub IsWritten : Option (List ℕ) → Option (List ℕ) → List ℕ → Option ℕ → Type 0
+IsWritten old new bytes None = Keeps old new
+IsWritten old new bytes (Some count) = (0 < count) × (count ≤ length bytes) × Appends old new (take count bytes)
+
 -- a beginning of the text was appended, where what the stream holds is known
 abbrev pub AppendsBeginning : Option (List ℕ) → Option (List ℕ) → List ℕ → Type 0
 AppendsBeginning old new text = (begins more : List ℕ) × (text ≡ begins ++ more) × Appends old new begins
+
+-- what a text's sending appended: all of it, or a beginning of it after a failure
+abbrev pub IsSent : {E : Type 0} → Option (List ℕ) → Option (List ℕ) → Result ⊤ E → List ℕ → Type 0
+IsSent old new (Ok done) text = Appends old new text
+IsSent old new (Err fault) text = AppendsBeginning old new text

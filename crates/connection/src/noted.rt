@@ -1,9 +1,8 @@
 //! A stream with a note of what it has told: its end, or that it failed.
 
-ghost use Rattle.std.specs.Prelude.{◌≡◌, ◌<◌, ◌≤◌, ◌^◌, ◌-◌, length, OnOk, OnErr, is_ok};
-ghost use Rattle.std.specs.Io.KnownBytes.{Keeps, Appends};
+ghost use Rattle.std.specs.Prelude.{◌≡◌, ◌<◌, length, is_ok, is_some};
 
-use std::io::{Error, ErrorKind, Read, Write};
+use std::io::{ErrorKind, Read, Write};
 
 /// What a stream has told.
 #[derive(Clone, Copy, Debug, PartialEq, Eq)]
@@ -67,5 +66,77 @@ impl<S> Noted<S> {
         ensures { result ≡ stream_of self }
     {
         self.stream
+    }
+}
+
+impl<S: Read> Noted<S> {
+    ghost use Rattle.connection.specs.Streams.{stream_of, told_of, tries_of, IsRead, IsBytes, told_after};
+
+    /// Reads some bytes into the buffer, which has room.
+    pub fn read(&mut self, buffer: &mut [u8]) -> Input
+        requires { 0 < length buffer.old }
+        ensures read { IsRead (S.remaining (stream_of self.old)) (S.remaining (stream_of self.new)) buffer.new result }
+        ensures told { told_of self.new ≡ told_after result (told_of self.old) }
+        ensures fewer { IsBytes result → tries_of self.new < tries_of self.old }
+    {
+        while self.tries > 0 {
+            self.tries -= 1;
+            match self.stream.read(buffer) {
+                Ok(0) => {
+                    self.told = Told::End;
+                    return Input::End;
+                }
+                Ok(count) => return Input::Bytes(count),
+                Err(error) => {
+                    if error.kind() != ErrorKind::Interrupted {
+                        break;
+                    }
+                }
+            }
+        }
+        self.told = Told::Failure;
+        Input::Failure
+    }
+}
+
+impl<S: Write> Noted<S> {
+    ghost use Rattle.connection.specs.Streams.{stream_of, told_of, IsWritten, IsSent, told_when};
+
+    /// Writes some of these bytes, and says how many: at least one. `None` where the stream failed
+    /// or took none.
+    fn write_some(&mut self, bytes: &[u8]) -> Option<usize>
+        requires { 0 < length bytes.now }
+        ensures written { IsWritten (S.contents (stream_of self.old)) (S.contents (stream_of self.new)) bytes.now result }
+        ensures told { told_of self.new ≡ told_when (is_some result) (told_of self.old) }
+    {
+        while self.tries > 0 {
+            self.tries -= 1;
+            match self.stream.write(bytes) {
+                Ok(0) => break,
+                Ok(count) => return Some(count),
+                Err(error) => {
+                    if error.kind() != ErrorKind::Interrupted {
+                        break;
+                    }
+                }
+            }
+        }
+        self.told = Told::Failure;
+        None
+    }
+
+    /// Writes these bytes. After an `Err` a beginning of them is written.
+    pub fn write_all(&mut self, bytes: &[u8]) -> Result<(), WriteFault>
+        ensures sent { IsSent (S.contents (stream_of self.old)) (S.contents (stream_of self.new)) result bytes.now }
+        ensures told { told_of self.new ≡ told_when (is_ok result) (told_of self.old) }
+    {
+        let mut rest = bytes;
+        while !rest.is_empty() {
+            let Some(count) = self.write_some(rest) else {
+                return Err(WriteFault);
+            };
+            rest = &rest[count..];
+        }
+        Ok(())
     }
 }

@@ -1,8 +1,8 @@
 -- How the pages that frames show change as a slot is written or the ring moves on.
-use Rattle.std.proofs.Common.{◌≡◌, ℕ, ◌+◌, ◌-◌, ◌<◌, ◌≤◌, List, [], ◌∷◌, ◌++◌, length, get_or, set, ap, sym, ◌∙◌, refl, arith, length-set}
+use Rattle.std.proofs.Common.{◌≡◌, ℕ, ◌+◌, ◌-◌, ◌<◌, List, [], length, get_or, set, sym, ◌∙◌, refl, length-set}
 use Rattle.std.proofs.lemmas.List.{get_or_default}
-use Rattle.frames.specs.Ring.{window, shown, IsRing, IsSlotAfter}
-use Rattle.frames.specs.Resident.{Resident, with_opened, with_page, page_of}
+use Rattle.frames.specs.Ring.{shown, IsRing, IsSlotAfter}
+use Rattle.frames.specs.Resident.{with_opened, with_page, page_of}
 use Rattle.records.specs.Page.{empty_page}
 use Rattle.frames.proofs.Windows.{length-window, get_or-window, window-set, window-longer}
 

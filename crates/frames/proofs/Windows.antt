@@ -1,8 +1,8 @@
 -- What a window on a ring shows, and how a write, a step of its end and a step of its start change it.
-use Rattle.std.proofs.Common.{◌≡◌, ℕ, ◌+◌, ◌-◌, ◌<◌, ◌≤◌, ◌≢◌, ◌⊎◌, List, [], ◌∷◌, ◌++◌, length, get_or, take, drop, set, ap, sym, ◌∙◌, inl, inr, refl, arith, length-append, length-set}
-use Rattle.std.proofs.lemmas.List.{same_lists, length-drop, length-take-le, get_or-drop, get_or-take, get_or_append_left, get_or-append_right, get_or-set_same, get_or-set_other}
+use Rattle.std.proofs.Common.{◌≡◌, ℕ, ◌+◌, ◌-◌, ◌<◌, ◌≤◌, List, [], ◌∷◌, ◌++◌, length, get_or, drop, set, ap, sym, ◌∙◌, inl, inr, refl, arith, length-append, length-set}
+use Rattle.std.proofs.lemmas.List.{same_lists, length-drop, length-take-le, get_or-drop, get_or-take, get_or_append_left, get_or-append_right, get_or-set_other}
 use Rattle.std.proofs.lemmas.Bool.{cases_lt, cases_eq}
-use Rattle.std.proofs.lemmas.Grind.{common_steps, get_or-set_at, get_or_after_one}
+use Rattle.std.proofs.lemmas.Grind.{get_or-set_at, get_or_after_one}
 use Rattle.frames.specs.Ring.{window, IsSlotAfter}
 
 pub length-window : {X : Type 0} (at n : ℕ) (xs : List X) → at < length xs → n ≤ length xs → length (window at n xs) ≡ n

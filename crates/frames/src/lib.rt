@@ -54,7 +54,7 @@ impl Frames {
     {
         let mut pages = Vec::with_capacity(alloc, frames)?;
         for _ in 0..frames {
-            pages.push(Page::new(0))?;
+            pages.push_reserved(Page::new(0));
         }
         Ok(Frames {
             frames: pages,
@@ -135,6 +135,7 @@ impl Frames {
         Some(self.lend(number))
     }
 
+    // The page of this number, which is resident, to write to.
     #[inline]
     fn lend(&mut self, number: u64) -> &mut Page
         requires { IsResident self.old number }
@@ -184,7 +185,7 @@ impl Frames {
     }
 }
 
-/// The slot this many places after another, round the end.
+// The slot this many places after another, round the end.
 #[inline]
 fn slot_after(slot: usize, count: usize, slots: usize) -> usize
     requires inside { slot < slots }

@@ -1,5 +1,5 @@
 -- Each step keeps the rule.
-use Rattle.std.proofs.Common.{◌≡◌, ◌≢◌, ◌⊎◌, ℕ, zero, suc, ◌+◌, ◌*◌, ◌%◌, ◌^◌, ◌<◌, ◌≤◌, Bool, true, false, List, [], ◌∷◌, ◌++◌, cond, nat_lt, nat_eq, eqb, length, map, get_or, set, slice_index, slice_set, MatchBool, sym, refl, ap, subst, ◌∙◌, arith, eq-eqb, ne_eqb, inl, inr, ⊎_elim, length-set, get_or-set_other, get_or-set_same, append_assoc, length-append, lt-ltb, le-ltb}
+use Rattle.std.proofs.Common.{◌≡◌, ◌≢◌, ◌⊎◌, ℕ, zero, suc, ◌+◌, ◌*◌, ◌%◌, ◌^◌, ◌<◌, ◌≤◌, Bool, true, false, List, [], ◌∷◌, ◌++◌, cond, nat_lt, nat_eq, eqb, length, map, get_or, set, slice_index, slice_set, MatchBool, sym, refl, ap, subst, ◌∙◌, arith, eq-eqb, ne_eqb, inl, inr, ⊎_elim, length-set, get_or-set_other, get_or-set_same, append_assoc, length-append, lt-ltb, le-ltb, mod-eq_of_lt, append-nil}
 use Rattle.std.proofs.lemmas.Bool.{cases_lt}
 use mathlib.Core.Logic.{dite}
 use mathlib.Core.Option.{Option, none, some, some-injective, some-ne-none}
@@ -15,10 +15,10 @@ use Rattle.gates.specs.declared.view.Note.TheVariants.{Busy, Worn}
 use Rattle.gates.specs.declared.view.Knowledge.{Knowledge}
 use Rattle.gates.specs.declared.view.View.{View}
 use Rattle.gates.specs.Sets.{times, without}
-use Rattle.gates.specs.Rule.{word_of, AllLeave, total, Fits, EachFits, Names, weight, stands_for, armed_by, FitsView, IsFree, IsHeld, Ruled}
-use Rattle.gates.specs.Plays.{own, IsSingle, sees, notes, commits, all_see, knowing, taking, giving, GoesOn, EachGoesOn, Took, Missed, Tries, Arms, Commits, Gives, Meets}
+use Rattle.gates.specs.Rule.{word_of, AllLeave, total, Fits, EachFits, Names, weight, stands_for, armed_by, FitsView, IsFree, IsHeld, Ruled, AreHeld, commit_word}
+use Rattle.gates.specs.Plays.{first_of, own, IsSingle, sees, notes, commits, all_see, knowing, taking, giving, GoesOn, EachGoesOn, Took, Missed, Tries, Arms, BecomesArmed, FindsWorn, Commits, Gives, Meets}
 use Rattle.gates.proofs.Lists.{each_set, set_here, set_else, total-set, terms_le, total-less, times_here, times_else, without_here, without_else}
-use Rattle.gates.proofs.Frames.{part_left}
+use Rattle.gates.proofs.Frames.{AreOf, Agree, part_left, after_left, due_agrees}
 
 -- a word that is set to what it is
 set_same : (l : List ℕ) (i : ℕ) → set l i (get_or l i 0) ≡ l
@@ -39,3 +39,512 @@ module _ {T : Type 0} (v : View T) (single : IsSingle v) where
   own_stands =
       ap (λ (ks : List Knowledge). times (own v).number (map (λ (k : Knowledge). k.number) ks)) single
       ∙ times_here (own v).number []
+
+  own_weight : weight v ≡ 1
+  own_weight = ap (λ (ks : List Knowledge). length ks) single
+
+-- a pass that a stripe's word names
+module _ {T : Type 0} (words : List ℕ) (stripe : ℕ) (u : View T) (named : Names words stripe u.passes) where
+  named_single : IsSingle u
+  named_single = named.single ∙ ap (λ (k : Knowledge). k ∷ []) (sym (ap first_of named.single))
+
+  named_word : slice_index words (word_of stripe) ≡ (own u).number + 1
+  named_word = named.word ∙ ap (λ (k : Knowledge). k.number + 1) (sym (ap first_of named.single))
+
+word_not_zero : {T : Type 0} (words : List ℕ) (stripe : ℕ) (u : View T) → Names words stripe u.passes → slice_index words (word_of stripe) ≡ 0 → ⊥
+word_not_zero words stripe u named zero_word = omega (arith, named_word words stripe u named)
+
+names_at : (words later : List ℕ) (stripe : ℕ) (ps : List Knowledge) → slice_index later (word_of stripe) ≡ slice_index words (word_of stripe)
+    → Names words stripe ps → Names later stripe ps
+names_at words later stripe ps same named = record { knows = named.knows; single = named.single; word = same ∙ named.word }
+
+-- keys of held stripes are elsewhere than a stripe that is not held
+entry_leaves : (stripes stripe : ℕ) (held : List ℕ) (keys : List Bytes) → AreHeld stripes held keys → times stripe held ≡ 0 → AreElsewhere stripes stripe keys
+entry_leaves stripes stripe held [] all none_held = tt
+entry_leaves stripes stripe held (key ∷ keys) all none_held =
+    ((λ here. let h : 0 < times stripe held = subst (λ k. 0 < times k held) here all.0 in omega arith), entry_leaves stripes stripe held keys all.1 none_held)
+
+-- held keys, as a kind
+held_kind : (stripes : ℕ) (held : List ℕ) (keys : List Bytes) → AreHeld stripes held keys → AreOf (λ key. 0 < times (stripe_of stripes key) held) keys
+held_kind stripes held [] all = tt
+held_kind stripes held (key ∷ keys) all = (all.0, held_kind stripes held keys all.1)
+
+-- entries of another pass that leave what a pass holds
+each_later : (stripes : ℕ) (log : History) (entry : Entry) (held : List ℕ) (ps : List Knowledge)
+    → times entry.session (map (λ (k : Knowledge). k.number) ps) ≡ 0 → ((stripe : ℕ) → 0 < times stripe held → LeavesStripe stripes stripe entry.operation)
+    → EachFits stripes log held ps → EachFits stripes (entry ∷ log) held ps
+each_later stripes log entry held [] other leaves all = tt
+each_later stripes log entry held (k ∷ ks) other leaves all =
+    let ne : entry.session ≢ k.number = (λ e. let one : times entry.session (k.number ∷ map (λ (k : Knowledge). k.number) ks) ≡ 1 + times entry.session (map (λ (k : Knowledge). k.number) ks) = subst (λ m. times entry.session (m ∷ map (λ (k : Knowledge). k.number) ks) ≡ 1 + times entry.session (map (λ (k : Knowledge). k.number) ks)) e (times_here entry.session (map (λ (k : Knowledge). k.number) ks)) in omega arith) in
+    let ne' : k.number ≢ entry.session = (λ e. ne (sym e)) in
+    let f = all.0 in (
+      record {
+        more = entry ∷ f.more;
+        begins = ap (λ l. entry ∷ l) f.begins;
+        leave = λ stripe h. (leaves stripe h, f.leave stripe h);
+        mine = f.mine ∙ sym (ap (λ b. cond b ((length log, entry) ∷ subhistory log k.number) (subhistory log k.number)) (ne_eqb entry.session k.number ne));
+        mine_seen = f.mine_seen;
+      },
+      each_later stripes log entry held ks (sym (times_else entry.session k.number (map (λ (k : Knowledge). k.number) ks) ne') ∙ other) leaves all.1,
+    )
+
+module _ {T : Type 0} (contents : T → Store) (passes : ℕ) (s : State T (View T)) (ruled : Ruled contents passes s) (id : ℕ) (v : View T) (at : get_elem? s.views id ≡ some v) where
+  mine_fits : FitsView (length s.homes) s.words ruled.log v
+  mine_fits = ruled.views id v at
+
+  dealt_set : (w : View T) → weight w ≡ weight v → total weight (set s.views id w) ≡ passes
+  dealt_set w same = omega (arith, total-set weight s.views id v w at, ruled.dealt)
+
+  once_set : (w : View T) → ((number : ℕ) → stands_for number w ≡ stands_for number v) → (number : ℕ) → total (stands_for number) (set s.views id w) ≤ 1
+  once_set w same number = omega (arith, total-set (stands_for number) s.views id v w at, ruled.once number, same number)
+
+  module _ (single : IsSingle v) where
+    others_stand : (j : ℕ) (u : View T) → j ≢ id → get_elem? s.views j ≡ some u → stands_for (own v).number u ≡ 0
+    others_stand j u ne there =
+        omega (arith, own_stands v single, ruled.once (own v).number, terms_le (stands_for (own v).number) s.views id j v u ne at there)
+
+    number_apart : (j : ℕ) (u : View T) → j ≢ id → get_elem? s.views j ≡ some u → IsSingle u → (own u).number ≢ (own v).number
+    number_apart j u ne there u_single e =
+        let one : stands_for (own v).number u ≡ 1 = subst (λ q. stands_for q u ≡ 1) e (own_stands u u_single) in omega (arith, others_stand j u ne there)
+
+    -- no stripe is held twice
+    not_both : (stripe j : ℕ) (u : View T) → j ≢ id → get_elem? s.views j ≡ some u → 0 < times stripe v.held → 0 < times stripe u.held → ⊥
+    not_both stripe j u ne there mine theirs =
+        let a = (mine_fits.names stripe mine).1 in
+        let b = ((ruled.views j u there).names stripe theirs).1 in
+        let a_word = named_word s.words stripe v a in let b_word = named_word s.words stripe u b in
+        number_apart j u ne there (named_single s.words stripe u b) (omega arith)
+
+  -- a stripe that is held stays held
+  stays_held : (words : List ℕ) (homes : List (Option T)) (w : View T) (stripe : ℕ) → (0 < times stripe v.held → 0 < times stripe w.held)
+      → get_elem? homes stripe ≡ get_elem? s.homes stripe → IsHeld s stripe → IsHeld {T = T} record { words = words; homes = homes; views = set s.views id w } stripe
+  stays_held words homes w stripe keep same h = dite (ℕ_discrete h.seat id)
+      (λ e.
+          let is : h.view ≡ v = some-injective h.view v (sym h.there ∙ ap (get_elem? s.views) e ∙ at) in
+          record {
+            seat = id;
+            view = w;
+            there = set_here s.views id w v at;
+            holds = keep (subst (λ (x : View T). 0 < times stripe x.held) is h.holds);
+            away = same ∙ h.away;
+          })
+      (λ ne. record { seat = h.seat; view = h.view; there = set_else s.views id h.seat w ne ∙ h.there; holds = h.holds; away = same ∙ h.away })
+
+  -- another view, where the words of its stripes stay
+  fits_still : (words : List ℕ) (j : ℕ) (u : View T) → get_elem? s.views j ≡ some u
+      → ((stripe : ℕ) → 0 < times stripe u.held → slice_index words (word_of stripe) ≡ slice_index s.words (word_of stripe)) → FitsView (length s.homes) words ruled.log u
+  fits_still words j u there same =
+      let f = ruled.views j u there in
+      record {
+        fits = f.fits;
+        ready = f.ready;
+        names = λ stripe h. let t = f.names stripe h in (t.0, names_at s.words words stripe u.passes (same stripe h) t.1);
+      }
+
+  -- a step that changes no word and no slot
+  looks : (w : View T) → weight w ≡ weight v → ((number : ℕ) → stands_for number w ≡ stands_for number v)
+      → length ruled.log + total armed_by (set s.views id w) ≤ 2 ^ 62 + passes → FitsView (length s.homes) s.words ruled.log w
+      → ((stripe : ℕ) → 0 < times stripe v.held → 0 < times stripe w.held)
+      → Ruled contents passes record { words = s.words; homes = s.homes; views = set s.views id w }
+  looks w heavy stands room fits keep =
+      record {
+        log = ruled.log;
+        legal = ruled.legal;
+        wide = ruled.wide;
+        few = ruled.few;
+        counts = ruled.counts;
+        room = room;
+        dealt = dealt_set w heavy;
+        once = once_set w stands;
+        views = each_set (λ j u. FitsView (length s.homes) s.words ruled.log u) s.views id w fits (λ j u ne there. ruled.views j u there);
+        stripes = λ stripe h. ⊎_elim
+            (λ free. inl record { word = free.word; part = free.part; home = free.home; reads = free.reads })
+            (λ held. inr (stays_held s.words s.homes w stripe (keep stripe) refl held)) (ruled.stripes stripe h);
+      }
+
+-- a load leaves the words
+loaded : {T V : Type 0} (holds : State T V → Type 0) (s : State T V) (i id : ℕ) (w : V) → holds record { words = s.words; homes = s.homes; views = set s.views id w }
+    → holds record { words = slice_set s.words i (slice_index s.words i); homes = s.homes; views = set s.views id w }
+loaded {T} {V} holds s i id w h =
+    subst (λ (ws : List ℕ). holds record { words = ws; homes = s.homes; views = set s.views id w }) (sym (set_same s.words i)) h
+
+-- what the rule says of a view, with its one pass knowing something else of the same history
+same_fits : {T : Type 0} (n : ℕ) (words : List ℕ) (log : History) (v : View T) → IsSingle v → (knows : Knowledge) → knows.number ≡ (own v).number
+    → Fits n log v.held knows → FitsView n words log v → FitsView n words log (knowing v knows)
+same_fits n words log v single knows number fits f =
+    record {
+      fits = (fits, tt);
+      ready = omega (arith, own_weight v single, f.ready);
+      names = λ stripe h. let t = f.names stripe h in (
+        t.0,
+        record { knows = knows; single = refl; word = named_word words stripe v t.1 ∙ ap (λ (k : ℕ). k + 1) (sym number) },
+      );
+    }
+
+noted : (n : ℕ) (log : History) (held : List ℕ) (knows later : Knowledge) → later.number ≡ knows.number → later.seen ≡ knows.seen → later.mine ≡ knows.mine
+    → Fits n log held knows → Fits n log held later
+noted n log held knows later number seen mine f =
+    record {
+      more = f.more;
+      begins = f.begins ∙ ap (λ (l : History). f.more ++ l) (sym seen);
+      leave = f.leave;
+      mine = mine ∙ f.mine ∙ ap (λ (k : ℕ). subhistory log k) (sym number);
+      mine_seen = mine ∙ f.mine_seen ∙ ap (λ (k : ℕ). subhistory knows.seen k) (sym number) ∙ ap (λ (l : History). subhistory l later.number) (sym seen);
+    }
+
+set_there : {A : Type 0} (l : List A) (i : ℕ) (a : A) → i < length l → get_elem? (set l i a) i ≡ some a
+set_there [] i a h = absurd (omega arith)
+set_there (x ∷ xs) zero a h = refl
+set_there (x ∷ xs) (suc i) a h = set_there xs i a (omega arith)
+
+-- what fits with a stripe held fits without it
+fewer_held : (n : ℕ) (log : History) (i : ℕ) (held : List ℕ) (ps : List Knowledge) → EachFits n log held ps → EachFits n log (without i held) ps
+fewer_held n log i held [] all = tt
+fewer_held n log i held (k ∷ ks) all =
+    let f = all.0 in (
+      record {
+        more = f.more;
+        begins = f.begins;
+        leave = λ stripe h. dite (ℕ_discrete stripe i)
+            (λ e. let none_left : times stripe (without i held) ≡ 0 = ap (λ (j : ℕ). times j (without i held)) e ∙ without_here i held in absurd (omega arith))
+            (λ ne. f.leave stripe (omega (arith, without_else i stripe held ne)));
+        mine = f.mine;
+        mine_seen = f.mine_seen;
+      },
+      fewer_held n log i held ks all.1,
+    )
+
+module _ {T : Type 0} (contents : T → Store) (passes slots id : ℕ) where
+  -- A look at the commit word
+  pub arms : (m : Me T (View T)) → IsSingle m.0 → m.0.armed ≡ false
+      → Allows (Ruled contents passes) slots id m commit_word (λ n. n) (Arms (step slots commit_word 0 0 none) m)
+  arms m single unarmed s ruled wide at small =
+      let v = m.0 in
+      let found = slice_index s.words commit_word in
+      let none_armed : armed_by v ≡ 0 = ap (λ b. cond b 1 0) unarmed in
+      let one = own_weight v single in
+      ⊎_elim
+      (λ below.
+          let w : View T = record v { armed = true } in
+          let less = total-less armed_by weight s.views id v at (omega arith) (λ j u there. (ruled.views j u there).ready) in
+          let f = mine_fits contents passes s ruled id v at in (
+            w,
+            keeps,
+            tt,
+            loaded (Ruled contents passes) s commit_word id w (looks contents passes s ruled id v at w refl (λ q. refl)
+              (omega (arith, total-set armed_by s.views id v w at, ruled.counts, ruled.dealt))
+              record { fits = f.fits; ready = omega arith; names = f.names } (λ stripe h. h)),
+            subst (λ b. MatchBool b (BecomesArmed m (w, m.1)) (FindsWorn m (w, m.1))) (sym (lt-ltb found (2 ^ 62) below)) refl,
+          ))
+      (λ above.
+          let w : View T = knowing v (notes (own v) Worn) in
+          let f = mine_fits contents passes s ruled id v at in (
+            w,
+            keeps,
+            tt,
+            loaded (Ruled contents passes) s commit_word id w (looks contents passes s ruled id v at w (sym one)
+              (λ q. ap (λ (ks : List Knowledge). times q (map (λ (k : Knowledge). k.number) ks)) (sym single))
+              (omega (arith, total-set armed_by s.views id v w at, ruled.room))
+              (same_fits (length s.homes) s.words ruled.log v single (notes (own v) Worn) refl
+                (noted (length s.homes) ruled.log v.held (own v) (notes (own v) Worn) refl refl refl (own_fits v single (length s.homes) ruled.log f.fits)) f)
+              (λ stripe h. h)),
+            subst (λ b. MatchBool b (BecomesArmed m (w, m.1)) (FindsWorn m (w, m.1))) (sym (le-ltb found (2 ^ 62) above)) refl,
+          ))
+      (cases_lt found (2 ^ 62))
+
+  -- A commit
+  pub commits_step : (m : Me T (View T)) (entry : Entry) → IsSingle m.0 → m.0.armed ≡ true → entry.session ≡ (own m.0).number
+      → Legal (entry ∷ (own m.0).seen) → AreHeld slots m.0.held (keys_named entry.operation)
+      → Allows (Ruled contents passes) slots id m commit_word (λ n. (n + 1) % 2 ^ 64) (Commits entry (step slots commit_word 1 0 none) m)
+  commits_step m entry single armed session due_here keys s ruled wide at small =
+      let v = m.0 in
+      let log = ruled.log in
+      let n = length s.homes in
+      let found = slice_index s.words commit_word in
+      let one_armed : armed_by v ≡ 1 = ap (λ b. cond b 1 0) armed in
+      let f = mine_fits contents passes s ruled id v at in
+      let g : Fits n log v.held (own v) = own_fits v single n log f.fits in
+      let w : View T = record v { passes = commits (own v) log entry ∷ []; armed = false } in
+      let sum = total-set armed_by s.views id v w at in
+      let few = ruled.few in
+      let room = ruled.room in
+      let counts = ruled.counts in
+      let fits_word : found + 1 < 2 ^ 64 = omega arith in
+      let next : (found + 1) % 2 ^ 64 ≡ found + 1 = mod-eq_of_lt fits_word in
+      let held_keys : AreHeld n v.held (keys_named entry.operation) = subst (λ (k : ℕ). AreHeld k v.held (keys_named entry.operation)) (sym wide) keys in
+      let P : Bytes → Type 0 = λ key. 0 < times (stripe_of n key) v.held in
+      let agree : Agree P (after (own v).seen) (after log) = (λ key h. sym (ap (λ (l : History). after l key) g.begins ∙ after_left n (stripe_of n key) g.more (own v).seen key (g.leave (stripe_of n key) h) refl)) in
+      let legal : Legal (entry ∷ log) = (
+            ruled.legal,
+            due_here.1,
+            due_here.2 ∙ due_agrees P (own v).seen log entry.operation (held_kind n v.held (keys_named entry.operation) held_keys) agree,
+          ) in
+      let leaves : (stripe : ℕ) → times stripe v.held ≡ 0 → LeavesStripe n stripe entry.operation = (λ stripe h. entry_leaves n stripe v.held (keys_named entry.operation) held_keys h) in
+      let mine : (length log, entry) ∷ (own v).mine ≡ subhistory (entry ∷ log) (own v).number =
+            ap (λ (l : List (ℕ × Entry)). (length log, entry) ∷ l) g.mine
+            ∙ sym (ap (λ b. cond b ((length log, entry) ∷ subhistory log (own v).number) (subhistory log (own v).number)) (eq-eqb entry.session (own v).number session)) in
+      (
+        w,
+        keeps,
+        tt,
+        record {
+          log = entry ∷ log;
+          legal = legal;
+          wide = length-set s.words commit_word ((found + 1) % 2 ^ 64) ∙ ruled.wide;
+          few = few;
+          counts = get_or-set_same s.words commit_word ((found + 1) % 2 ^ 64) 0 (omega (arith, ruled.wide)) ∙ next ∙ omega arith;
+          room = omega (arith, sum);
+          dealt = dealt_set contents passes s ruled id v at w (sym (own_weight v single));
+          once = once_set contents passes s ruled id v at w (λ q. ap (λ (ks : List Knowledge). times q (map (λ (k : Knowledge). k.number) ks)) (sym single));
+          views = each_set (λ j u. FitsView n (set s.words commit_word ((found + 1) % 2 ^ 64)) (entry ∷ log) u) s.views id w
+              record {
+                fits = (
+                  record { more = []; begins = refl; leave = λ _ _. tt; mine = mine; mine_seen = mine },
+                  tt,
+                );
+                ready = omega arith;
+                names = λ stripe h. let t = f.names stripe h in (
+                  t.0,
+                  record {
+                    knows = commits (own v) log entry;
+                    single = refl;
+                    word = get_or-set_other s.words commit_word (word_of stripe) ((found + 1) % 2 ^ 64) 0 (λ e. omega arith) ∙ named_word s.words stripe v t.1;
+                  },
+                );
+              }
+              (λ j u ne there.
+                let old = ruled.views j u there in
+                record {
+                  fits = each_later n log entry u.held u.passes
+                      (ap (λ (k : ℕ). times k (map (λ (x : Knowledge). x.number) u.passes)) session ∙ others_stand contents passes s ruled id v at single j u ne there)
+                      (λ stripe h. leaves stripe (omega (arith, λ (mine_too : 0 < times stripe v.held). not_both contents passes s ruled id v at single stripe j u ne there mine_too h)))
+                      old.fits;
+                  ready = old.ready;
+                  names = λ stripe h. let t = old.names stripe h in (
+                    t.0,
+                    names_at s.words (set s.words commit_word ((found + 1) % 2 ^ 64)) stripe u.passes
+                    (get_or-set_other s.words commit_word (word_of stripe) ((found + 1) % 2 ^ 64) 0 (λ e. omega arith)) t.1,
+                  );
+                });
+          stripes = λ stripe h. ⊎_elim
+              (λ free. inl record {
+                word = get_or-set_other s.words commit_word (word_of stripe) ((found + 1) % 2 ^ 64) 0 (λ e. omega arith) ∙ free.word;
+                part = free.part;
+                home = free.home;
+                reads = part_left n stripe (contents free.part) (entry ∷ []) log
+                    (leaves stripe (omega (arith, λ (mine_too : 0 < times stripe v.held). word_not_zero s.words stripe v ((f.names stripe mine_too).1) free.word)), tt) free.reads;
+              })
+              (λ held. inr (stays_held contents passes s ruled id v at (set s.words commit_word ((found + 1) % 2 ^ 64)) s.homes w stripe (λ x. x) refl held)) (ruled.stripes stripe h);
+        },
+        record {
+          before = log;
+          goes_on = record {
+            more = g.more;
+            begins = g.begins;
+            leave = subst (λ (k : ℕ). (stripe : ℕ) → 0 < times stripe v.held → AllLeave k stripe g.more) wide g.leave;
+            legal = ruled.legal;
+            mine = g.mine;
+          };
+          place = counts;
+          legal = legal;
+          mine = mine;
+          seat = refl;
+        },
+      )
+
+  -- One try of a stripe that the pass does not hold
+  pub tries : (m : Me T (View T)) (i : ℕ) → IsSingle m.0 → i < slots → times i m.0.held ≡ 0 → (own m.0).number + 1 < 2 ^ 64
+      → Allows (Ruled contents passes) slots id m (word_of i) (λ n. either (eqb n 0) ((own m.0).number + 1) n)
+      (Tries contents (step slots (word_of i) 0 ((own m.0).number + 1) none) m)
+  tries m i single below none_held small_number s ruled wide at small =
+      let v = m.0 in
+      let n = length s.homes in
+      let words = s.words in
+      let found = slice_index words (word_of i) in
+      let f = mine_fits contents passes s ruled id v at in
+      let g : Fits n ruled.log v.held (own v) = own_fits v single n ruled.log f.fits in
+      let then : ℕ → Me T (View T) → Type 0 = Tries contents (step slots (word_of i) 0 ((own v).number + 1) none) m in
+      let Goal : ℕ → Type 0 = λ x. (w : View T) × (a : Act T) × Valid s.homes m.1 a × Ruled contents passes (stepped s (word_of i) x id m.1 w a) × then found (w, carried_after m.1 a) in
+      let at_stripe : (w : Me T (View T)) (b : Bool) → nat_eq found 0 ≡ b → MatchBool b (Took contents slots i m w) (Missed i found m w) → then found w =
+            (λ w b is told stripe e.
+              let same : i ≡ stripe = omega arith in
+              subst (λ (k : ℕ). MatchBool (nat_eq found 0) (Took contents slots k m w) (Missed k found m w)) same
+              (subst (λ c. MatchBool c (Took contents slots i m w) (Missed i found m w)) (sym is) told)) in
+      dite (ℕ_discrete found 0)
+      (λ zero_word.
+          subst (λ b. Goal (either b ((own v).number + 1) found)) (sym (eq-eqb found 0 zero_word))
+          (⊎_elim
+            (λ free.
+              let w : View T = taking v i free.part ruled.log in
+              let later = set words (word_of i) ((own v).number + 1) in
+              (
+                w,
+                takes i free.part,
+                free.home,
+                record {
+                  log = ruled.log;
+                  legal = ruled.legal;
+                  wide = length-set words (word_of i) ((own v).number + 1) ∙ ruled.wide ∙ ap word_of (sym (length-set s.homes i none));
+                  few = ruled.few;
+                  counts = get_or-set_other words (word_of i) commit_word ((own v).number + 1) 0 (λ e. omega arith) ∙ ruled.counts;
+                  room = omega (arith, total-set armed_by s.views id v w at, ruled.room);
+                  dealt = dealt_set contents passes s ruled id v at w (sym (own_weight v single));
+                  once = once_set contents passes s ruled id v at w (λ q. ap (λ (ks : List Knowledge). times q (map (λ (k : Knowledge). k.number) ks)) (sym single));
+                  views = let same_size : length (set s.homes i none) ≡ n = length-set s.homes i none in
+                    subst (λ (k : ℕ). (j : ℕ) (u : View T) → get_elem? (set s.views id w) j ≡ some u → FitsView k later ruled.log u) (sym same_size)
+                    (each_set (λ j u. FitsView n later ruled.log u) s.views id w
+                      record {
+                        fits = (record { more = []; begins = refl; leave = λ _ _. tt; mine = g.mine; mine_seen = g.mine }, tt);
+                        ready = omega (arith, own_weight v single, f.ready);
+                        names = λ stripe h. dite (ℕ_discrete stripe i)
+                            (λ e. (
+                              omega arith,
+                              record {
+                                knows = sees (own v) ruled.log;
+                                single = refl;
+                                word = ap (λ (k : ℕ). slice_index later (word_of k)) e ∙ get_or-set_same words (word_of i) ((own v).number + 1) 0 (omega (arith, ruled.wide));
+                              },
+                            ))
+                            (λ ne.
+                              let t = f.names stripe (omega (arith, times_else stripe i v.held (λ e. ne (sym e)))) in (
+                                t.0,
+                                record {
+                                  knows = sees (own v) ruled.log;
+                                  single = refl;
+                                  word = other_word words i stripe ((own v).number + 1) ne ∙ named_word words stripe v t.1;
+                                },
+                              ));
+                      }
+                      (λ j u ne there. fits_still contents passes s ruled id v at later j u there
+                        (λ stripe h. other_word words i stripe ((own v).number + 1)
+                          (λ e. word_not_zero words i u (((ruled.views j u there).names i (subst (λ (k : ℕ). 0 < times k u.held) e h)).1) zero_word))));
+                  stripes = let same_size : length (set s.homes i none) ≡ n = length-set s.homes i none in
+                    λ stripe h. dite (ℕ_discrete stripe i)
+                    (λ e. inr record {
+                      seat = id;
+                      view = w;
+                      there = set_here s.views id w v at;
+                      holds = subst (λ (k : ℕ). 0 < times k (i ∷ v.held)) (sym e) (omega (arith, times_here i v.held));
+                      away = ap (get_elem? (set s.homes i none)) e ∙ set_here s.homes i none (some free.part) free.home;
+                    })
+                    (λ ne. ⊎_elim
+                      (λ other. inl record {
+                        word = other_word words i stripe ((own v).number + 1) ne ∙ other.word;
+                        part = other.part;
+                        home = set_else s.homes i stripe none ne ∙ other.home;
+                        reads = subst (λ (k : ℕ). IsPart k stripe (contents other.part) (after ruled.log)) (sym same_size) other.reads;
+                      })
+                      (λ held. inr (stays_held contents passes s ruled id v at later (set s.homes i none) w stripe
+                        (λ x. omega (arith, times_else stripe i v.held (λ e. ne (sym e)))) (set_else s.homes i stripe none ne) held))
+                      (ruled.stripes stripe (omega (arith, same_size))));
+                },
+                at_stripe (w, (i, free.part) ∷ m.1) true (eq-eqb found 0 zero_word)
+                  record {
+                    part = free.part;
+                    log = ruled.log;
+                    goes_on = record {
+                      more = g.more;
+                      begins = g.begins;
+                      leave = subst (λ (k : ℕ). (stripe : ℕ) → 0 < times stripe v.held → AllLeave k stripe g.more) wide g.leave;
+                      legal = ruled.legal;
+                      mine = g.mine;
+                    };
+                    reads = subst (λ (k : ℕ). IsPart k i (contents free.part) (after ruled.log)) wide free.reads;
+                    seat = refl;
+                  },
+              ))
+            (λ held. let t = (ruled.views held.seat held.view held.there).names i held.holds in absurd (word_not_zero words i held.view t.1 zero_word))
+            (ruled.stripes i (omega arith))))
+      (λ other_word'.
+          subst (λ b. Goal (either b ((own v).number + 1) found)) (sym (ne_eqb found 0 other_word'))
+          (
+            let w : View T = knowing v (notes (own v) (Busy i)) in
+            let others : found ≢ (own v).number + 1 = (λ e. ⊎_elim (λ free. other_word' free.word)
+                  (λ held.
+                    let t = (ruled.views held.seat held.view held.there).names i held.holds in
+                    let same : (own held.view).number ≡ (own v).number = omega (arith, named_word words i held.view t.1) in
+                    dite (ℕ_discrete held.seat id)
+                    (λ here.
+                      let is : held.view ≡ v = some-injective held.view v (sym held.there ∙ ap (get_elem? s.views) here ∙ at) in
+                      let h : 0 < times i v.held = subst (λ (x : View T). 0 < times i x.held) is held.holds in
+                      omega arith)
+                    (λ ne. number_apart contents passes s ruled id v at single held.seat held.view ne held.there (named_single words i held.view t.1) same))
+                  (ruled.stripes i (omega arith))) in
+            (
+              w,
+              keeps,
+              tt,
+              loaded (Ruled contents passes) s (word_of i) id w (looks contents passes s ruled id v at w (sym (own_weight v single))
+                (λ q. ap (λ (ks : List Knowledge). times q (map (λ (k : Knowledge). k.number) ks)) (sym single))
+                (omega (arith, total-set armed_by s.views id v w at, ruled.room))
+                (same_fits n words ruled.log v single (notes (own v) (Busy i)) refl
+                  (noted n ruled.log v.held (own v) (notes (own v) (Busy i)) refl refl refl g) f)
+                (λ stripe h. h)),
+              at_stripe (w, m.1) false (ne_eqb found 0 other_word') record { others = others; seat = refl },
+            )
+          ))
+
+  -- The stripe in front is given back
+  pub gives_back : (v : View T) (i : ℕ) (part : T) (more : List (ℕ × T)) → IsSingle v → 0 < times i v.held → IsPart slots i (contents part) (after (own v).seen)
+      → Allows (Ruled contents passes) slots id (v, (i, part) ∷ more) (word_of i) (λ _. 0)
+      (λ _. Gives (step slots (word_of i) 0 0 none) (v, (i, part) ∷ more) 0)
+  gives_back v i part more single mine_held reads s ruled wide at small =
+      let n = length s.homes in
+      let words = s.words in
+      let f = mine_fits contents passes s ruled id v at in
+      let g : Fits n ruled.log v.held (own v) = own_fits v single n ruled.log f.fits in
+      let w : View T = giving v i in
+      let later = set words (word_of i) 0 in
+      let homes = set s.homes i (some part) in
+      let same_size : length homes ≡ n = length-set s.homes i (some part) in
+      let below : i < n = (f.names i mine_held).0 in
+      let reads_now : IsPart n i (contents part) (after ruled.log) =
+            subst (λ (l : History). IsPart n i (contents part) (after l)) (sym g.begins)
+            (part_left n i (contents part) g.more (own v).seen (g.leave i mine_held) (subst (λ (k : ℕ). IsPart k i (contents part) (after (own v).seen)) (sym wide) reads)) in
+      (
+        w,
+        gives,
+        tt,
+        record {
+          log = ruled.log;
+          legal = ruled.legal;
+          wide = length-set words (word_of i) 0 ∙ ruled.wide ∙ ap word_of (sym same_size);
+          few = ruled.few;
+          counts = get_or-set_other words (word_of i) commit_word 0 0 (λ e. omega arith) ∙ ruled.counts;
+          room = omega (arith, total-set armed_by s.views id v w at, ruled.room);
+          dealt = dealt_set contents passes s ruled id v at w refl;
+          once = once_set contents passes s ruled id v at w (λ q. refl);
+          views = subst (λ (k : ℕ). (j : ℕ) (u : View T) → get_elem? (set s.views id w) j ≡ some u → FitsView k later ruled.log u) (sym same_size)
+              (each_set (λ j u. FitsView n later ruled.log u) s.views id w
+                record {
+                  fits = fewer_held n ruled.log i v.held v.passes f.fits;
+                  ready = f.ready;
+                  names = λ stripe h.
+                      let ne : stripe ≢ i = (λ e. let none_left : times stripe (without i v.held) ≡ 0 = ap (λ (k : ℕ). times k (without i v.held)) e ∙ without_here i v.held in omega arith) in
+                      let t = f.names stripe (omega (arith, without_else i stripe v.held ne)) in
+                      (t.0, names_at words later stripe v.passes (other_word words i stripe 0 ne) t.1);
+                }
+                (λ j u ne there. fits_still contents passes s ruled id v at later j u there
+                  (λ stripe h. other_word words i stripe 0
+                    (λ e. not_both contents passes s ruled id v at single i j u ne there mine_held (subst (λ (k : ℕ). 0 < times k u.held) e h)))));
+          stripes = λ stripe h. dite (ℕ_discrete stripe i)
+              (λ e. inl record {
+                word = ap (λ (k : ℕ). slice_index later (word_of k)) e ∙ get_or-set_same words (word_of i) 0 0 (omega (arith, ruled.wide));
+                part = part;
+                home = ap (get_elem? homes) e ∙ set_there s.homes i (some part) below;
+                reads = subst (λ (k : ℕ). IsPart k stripe (contents part) (after ruled.log)) (sym same_size)
+                    (subst (λ (k : ℕ). IsPart n k (contents part) (after ruled.log)) (sym e) reads_now);
+              })
+              (λ ne. ⊎_elim
+                (λ other. inl record {
+                  word = other_word words i stripe 0 ne ∙ other.word;
+                  part = other.part;
+                  home = set_else s.homes i stripe (some part) ne ∙ other.home;
+                  reads = subst (λ (k : ℕ). IsPart k stripe (contents other.part) (after ruled.log)) (sym same_size) other.reads;
+                })
+                (λ held. inr (stays_held contents passes s ruled id v at later homes w stripe
+                  (λ x. omega (arith, without_else i stripe v.held ne)) (set_else s.homes i stripe (some part) ne) held))
+                (ruled.stripes stripe (omega (arith, same_size))));
+        },
+        λ stripe e. let same : i ≡ stripe = omega arith in ap (λ (k : ℕ). (giving v k, more)) same,
+      )

@@ -114,10 +114,17 @@ module _ {T : Type 0} where
   Tries contents st m found w =
       (stripe : ℕ) → st.word ≡ word_of stripe → MatchBool (nat_eq found 0) (Took contents st.slots stripe m w) (Missed stripe found m w)
 
+  -- the seat may add to the commit word once
+  abbrev pub BecomesArmed : Me T (View T) → Me T (View T) → Type 0
+  BecomesArmed m w = w ≡ (record (m.0) { armed = true }, m.1)
+
+  -- the commit word was read at 2^62 or more
+  abbrev pub FindsWorn : Me T (View T) → Me T (View T) → Type 0
+  FindsWorn m w = w ≡ (knowing m.0 (notes (own m.0) Worn), m.1)
+
   -- a look at the commit word before a commit
   abbrev pub Arms : Step T → Me T (View T) → ℕ → Me T (View T) → Type 0
-  Arms st m found w =
-      MatchBool (nat_lt found (2 ^ 62)) (w ≡ (record (m.0) { armed = true }, m.1)) (w ≡ (knowing m.0 (notes (own m.0) Worn), m.1))
+  Arms st m found w = MatchBool (nat_lt found (2 ^ 62)) (BecomesArmed m w) (FindsWorn m w)
 
   -- a commit: the pass has seen the whole history, with its own entry as the newest, whose position is the number found
   pub record Commits (entry : Entry) (st : Step T) (m : Me T (View T)) (found : ℕ) (w : Me T (View T)) : Type 0 where

@@ -4,9 +4,9 @@ use mathlib.Core.Option.{Option, none, some}
 use lib.ListN.{get_elem?}
 use Rattle.atomic_table.specs.Table.{State}
 use Rattle.words.specs.declared.history.Entry.{Entry}
-use Rattle.words.specs.Store.{Store}
+use Rattle.words.specs.Store.{Bytes, Store}
 use Rattle.words.specs.History.{History, Legal, after, subhistory}
-use Rattle.words.specs.Stripes.{IsPart, LeavesStripe}
+use Rattle.words.specs.Stripes.{IsPart, LeavesStripe, stripe_of}
 use Rattle.gates.specs.declared.view.Note.{Note}
 use Rattle.gates.specs.declared.view.Knowledge.{Knowledge}
 use Rattle.gates.specs.declared.view.View.{View}
@@ -95,3 +95,8 @@ module _ {T : Type 0} where
     pub once : (number : ℕ) → total (stands_for number) s.views ≤ 1
     pub views : (seat : ℕ) (v : View T) → get_elem? s.views seat ≡ some v → FitsView (length s.homes) s.words log v
     pub stripes : (stripe : ℕ) → stripe < length s.homes → IsFree contents s log stripe ⊎ IsHeld s stripe
+
+-- each key belongs to a stripe of the list
+abbrev pub AreHeld : (stripes : ℕ) (held : List ℕ) → List Bytes → Type 0
+AreHeld stripes held [] = Unit {0}
+AreHeld stripes held (key ∷ keys) = (0 < times (stripe_of stripes key) held) × AreHeld stripes held keys

@@ -102,11 +102,13 @@ length_past left size n byte rest some low high fits past =
 pub length_other : (left size n byte : ℕ) (rest : Bytes) → byte ≢ 13 → (byte < 48) ⊎ (57 < byte) → front_from (Length left size (Some n)) (byte ∷ rest) ≡ Faulty BadLength
 length_other left size n byte rest differs other = front_by_step (Length left size (Some n)) byte rest (Fails BadLength) (rw (ne_eqb byte 13 differs, no_digit byte other) refl)
 
+after_zero : (b : Bool) (does : Step) → cond (b && false) does (Fails BadLength) ≡ Fails BadLength
+after_zero true does = refl
+after_zero false does = refl
+
 pub length_after_zero : (left size byte : ℕ) (rest : Bytes) → byte ≢ 13 → front_from (Length left size (Some 0)) (byte ∷ rest) ≡ Faulty BadLength
-length_after_zero left size byte rest differs = front_by_step (Length left size (Some 0)) byte rest (Fails BadLength) (rw (ne_eqb byte 13 differs) (after_zero (is_digit byte) left size byte)) where
-  after_zero : (b : Bool) (left size byte : ℕ) → cond (b && false) (with_length left size (byte - 48)) (Fails BadLength) ≡ Fails BadLength
-  after_zero true left size byte = refl
-  after_zero false left size byte = refl
+length_after_zero left size byte rest differs =
+    front_by_step (Length left size (Some 0)) byte rest (Fails BadLength) (rw (ne_eqb byte 13 differs) (after_zero (is_digit byte) (with_length left size (10 * 0 + (byte - 48)))))
 
 pub length_end_due : (left size n byte : ℕ) (rest : Bytes) → byte ≢ 10 → front_from (LengthEnd left size n) (byte ∷ rest) ≡ Faulty MissingLineEnd
 length_end_due left size n byte rest differs = front_by_step (LengthEnd left size n) byte rest (Fails MissingLineEnd) (rw (ne_eqb byte 10 differs) refl)

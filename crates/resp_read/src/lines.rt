@@ -1,7 +1,7 @@
 //! The lines of a request: a sign, a number and a line end, and the line end after the bytes of a
 //! word.
 
-ghost use Rattle.std.specs.Prelude.{◌≡◌, ◌≤◌};
+ghost use Rattle.std.specs.Prelude.{◌≡◌, ◌+◌, ◌<◌, ◌≤◌, ◌⊎◌, MatchOption};
 ghost use Rattle.resp_read.specs.Lines.{TellsNumber, TellsCount, TellsLength, TellsDataEnd};
 
 use words::limits::{REQUEST_BYTES_MAX, WORD_BYTES_MAX, WORDS_MAX};
@@ -30,6 +30,17 @@ pub(crate) enum DataEnd {
     Missing,
 }
 
+/// The number that an ASCII digit spells, or `None` where the byte is no digit.
+#[inline(always)]
+fn digit_of(byte: u8) -> Option<usize>
+    ensures { MatchOption result ((byte < 48) ⊎ (57 < byte)) (λ digit. (digit ≤ 9) × (byte ≡ 48 + digit)) }
+{
+    match byte {
+        b'0'..=b'9' => Some(usize::from(byte - b'0')),
+        _ => None,
+    }
+}
+
 /// Reads the end of a line whose sign, number and CR have `width - 1` bytes: an LF.
 #[inline(always)]
 fn line_end(value: usize, width: usize, rest: &[u8]) -> Line
@@ -54,13 +65,14 @@ pub(crate) fn count_line(bytes: &[u8]) -> Line
     };
     let mut count = 0;
     for (at, &byte) in digits.iter().enumerate() {
-        match byte {
-            b'\r' if count > 0 => return line_end(count, at + 3, &digits[at + 1..]),
-            b'0' if count == 0 => return Line::Faulty(ProtocolFault::BadCount),
-            b'0'..=b'9' => count = 10 * count + usize::from(byte - b'0'),
-            _ => return Line::Faulty(ProtocolFault::BadCount),
-        }
-        if count > WORDS_MAX {
+        let Some(digit) = digit_of(byte) else {
+            if byte == b'\r' && at > 0 {
+                return line_end(count, at + 3, &digits[at + 1..]);
+            }
+            return Line::Faulty(ProtocolFault::BadCount);
+        };
+        count = 10 * count + digit;
+        if count == 0 || count > WORDS_MAX {
             return Line::Faulty(ProtocolFault::BadCount);
         }
     }
@@ -81,13 +93,16 @@ pub(crate) fn length_line(size: usize, bytes: &[u8]) -> Line
     };
     let mut length = 0;
     for (at, &byte) in digits.iter().enumerate() {
-        match byte {
-            b'\r' if at > 0 => return line_end(length, at + 3, &digits[at + 1..]),
-            b'0'..=b'9' if at == 0 || length > 0 => {
-                length = 10 * length + usize::from(byte - b'0');
+        let Some(digit) = digit_of(byte) else {
+            if byte == b'\r' && at > 0 {
+                return line_end(length, at + 3, &digits[at + 1..]);
             }
-            _ => return Line::Faulty(ProtocolFault::BadLength),
+            return Line::Faulty(ProtocolFault::BadLength);
+        };
+        if at > 0 && length == 0 {
+            return Line::Faulty(ProtocolFault::BadLength);
         }
+        length = 10 * length + digit;
         if length > WORD_BYTES_MAX {
             return Line::Faulty(ProtocolFault::BadLength);
         }

@@ -9,3 +9,4 @@ pub mod History
 pub mod Stripes
 pub mod Session
 pub mod Frames
+pub mod StreamLaws

@@ -76,13 +76,72 @@ fn overwrite_all(page: &mut Page, value: &[u8])
     }
 }
 
+/// The least time of filling the page `ROUNDS` times.
+fn time_put(rt: &impl CpuClock, page: &mut Page, keys: &[Key], value: &[u8]) -> io::Result<Duration>
+    requires keys { length keys.now ≡ RECORDS }
+    requires value { length value.now ≡ 100 }
+{
+    let mut least = Duration::MAX;
+    for _ in 0..TRIES {
+        let start = rt.thread_cpu_time()?;
+        for _ in 0..ROUNDS {
+            fill(page, keys, value);
+        }
+        least = least.min(rt.thread_cpu_time()?.saturating_sub(start));
+    }
+    Ok(least)
+}
+
+/// The least time of reading each record `ROUNDS` times. The page's number changes each time, so
+/// that no read can be left out.
+fn time_read(rt: &impl CpuClock, page: &mut Page, keys: &[Key]) -> io::Result<(Duration, u64)>
+    requires { length keys.now ≡ RECORDS }
+{
+    let mut least = Duration::MAX;
+    let mut found: u64 = 0;
+    for _ in 0..TRIES {
+        let start = rt.thread_cpu_time()?;
+        for round in 0..ROUNDS {
+            page.bytes_mut()[0] = (round % 256) as u8;
+            found = found.wrapping_add(count_keys(page, keys) as u64);
+        }
+        least = least.min(rt.thread_cpu_time()?.saturating_sub(start));
+    }
+    Ok((least, found))
+}
+
+/// The least time of overwriting each record `ROUNDS` times.
+fn time_overwrite(rt: &impl CpuClock, page: &mut Page, value: &[u8]) -> io::Result<Duration>
+    requires laid_out { IsLaidOut page.old }
+    requires room { (k : ℕ) → k < RECORDS → HasRoomAt (records_of page.old) (16 + 144 * k) 100 }
+    requires value { length value.now ≡ 100 }
+{
+    let mut least = Duration::MAX;
+    for _ in 0..TRIES {
+        let start = rt.thread_cpu_time()?;
+        for _ in 0..ROUNDS {
+            overwrite_all(page, value);
+        }
+        least = least.min(rt.thread_cpu_time()?.saturating_sub(start));
+    }
+    Ok(least)
+}
+
 /// Prints the time of one call, in hundredths of a nanosecond.
 fn report(rt: &impl Print, what: &str, least: Duration) -> io::Result<()> {
     let calls = u128::from(ROUNDS) * RECORDS as u128;
-    let hundredths = least.as_nanos() * 100 / calls;
+    let hundredths = u64::try_from(least.as_nanos() * 100 / calls).unwrap_or(u64::MAX);
     println!(rt; "{what} {}.{:02} ns", hundredths / 100, hundredths % 100)
 }
 
 fn main(rt: HostRuntime) -> io::Result<()> {
-    Ok(())
+    let keys = keys();
+    let value = [b'v'; 100];
+    let mut page = Page::new(1);
+    report(&rt, "put_record", time_put(&rt, &mut page, &keys, &value)?)?;
+    fill(&mut page, &keys, &value);
+    report(&rt, "overwrite", time_overwrite(&rt, &mut page, &value)?)?;
+    let (least, found) = time_read(&rt, &mut page, &keys)?;
+    report(&rt, "record_at", least)?;
+    println!(rt; "{found} found, used end {}", page.used_end())
 }

@@ -1,4 +1,4 @@
-use Rattle.std.proofs.Common.{◌≡◌, ◌+◌, ◌-◌, ◌<◌, length, ap, ◌∙◌, refl, arith}
+use Rattle.std.proofs.Common.{◌≡◌, ◌-◌, ◌<◌, length, ap, ◌∙◌, refl, arith}
 use Rattle.frames.specs.Resident.{Resident, page_of, with_page, next_number}
 use Rattle.frames.proofs.Windows.{length-window}
 use Rattle.frames.proofs.Shown.{shown-set, get_or-shown}

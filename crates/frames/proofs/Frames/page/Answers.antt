@@ -1,4 +1,4 @@
-use Rattle.std.proofs.Common.{◌≡◌, ◌+◌, ◌-◌, ◌<◌, length, ap, ◌∙◌, arith}
+use Rattle.std.proofs.Common.{◌≡◌, ◌-◌, ◌<◌, length, ap, ◌∙◌, arith}
 use Rattle.frames.specs.Resident.{page_of, next_number}
 use Rattle.frames.proofs.Windows.{length-window}
 use Rattle.frames.proofs.Shown.{get_or-shown}

@@ -1,0 +1,78 @@
+-- Known bytes over several reads and writes.
+use Rattle.std.proofs.Common.{◌≡◌, ℕ, ◌<◌, ◌≤◌, ◌-◌, List, [], ◌++◌, length, take, drop, Option, Some, None, Result, Ok, Err, refl, sym, ap, ◌∙◌, append_assoc, append-nil, arith}
+use Rattle.std.specs.Io.KnownBytes.{Appends, Consumes, Keeps, IsAtEnd}
+use Rattle.std.proofs.lemmas.Grind.{common_steps}
+use Rattle.std.proofs.lemmas.List.{take-append-drop}
+use Rattle.connection.specs.Streams.{AppendsBeginning, IsSent, IsRead}
+use Rattle.connection.specs.declared.noted.Input.{Input}
+use Rattle.connection.specs.declared.noted.Input.TheVariants.{Bytes, End, Failure}
+
+pub Keeps-same : (u : Option (List ℕ)) → Keeps u u
+Keeps-same None = tt
+Keeps-same (Some xs) = refl
+
+pub Keeps-then : (u v w : Option (List ℕ)) → Keeps u v → Keeps v w → Keeps u w
+Keeps-then None v w x y = tt
+Keeps-then (Some xs) None w x y = absurd x
+Keeps-then (Some xs) (Some ys) None x y = absurd y
+Keeps-then (Some xs) (Some ys) (Some zs) x y = y ∙ x
+
+pub Appends-none : (u v : Option (List ℕ)) → Keeps u v → Appends u v []
+Appends-none None v x = tt
+Appends-none (Some xs) None x = absurd x
+Appends-none (Some xs) (Some ys) x = x ∙ sym (append-nil xs)
+
+pub Appends-then : (u v w : Option (List ℕ)) (a b : List ℕ) → Appends u v a → Appends v w b → Appends u w (a ++ b)
+Appends-then None v w a b x y = tt
+Appends-then (Some xs) None w a b x y = absurd x
+Appends-then (Some xs) (Some ys) None a b x y = absurd y
+Appends-then (Some xs) (Some ys) (Some zs) a b x y = y ∙ ap (λ (t : List ℕ). t ++ b) x ∙ append_assoc xs a b
+
+pub Keeps-Appends : (u v w : Option (List ℕ)) (a : List ℕ) → Keeps u v → Appends v w a → Appends u w a
+Keeps-Appends None v w a x y = tt
+Keeps-Appends (Some xs) None w a x y = absurd x
+Keeps-Appends (Some xs) (Some ys) None a x y = absurd y
+Keeps-Appends (Some xs) (Some ys) (Some zs) a x y = y ∙ ap (λ (t : List ℕ). t ++ a) x
+
+pub Appends-Keeps : (u v w : Option (List ℕ)) (a : List ℕ) → Appends u v a → Keeps v w → Appends u w a
+Appends-Keeps None v w a x y = tt
+Appends-Keeps (Some xs) None w a x y = absurd x
+Appends-Keeps (Some xs) (Some ys) None a x y = absurd y
+Appends-Keeps (Some xs) (Some ys) (Some zs) a x y = y ∙ x
+
+pub Consumes-none : (u v : Option (List ℕ)) → Keeps u v → Consumes u v []
+Consumes-none None v x = tt
+Consumes-none (Some xs) None x = absurd x
+Consumes-none (Some xs) (Some ys) x = sym x
+
+pub Consumes-then : (u v w : Option (List ℕ)) (a b : List ℕ) → Consumes u v a → Consumes v w b → Consumes u w (a ++ b)
+Consumes-then None v w a b x y = tt
+Consumes-then (Some xs) None w a b x y = absurd x
+Consumes-then (Some xs) (Some ys) None a b x y = absurd y
+Consumes-then (Some xs) (Some ys) (Some zs) a b x y = x ∙ ap (λ (t : List ℕ). a ++ t) y ∙ sym (append_assoc a b zs)
+
+pub Keeps-Consumes : (u v w : Option (List ℕ)) (a : List ℕ) → Keeps u v → Consumes v w a → Consumes u w a
+Keeps-Consumes None v w a x y = tt
+Keeps-Consumes (Some xs) None w a x y = absurd x
+Keeps-Consumes (Some xs) (Some ys) None a x y = absurd y
+Keeps-Consumes (Some xs) (Some ys) (Some zs) a x y = sym x ∙ y
+
+-- what is left after a part is sent
+pub rest_sent : (text sent rest : List ℕ) (count : ℕ) → text ≡ sent ++ rest → text ≡ (sent ++ take count rest) ++ take (length rest - count) (drop count rest)
+rest_sent text sent rest count is = is ∙ ap (λ (t : List ℕ). sent ++ t) (sym (take-append-drop count rest)) ∙ sym (append_assoc sent _ _) ∙ ap (λ (t : List ℕ). (sent ++ take count rest) ++ t) (sym (take_whole count rest))
+  where
+    take_whole : (n : ℕ) (xs : List ℕ) → take (length xs - n) (drop n xs) ≡ drop n xs
+    take_whole n xs = grind (arith, common_steps)
+
+pub IsSent-then : {E : Type 0} (u v w : Option (List ℕ)) (r : Result (Unit {0}) E) (a b : List ℕ) → Appends u v a → IsSent v w r b → IsSent u w r (a ++ b)
+IsSent-then u v w (Ok done) a b x y = Appends-then u v w a b x y
+IsSent-then u v w (Err fault) a b x y =
+    (a ++ y.0, y.1, ap (λ (t : List ℕ). a ++ t) y.2 ∙ sym (append_assoc a y.0 y.1), Appends-then u v w a y.0 x y.3)
+
+-- a part is cut where a text that it begins is cut
+pub AppendsBeginning-more : (u v : Option (List ℕ)) (a b : List ℕ) → AppendsBeginning u v a → AppendsBeginning u v (a ++ b)
+AppendsBeginning-more u v a b x = (x.0, x.1 ++ b, ap (λ (t : List ℕ). t ++ b) x.2 ∙ append_assoc x.0 x.1 b, x.3)
+
+-- and where one after it is
+pub AppendsBeginning-then : (u v w : Option (List ℕ)) (a b : List ℕ) → Appends u v a → AppendsBeginning v w b → AppendsBeginning u w (a ++ b)
+AppendsBeginning-then u v w a b x y = (a ++ y.0, y.1, ap (λ (t : List ℕ). a ++ t) y.2 ∙ sym (append_assoc a y.0 y.1), Appends-then u v w a y.0 x y.3)
