@@ -103,11 +103,17 @@ fn record_at(page: &Page, offset: usize) -> Result<Record<'_>, NotARecord> {
 }
 
 fn write_value(room: &mut [u8], value: Option<&[u8]>) {
-    let (value_part, spare) = room.split_at_mut(value.map_or(0, <[u8]>::len));
     if let Some(bytes) = value {
-        value_part.copy_from_slice(bytes);
+        room[..bytes.len()].copy_from_slice(bytes);
     }
-    spare.fill(0);
+}
+
+fn replace_value(room: &mut [u8], old_length: usize, value: Option<&[u8]>) {
+    let length = value.map_or(0, <[u8]>::len);
+    write_value(room, value);
+    if length < old_length {
+        room[length..old_length].fill(0);
+    }
 }
 
 fn put_record(
@@ -144,13 +150,22 @@ fn put_record(
 
 fn overwrite(page: &mut Page, offset: usize, value: Option<&[u8]>) {
     let key_length = u16_at(&page.bytes, offset + 16) as usize;
+    let old_length = u16_at(&page.bytes, offset + 18) as usize;
     let capacity = u16_at(&page.bytes, offset + 20) as usize;
     let end = offset + RECORD_HEADER + key_length + capacity;
     let slot = &mut page.bytes[offset..end];
     let value_length = value.map_or(0, <[u8]>::len);
     slot[18..20].copy_from_slice(&(value_length as u16).to_le_bytes());
     slot[22] = if value.is_some() { 1 } else { 2 };
-    write_value(&mut slot[RECORD_HEADER + key_length..], value);
+    replace_value(&mut slot[RECORD_HEADER + key_length..], old_length, value);
+}
+
+/// A record to put, and to look for. Lengths are read from here as the program runs, so that no
+/// compiler knows them.
+#[derive(Clone, Copy)]
+struct Item<'a> {
+    key: &'a [u8],
+    value: &'a [u8],
 }
 
 fn keys() -> [Key; RECORDS] {
@@ -161,20 +176,24 @@ fn keys() -> [Key; RECORDS] {
     keys
 }
 
+fn items<'a>(keys: &'a [Key], value: &'a [u8]) -> Vec<Item<'a>> {
+    keys.iter().map(|key| Item { key, value }).collect()
+}
+
 #[inline(never)]
-fn fill(page: &mut Page, keys: &[Key], value: &[u8]) {
+fn fill(page: &mut Page, items: &[Item]) {
     page.reset(1);
-    for (k, key) in keys.iter().enumerate() {
-        let _ = put_record(page, k as u64, k as u64, key, Some(value));
+    for (k, item) in items.iter().enumerate() {
+        let _ = put_record(page, k as u64, k as u64, item.key, Some(item.value));
     }
 }
 
 #[inline(never)]
-fn count_keys(page: &Page, keys: &[Key]) -> usize {
+fn count_keys(page: &Page, items: &[Item]) -> usize {
     let mut found = 0;
-    for (k, key) in keys.iter().enumerate() {
+    for (k, item) in items.iter().enumerate() {
         if let Ok(record) = record_at(page, 16 + 144 * k) {
-            if record.key == key.as_slice() {
+            if record.key == item.key {
                 found += 1;
             }
         }
@@ -183,9 +202,9 @@ fn count_keys(page: &Page, keys: &[Key]) -> usize {
 }
 
 #[inline(never)]
-fn overwrite_all(page: &mut Page, value: &[u8]) {
-    for k in 0..RECORDS {
-        overwrite(page, 16 + 144 * k, Some(value));
+fn overwrite_all(page: &mut Page, items: &[Item]) {
+    for (k, item) in items.iter().enumerate() {
+        overwrite(page, 16 + 144 * k, Some(item.value));
     }
 }
 
@@ -231,16 +250,17 @@ fn report(what: &str, least: Duration) {
 fn main() {
     let keys = keys();
     let value = [b'v'; 100];
+    let items = items(&keys, &value);
     let mut page = Page::new(1);
-    report("put_record", least(|_| fill(&mut page, &keys, &value)));
-    fill(&mut page, &keys, &value);
-    report("overwrite", least(|_| overwrite_all(&mut page, &value)));
+    report("put_record", least(|_| fill(&mut page, &items)));
+    fill(&mut page, &items);
+    report("overwrite", least(|_| overwrite_all(&mut page, &items)));
     let mut found: u64 = 0;
     report(
         "record_at",
         least(|round| {
             page.bytes[0] = (round % 256) as u8;
-            found += count_keys(&page, &keys) as u64;
+            found += count_keys(&page, &items) as u64;
         }),
     );
     println!("{found} found, used end {}", page.used_end());

@@ -3,9 +3,7 @@ use Rattle.std.proofs.Common.{◌≡◌, ℕ, ◌<◌, ◌≤◌, ◌-◌, List,
 use Rattle.std.specs.Io.KnownBytes.{Appends, Consumes, Keeps, IsAtEnd}
 use Rattle.std.proofs.lemmas.Grind.{common_steps}
 use Rattle.std.proofs.lemmas.List.{take-append-drop}
-use Rattle.connection.specs.Streams.{AppendsBeginning, IsSent, IsRead}
-use Rattle.connection.specs.declared.noted.Input.{Input}
-use Rattle.connection.specs.declared.noted.Input.TheVariants.{Bytes, End, Failure}
+use Rattle.connection.specs.Streams.{AppendsBeginning, IsSent, IsPut}
 
 pub Keeps-same : (u : Option (List ℕ)) → Keeps u u
 Keeps-same None = tt
@@ -76,3 +74,23 @@ AppendsBeginning-more u v a b x = (x.0, x.1 ++ b, ap (λ (t : List ℕ). t ++ b)
 -- and where one after it is
 pub AppendsBeginning-then : (u v w : Option (List ℕ)) (a b : List ℕ) → Appends u v a → AppendsBeginning v w b → AppendsBeginning u w (a ++ b)
 AppendsBeginning-then u v w a b x y = (a ++ y.0, y.1, ap (λ (t : List ℕ). a ++ t) y.2 ∙ sym (append_assoc a y.0 y.1), Appends-then u v w a y.0 x y.3)
+
+-- a text that is sent after all that a buffer held
+pub IsPut-sent : {E : Type 0} (u v w : Option (List ℕ)) (held holds : List ℕ) (r : Result (Unit {0}) E) (text : List ℕ)
+    → holds ≡ [] → Appends u v held → IsSent v w r text → IsPut u w held holds r text
+IsPut-sent u v w held holds (Ok done) text none before sent =
+    (held ++ text, Appends-then u v w held text before sent, sym (append-nil (held ++ text)) ∙ ap (λ (t : List ℕ). (held ++ text) ++ t) (sym none))
+IsPut-sent u v w held holds (Err fault) text none before sent = AppendsBeginning-then u v w held text before sent
+
+-- texts, grouped another way
+pub regroup : (a b held text sent holds : List ℕ) → held ++ text ≡ sent ++ holds → ((a ++ b) ++ held) ++ text ≡ (a ++ (b ++ sent)) ++ holds
+regroup a b held text sent holds is =
+    append_assoc (a ++ b) held text
+    ∙ ap (λ (t : List ℕ). (a ++ b) ++ t) is
+    ∙ sym (append_assoc (a ++ b) sent holds)
+    ∙ ap (λ (t : List ℕ). t ++ holds) (append_assoc a b sent)
+
+-- a held text of which a beginning is sent
+pub regroup_cut : (a b held sent more : List ℕ) → held ≡ sent ++ more → (a ++ b) ++ held ≡ (a ++ (b ++ sent)) ++ more
+regroup_cut a b held sent more is =
+    ap (λ (t : List ℕ). (a ++ b) ++ t) is ∙ sym (append_assoc (a ++ b) sent more) ∙ ap (λ (t : List ℕ). t ++ more) (append_assoc a b sent)

@@ -1,2 +1,5 @@
 pub mod Joined
 pub mod Known
+pub mod Stages
+pub mod Turns
+pub mod Conversing

@@ -55,3 +55,9 @@ AppendsBeginning old new text = (begins more : List ℕ) × (text ≡ begins ++ 
 abbrev pub IsSent : {E : Type 0} → Option (List ℕ) → Option (List ℕ) → Result ⊤ E → List ℕ → Type 0
 IsSent old new (Ok done) text = Appends old new text
 IsSent old new (Err fault) text = AppendsBeginning old new text
+
+-- What a text's sending through a buffer did: what was appended and what the buffer holds is what it held and the text; after a failure a
+-- beginning of that was appended.
+abbrev pub IsPut : {E : Type 0} → Option (List ℕ) → Option (List ℕ) → (held holds : List ℕ) → Result ⊤ E → List ℕ → Type 0
+IsPut old new held holds (Ok done) text = (sent : List ℕ) × Appends old new sent × (held ++ text ≡ sent ++ holds)
+IsPut old new held holds (Err fault) text = AppendsBeginning old new (held ++ text)

@@ -155,7 +155,7 @@ impl Frames {
         ensures full { IsErr result ↔ (length self.old.pages ≡ self.old.frames) }
         ensures number { IfOk result (λ number. number ≡ next_number self.old) }
         ensures opened { OnOk result (self.new ≡ with_opened self.old) }
-        ensures empty { OnOk result (IsEmptyPage (next_number self.old) (empty_page (next_number self.old))) }
+        ensures empty { let number = next_number self.old in OnOk result (IsEmptyPage number (empty_page number)) }
         ensures refused { OnErr result (self.new ≡ self.old) }
     {
         if self.resident == self.frames.len() {

@@ -23,7 +23,9 @@ pub fn options_of<'a>(alloc: Global, words: &'a [String]) -> Result<Options, Err
         .value_name("N")
         .value_parser(value_parser!(u32).range(1..=i64::from(ACCEPT_MAX)))
         .required(true)
-        .help("Connections to accept in all, 1 to 1000000; the server ends when all have ended [no default]");
+        .help(
+            "Connections to accept in all, 1 to 1000000; the server ends when all have ended [no default]",
+        );
     let mut command = Command::new(alloc, "garnetd")
         .version("0.1.0")
         .about("Serves PING, GET and SET of Redis in RESP2 to one client after the other")

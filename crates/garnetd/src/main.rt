@@ -40,7 +40,9 @@ where
     R: AllocGlobal + Print + Clock + Wait + Net<Listener = TcpListener, Stream = TcpStream>,
 {
     let listener = listen(rt, options)?;
-    let address = listener.local_addr().map_err(|_| ServerFault::CannotListen)?;
+    let address = listener
+        .local_addr()
+        .map_err(|_| ServerFault::CannotListen)?;
     // Nobody has to read where the server listens.
     let _ = println!(rt; "listening on {address}");
     let endings = Endings::new(rt.alloc()).map_err(|_| ServerFault::OutOfMemory)?;

@@ -156,3 +156,8 @@ part_left stripes stripe part more seen all reads key =
     (λ here. ap (λ v. cond (nat_eq (stripe_of stripes key) stripe) v None) (sym (after_left stripes stripe more seen key all here)))
     (λ other. ap (λ b. cond b (after seen key) None) (ne_eqb (stripe_of stripes key) stripe other)
       ∙ sym (ap (λ b. cond b (after (more ++ seen) key) None) (ne_eqb (stripe_of stripes key) stripe other)))
+
+-- what the empty store has, whether a key is asked for or not
+pub none_both : (b : Bool) (value : Option Bytes) → value ≡ None → cond b value None ≡ None
+none_both true value e = e
+none_both false value e = refl

@@ -1,5 +1,5 @@
 -- Each step keeps the rule.
-use Rattle.std.proofs.Common.{◌≡◌, ◌≢◌, ◌⊎◌, ℕ, zero, suc, ◌+◌, ◌*◌, ◌%◌, ◌^◌, ◌<◌, ◌≤◌, Bool, true, false, List, [], ◌∷◌, ◌++◌, cond, nat_lt, nat_eq, eqb, length, map, get_or, set, slice_index, slice_set, MatchBool, sym, refl, ap, subst, ◌∙◌, arith, eq-eqb, ne_eqb, inl, inr, ⊎_elim, length-set, get_or-set_other, get_or-set_same, append_assoc, length-append, lt-ltb, le-ltb, mod-eq_of_lt, append-nil}
+use Rattle.std.proofs.Common.{◌≡◌, ◌≢◌, ◌⊎◌, ℕ, zero, suc, ◌+◌, ◌*◌, ◌%◌, ◌^◌, ◌<◌, ◌≤◌, Bool, true, false, List, [], ◌∷◌, ◌++◌, cond, nat_lt, nat_eq, eqb, length, map, get_or, set, slice_index, slice_set, MatchBool, sym, refl, ap, subst, ◌∙◌, arith, eq-eqb, ne_eqb, inl, inr, ⊎_elim, length-set, get_or-set_other, get_or-set_same, append_assoc, length-append, None, lt-ltb, le-ltb, mod-eq_of_lt, append-nil}
 use Rattle.std.proofs.lemmas.Bool.{cases_lt}
 use mathlib.Core.Logic.{dite}
 use mathlib.Core.Option.{Option, none, some, some-injective, some-ne-none}
@@ -16,9 +16,9 @@ use Rattle.gates.specs.declared.view.Knowledge.{Knowledge}
 use Rattle.gates.specs.declared.view.View.{View}
 use Rattle.gates.specs.Sets.{times, without}
 use Rattle.gates.specs.Rule.{word_of, AllLeave, total, Fits, EachFits, Names, weight, stands_for, armed_by, FitsView, IsFree, IsHeld, Ruled, AreHeld, commit_word}
-use Rattle.gates.specs.Plays.{first_of, own, IsSingle, sees, notes, commits, all_see, knowing, taking, giving, GoesOn, EachGoesOn, Took, Missed, Tries, Arms, BecomesArmed, FindsWorn, Commits, Gives, Meets}
-use Rattle.gates.proofs.Lists.{each_set, set_here, set_else, total-set, terms_le, total-less, times_here, times_else, without_here, without_else}
-use Rattle.gates.proofs.Frames.{AreOf, Agree, part_left, after_left, due_agrees}
+use Rattle.gates.specs.Plays.{first_of, own, IsSingle, sees, notes, commits, all_see, knowing, taking, giving, GoesOn, EachGoesOn, Took, Missed, Tries, Arms, BecomesArmed, FindsWorn, Commits, Gives, Meets, newcomer, newcomers, others_of, resting, unmet, joined, AreEmpty}
+use Rattle.gates.proofs.Lists.{at_snoc, at_longer, total-append, times-append, each_set, set_here, set_else, total-set, terms_le, total-less, times_here, times_else, without_here, without_else}
+use Rattle.gates.proofs.Frames.{AreOf, Agree, none_both, part_left, after_left, due_agrees}
 
 -- a word that is set to what it is
 set_same : (l : List ℕ) (i : ℕ) → set l i (get_or l i 0) ≡ l
@@ -65,7 +65,7 @@ entry_leaves stripes stripe held (key ∷ keys) all none_held =
     ((λ here. let h : 0 < times stripe held = subst (λ k. 0 < times k held) here all.0 in omega arith), entry_leaves stripes stripe held keys all.1 none_held)
 
 -- held keys, as a kind
-held_kind : (stripes : ℕ) (held : List ℕ) (keys : List Bytes) → AreHeld stripes held keys → AreOf (λ key. 0 < times (stripe_of stripes key) held) keys
+pub held_kind : (stripes : ℕ) (held : List ℕ) (keys : List Bytes) → AreHeld stripes held keys → AreOf (λ key. 0 < times (stripe_of stripes key) held) keys
 held_kind stripes held [] all = tt
 held_kind stripes held (key ∷ keys) all = (all.0, held_kind stripes held keys all.1)
 
@@ -352,6 +352,14 @@ module _ {T : Type 0} (contents : T → Store) (passes slots id : ℕ) where
         },
       )
 
+  -- the same of a seat that became armed
+  pub commits_armed : (m later : Me T (View T)) (entry : Entry) → later ≡ (record (m.0) { armed = true }, m.1) → IsSingle m.0 → entry.session ≡ (own m.0).number
+      → Legal (entry ∷ (own m.0).seen) → AreHeld slots m.0.held (keys_named entry.operation)
+      → Allows (Ruled contents passes) slots id later commit_word (λ n. (n + 1) % 2 ^ 64) (Commits entry (step slots commit_word 1 0 none) later)
+  commits_armed m later entry is single session legal keys =
+      subst (λ (x : Me T (View T)). Allows (Ruled contents passes) slots id x commit_word (λ n. (n + 1) % 2 ^ 64) (Commits entry (step slots commit_word 1 0 none) x)) (sym is)
+      (commits_step (record (m.0) { armed = true }, m.1) entry single refl session legal keys)
+
   -- One try of a stripe that the pass does not hold
   pub tries : (m : Me T (View T)) (i : ℕ) → IsSingle m.0 → i < slots → times i m.0.held ≡ 0 → (own m.0).number + 1 < 2 ^ 64
       → Allows (Ruled contents passes) slots id m (word_of i) (λ n. either (eqb n 0) ((own m.0).number + 1) n)
@@ -484,6 +492,14 @@ module _ {T : Type 0} (contents : T → Store) (passes slots id : ℕ) where
             )
           ))
 
+  -- the same at a word and a number that are the stripe's and the pass's
+  pub tries_at : (m : Me T (View T)) (i word mine : ℕ) → word ≡ word_of i → mine ≡ (own m.0).number + 1 → IsSingle m.0 → i < slots → times i m.0.held ≡ 0 → mine < 2 ^ 64
+      → Allows (Ruled contents passes) slots id m word (λ n. either (eqb n 0) mine n) (Tries contents (step slots word 0 mine none) m)
+  tries_at m i word mine word_is mine_is single below none_held small =
+      subst (λ (x : ℕ). Allows (Ruled contents passes) slots id m x (λ n. either (eqb n 0) mine n) (Tries contents (step slots x 0 mine none) m)) (sym word_is)
+      (subst (λ (y : ℕ). Allows (Ruled contents passes) slots id m (word_of i) (λ n. either (eqb n 0) y n) (Tries contents (step slots (word_of i) 0 y none) m)) (sym mine_is)
+        (tries m i single below none_held (subst (λ (y : ℕ). y < 2 ^ 64) mine_is small)))
+
   -- The stripe in front is given back
   pub gives_back : (v : View T) (i : ℕ) (part : T) (more : List (ℕ × T)) → IsSingle v → 0 < times i v.held → IsPart slots i (contents part) (after (own v).seen)
       → Allows (Ruled contents passes) slots id (v, (i, part) ∷ more) (word_of i) (λ _. 0)
@@ -547,4 +563,221 @@ module _ {T : Type 0} (contents : T → Store) (passes slots id : ℕ) where
                 (ruled.stripes stripe (omega (arith, same_size))));
         },
         λ stripe e. let same : i ≡ stripe = omega arith in ap (λ (k : ℕ). (giving v k, more)) same,
+      )
+
+  -- the same of a seat whose first part this is
+  pub gives_first : (m : Me T (View T)) (i word : ℕ) (part : T) → word ≡ word_of i → m.1 ≡ (i, part) ∷ rest m.1 → IsSingle m.0 → 0 < times i m.0.held
+      → IsPart slots i (contents part) (after (own m.0).seen)
+      → Allows (Ruled contents passes) slots id m word (λ _. 0) (λ _. Gives (step slots word 0 0 none) m 0)
+  gives_first m i word part word_is first single held reads =
+      subst (λ (x : ℕ). Allows (Ruled contents passes) slots id m x (λ _. 0) (λ _. Gives (step slots x 0 0 none) m 0)) (sym word_is)
+      (subst (λ (l : List (ℕ × T)). Allows (Ruled contents passes) slots id (m.0, l) (word_of i) (λ _. 0) (λ _. Gives (step slots (word_of i) 0 0 none) (m.0, l) 0)) (sym first)
+        (gives_back m.0 i part (rest m.1) single held reads))
+
+-- passes that have all seen the log
+each_sees : (n : ℕ) (log : History) (held : List ℕ) (ps : List Knowledge) → EachFits n log held ps → EachFits n log held (all_see ps log)
+each_sees n log held [] all = tt
+each_sees n log held (k ∷ ks) all =
+    (record { more = []; begins = refl; leave = λ _ _. tt; mine = all.0.mine; mine_seen = all.0.mine }, each_sees n log held ks all.1)
+
+numbers_see : (log : History) (ps : List Knowledge) → map (λ (k : Knowledge). k.number) (all_see ps log) ≡ map (λ (k : Knowledge). k.number) ps
+numbers_see log [] = refl
+numbers_see log (k ∷ ks) = ap (λ l. k.number ∷ l) (numbers_see log ks)
+
+length_see : (log : History) (ps : List Knowledge) → length (all_see ps log) ≡ length ps
+length_see log [] = refl
+length_see log (k ∷ ks) = omega (arith, length_see log ks)
+
+each_goes_on : (n slots : ℕ) (log : History) (held : List ℕ) (ps : List Knowledge) → Legal log → EachFits n log held ps → EachGoesOn slots ps log
+each_goes_on n slots log held [] legal all = tt
+each_goes_on n slots log held (k ∷ ks) legal all = (
+  record { more = all.0.more; begins = all.0.begins; leave = λ stripe h. absurd (omega arith); legal = legal; mine = all.0.mine },
+  each_goes_on n slots log held ks legal all.1,
+)
+
+each_append : (n : ℕ) (log : History) (held : List ℕ) (ps qs : List Knowledge) → EachFits n log held ps → EachFits n log held qs → EachFits n log held (ps ++ qs)
+each_append n log held [] qs one two = two
+each_append n log held (p ∷ ps) qs one two = (one.0, each_append n log held ps qs one.1 two)
+
+numbers_append : (q : ℕ) (ps rs : List Knowledge)
+    → times q (map (λ (k : Knowledge). k.number) (ps ++ rs)) ≡ times q (map (λ (k : Knowledge). k.number) ps) + times q (map (λ (k : Knowledge). k.number) rs)
+numbers_append q [] rs = omega arith
+numbers_append q (p ∷ ps) rs = omega (arith, numbers_append q ps rs)
+
+each_new : (n number count : ℕ) → EachFits n [] [] (newcomers number count)
+each_new n number zero = tt
+each_new n number (suc count) = (record { more = []; begins = refl; leave = λ _ _. tt; mine = refl; mine_seen = refl }, each_new n (number + 1) count)
+
+length_new : (number count : ℕ) → length (newcomers number count) ≡ count
+length_new number zero = refl
+length_new number (suc count) = omega (arith, length_new (number + 1) count)
+
+times_lower : (q number count : ℕ) → q < number → times q (map (λ (k : Knowledge). k.number) (newcomers number count)) ≡ 0
+times_lower q number zero less = refl
+times_lower q number (suc count) less =
+    times_else q number (map (λ (k : Knowledge). k.number) (newcomers (number + 1) count)) (λ e. omega arith) ∙ times_lower q (number + 1) count (omega arith)
+
+times_new : (q number count : ℕ) → times q (map (λ (k : Knowledge). k.number) (newcomers number count)) ≤ 1
+times_new q number zero = omega arith
+times_new q number (suc count) = dite (ℕ_discrete number q)
+    (λ e. let l = map (λ (k : Knowledge). k.number) (newcomers (number + 1) count) in
+      let one : times q (number ∷ l) ≡ 1 + times q l = subst (λ (k : ℕ). times q (k ∷ l) ≡ 1 + times q l) (sym e) (times_here q l) in
+      omega (arith, times_lower q (number + 1) count (omega arith)))
+    (λ ne. omega (arith, times_else q number (map (λ (k : Knowledge). k.number) (newcomers (number + 1) count)) ne, times_new q (number + 1) count))
+
+length_somes : {T : Type 0} (parts : List T) → length (map some parts) ≡ length parts
+length_somes [] = refl
+length_somes (x ∷ xs) = omega (arith, length_somes xs)
+
+empty_there : {T : Type 0} (contents : T → Store) (parts : List T) (i : ℕ) → AreEmpty contents parts → i < length parts
+    → (part : T) × (get_elem? (map some parts) i ≡ some (some part)) × ((key : Bytes) → contents part key ≡ None)
+empty_there contents [] i all h = absurd (omega arith)
+empty_there contents (x ∷ xs) zero all h = (x, refl, all.0)
+empty_there contents (x ∷ xs) (suc i) all h = empty_there contents xs i all.1 (omega arith)
+
+idle_holds : {T : Type 0} (v : View T) → v.held ≡ [] → (stripe : ℕ) → 0 < times stripe v.held → ⊥
+idle_holds v none_held stripe h = let zero_times : times stripe v.held ≡ 0 = ap (times stripe) none_held in omega arith
+
+not_idle : {T : Type 0} (id : ℕ) (v : View T) (views : List (View T)) → get_elem? views id ≡ some v → v.held ≡ [] → (seat : ℕ) (u : View T) → get_elem? views seat ≡ some u
+    → (stripe : ℕ) → 0 < times stripe u.held → seat ≢ id
+not_idle {T} id v views at none_held seat u there stripe h e =
+    let is : u ≡ v = some-injective u v (sym there ∙ ap (get_elem? views) e ∙ at) in
+    idle_holds v none_held stripe (subst (λ (x : View T). 0 < times stripe x.held) is h)
+
+resting_fits : {T : Type 0} (n : ℕ) (words : List ℕ) (log : History) (v : View T) → v.held ≡ [] → armed_by v ≡ 0 → EachFits n log v.held v.passes → FitsView n words log v
+resting_fits n words log v none_held unarmed fits =
+    record { fits = fits; ready = omega arith; names = λ stripe h. absurd (idle_holds v none_held stripe h) }
+
+opening_view : {T : Type 0} (n : ℕ) (words : List ℕ) (passes : ℕ) (seat : ℕ) (u : View T) → get_elem? (unmet passes ∷ []) seat ≡ some u → FitsView n words [] u
+opening_view {T} n words passes zero u there =
+    subst (λ (x : View T). FitsView n words [] x) (some-injective (unmet passes) u there)
+    record { fits = each_new n 0 passes; ready = omega arith; names = λ stripe h. absurd (omega arith) }
+opening_view n words passes (suc seat) u there = absurd (some-ne-none u (sym there))
+
+module _ {T : Type 0} (contents : T → Store) (passes : ℕ) where
+  -- The table as it opens
+  pub opens : (words : List ℕ) (parts : List T) → length words ≡ word_of (length parts) → ((k : ℕ) → slice_index words k ≡ 0) → AreEmpty contents parts → passes < 2 ^ 62
+      → Ruled contents passes (opening words parts (unmet passes))
+  opens words parts wide zeros all few =
+      let size : length (map some parts) ≡ length parts = length_somes parts in
+      record {
+        log = [];
+        legal = tt;
+        wide = wide ∙ ap word_of (sym size);
+        few = few;
+        counts = zeros commit_word;
+        room = omega arith;
+        dealt = omega (arith, length_new 0 passes);
+        once = λ q. omega (arith, times_new q 0 passes);
+        views = λ seat u there. opening_view (length (map some parts)) words passes seat u there;
+        stripes = λ stripe h.
+            let t = empty_there contents parts stripe all (omega (arith, size)) in
+            inl record {
+              word = zeros (word_of stripe);
+              part = t.0;
+              home = t.1;
+              reads = λ key. t.2 key ∙ sym (none_both (nat_eq (stripe_of (length (map some parts)) key) stripe) (after [] key) refl);
+            };
+      }
+
+  -- A view is cut in two, where it holds nothing
+  pub splits : (id : ℕ) (v left right : View T) → v.held ≡ [] → left.held ≡ [] → right.held ≡ [] → left.armed ≡ false → right.armed ≡ false
+      → weight left + weight right ≡ weight v → ((q : ℕ) → stands_for q left + stands_for q right ≡ stands_for q v)
+      → ((n : ℕ) (log : History) → EachFits n log v.held v.passes → EachFits n log left.held left.passes × EachFits n log right.held right.passes)
+      → Splits (Ruled contents passes) id v left right
+  splits id v left right none_held left_held right_held left_unarmed right_unarmed heavy stands cut s ruled at =
+      let n = length s.homes in
+      let f = mine_fits contents passes s ruled id v at in
+      let halves = cut n ruled.log f.fits in
+      let zero_left : armed_by left ≡ 0 = ap (λ b. cond b 1 0) left_unarmed in
+      let zero_right : armed_by right ≡ 0 = ap (λ b. cond b 1 0) right_unarmed in
+      record {
+        log = ruled.log;
+        legal = ruled.legal;
+        wide = ruled.wide;
+        few = ruled.few;
+        counts = ruled.counts;
+        room = omega (arith, ruled.room, total-append armed_by (set s.views id left) (right ∷ []), total-set armed_by s.views id v left at);
+        dealt = omega (arith, ruled.dealt, total-append weight (set s.views id left) (right ∷ []), total-set weight s.views id v left at);
+        once = λ q. omega (arith, ruled.once q, stands q, total-append (stands_for q) (set s.views id left) (right ∷ []), total-set (stands_for q) s.views id v left at);
+        views = λ j u there. ⊎_elim
+            (λ old. each_set (λ j u. FitsView n s.words ruled.log u) s.views id left (resting_fits n s.words ruled.log left left_held zero_left halves.0)
+              (λ k x ne was. ruled.views k x was) j u old)
+            (λ new. subst (λ (x : View T). FitsView n s.words ruled.log x) new (resting_fits n s.words ruled.log right right_held zero_right halves.1))
+            (at_snoc (set s.views id left) right u j there);
+        stripes = λ stripe h. ⊎_elim
+            (λ free. inl record { word = free.word; part = free.part; home = free.home; reads = free.reads })
+            (λ held. inr record {
+              seat = held.seat;
+              view = held.view;
+              there = at_longer (set s.views id left) (right ∷ []) held.seat held.view
+                  (set_else s.views id held.seat left (not_idle id v s.views at none_held held.seat held.view held.there stripe held.holds) ∙ held.there);
+              holds = held.holds;
+              away = held.away;
+            })
+            (ruled.stripes stripe h);
+      }
+
+  -- Two views that hold nothing become one
+  pub joins : (id other : ℕ) (v w : View T) → v.held ≡ [] → w.held ≡ [] → Joins (Ruled contents passes) id v other w (joined v w) (resting [])
+  joins id other v w none_held none_held' s ruled at ne at_both =
+      let n = length s.homes in
+      let at' : get_elem? s.views other ≡ some w = sym (set_else s.views id other (joined v w) ne) ∙ at_both in
+      let f = mine_fits contents passes s ruled id v at in
+      let g = mine_fits contents passes s ruled other w at' in
+      let one = total-set armed_by s.views id v (joined v w) at in
+      let two = total-set armed_by (set s.views id (joined v w)) other w (resting []) at_both in
+      let heavy_one = total-set weight s.views id v (joined v w) at in
+      let heavy_two = total-set weight (set s.views id (joined v w)) other w (resting []) at_both in
+      let f_fits : EachFits n ruled.log [] v.passes = subst (λ (l : List ℕ). EachFits n ruled.log l v.passes) none_held f.fits in
+      let g_fits : EachFits n ruled.log [] w.passes = subst (λ (l : List ℕ). EachFits n ruled.log l w.passes) none_held' g.fits in
+      record {
+        log = ruled.log;
+        legal = ruled.legal;
+        wide = ruled.wide;
+        few = ruled.few;
+        counts = ruled.counts;
+        room = omega (arith, ruled.room, one, two);
+        dealt = omega (arith, ruled.dealt, heavy_one, heavy_two, length-append v.passes w.passes);
+        once = λ q. omega (arith, ruled.once q, total-set (stands_for q) s.views id v (joined v w) at,
+          total-set (stands_for q) (set s.views id (joined v w)) other w (resting []) at_both, numbers_append q v.passes w.passes);
+        views = each_set (λ j u. FitsView n s.words ruled.log u) (set s.views id (joined v w)) other (resting [])
+            record { fits = tt; ready = omega arith; names = λ stripe h. absurd (omega arith) }
+            (λ j u apart there. each_set (λ j u. FitsView n s.words ruled.log u) s.views id (joined v w)
+              record { fits = each_append n ruled.log [] v.passes w.passes f_fits g_fits; ready = omega arith; names = λ stripe h. absurd (omega arith) }
+              (λ k x ne' was. ruled.views k x was) j u there);
+        stripes = λ stripe h. ⊎_elim
+            (λ free. inl record { word = free.word; part = free.part; home = free.home; reads = free.reads })
+            (λ held. inr record {
+              seat = held.seat;
+              view = held.view;
+              there = set_else (set s.views id (joined v w)) other held.seat (resting []) (not_idle other w s.views at' none_held' held.seat held.view held.there stripe held.holds)
+                  ∙ set_else s.views id held.seat (joined v w) (not_idle id v s.views at none_held held.seat held.view held.there stripe held.holds) ∙ held.there;
+              holds = held.holds;
+              away = held.away;
+            })
+            (ruled.stripes stripe h);
+      }
+
+  -- A look by a seat that holds nothing
+  pub meets : (slots id i : ℕ) (m : Me T (View T)) → m.0.held ≡ [] → Allows (Ruled contents passes) slots id m i (λ n. n) (Meets (step slots i 0 0 none) m)
+  meets slots id i m none_held s ruled wide at small =
+      let v = m.0 in
+      let n = length s.homes in
+      let f = mine_fits contents passes s ruled id v at in
+      let w : View T = record v { passes = all_see v.passes ruled.log } in
+      (
+        w,
+        keeps,
+        tt,
+        loaded (Ruled contents passes) s i id w (looks contents passes s ruled id v at w (length_see ruled.log v.passes)
+          (λ q. ap (times q) (numbers_see ruled.log v.passes))
+          (omega (arith, total-set armed_by s.views id v w at, ruled.room))
+          record {
+            fits = each_sees n ruled.log v.held v.passes f.fits;
+            ready = omega (arith, f.ready, length_see ruled.log v.passes);
+            names = λ stripe h. absurd (idle_holds v none_held stripe h);
+          }
+          (λ stripe h. h)),
+        record { log = ruled.log; go_on = each_goes_on n slots ruled.log v.held v.passes ruled.legal f.fits; seat = refl },
       )

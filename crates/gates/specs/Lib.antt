@@ -1,3 +1,5 @@
 pub mod Sets
 pub mod Rule
 pub mod Plays
+pub mod Passes
+pub mod Helds

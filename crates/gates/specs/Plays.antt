@@ -1,9 +1,11 @@
 -- What each step tells the pass that makes it.
-use Rattle.std.specs.Prelude.{◌≡◌, ◌≢◌, ◌⊎◌, ℕ, zero, suc, ◌+◌, ◌*◌, ◌^◌, ◌<◌, ◌≤◌, List, [], ◌∷◌, ◌++◌, length, map, cond, Bool, true, false, slice_index, MatchBool, ◌==◌, nat_lt, nat_eq, if◌then◌else◌}
+use Rattle.std.specs.Prelude.{◌≡◌, ◌≢◌, ◌⊎◌, ℕ, zero, suc, ◌+◌, ◌*◌, ◌^◌, ◌<◌, ◌≤◌, List, [], ◌∷◌, ◌++◌, length, map, cond, Bool, true, false, slice_index, MatchBool, ◌==◌, nat_lt, nat_eq, None, if◌then◌else◌}
 use mathlib.Core.Option.{Option, none, some}
 use Rattle.atomic_table.specs.Table.{Me, Step, rest}
 use Rattle.words.specs.declared.history.Entry.{Entry}
-use Rattle.words.specs.Store.{Store}
+use Rattle.words.specs.declared.history.Operation.TheVariants.{Exec}
+use Rattle.words.specs.declared.reply.Reply.TheVariants.{NullArray}
+use Rattle.words.specs.Store.{Bytes, Store}
 use Rattle.words.specs.History.{History, Legal, after, subhistory}
 use Rattle.words.specs.Stripes.{IsPart}
 use Rattle.gates.specs.declared.view.Note.{Note}
@@ -12,6 +14,10 @@ use Rattle.gates.specs.declared.view.Knowledge.{Knowledge}
 use Rattle.gates.specs.declared.view.View.{View}
 use Rattle.gates.specs.Sets.{times, without}
 use Rattle.gates.specs.Rule.{AllLeave, word_of}
+
+-- An entry that is never committed: where no call picks one.
+abbrev pub an_entry : Entry
+an_entry = record { session = 0; operation = Exec []; reply = NullArray }
 
 -- a pass that has seen nothing
 abbrev pub newcomer : ℕ → Knowledge
@@ -144,3 +150,12 @@ module _ {T : Type 0} where
     pub log : History
     pub go_on : EachGoesOn st.slots m.0.passes log
     pub seat : w ≡ (record (m.0) { passes = all_see m.0.passes log }, m.1)
+
+  -- the view of a seat that stands for the passes of two
+  abbrev pub joined : View T → View T → View T
+  joined v w = resting (v.passes ++ w.passes)
+
+  -- each of the parts reads as empty
+  abbrev pub AreEmpty : (T → Store) → List T → Type 0
+  AreEmpty contents [] = Unit {0}
+  AreEmpty contents (part ∷ parts) = ((key : Bytes) → contents part key ≡ None) × AreEmpty contents parts

@@ -1,5 +1,6 @@
 -- Sets of stripe numbers, as rising lists and as the bits of one word.
-use Rattle.std.specs.Prelude.{ℕ, zero, suc, ◌+◌, ◌*◌, ◌/◌, ◌%◌, ◌<◌, ◌≤◌, List, [], ◌∷◌, nat_eq, nat_lt, cond, if◌then◌else◌}
+use Rattle.std.specs.Prelude.{ℕ, zero, suc, ◌+◌, ◌*◌, ◌/◌, ◌%◌, ◌<◌, ◌≤◌, List, [], ◌∷◌, ◌++◌, nat_eq, nat_lt, cond, if◌then◌else◌}
+use Rattle.std.specs.Int.{bit_at}
 
 -- how often a number stands in a list
 abbrev pub times : ℕ → List ℕ → ℕ
@@ -31,11 +32,21 @@ abbrev pub without : ℕ → List ℕ → List ℕ
 without n [] = []
 without n (x ∷ xs) = if nat_eq x n then without n xs else x ∷ without n xs
 
--- the places of the ones among so many bits of a number, where the lowest of them has this place
+-- the list without its first number
+abbrev pub rest_of : List ℕ → List ℕ
+rest_of [] = []
+rest_of (x ∷ xs) = xs
+
+-- the first number goes behind the others
+abbrev pub turned_list : List ℕ → List ℕ
+turned_list [] = []
+turned_list (x ∷ xs) = xs ++ x ∷ []
+
+-- the places of the ones among so many bits of a word, from a place on
 abbrev pub ones_from : (count place bits : ℕ) → List ℕ
 ones_from zero place bits = []
 ones_from (suc count) place bits =
-    if nat_eq (bits % 2) 1 then place ∷ ones_from count (place + 1) (bits / 2) else ones_from count (place + 1) (bits / 2)
+    if nat_eq (bit_at bits place) 1 then place ∷ ones_from count (place + 1) bits else ones_from count (place + 1) bits
 
 -- the places of the ones in a word of 64 bits
 unfoldable pub ones : ℕ → List ℕ

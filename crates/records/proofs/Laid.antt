@@ -2,7 +2,7 @@
 use Rattle.std.proofs.Common.{◌≡◌, ℕ, zero, suc, ◌+◌, ◌-◌, ◌<◌, ◌≤◌, ◌^◌, List, [], ◌∷◌, ◌++◌, length, drop, take, map, replicate, Option, refl, sym, ap, ◌∙◌, arith, length-append, append_assoc, append-nil, lit≤, subst, cond, ltb, nat_lt, true, false}
 use Rattle.std.specs.List.{AllByRecursion, Contains, flat_map}
 use Rattle.std.proofs.lemmas.Bool.Decides.{nat_tests}
-use Rattle.std.proofs.lemmas.List.{take_at, drop_at, drop-drop, length-replicate, drop-replicate}
+use Rattle.std.proofs.lemmas.List.{take_at, drop_at, drop-drop, length-replicate, drop-replicate, take-replicate}
 use borrow.Rule.Slice.PartMut.{put_mid}
 use Rattle.records.specs.Fields.{u32_bytes}
 use Rattle.records.specs.Page.{header, empty_page, number_of, used_end}
@@ -73,6 +73,28 @@ pub empty-page : (number : ℕ) → number < 2 ^ 64 → IsPage number [] (empty_
 unfolding empty_page
 empty-page number h = record { number_fits = h; each = tt; within = lit≤ tt; bytes = refl }
 
+-- another end of the used part, in a page with these records
+pub headed-page : (number : ℕ) (rs : List Stored) (page : List ℕ) (next : ℕ) → IsPage number rs page
+    → put_mid 8 4 page (u32_bytes next) ≡ (header number next ++ flat_map spelling rs) ++ replicate (16384 - end_from 16 rs) 0
+headed-page number rs page next is =
+    let end : ℕ = end_from 16 rs in
+    let F : List ℕ = flat_map spelling rs in
+    let Z : List ℕ = replicate (16384 - end) 0 in
+    ap (λ (s : List ℕ). put_mid 8 4 s (u32_bytes next)) is.bytes ∙ (header-with_end number end next (F ++ Z) ∙ sym (append_assoc (header number next) F Z))
+
+pub length-headed : (number : ℕ) (rs : List Stored) (next : ℕ) → AllByRecursion IsStored rs → length (header number next ++ flat_map spelling rs) ≡ end_from 16 rs
+length-headed number rs next each = omega (arith, length-append (header number next) (flat_map spelling rs), length-header number next, length-spellings 16 rs each)
+
+-- the bytes behind the records are zero
+pub blank-behind : (number : ℕ) (rs : List Stored) (page : List ℕ) (next n : ℕ) → IsPage number rs page → n ≤ 16384 - end_from 16 rs
+    → take n (drop (end_from 16 rs) (put_mid 8 4 page (u32_bytes next))) ≡ replicate n 0
+blank-behind number rs page next n is h =
+    let end : ℕ = end_from 16 rs in
+    let A : List ℕ = header number next ++ flat_map spelling rs in
+    let Z : List ℕ = replicate (16384 - end) 0 in
+    ap (λ (s : List ℕ). take n (drop end s)) (headed-page number rs page next is)
+    ∙ (ap (λ (s : List ℕ). take n s) (drop_at A Z end (length-headed number rs next is.each)) ∙ take-replicate n (16384 - end) 0 h)
+
 -- one more record behind the others
 pub appended-page : (number : ℕ) (rs : List Stored) (page : List ℕ) (r : Stored)
     → IsPage number rs page → IsStored r → end_from 16 rs + size_of r ≤ 16384
@@ -84,10 +106,7 @@ appended-page number rs page r is ok room =
     let Z : List ℕ = replicate (16384 - end) 0 in
     let S : List ℕ = spelling r in
     let A : List ℕ = header number next ++ F in
-    let front : length A ≡ end = omega (arith, length-append (header number next) F, length-header number next, length-spellings 16 rs is.each) in
-    let headed : put_mid 8 4 page (u32_bytes next) ≡ header number next ++ (F ++ Z) =
-            ap (λ (s : List ℕ). put_mid 8 4 s (u32_bytes next)) is.bytes ∙ header-with_end number end next (F ++ Z) in
-    let joined : put_mid 8 4 page (u32_bytes next) ≡ A ++ Z = headed ∙ sym (append_assoc (header number next) F Z) in
+    let front : length A ≡ end = length-headed number rs next is.each in
     let zeros : drop (size_of r) Z ≡ replicate (16384 - next) 0 =
             drop-replicate (size_of r) (16384 - end) 0 ∙ ap (λ n. replicate n 0) (omega arith) in
     let put : put_mid end (size_of r) (A ++ Z) S ≡ A ++ (S ++ replicate (16384 - next) 0) =
@@ -99,7 +118,7 @@ appended-page number rs page r is ok room =
       number_fits = is.number_fits;
       each = each-append rs (r ∷ []) is.each (ok, tt);
       within = omega (arith, ends, room);
-      bytes = ap (λ (s : List ℕ). put_mid end (size_of r) s S) joined ∙ (put ∙ rw (ends, spelled) (simp (append_assoc, append-nil)))
+      bytes = ap (λ (s : List ℕ). put_mid end (size_of r) s S) (headed-page number rs page next is) ∙ (put ∙ rw (ends, spelled) (simp (append_assoc, append-nil)))
     }
 
 -- a page that has this record between others

@@ -1,5 +1,6 @@
 pub mod Numbers
 pub mod Spelling
+pub mod Filled
 pub mod Headers
 pub mod Lists
 pub mod Rewritten

@@ -72,7 +72,7 @@ impl Page {
         ensures bytes { result.now ≡ self.now }
         ensures size { length result.now ≡ PAGE_SIZE }
     {
-        &self.bytes
+        &self.bytes[..]
     }
 
     /// The page's bytes, to which any bytes may be given.

@@ -1,3 +1,6 @@
 pub mod Steps
 pub mod Headers
 pub mod Numbers
+pub mod DataLemmas
+pub mod ScanLemmas
+pub mod TakeLemmas

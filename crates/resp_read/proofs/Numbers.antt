@@ -106,15 +106,15 @@ count_no_digit bytes digits at count byte e so_far lt is other cr =
     count_front_at bytes digits at count byte e so_far lt is ∙ other_at_count at count byte (drop (at + 1) digits) other cr
 
 -- a digit that makes the count 0 or more than it may be
-bad_at_count : (digits : Bytes) (at count digit : ℕ) (rest : Bytes) → CountSoFar digits at count → digit ≤ 9 → (10 * count + digit ≡ 0) ⊎ (WORDS_MAX < 10 * count + digit) → front_from (count_place at count) ((48 + digit) ∷ rest) ≡ stream.Faulty BadCount
+bad_at_count : (digits : Bytes) (at count digit : ℕ) (rest : Bytes) → CountSoFar digits at count → digit ≤ 9 → (10 * count + digit ≡ 0) ⊎ ((10 * count + digit ≢ 0) × (WORDS_MAX < 10 * count + digit)) → front_from (count_place at count) ((48 + digit) ∷ rest) ≡ stream.Faulty BadCount
 bad_at_count digits zero count digit rest (inl h) low (inl none) = let e : digit ≡ 0 = omega arith in ap (λ (d : ℕ). front_from (Count None) ((48 + d) ∷ rest)) e ∙ count_first_zero rest
-bad_at_count digits zero count digit rest (inl h) low (inr over) = absurd (omega arith)
+bad_at_count digits zero count digit rest (inl h) low (inr over) = absurd (omega (arith, over.1))
 bad_at_count digits zero count digit rest (inr h) low bad = absurd (omega arith)
 bad_at_count digits (suc at) count digit rest (inl h) low bad = absurd (omega arith)
 bad_at_count digits (suc at) count digit rest (inr h) low (inl none) = absurd (omega arith)
 bad_at_count digits (suc at) count digit rest (inr h) low (inr over) = count_over count (48 + digit) rest (omega arith) (omega arith) (omega arith)
 
-pub count_bad_digit : (bytes digits : Bytes) (at count digit : ℕ) → bytes ≡ 42 ∷ digits → CountSoFar digits at count → at < length digits → get_or digits at 0 ≡ 48 + digit → digit ≤ 9 → (10 * count + digit ≡ 0) ⊎ (WORDS_MAX < 10 * count + digit) → front bytes ≡ stream.Faulty BadCount
+pub count_bad_digit : (bytes digits : Bytes) (at count digit : ℕ) → bytes ≡ 42 ∷ digits → CountSoFar digits at count → at < length digits → get_or digits at 0 ≡ 48 + digit → digit ≤ 9 → (10 * count + digit ≡ 0) ⊎ ((10 * count + digit ≢ 0) × (WORDS_MAX < 10 * count + digit)) → front bytes ≡ stream.Faulty BadCount
 count_bad_digit bytes digits at count digit e so_far lt is low bad =
     count_front_at bytes digits at count (48 + digit) e so_far lt is ∙ bad_at_count digits at count digit (drop (at + 1) digits) so_far low bad
 
@@ -141,3 +141,107 @@ count_ends bytes digits rest (suc at) count Part e (inr h) some lt cr is tells =
 count_ends bytes digits rest zero count (Faulty fault) e (inr h) some lt cr is tells = absurd (omega arith)
 count_ends bytes digits rest (suc at) count (Faulty fault) e (inr h) some lt cr is tells =
     rw tells.0 (count_front_at bytes digits (suc at) count 13 e (inr h) lt cr ∙ (ap (front_from (CountEnd count)) (sym is ∙ tells.1.2) ∙ count_end_due count tells.1.0 (drop 1 rest) tells.1.1))
+
+-- no digit of a length has been read, or these, which spell it
+abbrev pub LengthSoFar : (size : ℕ) → Bytes → (at n : ℕ) → Type 0
+LengthSoFar size digits at n =
+    ((at ≡ 0) × (n ≡ 0)) ⊎ ((1 ≤ at) × (n ≤ WORD_BYTES_MAX) × (size + n ≤ REQUEST_BYTES_MAX) × (digits ≡ decimal n ++ drop at digits))
+
+-- no byte of a word, or another first one
+pub word_of_nothing : (left size : ℕ) (bytes : Bytes) → length bytes < 1 → front_from (Word left size) bytes ≡ stream.Part
+word_of_nothing left size bytes none = ap (front_from (Word left size)) (nil_from_length bytes (omega arith))
+
+pub word_without_dollar : (left size : ℕ) (bytes : Bytes) → 1 ≤ length bytes → get_or bytes 0 0 ≢ 36 → front_from (Word left size) bytes ≡ stream.Faulty ExpectedBulk
+word_without_dollar left size bytes some differs =
+    ap (front_from (Word left size)) (bytes_by_first bytes some) ∙ dollar_due left size (get_or bytes 0 0) (drop 1 bytes) differs
+
+-- where a length is read on
+abbrev length_place : (left size at n : ℕ) → Place
+length_place left size zero n = Length left size None
+length_place left size (suc at) n = Length left size (Some n)
+
+length_so_far_front : (left size : ℕ) (digits : Bytes) (at n : ℕ) → LengthSoFar size digits at n → front_from (Length left size None) digits ≡ front_from (length_place left size at n) (drop at digits)
+length_so_far_front left size digits zero n so_far = refl
+length_so_far_front left size digits (suc at) n (inl h) = absurd (omega arith)
+length_so_far_front left size digits (suc at) n (inr h) =
+    ap (front_from (Length left size None)) h.3 ∙ length_leads left size n (drop (suc at) digits) h.1 h.2
+
+length_front : (left size : ℕ) (bytes digits : Bytes) (at n : ℕ) → bytes ≡ 36 ∷ digits → LengthSoFar size digits at n → front_from (Word left size) bytes ≡ front_from (length_place left size at n) (drop at digits)
+length_front left size bytes digits at n e so_far = ap (front_from (Word left size)) e ∙ length_so_far_front left size digits at n so_far
+
+pub length_part : (left size : ℕ) (bytes digits : Bytes) (at n : ℕ) → bytes ≡ 36 ∷ digits → LengthSoFar size digits at n → length digits ≤ at → front_from (Word left size) bytes ≡ stream.Part
+length_part left size bytes digits at n e so_far past =
+    length_front left size bytes digits at n e so_far ∙ ap (front_from (length_place left size at n)) (drop_all at digits past)
+
+-- the front at the byte that is read now
+length_front_at : (left size : ℕ) (bytes digits : Bytes) (at n byte : ℕ) → bytes ≡ 36 ∷ digits → LengthSoFar size digits at n → at < length digits → get_or digits at 0 ≡ byte → front_from (Word left size) bytes ≡ front_from (length_place left size at n) (byte ∷ drop (at + 1) digits)
+length_front_at left size bytes digits at n byte e so_far lt is =
+    length_front left size bytes digits at n e so_far ∙ ap (front_from (length_place left size at n)) (drop_more digits at 0 lt ∙ ap (λ (b : ℕ). b ∷ drop (at + 1) digits) is)
+
+other_at_length : (left size at n byte : ℕ) (rest : Bytes) → (byte < 48) ⊎ (57 < byte) → ((byte ≡ 13) × (at ≤ 0)) ⊎ (byte ≢ 13) → front_from (length_place left size at n) (byte ∷ rest) ≡ stream.Faulty BadLength
+other_at_length left size zero n byte rest other cr = length_first_other left size byte rest other
+other_at_length left size (suc at) n byte rest other (inl cr) = absurd (omega arith)
+other_at_length left size (suc at) n byte rest other (inr differs) = length_other left size n byte rest differs other
+
+pub length_no_digit : (left size : ℕ) (bytes digits : Bytes) (at n byte : ℕ) → bytes ≡ 36 ∷ digits → LengthSoFar size digits at n → at < length digits → get_or digits at 0 ≡ byte → (byte < 48) ⊎ (57 < byte) → ((byte ≡ 13) × (at ≤ 0)) ⊎ (byte ≢ 13) → front_from (Word left size) bytes ≡ stream.Faulty BadLength
+length_no_digit left size bytes digits at n byte e so_far lt is other cr =
+    length_front_at left size bytes digits at n byte e so_far lt is ∙ other_at_length left size at n byte (drop (at + 1) digits) other cr
+
+-- a digit after a leading zero
+after_zero_at_length : (left size at n digit : ℕ) (rest : Bytes) → 0 < at → n ≡ 0 → front_from (length_place left size at n) ((48 + digit) ∷ rest) ≡ stream.Faulty BadLength
+after_zero_at_length left size zero n digit rest some zero_is = absurd (omega arith)
+after_zero_at_length left size (suc at) n digit rest some zero_is =
+    ap (λ (k : ℕ). front_from (Length left size (Some k)) ((48 + digit) ∷ rest)) zero_is ∙ length_after_zero left size (48 + digit) rest (λ is. absurd (omega arith))
+
+pub length_leading_zero : (left size : ℕ) (bytes digits : Bytes) (at n digit : ℕ) → bytes ≡ 36 ∷ digits → LengthSoFar size digits at n → at < length digits → get_or digits at 0 ≡ 48 + digit → 0 < at → n ≡ 0 → front_from (Word left size) bytes ≡ stream.Faulty BadLength
+length_leading_zero left size bytes digits at n digit e so_far lt is some zero_is =
+    length_front_at left size bytes digits at n (48 + digit) e so_far lt is ∙ after_zero_at_length left size at n digit (drop (at + 1) digits) some zero_is
+
+-- a digit that makes the length more than it may be
+over_at_length : (left size : ℕ) (digits : Bytes) (at n digit : ℕ) (rest : Bytes) → LengthSoFar size digits at n → digit ≤ 9 → WORD_BYTES_MAX < 10 * n + digit → front_from (length_place left size at n) ((48 + digit) ∷ rest) ≡ stream.Faulty BadLength
+over_at_length left size digits zero n digit rest (inl h) low over = absurd (omega arith)
+over_at_length left size digits zero n digit rest (inr h) low over = absurd (omega arith)
+over_at_length left size digits (suc at) n digit rest (inl h) low over = absurd (omega arith)
+over_at_length left size digits (suc at) n digit rest (inr h) low over =
+    length_over left size n (48 + digit) rest (omega arith) (omega arith) (omega arith) (omega arith)
+
+pub length_too_long : (left size : ℕ) (bytes digits : Bytes) (at n digit : ℕ) → bytes ≡ 36 ∷ digits → LengthSoFar size digits at n → at < length digits → get_or digits at 0 ≡ 48 + digit → digit ≤ 9 → WORD_BYTES_MAX < 10 * n + digit → front_from (Word left size) bytes ≡ stream.Faulty BadLength
+length_too_long left size bytes digits at n digit e so_far lt is low over =
+    length_front_at left size bytes digits at n (48 + digit) e so_far lt is ∙ over_at_length left size digits at n digit (drop (at + 1) digits) so_far low over
+
+-- a digit that makes the words more than they may be together
+past_at_length : (left size : ℕ) (digits : Bytes) (at n digit : ℕ) (rest : Bytes) → LengthSoFar size digits at n → ((0 < at) × (n ≢ 0)) ⊎ (at ≤ 0) → digit ≤ 9 → 10 * n + digit ≤ WORD_BYTES_MAX → REQUEST_BYTES_MAX < size + (10 * n + digit) → front_from (length_place left size at n) ((48 + digit) ∷ rest) ≡ stream.Faulty RequestTooLarge
+past_at_length left size digits zero n digit rest (inl h) some low fits past = length_first_past left size (48 + digit) rest (omega arith) (omega arith) (omega arith)
+past_at_length left size digits zero n digit rest (inr h) some low fits past = absurd (omega arith)
+past_at_length left size digits (suc at) n digit rest so_far (inr none) low fits past = absurd (omega arith)
+past_at_length left size digits (suc at) n digit rest so_far (inl some) low fits past =
+    length_past left size n (48 + digit) rest (omega (arith, some.1)) (omega arith) (omega arith) (omega arith) (omega arith)
+
+pub length_too_large : (left size : ℕ) (bytes digits : Bytes) (at n digit : ℕ) → bytes ≡ 36 ∷ digits → LengthSoFar size digits at n → at < length digits → get_or digits at 0 ≡ 48 + digit → ((0 < at) × (n ≢ 0)) ⊎ (at ≤ 0) → digit ≤ 9 → 10 * n + digit ≤ WORD_BYTES_MAX → REQUEST_BYTES_MAX < size + (10 * n + digit) → front_from (Word left size) bytes ≡ stream.Faulty RequestTooLarge
+length_too_large left size bytes digits at n digit e so_far lt is some low fits past =
+    length_front_at left size bytes digits at n (48 + digit) e so_far lt is ∙ past_at_length left size digits at n digit (drop (at + 1) digits) so_far some low fits past
+
+pub length_more : (size : ℕ) (digits : Bytes) (at n digit : ℕ) → LengthSoFar size digits at n → at < length digits → get_or digits at 0 ≡ 48 + digit → ((0 < at) × (n ≢ 0)) ⊎ (at ≤ 0) → digit ≤ 9 → 10 * n + digit ≤ WORD_BYTES_MAX → size + (10 * n + digit) ≤ REQUEST_BYTES_MAX → LengthSoFar size digits (at + 1) (10 * n + digit)
+length_more size digits at n digit (inl h) lt is some low fits room = inr (omega arith, fits, room, first) where
+  zero_is : 10 * n + digit ≡ digit
+  zero_is = omega arith
+  at_start : digits ≡ decimal digit ++ drop 1 digits
+  at_start = digits_first digits digit (omega arith) (subst (λ (k : ℕ). get_or digits k 0 ≡ 48 + digit) h.0 is) low
+  one_is : 1 ≡ at + 1
+  one_is = omega arith
+  first : digits ≡ decimal (10 * n + digit) ++ drop (at + 1) digits
+  first = rw (zero_is, ← one_is) at_start
+length_more size digits at n digit (inr h) lt is (inr none) low fits room = absurd (omega arith)
+length_more size digits at n digit (inr h) lt is (inl some) low fits room =
+    inr (omega arith, fits, room, digits_more digits at n digit lt is (omega (arith, some.1)) low (omega arith) h.3)
+
+pub length_ends : (size : ℕ) (bytes digits rest : Bytes) (at n : ℕ) (line : Line) → bytes ≡ 36 ∷ digits → LengthSoFar size digits at n → 0 < at → at < length digits → get_or digits at 0 ≡ 13 → rest ≡ drop (at + 1) digits → TellsNumber n (at + 3) rest line → TellsLength size bytes line
+length_ends size bytes digits rest at n line e (inl h) some lt cr is tells = absurd (omega arith)
+length_ends size bytes digits rest at n (Number value width) e (inr h) some lt cr is tells =
+    rw (tells.0, tells.1) (line_begins 36 n at bytes digits rest e h.3 lt cr is tells.2, h.1, h.2)
+length_ends size bytes digits rest zero n Part e (inr h) some lt cr is tells = absurd (omega arith)
+length_ends size bytes digits rest (suc at) n Part e (inr h) some lt cr is tells =
+    λ left. length_front_at left size bytes digits (suc at) n 13 e (inr h) lt cr ∙ ap (front_from (LengthEnd left size n)) (sym is ∙ tells)
+length_ends size bytes digits rest zero n (Faulty fault) e (inr h) some lt cr is tells = absurd (omega arith)
+length_ends size bytes digits rest (suc at) n (Faulty fault) e (inr h) some lt cr is tells =
+    rw tells.0 (λ left. length_front_at left size bytes digits (suc at) n 13 e (inr h) lt cr ∙ (ap (front_from (LengthEnd left size n)) (sym is ∙ tells.1.2) ∙ length_end_due left size n tells.1.0 (drop 1 rest) tells.1.1))

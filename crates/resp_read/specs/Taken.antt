@@ -21,6 +21,7 @@ pub record BeginsWithWord (bytes : Bytes) : Type 0 where
 -- the bytes begin with this word as a bulk string of so many bytes
 pub record HasTaken (bytes word : Bytes) (width : ℕ) : Type 0 where
   pub within : width ≤ length bytes
+  pub short : length word ≤ WORD_BYTES_MAX
   pub begins : bytes ≡ bulk_string word ++ drop width bytes
 
 -- each of the words is held without an allocation

@@ -121,9 +121,14 @@ pub(crate) fn data_end(length: usize, bytes: &[u8]) -> DataEnd
     if bytes.len() <= length {
         return DataEnd::Part;
     }
-    match &bytes[length..] {
-        [b'\r'] => DataEnd::Part,
-        [b'\r', b'\n', ..] => DataEnd::Whole,
-        _ => DataEnd::Missing,
+    if bytes[length] != b'\r' {
+        return DataEnd::Missing;
     }
+    if bytes.len() == length + 1 {
+        return DataEnd::Part;
+    }
+    if bytes[length + 1] != b'\n' {
+        return DataEnd::Missing;
+    }
+    DataEnd::Whole
 }

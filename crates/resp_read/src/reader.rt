@@ -77,14 +77,19 @@ impl Reader {
         ensures err { OnErr result (self.new ≡ self.old) }
         ensures returned { IfErr result (λ refused. refused.0 ≡ piece) }
     {
-        if self.buffer.is_empty() {
-            self.buffer.clear();
-        }
-        let _ = self.buffer.try_reclaim(piece.len());
-        match self.buffer.extend_from_slice(piece.as_slice()) {
+        match self.feed_slice(piece.as_slice()) {
             Ok(()) => Ok(()),
             Err(error) => Err((piece, error)),
         }
+    }
+
+    /// Adds a copy of these bytes at the end, as [`feed`](Reader::feed) does.
+    pub fn feed_slice(&mut self, piece: &[u8]) -> Result<(), OutOfMemory>
+        ensures ok { OnOk result (self.new ≡ self.old ++ piece.now) }
+        ensures err { OnErr result (self.new ≡ self.old) }
+    {
+        make_room(&mut self.buffer, piece.len());
+        self.buffer.extend_from_slice(piece)
     }
 
     /// Takes the first request and gives its words, or `None` where more bytes are due. After a
@@ -114,4 +119,15 @@ impl Reader {
             }
         }
     }
+}
+
+/// Makes room for `size` bytes after those of the buffer, as far as the memory that it has allows: bytes
+/// are moved to its front only where the room after them is too small.
+fn make_room(buffer: &mut BytesMut, size: usize)
+    ensures { buffer.new.items ≡ buffer.old.items }
+{
+    if buffer.is_empty() {
+        buffer.clear();
+    }
+    buffer.try_reclaim(size);
 }

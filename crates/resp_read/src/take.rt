@@ -4,6 +4,7 @@ ghost use Rattle.std.specs.Prelude.{◌≡◌, ◌≤◌, ◌<◌, ◌++◌, Lis
 ghost use Rattle.words.specs.Store.{Bytes};
 ghost use Rattle.words.specs.Spelling.{spelling, bulk_string, IsRequest};
 ghost use Rattle.words.specs.declared.word.TheConstants.{WORD_INLINE};
+ghost use Rattle.words.specs.declared.limits.TheConstants.{WORD_BYTES_MAX};
 ghost use Rattle.resp_read.specs.Taken.{BeginsWithWord, IsSpelled, HasTaken, NeedsMemory};
 
 use crate::lines::{Line, count_line, length_line};
@@ -15,11 +16,14 @@ use words::word::{OutOfMemory, Word, Words};
 fn word_at(alloc: Global, bytes: &[u8]) -> Result<(Word, usize), OutOfMemory>
     requires { BeginsWithWord bytes.now }
     ensures ok { IfOk result (λ taken. HasTaken bytes.now taken.0 taken.1) }
-    ensures inline { OnErr result ((word more : Bytes) → bytes.now ≡ bulk_string word ++ more → WORD_INLINE < length word) }
+    ensures inline { OnErr result ((word more : Bytes) → length word ≤ WORD_BYTES_MAX → bytes.now ≡ bulk_string word ++ more → WORD_INLINE < length word) }
 {
-    let (length, start) = match length_line(0, bytes) {
-        Line::Number { value, width } => (value, width),
-        Line::Part | Line::Faulty(_) => unreachable!(),
+    let Line::Number {
+        value: length,
+        width: start,
+    } = length_line(0, bytes)
+    else {
+        unreachable!()
     };
     let end = start + length;
     let word = Word::from_slice(alloc, &bytes[start..end])?;
@@ -33,9 +37,12 @@ pub(crate) fn words_of(alloc: Global, request: &[u8]) -> Result<Words, OutOfMemo
     ensures words { IfOk result (λ words. request.now ≡ spelling words) }
     ensures memory { OnErr result (NeedsMemory request.now) }
 {
-    let (count, start) = match count_line(request) {
-        Line::Number { value, width } => (value, width),
-        Line::Part | Line::Faulty(_) => unreachable!(),
+    let Line::Number {
+        value: count,
+        width: start,
+    } = count_line(request)
+    else {
+        unreachable!()
     };
     let (name, width) = word_at(alloc, &request[start..])?;
     let mut words = Words::one(alloc, name);

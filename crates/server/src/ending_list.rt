@@ -1,6 +1,7 @@
 //! How connections ended.
 
-ghost use Rattle.std.specs.Prelude.{◌≡◌, IfOk, IfErr, IfSome};
+ghost use Rattle.std.specs.Prelude.{◌≡◌, IfOk, IfSome};
+ghost use Rattle.connection.specs.Endings.{number_of};
 ghost use Rattle.server.specs.Numbers.{IsEndingNumber};
 
 use boxcar::table::Keeps;
@@ -16,6 +17,9 @@ pub struct EndingNumber;
 impl Keeps<u8> for EndingNumber {
     ghost holds = { λ tag place number. IsEndingNumber number };
 }
+
+/// Shows that the list holds a number at a place.
+pub(crate) type Shown = Pushed<u8, Global, EndingNumber>;
 
 /// How the connections that were served have ended: a number from 1 to 6 for each, as
 /// `Ended::number` gives it, in the order in which they were put down. The list only grows, and
@@ -36,10 +40,12 @@ impl Endings {
         Ok(Endings { numbers })
     }
 
-    /// Puts down how a connection ended. Where there is no memory for it, it is left out, and nothing
-    /// else changes.
-    pub(crate) fn push(&self, rt: &impl Wait, ended: Ended) {
-        let _ = self.numbers.push(rt, ended.number());
+    /// Puts down how a connection ended, and shows where. Where there is no memory for it, it is left
+    /// out, and nothing else changes.
+    pub(crate) fn push(&self, rt: &impl Wait, ended: Ended) -> Result<Shown, u8>
+        ensures { IfOk result (λ shown. shown.value ≡ number_of ended) }
+    {
+        self.numbers.push_shown(rt, ended.number())
     }
 
     /// The number at this place, 0 being the first, or `None` where the list is not so long.

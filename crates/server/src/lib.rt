@@ -6,10 +6,9 @@ mod closing;
 mod ending_list;
 mod fault;
 mod setting;
-mod workers;
-
 #[cfg(test)]
 mod tests;
+mod workers;
 
 pub use ending_list::Endings;
 pub use fault::ServerFault;

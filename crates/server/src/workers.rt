@@ -1,6 +1,6 @@
 //! Accepting connections and serving them.
 
-ghost use Rattle.std.specs.Prelude.{◌≡◌, IfErr};
+ghost use Rattle.std.specs.Prelude.{◌≡◌, ◌≢◌, IfErr};
 
 use crate::closing::close;
 use crate::ending_list::Endings;
@@ -39,23 +39,28 @@ pub fn run_workers<R: AllocGlobal + Clock + Wait>(
     listener: TcpListener,
     options: &Options,
     endings: &Endings,
-) -> Result<(), ServerFault> {
+) -> Result<(), ServerFault>
+    ensures { IfErr result (λ fault. fault ≢ ServerFault.CannotListen) }
+{
     let alloc = rt.alloc();
-    let (mut engine, mut passes) =
-        Engine::new(alloc, &Limits::default()).map_err(|_| ServerFault::OutOfMemory)?;
+    let (mut engine, mut passes) = Engine::new(alloc, &Limits::default()).map_err(
+        |_| ServerFault::OutOfMemory,
+    )?;
     let mut pass = passes.swap_remove(0);
     for _ in 0..options.accept {
         let stream = accept(rt, &listener)?;
         let (back, ended) = serve_stream(alloc, &stream, &mut engine, pass);
         pass = back;
-        endings.push(rt, ended);
+        let _ = endings.push(rt, ended);
         close(rt, stream, ended);
     }
     Ok(())
 }
 
 /// The next connection. One that its client gave up before it was accepted is passed over.
-fn accept(rt: &impl Wait, listener: &TcpListener) -> Result<TcpStream, ServerFault> {
+fn accept(rt: &impl Wait, listener: &TcpListener) -> Result<TcpStream, ServerFault>
+    ensures { IfErr result (λ fault. fault ≡ ServerFault.CannotAccept) }
+{
     for _ in rt.forever() {
         match listener.accept() {
             Ok((stream, _)) => return Ok(stream),
@@ -67,12 +72,9 @@ fn accept(rt: &impl Wait, listener: &TcpListener) -> Result<TcpStream, ServerFau
 }
 
 /// Serves one connection until it ends.
-fn serve_stream(
-    alloc: Global,
-    stream: &TcpStream,
-    engine: &mut Engine,
-    pass: Pass,
-) -> (Pass, Ended) {
+fn serve_stream(alloc: Global, stream: &TcpStream, engine: &mut Engine, pass: Pass) -> (Pass, Ended)
+    ensures { result.0 ≡ pass }
+{
     // Without this a short reply may wait for the client's acknowledgement of the one before.
     let _ = stream.set_nodelay(true);
     let mut reader = Noted::new(stream);

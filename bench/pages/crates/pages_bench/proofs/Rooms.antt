@@ -4,7 +4,11 @@ use Rattle.std.proofs.Common.{Result, Ok, Err, IsErr, OnOk}
 use Rattle.records.specs.declared.entries.NoRoom.{NoRoom}
 use Rattle.std.proofs.Common.{below_more, ◌↔◌}
 use Rattle.records.specs.Page.{used_end}
-use Rattle.std.specs.List.{Contains}
+use Rattle.std.proofs.Common.{◌-◌}
+use Rattle.pages_bench.specs.declared.Item.{Item}
+use Rattle.pages_bench.specs.Item.{IsItem}
+use Rattle.records.specs.Records.{size_for}
+use Rattle.std.specs.List.{Contains, All}
 use Rattle.std.proofs.lemmas.List.{get_or-map, length-map}
 use Rattle.std.proofs.lemmas.List.Elements.{Contains-append_left, Contains-push}
 use Rattle.records.specs.Records.{Stored, HasRoomAt, with_value, records_of}
@@ -62,3 +66,11 @@ filled-more r old new k size s refused appended ends is_size fits below is_end r
     let last : HasRoomAt (records_of old ++ (used_end old, s) ∷ []) (used_end old) 100 = room-new (records_of old) (used_end old) 100 s fits in
     (omega (arith, end, is_size, is_end),
     below_more P k (λ j h. rw records (room-behind (records_of old) (used_end old, s) (16 + 144 * j) 100 (rooms j h))) (rw (records, ← is_end) last))
+
+-- an item's record takes 144 bytes, and has room for its value
+pub item-size : (items : List Item) (k : ℕ) (d : Item) → All IsItem items → k < length items → size_for (length (get_or items k d).key.now) (length (get_or items k d).value.now) ≡ 144
+item-size items k d each h = let item : IsItem (get_or items k d) = each k d h in omega (arith, item)
+
+pub item-room : (items : List Item) (k : ℕ) (d : Item) → All IsItem items → k < length items
+    → 100 ≤ size_for (length (get_or items k d).key.now) (length (get_or items k d).value.now) - 24 - length (get_or items k d).key.now
+item-room items k d each h = let item : IsItem (get_or items k d) = each k d h in omega (arith, item)

@@ -1,12 +1,12 @@
 -- What a page that is laid out holds after a record is put into it, or takes another value.
-use Rattle.std.proofs.Common.{◌≡◌, ℕ, ◌+◌, ◌-◌, ◌*◌, ◌/◌, ◌%◌, ◌<◌, ◌≤◌, ◌^◌, List, [], ◌∷◌, ◌++◌, length, map, Option, refl, sym, ap, ◌∙◌, arith, subst, drop, take, length-append, length-take, length-drop}
+use Rattle.std.proofs.Common.{◌≡◌, ℕ, ◌+◌, ◌-◌, ◌*◌, ◌/◌, ◌%◌, ◌<◌, ◌≤◌, ◌^◌, List, [], ◌∷◌, ◌++◌, length, map, Option, refl, sym, ap, ◌∙◌, arith, subst, drop, take, replicate, length-append, length-take, length-drop}
 use Rattle.std.specs.List.{Contains}
 use borrow.Rule.Slice.PartMut.{put_mid}
 use Rattle.records.specs.Fields.{u32_bytes}
 use Rattle.records.specs.Page.{empty_page, number_of, used_end}
 use Rattle.records.specs.Records.{Stored, IsStored, value_bytes, size_of, size_for, new_record, spelling, end_from, placed, IsPage, records_of, IsLaidOut, with_value}
 use Rattle.records.proofs.Lists.{end_from-append, placed-append, Split, split_at, with_value-placed}
-use Rattle.records.proofs.Laid.{page-number, page-end, page-records, page-laid_out, page-length, empty-page, appended-page, listed-ok, listed-within, listed-here, listed_back, overwritten-page}
+use Rattle.records.proofs.Laid.{page-number, page-end, page-records, page-laid_out, page-length, empty-page, appended-page, blank-behind, listed-ok, listed-within, listed-here, listed_back, overwritten-page}
 
 -- the size of a new record
 pub size_of-new_record : (link hash : ℕ) (key : List ℕ) (value : Option (List ℕ)) → size_of (new_record link hash key value) ≡ size_for (length key) (length (value_bytes value))
@@ -91,3 +91,18 @@ slot-length bytes field end size is_bytes is_field fits =
             omega (arith, length-append (take 8 bytes) (field ++ drop 4 (drop 8 bytes)), length-append field (drop 4 (drop 8 bytes)),
                 length-take 8 bytes, length-drop 4 (drop 8 bytes), length-drop 8 bytes) in
     omega (arith, whole, length-take (end + size - end) (drop end (put_mid 8 4 bytes field)), length-drop end (put_mid 8 4 bytes field))
+
+-- that part is zero before the record is written
+pub slot-blank : (old bytes field : List ℕ) (end size : ℕ) → IsLaidOut old → bytes ≡ old → end ≡ used_end old → field ≡ u32_bytes (end + size) → length bytes ≡ 16384 → length field ≡ 4 → size ≤ 16384 - end
+    → take (end + size - end) (drop end (put_mid 8 4 bytes field)) ≡ replicate (length (take (end + size - end) (drop end (put_mid 8 4 bytes field)))) 0
+slot-blank old bytes field end size was is_bytes is_end is_field length_bytes length_field fits =
+    let all : ℕ = end + size - end in
+    let is_size : all ≡ size = omega arith in
+    let is_used : end ≡ end_from 16 was.stored = is_end ∙ was.used in
+    let blank : take all (drop (end_from 16 was.stored) (put_mid 8 4 old (u32_bytes (end + size)))) ≡ replicate all 0 =
+            blank-behind (number_of old) was.stored old (end + size) all was.is_page (omega (arith, is_size, is_used, fits)) in
+    let here : take all (drop end (put_mid 8 4 bytes field)) ≡ replicate all 0 =
+            subst (λ (e : ℕ). take all (drop e (put_mid 8 4 bytes field)) ≡ replicate all 0) (sym is_used)
+                (subst (λ (b : List ℕ). take all (drop (end_from 16 was.stored) (put_mid 8 4 b field)) ≡ replicate all 0) (sym is_bytes)
+                    (subst (λ (u : List ℕ). take all (drop (end_from 16 was.stored) (put_mid 8 4 old u)) ≡ replicate all 0) (sym is_field) blank)) in
+    here ∙ ap (λ (n : ℕ). replicate n 0) (sym (slot-length bytes field end size length_bytes length_field fits ∙ sym is_size))

@@ -6,7 +6,7 @@ use Rattle.std.proofs.lemmas.List.{take_at}
 use borrow.Rule.Slice.PartMut.{put_mid}
 use Rattle.records.specs.Fields.{u16_at, u64_at}
 use Rattle.records.specs.Page.{number_of, used_end}
-use Rattle.records.specs.Records.{Stored, IsStored, IsKindFor, value_of_kind, value_bytes, kind_of, size_of, spelling, end_from, placed, IsPage, fields_at, records_of, IsLaidOut, with_value, IsRecordAt}
+use Rattle.records.specs.Records.{Stored, IsStored, IsKindFor, value_of_kind, value_bytes, kind_of, size_of, spelling, end_from, placed, IsPage, fields_at, records_of, IsLaidOut, with_value, HasRoomAt, IsRecordAt}
 use Rattle.records.proofs.Spelling.{length-spelling, key_length_at, value_length_at, capacity_at, kind_at, form_at, fields_at-is}
 use Rattle.records.proofs.Lists.{end_from-le, end_from-append, Split, split_at, with_value-placed, each-left}
 use Rattle.records.proofs.Laid.{page-number, page-end, page-records, page-laid_out, page-length, listed-ok, listed-within, listed-here, listed_back, overwritten-page}
@@ -179,19 +179,28 @@ read-key_length page bytes offset k r t is_page is_k = is_k ∙ (ap (λ (s : Lis
 pub read-capacity : (page bytes : List ℕ) (offset c : ℕ) (r : Stored) → IsThere page offset r → bytes ≡ page → c ≡ u16_at bytes (offset + 20) → c ≡ r.capacity
 read-capacity page bytes offset c r t is_page is_c = is_c ∙ (ap (λ (s : List ℕ). u16_at s (offset + 20)) is_page ∙ t.capacity)
 
+pub read-value_length : (page bytes : List ℕ) (offset n : ℕ) (r : Stored) → IsThere page offset r → bytes ≡ page → n ≡ u16_at bytes (offset + 18) → n ≡ length (value_bytes r.value)
+read-value_length page bytes offset n r t is_page is_n = is_n ∙ (ap (λ (s : List ℕ). u16_at s (offset + 18)) is_page ∙ t.value_length)
+
 -- the page after the steps of `overwrite`
-pub changed-by_steps : (page bytes slot : List ℕ) (offset k c : ℕ) (r : Stored) (value : Option (List ℕ))
+pub changed-by_steps : (page bytes slot : List ℕ) (offset k n c : ℕ) (r : Stored) (value : Option (List ℕ))
     → IsLaidOut page → Contains (records_of page) (offset, r) → length (value_bytes value) ≤ r.capacity
-    → bytes ≡ page → k ≡ length r.key → c ≡ r.capacity
-    → ((s : Stored) → take (offset + 24 + k + c - offset) (drop offset bytes) ≡ spelling s → length (take (offset + 24 + k + c - offset) (drop offset bytes)) ≡ size_of s → k ≡ length s.key → slot ≡ spelling (record s { value = value }))
+    → bytes ≡ page → k ≡ length r.key → n ≡ length (value_bytes r.value) → c ≡ r.capacity
+    → ((s : Stored) → take (offset + 24 + k + c - offset) (drop offset bytes) ≡ spelling s → length (take (offset + 24 + k + c - offset) (drop offset bytes)) ≡ size_of s → k ≡ length s.key → n ≡ length (value_bytes s.value) → slot ≡ spelling (record s { value = value }))
     → HasChanged page (put_mid offset (offset + 24 + k + c - offset) bytes slot) offset value
-changed-by_steps page bytes slot offset k c r value was there fits is_page is_k is_c rewrites =
+changed-by_steps page bytes slot offset k n c r value was there fits is_page is_k is_n is_c rewrites =
     let t : IsThere page offset r = listed-IsThere page offset r was there in
     let ok : IsStored r = t.ok in
     let size : offset + 24 + k + c - offset ≡ size_of r = omega arith in
     let spelled : take (offset + 24 + k + c - offset) (drop offset bytes) ≡ spelling r = rw (size, is_page) t.bytes in
     let sized : length (take (offset + 24 + k + c - offset) (drop offset bytes)) ≡ size_of r = ap (λ (s : List ℕ). length s) spelled ∙ length-spelling r ok.value_fits in
-    let new : slot ≡ spelling (record r { value = value }) = rewrites r spelled sized is_k in
+    let new : slot ≡ spelling (record r { value = value }) = rewrites r spelled sized is_k is_n in
     let goal : HasChanged page (put_mid offset (size_of r) page (spelling (record r { value = value }))) offset value = listed-HasChanged page offset r was there value fits in
-    let F : ℕ → List ℕ → List ℕ → Type 0 = λ n b s. HasChanged page (put_mid offset n b s) offset value in
-    subst (λ (n : ℕ). F n bytes slot) (sym size) (subst (λ (b : List ℕ). F (size_of r) b slot) (sym is_page) (subst (λ (s : List ℕ). F (size_of r) page s) (sym new) goal))
+    let F : ℕ → List ℕ → List ℕ → Type 0 = λ m b s. HasChanged page (put_mid offset m b s) offset value in
+    subst (λ (m : ℕ). F m bytes slot) (sym size) (subst (λ (b : List ℕ). F (size_of r) b slot) (sym is_page) (subst (λ (s : List ℕ). F (size_of r) page s) (sym new) goal))
+
+-- the header of such a record lies in the page
+pub room_within : (page : List ℕ) (offset n : ℕ) → IsLaidOut page → HasRoomAt (records_of page) offset n → offset + 24 ≤ 16384
+room_within page offset n was room =
+    let t : IsThere page offset room.stored = listed-IsThere page offset room.stored was room.listed in
+    omega (arith, t.within, t.ends_in_page)

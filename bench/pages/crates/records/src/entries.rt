@@ -1,6 +1,6 @@
 // The records of a page.
 
-ghost use Rattle.std.specs.Prelude.{◌≡◌, ◌<◌, ◌≤◌, ◌↔◌, ℕ, ◌+◌, ◌-◌, ◌*◌, ◌/◌, ◌%◌, ◌^◌, [], ◌∷◌, ◌++◌, length, map, replicate, IsErr, IfOk, IsOkAnd, OnOk, OnErr, MatchResult, Contains};
+ghost use Rattle.std.specs.Prelude.{◌≡◌, ◌<◌, ◌≤◌, ◌↔◌, ℕ, ◌+◌, ◌-◌, ◌*◌, ◌/◌, ◌%◌, ◌^◌, List, [], ◌∷◌, ◌++◌, length, drop, map, replicate, Option, IsErr, IfOk, IsOkAnd, OnOk, OnErr, MatchResult, Contains};
 ghost use Rattle.std.specs.Option.{option_copied};
 ghost use Rattle.records.specs.Page.{number_of, used_end};
 ghost use Rattle.records.specs.Fields.{u16_bytes, u64_bytes};
@@ -137,6 +137,7 @@ pub fn put_record(
 
 /// Puts another value, or with `None` a tombstone, into the record at `offset`, in place.
 #[inline]
+#[tactic(auto, using(crate::proofs::There::room_within))]
 pub fn overwrite(page: &mut Page, offset: usize, value: Option<&[u8]>)
     requires laid_out { IsLaidOut page.old }
     requires fits { HasRoomAt (records_of page.old) offset (length (value_bytes (option_copied value))) }
@@ -147,9 +148,10 @@ pub fn overwrite(page: &mut Page, offset: usize, value: Option<&[u8]>)
 {
     let bytes = page.bytes_mut();
     let key_length = fields::u16_at(bytes, offset + 16) as usize;
+    let old_length = fields::u16_at(bytes, offset + 18) as usize;
     let capacity = fields::u16_at(bytes, offset + 20) as usize;
     let end = offset + RECORD_HEADER + key_length + capacity;
-    rewrite_value(&mut bytes[offset..end], key_length, value);
+    rewrite_value(&mut bytes[offset..end], key_length, old_length, value);
 }
 
 // What a record of this kind holds where these are the bytes of its value.
@@ -186,13 +188,14 @@ fn kind_of(value: Option<&[u8]>) -> u8
     }
 }
 
-// Writes a record into the bytes that it takes.
+// Writes a record into the bytes that it takes, all of which are zero.
 #[inline]
 #[tactic(auto, unfolding(crate::specs::Records::spelling, crate::specs::Records::head))]
 fn write_record(slot: &mut [u8], link: u64, hash: u64, key: &[u8], value: Option<&[u8]>)
     requires key { length key.now ≤ MAX_KEY }
     requires value { 24 + length key.now + length (value_bytes (option_copied value)) ≤ length slot.old }
     requires size { length slot.old ≤ 16384 }
+    requires blank { slot.old ≡ replicate (length slot.old) 0 }
     ensures { slot.new ≡ spelling (record { link = link; hash = hash; key = key.now; value = option_copied value.entry; capacity = length slot.old - 24 - length key.now }) }
 {
     let capacity = slot.len() - RECORD_HEADER - key.len();
@@ -233,28 +236,41 @@ fn write_lengths(head: &mut [u8], key_length: u16, value_length: u16, capacity: 
     rest.copy_from_slice(&[kind, FORM]);
 }
 
-// Writes a value and zeros after it.
+// Writes a value, and leaves what follows it.
 #[inline]
 fn write_value(room: &mut [u8], value: Option<&[u8]>)
     requires { length (value_bytes (option_copied value)) ≤ length room.old }
-    ensures { room.new ≡ filled (option_copied value.entry) (length room.old) }
+    ensures { room.new ≡ value_bytes (option_copied value.entry) ++ drop (length (value_bytes (option_copied value.entry))) room.old }
 {
-    let (value_part, spare) = room.split_at_mut(length_of(value));
     if let Some(bytes) = value {
-        value_part.copy_from_slice(bytes);
+        room[..bytes.len()].copy_from_slice(bytes);
     }
-    fields::fill_zeros(spare);
+}
+
+// Writes a value in place of one of `old_length` bytes, behind which all is zero.
+#[inline]
+fn replace_value(room: &mut [u8], old_length: usize, value: Option<&[u8]>)
+    requires old { old_length ≤ length room.old }
+    requires value { length (value_bytes (option_copied value)) ≤ length room.old }
+    ensures { (old : Option (List ℕ)) → old_length ≡ length (value_bytes old) → room.old ≡ filled old (length room.old) → room.new ≡ filled (option_copied value.entry) (length room.old) }
+{
+    let length = length_of(value);
+    write_value(room, value);
+    if length < old_length {
+        fields::fill_zeros(&mut room[length..old_length]);
+    }
 }
 
 // Writes another value into the bytes of a record.
 #[inline]
-fn rewrite_value(slot: &mut [u8], key_length: usize, value: Option<&[u8]>)
+fn rewrite_value(slot: &mut [u8], key_length: usize, old_length: usize, value: Option<&[u8]>)
     requires size { length slot.old ≤ 16384 }
+    requires old { 24 + key_length + old_length ≤ length slot.old }
     requires value { 24 + key_length + length (value_bytes (option_copied value)) ≤ length slot.old }
-    ensures { (r : Stored) → slot.old ≡ spelling r → length slot.old ≡ size_of r → key_length ≡ length r.key → slot.new ≡ spelling (record r { value = option_copied value.entry }) }
+    ensures { (r : Stored) → slot.old ≡ spelling r → length slot.old ≡ size_of r → key_length ≡ length r.key → old_length ≡ length (value_bytes r.value) → slot.new ≡ spelling (record r { value = option_copied value.entry }) }
 {
     let (head, rest) = slot.split_at_mut(RECORD_HEADER);
     head[18..20].copy_from_slice(&(length_of(value) as u16).to_le_bytes());
     head[22] = kind_of(value);
-    write_value(&mut rest[key_length..], value);
+    replace_value(&mut rest[key_length..], old_length, value);
 }

@@ -1,42 +1,7 @@
-use Rattle.std.proofs.Common.{rules, ◌≡◌, ◌+◌, ◌≤◌, ℕ, length, refl, arith, length-take, length-drop}
+use Rattle.std.proofs.Common.{ℕ, ◌+◌, ◌≤◌, length, arith, length-take, length-drop}
 use Rattle.std.specs.Option.{option_copied}
-use Rattle.records.proofs.There.{listed-IsThere, read-key_length, read-capacity, changed-by_steps}
+use Rattle.records.proofs.There.{listed-IsThere, read-key_length, read-value_length, read-capacity, changed-by_steps}
 use Rattle.records.proofs.entries.overwrite.Goals as goal
-
-pub overflow_add-offset : goal.overflow_add-offset
-overflow_add-offset c =
-    let there = listed-IsThere _ _ _ c.requires.laid_out c.requires.fits.listed in
-    omega (arith, there.within, there.ends_in_page)
-
-pub u16_at-key_length-requires : goal.u16_at-key_length-requires
-u16_at-key_length-requires c =
-    let there = listed-IsThere _ _ _ c.requires.laid_out c.requires.fits.listed in
-    omega (arith, there.within, there.ends_in_page, c.bytes_mut-bytes.ensures.size)
-
-pub overflow_add-offset-2 : goal.overflow_add-offset-2
-overflow_add-offset-2 c =
-    let there = listed-IsThere _ _ _ c.requires.laid_out c.requires.fits.listed in
-    omega (arith, there.within, there.ends_in_page)
-
-pub u16_at-capacity-requires : goal.u16_at-capacity-requires
-u16_at-capacity-requires c =
-    let there = listed-IsThere _ _ _ c.requires.laid_out c.requires.fits.listed in
-    omega (arith, there.within, there.ends_in_page, c.bytes_mut-bytes.ensures.size)
-
-pub overflow_add-end : goal.overflow_add-end
-overflow_add-end c =
-    let there = listed-IsThere _ _ _ c.requires.laid_out c.requires.fits.listed in
-    omega (arith, there.within, there.ends_in_page)
-
-pub overflow_add-end-2 : goal.overflow_add-end-2
-overflow_add-end-2 c =
-    let there = listed-IsThere _ _ _ c.requires.laid_out c.requires.fits.listed in
-    omega (arith, there.within, there.ends_in_page)
-
-pub overflow_add-end-3 : goal.overflow_add-end-3
-overflow_add-end-3 c =
-    let there = listed-IsThere _ _ _ c.requires.laid_out c.requires.fits.listed in
-    omega (arith, there.within, there.ends_in_page)
 
 pub slice_bounds-rewrite_value-end : goal.slice_bounds-rewrite_value-end
 slice_bounds-rewrite_value-end c =
@@ -52,11 +17,21 @@ rewrite_value-requires-clause-value c =
     let room = read-capacity _ _ _ _ _ there c.bytes_mut-bytes.ensures.bytes c.u16_at-capacity.ensures in
     omega (arith, there.within, there.ends_in_page, key, room, c.bytes_mut-bytes.ensures.size, c.requires.fits.fits, length-take {A = ℕ}, length-drop {A = ℕ})
 
+pub rewrite_value-requires-clause-old : goal.rewrite_value-requires-clause-old
+rewrite_value-requires-clause-old c =
+    let there = listed-IsThere _ _ _ c.requires.laid_out c.requires.fits.listed in
+    let key = read-key_length _ _ _ _ _ there c.bytes_mut-bytes.ensures.bytes c.u16_at-key_length.ensures in
+    let old = read-value_length _ _ _ _ _ there c.bytes_mut-bytes.ensures.bytes c.u16_at-old_length.ensures in
+    let room = read-capacity _ _ _ _ _ there c.bytes_mut-bytes.ensures.bytes c.u16_at-capacity.ensures in
+    let ok = there.ok in
+    omega (arith, there.within, there.ends_in_page, key, old, room, ok.value_fits, c.bytes_mut-bytes.ensures.size, length-take {A = ℕ}, length-drop {A = ℕ})
+
 pub returns : goal.returns
 returns c =
     let there = listed-IsThere _ _ _ c.requires.laid_out c.requires.fits.listed in
     let key = read-key_length _ _ _ _ _ there c.bytes_mut-bytes.ensures.bytes c.u16_at-key_length.ensures in
+    let old = read-value_length _ _ _ _ _ there c.bytes_mut-bytes.ensures.bytes c.u16_at-old_length.ensures in
     let room = read-capacity _ _ _ _ _ there c.bytes_mut-bytes.ensures.bytes c.u16_at-capacity.ensures in
-    let changed = changed-by_steps _ _ _ _ _ _ _ (option_copied c.args.value) c.requires.laid_out c.requires.fits.listed c.requires.fits.fits
-            c.bytes_mut-bytes.ensures.bytes key room c.rewrite_value.ensures in
+    let changed = changed-by_steps _ _ _ _ _ _ _ _ (option_copied c.args.value) c.requires.laid_out c.requires.fits.listed c.requires.fits.fits
+            c.bytes_mut-bytes.ensures.bytes key old room c.rewrite_value.ensures in
     record { changed = changed.records_are; end = changed.end_is; number = changed.number_is; laid_out = changed.laid_out }

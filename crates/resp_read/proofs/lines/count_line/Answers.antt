@@ -18,20 +18,18 @@ returns-then-at-gt0 c =
 pub returns-in_default-digit_of : goal.returns-in_default-digit_of
 returns-in_default-digit_of c =
     let bytes : List ℕ = c.args.bytes.now in
-    let h = c.else-byte-eq13.either in
-    count_no_digit bytes _ c.loop-at.at c.loop-at.count _ (bytes_by_sign bytes 42 c.in-42.len_at_least (omega arith)) c.loop-at.invariant c.loop-at-test.true refl (c.in_default-digit_of.ensures tt) c.else-byte-eq13.either
+    count_no_digit bytes _ c.loop-at.at c.loop-at.count _ (bytes_by_sign bytes 42 c.in-42.len_at_least (omega arith)) c.loop-at.invariant c.loop-at-test.true refl c.in_default-digit_of.ensures c.else-byte-eq13.either
 
 pub returns-then-count-eq0 : goal.returns-then-count-eq0
 returns-then-count-eq0 c =
     let bytes : List ℕ = c.args.bytes.now in
     let e = c.in-Some.ensures in
-    let h = c.then-count-eq0.either in
-    ?
+    count_bad_digit bytes _ c.loop-at.at c.loop-at.count c.in-Some.digit (bytes_by_sign bytes 42 c.in-42.len_at_least (omega arith)) c.loop-at.invariant c.loop-at-test.true e.1 e.0 c.then-count-eq0.either
 
 pub loop-at-preserved : goal.loop-at-preserved
 loop-at-preserved c =
     let e = c.in-Some.ensures in
-    count_more _ c.loop-at.at c.loop-at.count c.in-Some.digit c.loop-at.invariant c.loop-at-test.true (c.in-Some.ensures.1) c.in-Some.ensures.0 (omega arith) (omega arith)
+    count_more _ c.loop-at.at c.loop-at.count c.in-Some.digit c.loop-at.invariant c.loop-at-test.true e.1 e.0 (omega arith) (omega arith)
 
 pub returns : goal.returns
 returns c =

@@ -1,8 +1,15 @@
 use Rattle.std.proofs.Common.{rules, ◌≡◌, ℕ, List, ◌∙◌, ap, length, arith, sym}
 use Rattle.std.specs.Option.{option_copied}
 use Rattle.records.specs.Fields.{u32_bytes}
-use Rattle.records.proofs.After.{put-by_steps, slot-length}
+use Rattle.records.proofs.After.{put-by_steps, slot-length, slot-blank}
 use Rattle.records.proofs.entries.put_record.Goals as goal
+
+pub write_record-requires-clause-blank : goal.write_record-requires-clause-blank
+unfolding u32_bytes
+write_record-requires-clause-blank c =
+    let field = c.copy_from_slice.ensures.after ∙ c.to_le_bytes.ensures in
+    slot-blank c.args.page.now c.bytes_mut-bytes.result.now c.copy_from_slice.new.self c.used_end-end.result c.record_size-size.result
+        c.requires.laid_out c.bytes_mut-bytes.ensures.bytes c.used_end-end.ensures field c.bytes_mut-bytes.ensures.size (ap (λ (xs : List ℕ). length xs) field) (omega (arith, c.if-size-end.false))
 
 pub returns : goal.returns
 unfolding u32_bytes

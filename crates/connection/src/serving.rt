@@ -1,0 +1,229 @@
+//! Serving one connection: what a reader gives is answered by the engine, and the replies go to a writer.
+
+ghost use Rattle.std.specs.Prelude.{◌≡◌, ◌<◌, ℕ, [], ◌++◌, List, length, OnOk, IfNone, is_ok};
+ghost use Rattle.words.specs.Encoding.{encoding};
+ghost use Rattle.words.specs.Store.{Store};
+ghost use Rattle.engine.specs.Contents.{contents, pass_number};
+ghost use Rattle.connection.specs.Streams.{IsSent, IsPut, stream_of, told_of, tries_of, told_when};
+ghost use Rattle.connection.specs.Clients.{IsReady};
+ghost use Rattle.connection.specs.Conversations.{IsDue, Conversation};
+ghost use Rattle.connection.specs.Served.{HasPaused, paused_told, HasAnswered, answered_told, HasTaken, taken_told, Served, reader_told, writer_told};
+ghost use Rattle.std.specs.Io.KnownBytes.{Appends, Consumes, IsAtEnd};
+
+use crate::client::{Client, Next};
+use crate::noted::{Input, Noted, WriteFault};
+use crate::resp_write::{encode_within, send};
+use crate::session::line_as_reply;
+use engine::{Engine, Pass};
+use std::alloc::Global;
+use std::io::{Read, Write};
+use words::reply::{Line, ProtocolFault, Reply};
+
+/// What the next turn of a client comes to.
+#[derive(Debug, Drop)]
+pub(crate) enum Due {
+    /// A request is answered with this reply.
+    Reply(Reply),
+    /// No whole request is left.
+    Input,
+    /// The bytes that are left begin with a fault.
+    Malformed(ProtocolFault),
+    /// There was no memory for the next request.
+    NoMemory,
+}
+
+/// Answers the client's next request, if there is a whole one.
+fn answer_next(client: &mut Client, engine: &mut Engine, pass: &mut Pass) -> Due
+    requires { IsReady client.old.stage }
+    ensures due { IsDue (pass_number pass.old) (contents engine.old) client.old result (contents engine.new) client.new }
+    ensures pass { pass.new ≡ pass.old }
+{
+    match client.next() {
+        Next::Input => Due::Input,
+        Next::Says(reply) => Due::Reply(reply),
+        Next::Calls(call) => {
+            let answer = engine.submit(pass, call);
+            Due::Reply(client.resume(answer))
+        }
+        Next::Malformed(fault) => Due::Malformed(fault),
+        Next::OutOfMemory => Due::NoMemory,
+    }
+}
+
+/// Writes what the output buffer holds, and empties it.
+fn flush<W: Write>(out: &mut Vec<u8>, writer: &mut Noted<W>) -> Result<(), WriteFault>
+    ensures sent { IsSent (W.contents (stream_of writer.old)) (W.contents (stream_of writer.new)) result out.old.items }
+    ensures told { told_of writer.new ≡ told_when (is_ok result) (told_of writer.old) }
+    ensures empty { OnOk result (out.new.items ≡ []) }
+{
+    if let Err(fault) = writer.write_all(out.as_slice()) {
+        return Err(fault);
+    }
+    out.clear();
+    Ok(())
+}
+
+/// Says a reply: it goes into the output buffer where there is room, else to the writer, after what
+/// the buffer holds. It takes no memory.
+fn say<W: Write>(reply: &Reply, out: &mut Vec<u8>, writer: &mut Noted<W>) -> Result<(), WriteFault>
+    ensures put { IsPut (W.contents (stream_of writer.old)) (W.contents (stream_of writer.new)) out.old.items out.new.items result (encoding reply.now) }
+    ensures told { told_of writer.new ≡ told_when (is_ok result) (told_of writer.old) }
+{
+    if encode_within(reply, out) {
+        return Ok(());
+    }
+    if let Err(fault) = flush(out, writer) {
+        return Err(fault);
+    }
+    if encode_within(reply, out) {
+        return Ok(());
+    }
+    send(reply, writer)
+}
+
+/// Where the answering of what a client was fed pauses.
+#[derive(Debug, Drop)]
+pub(crate) enum Paused {
+    /// No whole request is left.
+    Input,
+    /// The bytes that are left begin with a fault. Its line is not said yet.
+    Malformed(ProtocolFault),
+    /// There was no memory for the next request.
+    NoMemory,
+    /// A write failed.
+    WriteFailed,
+}
+
+/// How a connection ended.
+#[derive(Clone, Copy, Debug, PartialEq, Eq)]
+pub enum Ended {
+    /// The input ended. All complete requests are answered.
+    EndOfInput,
+    /// The client asked to end it. No command does so yet.
+    Quit,
+    /// The input was no request. All requests before are answered, and the fault's line is the last.
+    ProtocolFault,
+    /// A read failed. All complete requests are answered.
+    ReadFailed,
+    /// A write failed, or took no byte.
+    WriteFailed,
+    /// A buffer, the reader or a request's words found no memory. What was answered before is
+    /// written.
+    NoMemory,
+}
+
+impl Ended {
+    ghost use Rattle.connection.specs.Served.{number_of};
+
+    /// The number by which an ending is listed, 1 to 6.
+    pub fn number(self) -> u8
+        ensures { result ≡ number_of self }
+    {
+        match self {
+            Ended::EndOfInput => 1,
+            Ended::Quit => 2,
+            Ended::ProtocolFault => 3,
+            Ended::ReadFailed => 4,
+            Ended::WriteFailed => 5,
+            Ended::NoMemory => 6,
+        }
+    }
+}
+
+/// Answers all whole requests that the client was fed. The replies go into the output buffer, and to
+/// the writer where it is full.
+fn answer_all<W: Write>(
+    client: &mut Client,
+    out: &mut Vec<u8>,
+    writer: &mut Noted<W>,
+    engine: &mut Engine,
+    pass: &mut Pass,
+) -> Paused
+    requires { IsReady client.old.stage }
+    ensures paused { (old : Store) (fed before : List ℕ)
+        → Conversation (pass_number pass.old) old (contents engine.old) fed client.old (before ++ out.old.items)
+        → (sent : List ℕ) × Appends (W.contents (stream_of writer.old)) (W.contents (stream_of writer.new)) sent
+        × HasPaused (pass_number pass.old) old (contents engine.new) fed result client.new (before ++ sent) out.new.items }
+    ensures told { told_of writer.new ≡ paused_told result (told_of writer.old) }
+    ensures pass { pass.new ≡ pass.old }
+{
+    loop {
+        let reply = match answer_next(client, engine, pass) {
+            Due::Reply(reply) => reply,
+            Due::Input => return Paused::Input,
+            Due::Malformed(fault) => return Paused::Malformed(fault),
+            Due::NoMemory => return Paused::NoMemory,
+        };
+        let said = say(&reply, out, writer);
+        drop(reply);
+        if let Err(_) = said {
+            return Paused::WriteFailed;
+        }
+    }
+}
+
+/// Answers all whole requests that the client was fed, and writes the replies. `None` where the
+/// connection goes on.
+fn answer_piece<W: Write>(
+    client: &mut Client,
+    out: &mut Vec<u8>,
+    writer: &mut Noted<W>,
+    engine: &mut Engine,
+    pass: &mut Pass,
+) -> Option<Ended>
+    requires ready { IsReady client.old.stage }
+    requires empty { out.old.items ≡ [] }
+    ensures answered { (old : Store) (fed before : List ℕ)
+        → Conversation (pass_number pass.old) old (contents engine.old) fed client.old before
+        → (sent : List ℕ) × Appends (W.contents (stream_of writer.old)) (W.contents (stream_of writer.new)) sent
+        × HasAnswered (pass_number pass.old) old (contents engine.new) fed result client.new (before ++ sent) out.new.items }
+    ensures told { told_of writer.new ≡ answered_told result (told_of writer.old) }
+    ensures pass { pass.new ≡ pass.old }
+{
+    match answer_all(client, out, writer, engine, pass) {
+        Paused::Input => {
+            if let Err(_) = flush(out, writer) {
+                return Some(Ended::WriteFailed);
+            }
+            None
+        }
+        Paused::Malformed(fault) => {
+            let line = line_as_reply(Line::Malformed(fault));
+            let said = say(&line, out, writer);
+            drop(line);
+            if let Err(_) = said {
+                return Some(Ended::WriteFailed);
+            }
+            if let Err(_) = flush(out, writer) {
+                return Some(Ended::WriteFailed);
+            }
+            Some(Ended::ProtocolFault)
+        }
+        Paused::NoMemory => {
+            if let Err(_) = flush(out, writer) {
+                return Some(Ended::WriteFailed);
+            }
+            Some(Ended::NoMemory)
+        }
+        Paused::WriteFailed => Some(Ended::WriteFailed),
+    }
+}
+
+/// Reads a piece, and feeds it to the client. `None` where the connection goes on.
+fn take_piece<R: Read>(reader: &mut Noted<R>, piece: &mut [u8], client: &mut Client) -> Option<Ended>
+    requires { 0 < length piece.old }
+    ensures taken { (bytes : List ℕ) × Consumes (R.remaining (stream_of reader.old)) (R.remaining (stream_of reader.new)) bytes
+        × HasTaken result client.old bytes client.new }
+    ensures end { result ≡ Some Ended.EndOfInput → IsAtEnd (R.remaining (stream_of reader.new)) }
+    ensures told { told_of reader.new ≡ taken_told result (told_of reader.old) }
+    ensures fewer { IfNone result (tries_of reader.new < tries_of reader.old) }
+{
+    match reader.read(piece) {
+        Input::Bytes(count) => match client.feed(&piece[..count]) {
+            Ok(()) => None,
+            Err(_) => Some(Ended::NoMemory),
+        },
+        Input::End => Some(Ended::EndOfInput),
+        Input::Failure => Some(Ended::ReadFailed),
+    }
+}

@@ -1,0 +1,278 @@
+-- What a pass has after each of its steps.
+use Rattle.std.proofs.Common.{◌≡◌, ◌≢◌, ◌⊎◌, ℕ, zero, suc, ◌+◌, ◌<◌, ◌≤◌, Bool, true, false, List, [], ◌∷◌, ◌++◌, Option, Some, None, cond, nat_eq, eqb, length, map, sym, refl, ap, subst, ◌∙◌, arith, eq-eqb, ne_eqb, inl, inr, ⊎_elim, append_assoc, append-nil, IsSome, ◌^◌, lt-ltb, ◌↔◌}
+use Rattle.std.proofs.lemmas.Bool.{cases_eq, MatchBool-at_true}
+use Rattle.atomic_table.specs.Table.{Me, Step, rest, turned}
+use Rattle.words.specs.declared.history.Entry.{Entry}
+use Rattle.words.specs.Store.{Bytes, Store}
+use Rattle.words.specs.History.{History, Legal, after, subhistory, keys_named}
+use Rattle.words.specs.Stripes.{IsPart, stripe_of}
+use Rattle.gates.specs.declared.view.Note.{Note}
+use Rattle.gates.specs.declared.view.Note.TheVariants.{Busy, Worn}
+use Rattle.gates.specs.declared.view.Knowledge.{Knowledge}
+use Rattle.gates.specs.declared.view.View.{View}
+use Rattle.gates.specs.Sets.{times, without}
+use Rattle.gates.specs.Rule.{AllLeave, AreHeld}
+use Rattle.gates.specs.Plays.{first_of, own, IsSingle, sees, notes, commits, knowing, taking, giving, GoesOn, Took, Missed, Arms, BecomesArmed, FindsWorn, Commits}
+use Rattle.gates.specs.Passes.{stripes_among, part_at, AllFit, IsSeatOf, Learned, WasTold, Committed, KeysHeld}
+use Rattle.gates.proofs.Lists.{times_here, times_else, times-append, without_here, without_else}
+use Rattle.gates.proofs.Frames.{part_left, after_left, after_agrees}
+use Rattle.gates.proofs.Steps.{held_kind}
+
+module _ {T : Type 0} where
+  first_is : (b : Bool) (part q : T) → b ≡ true → cond b (Some part) None ≡ Some q → part ≡ q
+  first_is true part q is e = cc
+  first_is false part q is e = cc
+
+  none_is : (b : Bool) (part q : T) → b ≡ false → cond b (Some part) None ≡ Some q → ⊥
+  none_is true part q is e = cc
+  none_is false part q is e = cc
+
+  -- a part that was taken last
+  pub among_snoc : (parts : List (ℕ × T)) (i : ℕ) (part : T) → stripes_among (parts ++ (i, part) ∷ []) ≡ stripes_among parts ++ i ∷ []
+  among_snoc [] i part = refl
+  among_snoc (x ∷ xs) i part = ap (λ l. x.0 ∷ l) (among_snoc xs i part)
+
+  pub at_snoc : (parts : List (ℕ × T)) (i j : ℕ) (part q : T) → part_at (parts ++ (i, part) ∷ []) j ≡ Some q → (part_at parts j ≡ Some q) ⊎ ((i ≡ j) × (part ≡ q))
+  at_snoc [] i j part q e = ⊎_elim
+      (λ same. inr (same, first_is (nat_eq i j) part q (eq-eqb i j same) e))
+      (λ ne. absurd (none_is (nat_eq i j) part q (ne_eqb i j ne) e))
+      (cases_eq i j)
+  at_snoc (x ∷ xs) i j part q e = ⊎_elim
+      (λ same. let here = eq-eqb x.0 j same in
+        inl (ap (λ b. cond b (Some x.1) (part_at xs j)) here ∙ sym (ap (λ b. cond b (Some x.1) (part_at (xs ++ (i, part) ∷ []) j)) here) ∙ e))
+      (λ ne. let there = ne_eqb x.0 j ne in
+        ⊎_elim (λ old. inl (ap (λ b. cond b (Some x.1) (part_at xs j)) there ∙ old)) (λ new. inr new)
+        (at_snoc xs i j part q (sym (ap (λ b. cond b (Some x.1) (part_at (xs ++ (i, part) ∷ []) j)) there) ∙ e)))
+      (cases_eq x.0 j)
+
+  -- a stripe with a part is among the stripes
+  pub part_stands : (parts : List (ℕ × T)) (j : ℕ) (q : T) → part_at parts j ≡ Some q → 0 < times j (stripes_among parts)
+  part_stands [] j q e = absurd cc
+  part_stands (x ∷ xs) j q e = ⊎_elim
+      (λ same. let one : times j (x.0 ∷ stripes_among xs) ≡ 1 + times j (stripes_among xs) = subst (λ (k : ℕ). times j (k ∷ stripes_among xs) ≡ 1 + times j (stripes_among xs)) (sym same) (times_here j (stripes_among xs)) in omega arith)
+      (λ ne. omega (arith, times_else j x.0 (stripes_among xs) ne, part_stands xs j q (sym (ap (λ b. cond b (Some x.1) (part_at xs j)) (ne_eqb x.0 j ne)) ∙ e)))
+      (cases_eq x.0 j)
+
+  -- the seat after a stripe was taken, and turned
+  module _ (contents : T → Store) (n number i : ℕ) (m w : Me T (View T)) (seat : IsSeatOf n number m) (below : i < n) (other : times i (stripes_among m.1) ≡ 0) (took : Took contents n i m w) where
+    after_take : Me T (View T)
+    after_take = (taking m.0 i took.part took.log, m.1 ++ (i, took.part) ∷ [])
+
+    took_turned : (w.0, turned w.1) ≡ after_take
+    unfolding after_take
+    took_turned = ap (λ (x : Me T (View T)). (x.0, turned x.1)) took.seat
+
+    took_seat' : IsSeatOf n number after_take
+    unfolding after_take
+    took_seat' =
+        let stands : (j : ℕ) → times j (stripes_among (m.1 ++ (i, took.part) ∷ [])) ≡ times j (stripes_among m.1) + times j (i ∷ []) =
+              (λ j. ap (times j) (among_snoc m.1 i took.part) ∙ times-append j (stripes_among m.1) (i ∷ [])) in
+        record {
+          single = refl;
+          number_is = seat.number_is;
+          unarmed = seat.unarmed;
+          once = λ j. ⊎_elim
+              (λ e. let none_before : times j (stripes_among m.1) ≡ 0 = subst (λ (k : ℕ). times k (stripes_among m.1) ≡ 0) e other in
+                let one : times j (i ∷ []) ≡ 1 = subst (λ (k : ℕ). times k (i ∷ []) ≡ 1) e (times_here i []) in omega (arith, stands j))
+              (λ ne. omega (arith, stands j, times_else j i [] ne, seat.once j))
+              (cases_eq i j);
+          same = λ j. omega (arith, stands j, seat.same j);
+          below = λ j h. ⊎_elim
+              (λ e. subst (λ (k : ℕ). k < n) e below)
+              (λ ne. seat.below j (omega (arith, stands j, times_else j i [] ne)))
+              (cases_eq i j);
+          legal = took.goes_on.legal;
+          mine = took.goes_on.mine;
+        }
+
+    pub took_seat : IsSeatOf n number (w.0, turned w.1)
+    took_seat = subst (λ (x : Me T (View T)). IsSeatOf n number x) (sym took_turned) took_seat'
+
+    pub took_parts : turned w.1 ≡ m.1 ++ (i, took.part) ∷ []
+    unfolding after_take
+    took_parts = ap (λ (x : Me T (View T)). x.1) took_turned
+
+    pub took_knows : Learned (own m.0) (own w.0)
+    took_knows = subst (λ (v : View T). Learned (own m.0) (own v)) (sym (ap (λ (x : Me T (View T)). x.0) took.seat))
+        record { number = refl; mine = refl; seen = (took.goes_on.more, took.goes_on.begins); notes = ([], refl) }
+
+    pub took_fit : AllFit contents n (own m.0).seen m.1 → AllFit contents n (own w.0).seen (turned w.1)
+    took_fit fit =
+        let log = took.log in
+        let seen : (own w.0).seen ≡ log = ap (λ (x : Me T (View T)). (own x.0).seen) took.seat in
+        subst (λ (l : List (ℕ × T)). AllFit contents n (own w.0).seen l) (sym took_parts)
+        (subst (λ (h : History). AllFit contents n h (m.1 ++ (i, took.part) ∷ [])) (sym seen)
+          (λ j q e. ⊎_elim
+            (λ old.
+              let held : 0 < times j m.0.held = omega (arith, seat.same j, part_stands m.1 j q old) in
+              subst (λ (h : History). IsPart n j (contents q) (after h)) (sym took.goes_on.begins)
+              (part_left n j (contents q) took.goes_on.more (own m.0).seen (took.goes_on.leave j held) (fit j q old)))
+            (λ new. subst (λ (k : ℕ). IsPart n k (contents q) (after log)) new.0 (subst (λ (p : T). IsPart n i (contents p) (after log)) new.1 took.reads))
+            (at_snoc m.1 i j took.part q e)))
+
+  -- the seat after a stripe was found busy
+  module _ (n number i found : ℕ) (m w : Me T (View T)) (seat : IsSeatOf n number m) (missed : Missed i found m w) where
+    pub missed_seat : IsSeatOf n number w
+    missed_seat = subst (λ (x : Me T (View T)). IsSeatOf n number x) (sym missed.seat)
+        record {
+          single = refl;
+          number_is = seat.number_is;
+          unarmed = seat.unarmed;
+          once = seat.once;
+          same = seat.same;
+          below = seat.below;
+          legal = seat.legal;
+          mine = seat.mine;
+        }
+
+    pub missed_knows : WasTold (Busy i) (own m.0) (own w.0)
+    missed_knows = subst (λ (v : View T). WasTold (Busy i) (own m.0) (own v)) (sym (ap (λ (x : Me T (View T)). x.0) missed.seat))
+        record { number = refl; mine = refl; seen = refl; notes = refl }
+
+    pub missed_parts : w.1 ≡ m.1
+    missed_parts = ap (λ (x : Me T (View T)). x.1) missed.seat
+
+    pub missed_fit : (contents : T → Store) → AllFit contents n (own m.0).seen m.1 → AllFit contents n (own w.0).seen w.1
+    missed_fit contents fit = subst (λ (x : Me T (View T)). AllFit contents n (own x.0).seen x.1) (sym missed.seat) fit
+
+-- parts by stripe
+module _ {T : Type 0} where
+  -- the part of a stripe that has one
+  pub part_some : (parts : List (ℕ × T)) (j : ℕ) → IsSome (part_at parts j) → 0 < times j (stripes_among parts)
+  part_some [] j some = absurd cc
+  part_some (x ∷ xs) j some = ⊎_elim
+      (λ same. let one : times j (x.0 ∷ stripes_among xs) ≡ 1 + times j (stripes_among xs) = subst (λ (k : ℕ). times j (k ∷ stripes_among xs) ≡ 1 + times j (stripes_among xs)) (sym same) (times_here j (stripes_among xs)) in omega arith)
+      (λ ne. omega (arith, times_else j x.0 (stripes_among xs) ne, part_some xs j (subst IsSome (ap (λ b. cond b (Some x.1) (part_at xs j)) (ne_eqb x.0 j ne)) some)))
+      (cases_eq x.0 j)
+
+  pub keys_held : (n : ℕ) (parts : List (ℕ × T)) (held : List ℕ) → ((j : ℕ) → times j held ≡ times j (stripes_among parts)) → (keys : List Bytes) → KeysHeld n parts keys → AreHeld n held keys
+  keys_held n parts held same [] all = tt
+  keys_held n parts held same (key ∷ keys) all = (omega (arith, same (stripe_of n key), part_some parts (stripe_of n key) all.0), keys_held n parts held same keys all.1)
+
+  -- the seat after its first part was given back
+  module _ (n number i : ℕ) (part : T) (m w : Me T (View T)) (seat : IsSeatOf n number m) (first : m.1 ≡ (i, part) ∷ rest m.1) (gave : w ≡ (giving m.0 i, rest m.1)) where
+    among_first : (j : ℕ) → times j (stripes_among m.1) ≡ times j (i ∷ stripes_among (rest m.1))
+    among_first j = ap (λ (l : List (ℕ × T)). times j (stripes_among l)) first
+
+    gone : times i (stripes_among (rest m.1)) ≡ 0
+    gone = omega (arith, among_first i, seat.once i, times_here i (stripes_among (rest m.1)))
+
+    among_other : (j : ℕ) → i ≢ j → times j (stripes_among m.1) ≡ times j (stripes_among (rest m.1))
+    among_other j ne = among_first j ∙ times_else j i (stripes_among (rest m.1)) ne
+
+    pub gave_seat : IsSeatOf n number w
+    gave_seat = subst (λ (x : Me T (View T)). IsSeatOf n number x) (sym gave)
+        record {
+          single = seat.single;
+          number_is = seat.number_is;
+          unarmed = seat.unarmed;
+          once = λ j. omega (arith, seat.once j, among_first j);
+          same = λ j. ⊎_elim
+              (λ e. subst (λ (k : ℕ). times k (without i m.0.held) ≡ times k (stripes_among (rest m.1))) e (without_here i m.0.held ∙ sym gone))
+              (λ ne. without_else i j m.0.held (λ e. ne (sym e)) ∙ seat.same j ∙ among_other j ne)
+              (cases_eq i j);
+          below = λ j h. seat.below j (omega (arith, among_first j));
+          legal = seat.legal;
+          mine = seat.mine;
+        }
+
+    pub gave_knows : own w.0 ≡ own m.0
+    gave_knows = ap (λ (x : Me T (View T)). own x.0) gave
+
+    pub gave_parts : w.1 ≡ rest m.1
+    gave_parts = ap (λ (x : Me T (View T)). x.1) gave
+
+    rest_at : (j : ℕ) (q : T) → part_at (rest m.1) j ≡ Some q → part_at m.1 j ≡ Some q
+    rest_at j q e =
+        let ne : i ≢ j = (λ same. let here = part_stands (rest m.1) j q e in let none_here : times j (stripes_among (rest m.1)) ≡ 0 = subst (λ (k : ℕ). times k (stripes_among (rest m.1)) ≡ 0) same gone in omega arith) in
+        ap (λ (l : List (ℕ × T)). part_at l j) first ∙ ap (λ b. cond b (Some part) (part_at (rest m.1) j)) (ne_eqb i j ne) ∙ e
+
+    pub gave_fit : (contents : T → Store) → AllFit contents n (own m.0).seen m.1 → AllFit contents n (own w.0).seen w.1
+    gave_fit contents fit = subst (λ (x : Me T (View T)). AllFit contents n (own x.0).seen x.1) (sym gave) (λ j q e. fit j q (rest_at j q e))
+
+    pub first_held : 0 < times i m.0.held
+    first_held = omega (arith, seat.same i, among_first i, times_here i (stripes_among (rest m.1)))
+
+    pub first_below : i < n
+    first_below = seat.below i (omega (arith, among_first i, times_here i (stripes_among (rest m.1))))
+
+    pub first_reads : (contents : T → Store) → AllFit contents n (own m.0).seen m.1 → IsPart n i (contents part) (after (own m.0).seen)
+    first_reads contents fit = fit i part (ap (λ (l : List (ℕ × T)). part_at l i) first ∙ ap (λ b. cond b (Some part) (part_at (rest m.1) i)) (eq-eqb i i refl))
+
+  -- the look before a commit found the word below 2^62
+  pub became_armed : (st : Step T) (m w : Me T (View T)) (found : ℕ) → found < 2 ^ 62 → Arms st m found w → w ≡ (record (m.0) { armed = true }, m.1)
+  became_armed st m w found below told = MatchBool-at_true (BecomesArmed m w) (FindsWorn m w) (lt-ltb found (2 ^ 62) below) told
+
+  -- a commit, after that look
+  module _ (n number found : ℕ) (entry : Entry) (st : Step T) (m later w : Me T (View T)) (seat : IsSeatOf n number m) (slots : st.slots ≡ n)
+    (is : later ≡ (record (m.0) { armed = true }, m.1)) (keys : KeysHeld n m.1 (keys_named entry.operation)) (did : Commits entry st later found w) where
+    did' : Commits entry st (record (m.0) { armed = true }, m.1) found w
+    did' = subst (λ (x : Me T (View T)). Commits entry st x found w) is did
+
+    pub committed : Committed n m.1 entry found (own m.0) (own w.0)
+    committed =
+        let d = did' in
+        let knows : own w.0 ≡ commits (own m.0) d.before entry = ap (λ (x : Me T (View T)). own x.0) d.seat in
+        subst (λ (k : Knowledge). Committed n m.1 entry found (own m.0) k) (sym knows)
+        record {
+          history = d.before;
+          goes_on = (d.goes_on.more, d.goes_on.begins);
+          place_is = d.place;
+          number = refl;
+          seen = refl;
+          mine = ap (λ (k : ℕ). (k, entry) ∷ (own m.0).mine) (sym d.place);
+          notes = refl;
+          store = λ key some.
+              let P : Bytes → Type 0 = λ k. 0 < times (stripe_of n k) m.0.held in
+              let held : AreHeld n m.0.held (keys_named entry.operation) = keys_held n m.1 m.0.held seat.same (keys_named entry.operation) keys in
+              let leave : (stripe : ℕ) → 0 < times stripe m.0.held → AllLeave n stripe d.goes_on.more =
+                    subst (λ (k : ℕ). (stripe : ℕ) → 0 < times stripe m.0.held → AllLeave k stripe d.goes_on.more) slots d.goes_on.leave in
+              after_agrees P d.before (own m.0).seen entry (held_kind n m.0.held (keys_named entry.operation) held)
+              (λ k h. ap (λ (l : History). after l k) d.goes_on.begins ∙ after_left n (stripe_of n k) d.goes_on.more (own m.0).seen k (leave (stripe_of n k) h) refl)
+              key (omega (arith, seat.same (stripe_of n key), part_some m.1 (stripe_of n key) some));
+        }
+
+pub Learned-refl : (a : Knowledge) → Learned a a
+Learned-refl a = record { number = refl; mine = refl; seen = ([], refl); notes = ([], refl) }
+
+pub Learned-trans : (a b c : Knowledge) → Learned a b → Learned b c → Learned a c
+Learned-trans a b c one two = record {
+  number = two.number ∙ one.number;
+  mine = two.mine ∙ one.mine;
+  seen = (two.seen.0 ++ one.seen.0, two.seen.1 ∙ ap (λ (l : History). two.seen.0 ++ l) one.seen.1 ∙ sym (append_assoc two.seen.0 one.seen.0 a.seen));
+  notes = (two.notes.0 ++ one.notes.0, two.notes.1 ∙ ap (λ (l : List Note). two.notes.0 ++ l) one.notes.1 ∙ sym (append_assoc two.notes.0 one.notes.0 a.notes));
+}
+
+pub Learned-told : (note : Note) (a b : Knowledge) → WasTold note a b → Learned a b
+Learned-told note a b told = record { number = told.number; mine = told.mine; seen = ([], told.seen); notes = (note ∷ [], told.notes) }
+
+module _ {T : Type 0} where
+  -- a stripe among the stripes has a part
+  pub stands_some : (parts : List (ℕ × T)) (j : ℕ) → 0 < times j (stripes_among parts) → IsSome (part_at parts j)
+  stands_some [] j h = absurd (omega arith)
+  stands_some (x ∷ xs) j h = ⊎_elim
+      (λ same. subst IsSome (sym (ap (λ b. cond b (Some x.1) (part_at xs j)) (eq-eqb x.0 j same))) refl)
+      (λ ne. subst IsSome (sym (ap (λ b. cond b (Some x.1) (part_at xs j)) (ne_eqb x.0 j ne))) (stands_some xs j (omega (arith, times_else j x.0 (stripes_among xs) ne))))
+      (cases_eq x.0 j)
+
+  -- which stripes have parts
+  pub parts_are : (parts : List (ℕ × T)) (stripes : List ℕ) → stripes ≡ stripes_among parts ++ [] → (j : ℕ) → IsSome (part_at parts j) ↔ (0 < times j stripes)
+  parts_are parts stripes is j =
+      let e : stripes ≡ stripes_among parts = is ∙ append-nil (stripes_among parts) in
+      ((λ h. subst (λ (l : List ℕ). 0 < times j l) (sym e) (part_some parts j h)), (λ h. stands_some parts j (subst (λ (l : List ℕ). 0 < times j l) e h)))
+
+-- a number of a list in which none stands twice does not stand before its place
+pub apart : (n : ℕ) (xs ys all : List ℕ) → all ≡ xs ++ n ∷ ys → times n all ≤ 1 → times n xs ≡ 0
+apart n xs ys all is once =
+    let e : times n all ≡ times n (xs ++ n ∷ ys) = ap (times n) is in omega (arith, e, times-append n xs (n ∷ ys), times_here n ys)
+
+module _ {T : Type 0} where
+  -- the part of the first stripe
+  pub first_part : (parts : List (ℕ × T)) (i : ℕ) (others : List ℕ) → stripes_among parts ≡ i ∷ others → (part : T) × (parts ≡ (i, part) ∷ rest parts)
+  first_part [] i others e = absurd cc
+  first_part (x ∷ xs) i others e = let here : x.0 ≡ i = cc in (x.1, ap (λ (k : ℕ). (k, x.1) ∷ xs) here)
+
+  -- parts without stripes
+  pub no_parts : (parts : List (ℕ × T)) → stripes_among parts ≡ [] → parts ≡ []
+  no_parts [] e = refl
+  no_parts (x ∷ xs) e = absurd cc

@@ -1,0 +1,34 @@
+use Rattle.std.proofs.Common.{◌≡◌, ◌∙◌, ◌++◌, ◌∷◌, [], sym, ap, subst, append_assoc, List, ℕ}
+use Rattle.gates.specs.Sets.{times, AreBelow}
+use Rattle.gates.specs.Passes.{known, parts_in, stripes_in, stripes_among, stripes_of}
+use Rattle.gates.proofs.Bits.{times_rising}
+use Rattle.gates.proofs.Holding.{Learned-trans, among_snoc, apart, parts_are}
+use Rattle.gates.proofs.gates.Gates.take.Goals as goal
+
+pub wait_stripe-requires-clause-other : goal.wait_stripe-requires-clause-other
+wait_stripe-requires-clause-other g c =
+    let stripe = c.in-Some.stripe in
+    let before = stripes_in c.loop-stripe.pass in
+    apart stripe before c.in-Some.others c.args.stripes.now (c.loop-stripe.invariant.3 ∙ ap (λ (l : List ℕ). before ++ l) c.in-Some.ensures.first)
+    (times_rising stripe c.args.stripes.now c.rises.ensures.rising)
+
+pub loop-stripe-preserved : goal.loop-stripe-preserved
+loop-stripe-preserved g c =
+    let stripe = c.in-Some.stripe in
+    let others = c.in-Some.others in
+    let before = stripes_in c.loop-stripe.pass in
+    let parts = c.wait_stripe.ensures.parts in
+    let later : stripes_in c.wait_stripe.new.pass ≡ before ++ stripe ∷ [] = ap stripes_among parts.1 ∙ among_snoc (parts_in c.loop-stripe.pass) stripe parts.0 in
+    let below : AreBelow (stripes_of c.args.self.now) (stripe ∷ others) = subst (AreBelow (stripes_of c.args.self.now)) c.in-Some.ensures.first c.loop-stripe.invariant.4 in
+    (
+      c.wait_stripe.ensures.holding,
+      c.wait_stripe.ensures.fit,
+      Learned-trans (known c.args.pass.now) (known c.loop-stripe.pass) (known c.wait_stripe.new.pass) c.loop-stripe.invariant.2 c.wait_stripe.ensures.learned,
+      c.loop-stripe.invariant.3 ∙ ap (λ (l : List ℕ). before ++ l) c.in-Some.ensures.first ∙ sym (append_assoc before (stripe ∷ []) others) ∙ ap (λ (l : List ℕ). l ++ others) (sym later),
+      below.1,
+    )
+
+pub returns-clause-stripes : goal.returns-clause-stripes
+returns-clause-stripes g c =
+    parts_are (parts_in c.loop-stripe.pass) c.args.stripes.now
+    (c.loop-stripe.invariant.3 ∙ ap (λ (l : List ℕ). stripes_in c.loop-stripe.pass ++ l) c.in_default.ensures.first)

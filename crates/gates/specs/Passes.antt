@@ -1,0 +1,105 @@
+-- Passes and held stripes: what they know, what they have, and what their calls keep.
+use Rattle.std.specs.Prelude.{◌≡◌, ◌≢◌, ℕ, zero, suc, ◌+◌, ◌^◌, ◌<◌, ◌≤◌, ◌↔◌, Bool, true, false, List, [], ◌∷◌, ◌++◌, length, map, nat_eq, Option, Some, None, IsSome, if◌then◌else◌}
+use Rattle.atomic_table.specs.Seated.{TableId}
+use Rattle.atomic_table.specs.Table.{Me}
+use Rattle.words.specs.declared.history.Entry.{Entry}
+use Rattle.words.specs.Store.{Bytes, Store}
+use Rattle.words.specs.History.{History, Legal, after, subhistory}
+use Rattle.words.specs.Stripes.{stripe_of, IsPart}
+use Rattle.gates.specs.declared.view.Note.{Note}
+use Rattle.gates.specs.declared.view.Knowledge.{Knowledge}
+use Rattle.gates.specs.declared.view.View.{View}
+use Rattle.gates.specs.declared.gates.Gates.{Gates}
+use Rattle.gates.specs.declared.gates.Pass.{Pass}
+use Rattle.gates.specs.Sets.{times}
+use Rattle.gates.specs.Rule.{AllLeave}
+use Rattle.gates.specs.Plays.{own, IsSingle}
+
+module _ {T : Type 0} where
+  -- which gates they are
+  abbrev pub id_of : Gates T → TableId
+  id_of gates = gates.table.shared.table_id
+
+  -- how many stripes there are
+  abbrev pub stripes_of : Gates T → ℕ
+  stripes_of gates = (id_of gates).slots
+
+  -- what a pass knows
+  abbrev pub known : Pass T → Knowledge
+  known pass = own pass.seat.me.0
+
+  -- the parts that a pass has taken, each with its stripe
+  abbrev pub parts_in : Pass T → List (ℕ × T)
+  parts_in pass = pass.seat.me.1
+
+  -- the stripes of parts
+  abbrev pub stripes_among : List (ℕ × T) → List ℕ
+  stripes_among [] = []
+  stripes_among (part ∷ parts) = part.0 ∷ stripes_among parts
+
+  -- the stripes that a pass has taken
+  abbrev pub stripes_in : Pass T → List ℕ
+  stripes_in pass = stripes_among (parts_in pass)
+
+  -- the part of a stripe among parts
+  abbrev pub part_at : List (ℕ × T) → ℕ → Option T
+  part_at [] stripe = None
+  part_at (part ∷ parts) stripe = if nat_eq part.0 stripe then Some part.1 else part_at parts stripe
+
+  -- each part reads as its part of what this history leaves
+  abbrev pub AllFit : (T → Store) → (stripes : ℕ) → History → List (ℕ × T) → Type 0
+  AllFit contents stripes seen parts =
+      (stripe : ℕ) (part : T) → part_at parts stripe ≡ Some part → IsPart stripes stripe (contents part) (after seen)
+
+  -- a seat stands for the one pass of this number, and has the stripes that it holds, each once; what the pass has seen is legal, and has
+  -- its own entries
+  pub record IsSeatOf (stripes number : ℕ) (me : Me T (View T)) : Type 0 where
+    pub single : IsSingle me.0
+    pub number_is : (own me.0).number ≡ number
+    pub unarmed : me.0.armed ≡ false
+    pub once : (stripe : ℕ) → times stripe (stripes_among me.1) ≤ 1
+    pub same : (stripe : ℕ) → times stripe me.0.held ≡ times stripe (stripes_among me.1)
+    pub below : (stripe : ℕ) → 0 < times stripe (stripes_among me.1) → stripe < stripes
+    pub legal : Legal (own me.0).seen
+    pub mine : (own me.0).mine ≡ subhistory (own me.0).seen (own me.0).number
+
+  -- the pass is one of these gates
+  pub record IsHolding (gates : Gates T) (pass : Pass T) : Type 0 where
+    pub table : pass.seat.table_id ≡ id_of gates
+    pub seat : IsSeatOf (stripes_of gates) pass.number pass.seat.me
+
+  -- the pass is one of these gates, and holds nothing
+  pub record IsResting (gates : Gates T) (pass : Pass T) : Type 0 where
+    pub holding : IsHolding gates pass
+    pub nothing : parts_in pass ≡ []
+
+-- What a pass knows only grew, and its own entries are the same.
+pub record Learned (before later : Knowledge) : Type 0 where
+  pub number : later.number ≡ before.number
+  pub mine : later.mine ≡ before.mine
+  pub seen : (more : History) × (later.seen ≡ more ++ before.seen)
+  pub notes : (more : List Note) × (later.notes ≡ more ++ before.notes)
+
+-- The pass was told this, and knows nothing else that it did not know.
+pub record WasTold (note : Note) (before later : Knowledge) : Type 0 where
+  pub number : later.number ≡ before.number
+  pub mine : later.mine ≡ before.mine
+  pub seen : later.seen ≡ before.seen
+  pub notes : later.notes ≡ note ∷ before.notes
+
+-- The pass knows what it knew, and one entry of its own more, the newest of what it has seen, at this position. Before it the history may
+-- have gone on, but not at keys of the stripes for which there are parts: for these it is as if the entry stood right behind what was seen.
+pub record Committed {T : Type 0} (stripes : ℕ) (parts : List (ℕ × T)) (entry : Entry) (place : ℕ) (before later : Knowledge) : Type 0 where
+  pub history : History
+  pub goes_on : (more : History) × (history ≡ more ++ before.seen)
+  pub place_is : place ≡ length history
+  pub number : later.number ≡ before.number
+  pub seen : later.seen ≡ entry ∷ history
+  pub mine : later.mine ≡ (place, entry) ∷ before.mine
+  pub notes : later.notes ≡ before.notes
+  pub store : (key : Bytes) → IsSome (part_at parts (stripe_of stripes key)) → after later.seen key ≡ after (entry ∷ before.seen) key
+
+-- there is a part for the stripe of each of the keys
+abbrev pub KeysHeld : {T : Type 0} → (stripes : ℕ) (parts : List (ℕ × T)) → List Bytes → Type 0
+KeysHeld stripes parts [] = Unit {0}
+KeysHeld stripes parts (key ∷ keys) = IsSome (part_at parts (stripe_of stripes key)) × KeysHeld stripes parts keys

@@ -1,0 +1,129 @@
+//! Gates over the parts of a store, and the passes that take them.
+
+ghost use Rattle.std.specs.Prelude.{◌≡◌, ◌+◌, ◌*◌, ◌^◌, ◌<◌, ◌≤◌, ◌++◌, ◌∷◌, [], ℕ, true, false, length, map, IsTrue, IsFalse, IfOk, OnErr, MatchBool};
+ghost use Rattle.gates.specs.Rule.{word_of};
+
+use crate::part::Part;
+use crate::rule::{Arm, Commit, Give, OneHistory, Told, Try};
+use crate::view::View;
+use atomic_table::{Seat, Table};
+use std::alloc::Global;
+use words::history::Operation;
+use words::reply::Reply;
+
+/// The table's word that counts commits.
+const COMMITS: usize = 0;
+
+/// A commit is refused where the commit word is this or more.
+const COMMITS_LIMIT: u64 = 1 << 62;
+
+/// The words between the word of one stripe and that of the next: they lie on cache lines of their own.
+const STRIDE: usize = 16;
+
+/// The parts of a store, one a stripe, which passes take and give back.
+pub struct Gates<T: Part> {
+    pub(crate) table: Table<T, View<T>, u64, OneHistory, Global>,
+    ghost sized: { table.shared.table_id.words ≡ word_of table.shared.table_id.slots },
+    ghost small: { (1 ≤ table.shared.table_id.slots) × (table.shared.table_id.slots ≤ 64) },
+}
+
+/// The right to take stripes, for one thread at a time. It has a number, by which the entries of its
+/// calls are known in the history.
+pub struct Pass<T> {
+    pub(crate) number: u64,
+    pub(crate) seat: Seat<T, View<T>>,
+    ghost few: { number < 2 ^ 62 },
+}
+
+impl<T> Drop for Pass<T> {
+    fn drop(self) {
+        let Pass { number: _, seat: _ } = self;
+    }
+}
+
+/// No more commits are made: the commit word was read at 2^62 or more.
+#[derive(Clone, Copy, Debug, PartialEq, Eq)]
+pub struct CommitsWornOut;
+
+/// The table's word of a stripe.
+fn word_index(stripe: usize) -> usize
+    requires { stripe < 64 }
+    ensures { result ≡ word_of stripe }
+{
+    STRIDE * (stripe + 1)
+}
+
+impl<T: Part> Gates<T> {
+    ghost use Rattle.gates.specs.declared.view.Note.{Note};
+    ghost use Rattle.gates.specs.declared.view.Note.TheVariants.{Busy, Worn};
+    ghost use Rattle.gates.specs.Sets.{times};
+    ghost use Rattle.gates.specs.Passes.{stripes_of, known, parts_in, stripes_in, AllFit, IsHolding, IsResting, Learned, WasTold, Committed, KeysHeld};
+    ghost use Rattle.atomic_table.specs.Table.{rest};
+    ghost use Rattle.words.specs.History.{Legal, keys_named};
+
+    /// How many stripes there are.
+    pub fn stripes(&self) -> usize
+        ensures { result ≡ stripes_of self.now }
+    {
+        self.table.slot_count()
+    }
+
+    /// Gives back the first part, which is this stripe's.
+    pub(crate) fn give_first(&self, pass: &mut Pass<T>, stripe: usize)
+        requires holding { IsHolding self.now pass.old }
+        requires first { (part : T) × (parts_in pass.old ≡ (stripe, part) ∷ rest (parts_in pass.old)) }
+        requires fit { AllFit T.contents (stripes_of self.now) (known pass.old).seen (parts_in pass.old) }
+        ensures holding { IsHolding self.now pass.new }
+        ensures known { known pass.new ≡ known pass.old }
+        ensures others { parts_in pass.new ≡ rest (parts_in pass.old) }
+        ensures fit { AllFit T.contents (stripes_of self.now) (known pass.new).seen (parts_in pass.new) }
+    {
+        let word = word_index(stripe);
+        self.table.shared.store::<Give>(&mut pass.seat, word, 0);
+    }
+
+    /// Commits the entry that is picked.
+    pub(crate) fn commit_as<E: Told>(
+        &self,
+        pass: &mut Pass<T>,
+        operation: &Operation,
+        reply: &Reply,
+    ) -> Result<u64, CommitsWornOut>
+        requires holding { IsHolding self.now pass.old }
+        requires told { E.entry ≡ record { session = (known pass.old).number; operation = operation.now; reply = reply.now } }
+        requires legal { Legal (E.entry ∷ (known pass.old).seen) }
+        requires keys { KeysHeld (stripes_of self.now) (parts_in pass.old) (keys_named E.entry.operation) }
+        ensures holding { IsHolding self.now pass.new }
+        ensures parts { parts_in pass.new ≡ parts_in pass.old }
+        ensures number { pass.new.number ≡ pass.old.number }
+        ensures ok { IfOk result (λ place. Committed (stripes_of self.now) (parts_in pass.old) E.entry place (known pass.old) (known pass.new)) }
+        ensures worn { OnErr result (WasTold Worn (known pass.old) (known pass.new)) }
+    {
+        let shared = &self.table.shared;
+        if shared.load::<Arm>(&mut pass.seat, COMMITS) >= COMMITS_LIMIT {
+            return Err(CommitsWornOut);
+        }
+        Ok(shared.fetch_add::<Commit<E>>(&mut pass.seat, COMMITS, 1))
+    }
+
+    /// One try of a stripe that the pass does not have. Its part comes last.
+    pub(crate) fn try_stripe(&self, pass: &mut Pass<T>, stripe: usize) -> bool
+        requires holding { IsHolding self.now pass.old }
+        requires below { stripe < stripes_of self.now }
+        requires other { times stripe (stripes_in pass.old) ≡ 0 }
+        requires fit { AllFit T.contents (stripes_of self.now) (known pass.old).seen (parts_in pass.old) }
+        ensures holding { IsHolding self.now pass.new }
+        ensures fit { AllFit T.contents (stripes_of self.now) (known pass.new).seen (parts_in pass.new) }
+        ensures taken { IsTrue result → Learned (known pass.old) (known pass.new) × ((part : T) × (parts_in pass.new ≡ parts_in pass.old ++ (stripe, part) ∷ [])) }
+        ensures missed { IsFalse result → WasTold (Busy stripe) (known pass.old) (known pass.new) × (parts_in pass.new ≡ parts_in pass.old) }
+    {
+        let word = word_index(stripe);
+        let mine = pass.number + 1;
+        let found = self.table.shared.compare_exchange::<Try>(&mut pass.seat, word, 0, mine);
+        if found != 0 {
+            return false;
+        }
+        pass.seat.turn();
+        true
+    }
+}

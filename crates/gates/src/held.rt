@@ -1,0 +1,144 @@
+//! Stripes that a pass holds.
+
+ghost use Rattle.std.specs.Prelude.{◌≡◌, ◌+◌, ◌<◌, ◌≤◌, ◌++◌, ◌∷◌, ◌↔◌, [], ℕ, true, false, length, IsTrue, IsFalse, IfOk, IfErr, OnErr, OnOk, IsSome, Some, MatchResult};
+
+use crate::gates::{CommitsWornOut, Gates, Pass};
+use crate::order::Order;
+use crate::part::Part;
+use crate::sorted::Sorted;
+use crossbeam_utils::Backoff;
+use std::marker::Brand;
+use std::sync::Wait;
+use words::history::Operation;
+use words::reply::Reply;
+
+/// Stripes that a pass holds. It has to be given back, and until then the pass can take nothing else.
+pub struct Held<'a, T: Part> {
+    pub(crate) gates: &'a Gates<T>,
+    pub(crate) pass: &'a mut Pass<T>,
+    pub(crate) order: Order,
+    pub(crate) committed: bool,
+}
+
+/// A stripe that another pass held when it was tried, and the pass that tried it, which holds nothing.
+pub struct Busy<'a, T> {
+    /// The stripe.
+    pub stripe: usize,
+    /// The pass.
+    pub pass: &'a mut Pass<T>,
+}
+
+impl<T: Part> Gates<T> {
+    ghost use Rattle.gates.specs.declared.view.Note.TheVariants as note;
+    ghost use Rattle.gates.specs.Sets.{times, AreBelow};
+    ghost use Rattle.gates.specs.Passes.{stripes_of, known, parts_in, part_at, stripes_in, AllFit, IsHolding, IsResting, Learned, WasTold, Committed, KeysHeld};
+    ghost use Rattle.gates.specs.Helds.{IsOpen, held_parts};
+
+    /// Takes a stripe that the pass does not have, and waits where another has it.
+    fn wait_stripe<R: Wait>(&self, rt: &R, pass: &mut Pass<T>, stripe: usize)
+        requires holding { IsHolding self.now pass.old }
+        requires below { stripe < stripes_of self.now }
+        requires other { times stripe (stripes_in pass.old) ≡ 0 }
+        requires fit { AllFit T.contents (stripes_of self.now) (known pass.old).seen (parts_in pass.old) }
+        ensures holding { IsHolding self.now pass.new }
+        ensures fit { AllFit T.contents (stripes_of self.now) (known pass.new).seen (parts_in pass.new) }
+        ensures learned { Learned (known pass.old) (known pass.new) }
+        ensures parts { (part : T) × (parts_in pass.new ≡ parts_in pass.old ++ (stripe, part) ∷ []) }
+    {
+        let backoff = Backoff::new();
+        for _ in rt.forever() {
+            if self.try_stripe(pass, stripe) {
+                return;
+            }
+            backoff.snooze();
+        }
+        unreachable!()
+    }
+
+    /// Takes stripes, in rising order, and waits where others hold them.
+    pub fn take<'a, R: Wait>(
+        &'a self,
+        rt: &R,
+        pass: &'a mut Pass<T>,
+        stripes: &Sorted,
+    ) -> Held<'a, T>
+        requires own { IsResting self.now pass.old }
+        requires known { AreBelow (stripes_of self.now) stripes.now }
+        ensures gates { result.gates.now ≡ self.now }
+        ensures pass { result.pass.ghost_name ≡ pass.entry.ghost_name }
+        ensures open { IsOpen result }
+        ensures stripes { (stripe : ℕ) → IsSome (part_at (held_parts result) stripe) ↔ (0 < times stripe stripes.now) }
+        ensures learned { Learned (known pass.old) (known result.pass.now) }
+        ensures fit { AllFit T.contents (stripes_of self.now) (known result.pass.now).seen (held_parts result) }
+        ensures fresh { result.committed ≡ false }
+    {
+        stripes.rises();
+        let mut left = stripes.again();
+        while let Some((stripe, others)) = left.split_first() {
+            self.wait_stripe(rt, pass, stripe);
+            left = others;
+        }
+        Held {
+            gates: self,
+            pass,
+            order: Order::of(stripes.again()),
+            committed: false,
+        }
+    }
+}
+
+impl<'a, T: Part> Held<'a, T> {
+    ghost use Rattle.words.specs.declared.history.Entry.{Entry};
+    ghost use Rattle.words.specs.History.{Legal, keys_named};
+    ghost use Rattle.gates.specs.declared.view.Note.TheVariants as note;
+    ghost use Rattle.gates.specs.Passes.{stripes_of, known, parts_in, part_at, AllFit, IsHolding, IsResting, WasTold, Committed, KeysHeld};
+    ghost use Rattle.gates.specs.Helds.{IsOpen, held_parts, entry_of};
+
+    /// Commits one entry of the pass, an operation and what it is answered, and says its position in
+    /// the history. It has to be legal where it stands behind all that the pass has seen, and its keys
+    /// to be of held stripes. The operation and the reply are for the proof alone.
+    ///
+    /// # Errors
+    ///
+    /// [`CommitsWornOut`] where the commit word was read at 2^62 or more. Nothing was committed.
+    pub fn commit(&mut self, operation: &Operation, reply: &Reply) -> Result<u64, CommitsWornOut>
+        requires open { IsOpen self.old }
+        requires once { self.old.committed ≡ false }
+        requires legal { Legal (entry_of self.old operation.now reply.now ∷ (known self.old.pass.now).seen) }
+        requires keys { KeysHeld (stripes_of self.old.gates.now) (held_parts self.old) (keys_named operation.now) }
+        ensures open { IsOpen self.new }
+        ensures gates { self.new.gates.now ≡ self.old.gates.now }
+        ensures pass { self.new.pass.ghost_name ≡ self.old.pass.ghost_name }
+        ensures parts { held_parts self.new ≡ held_parts self.old }
+        ensures ok { IfOk result (λ place. Committed (stripes_of self.old.gates.now) (held_parts self.old) (entry_of self.old operation.now reply.now) place (known self.old.pass.now) (known self.new.pass.now)) }
+        ensures once { OnOk result (self.new.committed ≡ true) }
+        ensures worn { OnErr result (WasTold note.Worn (known self.old.pass.now) (known self.new.pass.now)) }
+        ensures none { OnErr result (self.new.committed ≡ false) }
+    {
+        let place = self
+            .gates
+            .commit_as::<Brand>(&mut *self.pass, operation, reply)?;
+        self.committed = true;
+        Ok(place)
+    }
+
+    /// Gives all stripes back. Each part has to read as its part of what the history leaves that the
+    /// pass has seen.
+    pub fn give(self)
+        requires open { IsOpen self }
+        requires fit { AllFit T.contents (stripes_of self.gates.now) (known self.pass.now).seen (held_parts self) }
+        ensures pass { IsResting self.entry.gates.now self.exit.1.0.now }
+        ensures known { known self.exit.1.0.now ≡ known self.entry.pass.now }
+    {
+        let Held {
+            gates,
+            pass,
+            mut order,
+            committed: _,
+        } = self;
+        while let Some(stripe) = order.first() {
+            gates.give_first(pass, stripe);
+            order.pop();
+        }
+    }
+}
