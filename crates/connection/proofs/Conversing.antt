@@ -10,14 +10,15 @@ use Rattle.words.specs.declared.reply.ProtocolFault.{ProtocolFault}
 use Rattle.words.specs.declared.history.Entry.{Entry}
 use Rattle.words.specs.Store.{Bytes, Store}
 use Rattle.words.specs.Spelling.{spelling, spellings, header, AreRequests, IsRequest}
-use Rattle.words.specs.Stream.{front, Faulty}
+use Rattle.words.specs.Stream.{front, Part, Faulty}
 use Rattle.words.specs.Encoding.{encoding, encodings}
 use Rattle.words.specs.History.{History, HasPlace, LegalFrom, after_from, due, subhistory}
 use Rattle.words.specs.Session.{Idle, Placed, Transcript}
 use Rattle.connection.specs.Clients.{Standing, start, mode_of, TakesOff}
 use Rattle.connection.specs.Conversations.{AreOf, Conversation, Answers, AreSame, with_entry, at_place}
+use Rattle.connection.specs.declared.serving.Ended.{Ended}
 use Rattle.connection.specs.declared.serving.Ended.TheVariants as ended
-use Rattle.connection.specs.Served.{Answered, Served, fault_line}
+use Rattle.connection.specs.Served.{Answered, Served, HasTaken, fault_line}
 
 -- spellings, requests and encodings, with one more
 spellings-more : (requests : List (List Bytes)) (words : List Bytes) → spellings (requests ++ words ∷ []) ≡ spellings requests ++ spelling words
@@ -192,3 +193,33 @@ pub served_fault : {session : ℕ} {old new : Store} {fed : Bytes} {standing : S
     → Served session old new ended.ProtocolFault fed text
 served_fault fault text talk stands is =
     (closed talk, fault, stands, sym is ∙ ap (λ (t : Bytes). t ++ fault_line fault) talk.text)
+
+-- a connection that found no memory before it began
+pub served_nothing : (session : ℕ) (store : Store) → Served session store store ended.NoMemory [] []
+served_nothing session store = let talk = conversation_begins session store in (closed talk, talk.text)
+
+-- nothing is a part of a request
+pub front-none : front [] ≡ Part
+unfolding front
+front-none = refl
+
+-- the same conversation with the client as it stands after it was fed
+pub conversation_after : (session : ℕ) (old new : Store) (fed said piece : Bytes) (standing after : Standing)
+    → Conversation session old new fed standing said → after ≡ record standing { unread = standing.unread ++ piece }
+    → Conversation session old new (fed ++ piece) after said
+conversation_after session old new fed said piece standing after talk is = rw is (conversation_fed session old new fed said piece standing talk)
+
+-- a connection that ends where it took a piece
+pub served_taken : (session : ℕ) (old new : Store) (fed piece said : Bytes) (standing after : Standing) (e : Ended)
+    → Conversation session old new fed standing said → front standing.unread ≡ Part → HasTaken (Some e) standing piece after
+    → Served session old new e (fed ++ piece) said
+unfolding conversation_fed
+served_taken session old new fed piece said standing after ended.EndOfInput talk waits taken =
+    (closed (conversation_fed session old new fed said piece standing talk), rw (taken.0, append-nil standing.unread) waits, talk.text)
+served_taken session old new fed piece said standing after ended.Quit talk waits taken = absurd taken
+served_taken session old new fed piece said standing after ended.ProtocolFault talk waits taken = absurd taken
+served_taken session old new fed piece said standing after ended.ReadFailed talk waits taken =
+    (closed (conversation_fed session old new fed said piece standing talk), rw (taken.0, append-nil standing.unread) waits, talk.text)
+served_taken session old new fed piece said standing after ended.WriteFailed talk waits taken = absurd taken
+served_taken session old new fed piece said standing after ended.NoMemory talk waits taken =
+    (closed (conversation_fed session old new fed said piece standing talk), talk.text)

@@ -112,6 +112,16 @@ HasAnswered session old new fed None standing written held =
     (front standing.unread ≡ Part) × Conversation session old new fed standing written × (held ≡ [])
 HasAnswered session old new fed (Some ended) standing written held = Served session old new ended fed written
 
+-- the endings to which the answering of a piece may come
+abbrev pub EndsAnswering : Option Ended → Type 0
+EndsAnswering None = Unit {0}
+EndsAnswering (Some ended.EndOfInput) = ⊥
+EndsAnswering (Some ended.Quit) = ⊥
+EndsAnswering (Some ended.ProtocolFault) = Unit {0}
+EndsAnswering (Some ended.ReadFailed) = ⊥
+EndsAnswering (Some ended.WriteFailed) = Unit {0}
+EndsAnswering (Some ended.NoMemory) = Unit {0}
+
 -- what the writer has told after that
 abbrev pub answered_told : Option Ended → Told → Told
 answered_told None old = old

@@ -5,9 +5,9 @@ ghost use Rattle.words.specs.Encoding.{encoding};
 ghost use Rattle.words.specs.Store.{Store};
 ghost use Rattle.engine.specs.Contents.{contents, pass_number};
 ghost use Rattle.connection.specs.Streams.{IsSent, IsPut, stream_of, told_of, tries_of, told_when};
-ghost use Rattle.connection.specs.Clients.{IsReady};
+ghost use Rattle.connection.specs.Clients.{IsReady, start};
 ghost use Rattle.connection.specs.Conversations.{IsDue, Conversation};
-ghost use Rattle.connection.specs.Served.{HasPaused, paused_told, HasAnswered, answered_told, HasTaken, taken_told, Served, reader_told, writer_told};
+ghost use Rattle.connection.specs.Served.{HasPaused, paused_told, HasAnswered, EndsAnswering, answered_told, HasTaken, taken_told, Served, reader_told, writer_told};
 ghost use Rattle.std.specs.Io.KnownBytes.{Appends, Consumes, IsAtEnd};
 
 use crate::client::{Client, Next};
@@ -18,6 +18,13 @@ use engine::{Engine, Pass};
 use std::alloc::Global;
 use std::io::{Read, Write};
 use words::reply::{Line, ProtocolFault, Reply};
+
+/// The most bytes that are read at a time.
+const PIECE_BYTES: usize = 16_384;
+/// The room that the output buffer has at least, in bytes: every line fits.
+const LINE_ROOM: usize = 128;
+/// The room that the output buffer has where memory serves, in bytes.
+const OUTPUT_BYTES: usize = 65_536;
 
 /// What the next turn of a client comes to.
 #[derive(Debug, Drop)]
@@ -177,6 +184,7 @@ fn answer_piece<W: Write>(
         → Conversation (pass_number pass.old) old (contents engine.old) fed client.old before
         → (sent : List ℕ) × Appends (W.contents (stream_of writer.old)) (W.contents (stream_of writer.new)) sent
         × HasAnswered (pass_number pass.old) old (contents engine.new) fed result client.new (before ++ sent) out.new.items }
+    ensures ends { EndsAnswering result }
     ensures told { told_of writer.new ≡ answered_told result (told_of writer.old) }
     ensures pass { pass.new ≡ pass.old }
 {
@@ -226,4 +234,75 @@ fn take_piece<R: Read>(reader: &mut Noted<R>, piece: &mut [u8], client: &mut Cli
         Input::End => Some(Ended::EndOfInput),
         Input::Failure => Some(Ended::ReadFailed),
     }
+}
+
+/// Reads, answers and writes, until the connection ends.
+fn converse<R: Read, W: Write>(
+    mut client: Client,
+    piece: &mut [u8],
+    out: &mut Vec<u8>,
+    reader: &mut Noted<R>,
+    writer: &mut Noted<W>,
+    engine: &mut Engine,
+    pass: &mut Pass,
+) -> Ended
+    requires begins { client ≡ start }
+    requires room { 0 < length piece.old }
+    requires empty { out.old.items ≡ [] }
+    ensures served { (bytes text : List ℕ)
+        × Consumes (R.remaining (stream_of reader.old)) (R.remaining (stream_of reader.new)) bytes
+        × Appends (W.contents (stream_of writer.old)) (W.contents (stream_of writer.new)) text
+        × Served (pass_number pass.old) (contents engine.old) (contents engine.new) result bytes text }
+    ensures end { result ≡ Ended.EndOfInput → IsAtEnd (R.remaining (stream_of reader.new)) }
+    ensures reader_told { told_of reader.new ≡ reader_told result (told_of reader.old) }
+    ensures writer_told { told_of writer.new ≡ writer_told result (told_of writer.old) }
+    ensures pass { pass.new ≡ pass.old }
+{
+    loop {
+        if let Some(ended) = take_piece(reader, piece, &mut client) {
+            return ended;
+        }
+        if let Some(ended) = answer_piece(&mut client, out, writer, engine, pass) {
+            return ended;
+        }
+    }
+}
+
+/// Serves one connection: reads requests, answers them by the engine, and writes the replies, until
+/// the connection ends. It gives the pass back, and says how the connection ended.
+///
+/// It reads pieces of at most 16,384 bytes. The replies of all complete requests are written before
+/// the next read, in one write where they fit into 65,536 bytes and the writer takes them. No memory
+/// is asked for once a call has changed the store: a reply that does not fit into the output buffer is
+/// written after what the buffer holds, piece by piece.
+pub fn serve<R: Read, W: Write>(
+    alloc: Global,
+    reader: &mut Noted<R>,
+    writer: &mut Noted<W>,
+    engine: &mut Engine,
+    mut pass: Pass,
+) -> (Pass, Ended)
+    // Some bytes were read and some text was written, as this ending says.
+    ensures served { (bytes text : List ℕ)
+        × Consumes (R.remaining (stream_of reader.old)) (R.remaining (stream_of reader.new)) bytes
+        × Appends (W.contents (stream_of writer.old)) (W.contents (stream_of writer.new)) text
+        × Served (pass_number pass) (contents engine.old) (contents engine.new) result.1 bytes text }
+
+    // An ending comes only where its cause came, and such a cause brings that ending.
+    ensures end { result.1 ≡ Ended.EndOfInput → IsAtEnd (R.remaining (stream_of reader.new)) }
+    ensures reader_told { told_of reader.new ≡ reader_told result.1 (told_of reader.old) }
+    ensures writer_told { told_of writer.new ≡ writer_told result.1 (told_of writer.old) }
+    ensures pass { result.0 ≡ pass }
+{
+    let Ok(mut out) = Vec::with_capacity(alloc, LINE_ROOM) else {
+        return (pass, Ended::NoMemory);
+    };
+    // More room where memory serves: it saves writes.
+    let _ = out.reserve(OUTPUT_BYTES);
+    let Ok(mut piece) = vec![in alloc; 0u8; PIECE_BYTES] else {
+        return (pass, Ended::NoMemory);
+    };
+    let client = Client::new(alloc);
+    let ended = converse(client, &mut piece, &mut out, reader, writer, engine, &mut pass);
+    (pass, ended)
 }

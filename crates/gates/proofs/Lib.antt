@@ -4,3 +4,4 @@ pub mod Steps
 pub mod Bits
 pub mod Holding
 pub mod Seats
+pub mod Turning

@@ -3,3 +3,4 @@ pub mod Rule
 pub mod Plays
 pub mod Passes
 pub mod Helds
+pub mod Lending

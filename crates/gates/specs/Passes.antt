@@ -66,6 +66,7 @@ module _ {T : Type 0} where
   -- the pass is one of these gates
   pub record IsHolding (gates : Gates T) (pass : Pass T) : Type 0 where
     pub table : pass.seat.table_id ≡ id_of gates
+    pub small : pass.number < 2 ^ 62
     pub seat : IsSeatOf (stripes_of gates) pass.number pass.seat.me
 
   -- the pass is one of these gates, and holds nothing

@@ -32,7 +32,6 @@ pub struct Gates<T: Part> {
 pub struct Pass<T> {
     pub(crate) number: u64,
     pub(crate) seat: Seat<T, View<T>>,
-    ghost few: { number < 2 ^ 62 },
 }
 
 impl<T> Drop for Pass<T> {

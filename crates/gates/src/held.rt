@@ -142,3 +142,41 @@ impl<'a, T: Part> Held<'a, T> {
         }
     }
 }
+
+impl<'a, T: Part> Held<'a, T> {
+    ghost use Rattle.std.specs.Borrow.{sem, Lends};
+    ghost use mir.Syntax.{named};
+    ghost use Rattle.gates.specs.contracts.held.Held.{the_row};
+    ghost use Rattle.gates.specs.Passes.{part_at};
+    ghost use Rattle.gates.specs.Helds.{IsOpen, held_parts};
+    ghost use Rattle.gates.specs.Lending.{brought, held_with, with_part};
+
+    /// Turns the seat round until this stripe's part is in front.
+    fn bring(&mut self, stripe: usize)
+        requires open { IsOpen self.old }
+        requires there { IsSome (part_at (held_parts self.old) stripe) }
+        ensures { self.new ≡ held_with self.old (brought stripe (held_parts self.old)) }
+    {
+        while let Some(first) = self.order.first() {
+            if first == stripe {
+                break;
+            }
+            self.order.turn();
+            self.pass.seat.turn();
+        }
+    }
+
+    /// Lends the part of a stripe for writing.
+    pub fn part(&mut self, stripe: usize) -> &mut T
+        requires open { IsOpen self.old }
+        requires there { IsSome (part_at (held_parts self.old) stripe) }
+        ensures* writes_back { sem 𝓛 (Lends (the_row (record { mir = named 1; lft = [] }) T.row T.Part) T.row self.entry result (with_part self.old stripe)) }
+        ensures value { part_at (held_parts self.old) stripe ≡ Some result.now }
+    {
+        self.bring(stripe);
+        let shared = &self.gates.table.shared;
+        let pass = &mut *self.pass;
+        let seat = &mut pass.seat;
+        seat.slot_mut(shared, stripe)
+    }
+}

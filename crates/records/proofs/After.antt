@@ -31,7 +31,7 @@ empty_page-IsEmpty number h =
       number_is = page-number number [] (empty_page number) is;
       end_is = page-end number [] (empty_page number) is;
       records_are = page-records number [] (empty_page number) is;
-      laid_out = page-laid_out number [] (empty_page number) is
+      laid_out = page-laid_out number [] (empty_page number) is;
     }
 
 -- a page with one more record
@@ -48,15 +48,15 @@ put-HasGained old r was ok room =
     let new_at : ℕ → List ℕ = λ end. put_mid end (size_of r) (put_mid 8 4 old (u32_bytes (end + size_of r))) (spelling r) in
     let P : ℕ → Type 0 = λ end. IsPage (number_of old) (rs ++ r ∷ []) (new_at end) in
     let is : IsPage (number_of old) (rs ++ r ∷ []) (new_at (used_end old)) =
-            subst P (sym was.used) (appended-page (number_of old) rs old r was.is_page ok (omega (arith, was.used, room))) in
+    subst P (sym was.used) (appended-page (number_of old) rs old r was.is_page ok (omega (arith, was.used, room))) in
     let new : List ℕ = new_at (used_end old) in
     record {
       number_is = page-number (number_of old) (rs ++ r ∷ []) new is;
       end_is = page-end (number_of old) (rs ++ r ∷ []) new is ∙ (end_from-append 16 rs (r ∷ []) ∙ ap (λ end. end + size_of r) (sym was.used));
       records_are =
-        page-records (number_of old) (rs ++ r ∷ []) new is
-        ∙ (placed-append 16 rs (r ∷ []) ∙ rw (← was.records, ← was.used) refl);
-      laid_out = page-laid_out (number_of old) (rs ++ r ∷ []) new is
+          page-records (number_of old) (rs ++ r ∷ []) new is
+          ∙ (placed-append 16 rs (r ∷ []) ∙ rw (← was.records, ← was.used) refl);
+      laid_out = page-laid_out (number_of old) (rs ++ r ∷ []) new is;
     }
 
 -- the same, by the steps of `put_record`
@@ -88,8 +88,14 @@ pub slot-length : (bytes field : List ℕ) (end size : ℕ) → length bytes ≡
     → length (take (end + size - end) (drop end (put_mid 8 4 bytes field))) ≡ size
 slot-length bytes field end size is_bytes is_field fits =
     let whole : length (put_mid 8 4 bytes field) ≡ 16384 =
-            omega (arith, length-append (take 8 bytes) (field ++ drop 4 (drop 8 bytes)), length-append field (drop 4 (drop 8 bytes)),
-                length-take 8 bytes, length-drop 4 (drop 8 bytes), length-drop 8 bytes) in
+    omega (
+      arith,
+      length-append (take 8 bytes) (field ++ drop 4 (drop 8 bytes)),
+      length-append field (drop 4 (drop 8 bytes)),
+      length-take 8 bytes,
+      length-drop 4 (drop 8 bytes),
+      length-drop 8 bytes,
+    ) in
     omega (arith, whole, length-take (end + size - end) (drop end (put_mid 8 4 bytes field)), length-drop end (put_mid 8 4 bytes field))
 
 -- that part is zero before the record is written
@@ -100,9 +106,9 @@ slot-blank old bytes field end size was is_bytes is_end is_field length_bytes le
     let is_size : all ≡ size = omega arith in
     let is_used : end ≡ end_from 16 was.stored = is_end ∙ was.used in
     let blank : take all (drop (end_from 16 was.stored) (put_mid 8 4 old (u32_bytes (end + size)))) ≡ replicate all 0 =
-            blank-behind (number_of old) was.stored old (end + size) all was.is_page (omega (arith, is_size, is_used, fits)) in
+    blank-behind (number_of old) was.stored old (end + size) all was.is_page (omega (arith, is_size, is_used, fits)) in
     let here : take all (drop end (put_mid 8 4 bytes field)) ≡ replicate all 0 =
-            subst (λ (e : ℕ). take all (drop e (put_mid 8 4 bytes field)) ≡ replicate all 0) (sym is_used)
-                (subst (λ (b : List ℕ). take all (drop (end_from 16 was.stored) (put_mid 8 4 b field)) ≡ replicate all 0) (sym is_bytes)
-                    (subst (λ (u : List ℕ). take all (drop (end_from 16 was.stored) (put_mid 8 4 old u)) ≡ replicate all 0) (sym is_field) blank)) in
+    subst (λ (e : ℕ). take all (drop e (put_mid 8 4 bytes field)) ≡ replicate all 0) (sym is_used)
+    (subst (λ (b : List ℕ). take all (drop (end_from 16 was.stored) (put_mid 8 4 b field)) ≡ replicate all 0) (sym is_bytes)
+    (subst (λ (u : List ℕ). take all (drop (end_from 16 was.stored) (put_mid 8 4 old u)) ≡ replicate all 0) (sym is_field) blank)) in
     here ∙ ap (λ (n : ℕ). replicate n 0) (sym (slot-length bytes field end size length_bytes length_field fits ∙ sym is_size))

@@ -54,10 +54,10 @@ replaced-shorter before after zeros old value o v n is_o is_v is_before is_n is_
     let behind : drop v after ≡ D = ap (λ (s : List ℕ). drop v s) is_after ∙ drop_at V D v (sym is_v) in
     let join : length V + (o - v) ≡ o = omega (arith, is_v, h) in
     let last : drop (o - v) (drop v after) ≡ replicate (n - o) 0 =
-            ap (λ (s : List ℕ). drop (o - v) s) behind
-            ∙ (drop-drop (o - v) (length V) before
-            ∙ (ap (λ (m : ℕ). drop m before) join
-            ∙ (ap (λ (s : List ℕ). drop o s) is_before ∙ past-value old n o (omega (arith, is_o))))) in
+    ap (λ (s : List ℕ). drop (o - v) s) behind
+    ∙ (drop-drop (o - v) (length V) before
+    ∙ (ap (λ (m : ℕ). drop m before) join
+    ∙ (ap (λ (s : List ℕ). drop o s) is_before ∙ past-value old n o (omega (arith, is_o))))) in
     let all : replicate (o - v) 0 ++ replicate (n - o) 0 ≡ replicate (n - length V) 0 = zeros-join (o - v) (n - o) (n - length V) (omega (arith, is_v, h, fits)) in
     let rest : zeros ++ drop (o - v) (drop v after) ≡ replicate (n - length V) 0 = rw (cleared, last) all in
     rw (front, rest) refl

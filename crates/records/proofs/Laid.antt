@@ -24,7 +24,7 @@ records_from-is (r ∷ rs) (suc n) page offset spare each here used fuel =
     let at : drop offset page ≡ spelling r ++ (flat_map spelling rs ++ spare) = here ∙ append_assoc (spelling r) (flat_map spelling rs) spare in
     let fields : fields_at page offset ≡ r = fields_at-is page offset r (flat_map spelling rs ++ spare) at each.0 in
     let past : drop (offset + size_of r) page ≡ flat_map spelling rs ++ spare =
-            sym (drop-drop (size_of r) offset page) ∙ (ap (λ s. drop (size_of r) s) at ∙ drop_at (spelling r) (flat_map spelling rs ++ spare) (size_of r) (length-spelling r each.0.value_fits)) in
+    sym (drop-drop (size_of r) offset page) ∙ (ap (λ s. drop (size_of r) s) at ∙ drop_at (spelling r) (flat_map spelling rs ++ spare) (size_of r) (length-spelling r each.0.value_fits)) in
     let more : records_from n page (offset + size_of r) ≡ placed (offset + size_of r) rs = records_from-is rs n page (offset + size_of r) spare each.1 past used (omega (arith, fuel)) in
     let beyond : offset + size_of r ≤ end_from (offset + size_of r) rs = end_from-le (offset + size_of r) rs in
     let on : ltb offset (used_end page) ≡ true = grind (arith, nat_tests) in
@@ -53,7 +53,7 @@ module _ (number : ℕ) (rs : List Stored) (page : List ℕ) (is : IsPage number
   unfolding records_of
   page-records =
       records_from-is rs (length page) page 16 (replicate (16384 - end_from 16 rs) 0) is.each page-drop page-end
-          (omega (arith, page-length, length-le-spellings rs is.each, length-spellings 16 rs is.each, is.within))
+      (omega (arith, page-length, length-le-spellings rs is.each, length-spellings 16 rs is.each, is.within))
 
   pub page-laid_out : IsLaidOut page
   page-laid_out =
@@ -66,7 +66,7 @@ module _ (number : ℕ) (rs : List Stored) (page : List ℕ) (is : IsPage number
         records = page-records;
         in_page = omega (arith, used, is.within);
         each = rw page-records (placed-each (used_end page) 16 rs is.each (omega arith) refl (omega (arith, used)));
-        in_order = rw page-records (placed-in_order 16 rs)
+        in_order = rw page-records (placed-in_order 16 rs);
       }
 
 pub empty-page : (number : ℕ) → number < 2 ^ 64 → IsPage number [] (empty_page number)
@@ -108,17 +108,17 @@ appended-page number rs page r is ok room =
     let A : List ℕ = header number next ++ F in
     let front : length A ≡ end = length-headed number rs next is.each in
     let zeros : drop (size_of r) Z ≡ replicate (16384 - next) 0 =
-            drop-replicate (size_of r) (16384 - end) 0 ∙ ap (λ n. replicate n 0) (omega arith) in
+    drop-replicate (size_of r) (16384 - end) 0 ∙ ap (λ n. replicate n 0) (omega arith) in
     let put : put_mid end (size_of r) (A ++ Z) S ≡ A ++ (S ++ replicate (16384 - next) 0) =
-            ap (λ (s : List ℕ). s ++ (S ++ drop (size_of r) (drop end (A ++ Z)))) (take_at A Z end front)
-            ∙ (ap (λ (s : List ℕ). A ++ (S ++ drop (size_of r) s)) (drop_at A Z end front) ∙ ap (λ (s : List ℕ). A ++ (S ++ s)) zeros) in
+    ap (λ (s : List ℕ). s ++ (S ++ drop (size_of r) (drop end (A ++ Z)))) (take_at A Z end front)
+    ∙ (ap (λ (s : List ℕ). A ++ (S ++ drop (size_of r) s)) (drop_at A Z end front) ∙ ap (λ (s : List ℕ). A ++ (S ++ s)) zeros) in
     let spelled : flat_map spelling (rs ++ r ∷ []) ≡ F ++ (S ++ []) = spellings-append rs (r ∷ []) in
     let ends : end_from 16 (rs ++ r ∷ []) ≡ next = end_from-append 16 rs (r ∷ []) in
     record {
       number_fits = is.number_fits;
       each = each-append rs (r ∷ []) is.each (ok, tt);
       within = omega (arith, ends, room);
-      bytes = ap (λ (s : List ℕ). put_mid end (size_of r) s S) (headed-page number rs page next is) ∙ (put ∙ rw (ends, spelled) (simp (append_assoc, append-nil)))
+      bytes = ap (λ (s : List ℕ). put_mid end (size_of r) s S) (headed-page number rs page next is) ∙ (put ∙ rw (ends, spelled) (simp (append_assoc, append-nil)));
     }
 
 -- a page that has this record between others
@@ -142,9 +142,12 @@ module _ (number : ℕ) (before : List Stored) (r : Stored) (after : List Stored
   length-listed_front : length listed_front ≡ end_from 16 before
   unfolding listed_front
   length-listed_front =
-      omega (arith, length-append (header number (end_from 16 (before ++ r ∷ after))) (flat_map spelling before),
-          length-header number (end_from 16 (before ++ r ∷ after)),
-          length-spellings 16 before (each-left before (r ∷ after) is.each))
+      omega (
+        arith,
+        length-append (header number (end_from 16 (before ++ r ∷ after))) (flat_map spelling before),
+        length-header number (end_from 16 (before ++ r ∷ after)),
+        length-spellings 16 before (each-left before (r ∷ after) is.each),
+      )
 
   listed-bytes : page ≡ listed_front ++ (spelling r ++ listed_back)
   unfolding listed_front listed_back
@@ -165,10 +168,10 @@ module _ (number : ℕ) (before : List Stored) (r : Stored) (after : List Stored
       let kept : take at page ≡ listed_front = ap (λ (s : List ℕ). take at s) listed-bytes ∙ take_at listed_front (spelling r ++ listed_back) at length-listed_front in
       let rest : drop (size_of r) (drop at page) ≡ listed_back = ap (λ (s : List ℕ). drop (size_of r) s) listed-here ∙ drop_at (spelling r) listed_back (size_of r) (length-spelling r old_ok.value_fits) in
       let put : put_mid at (size_of r) page (spelling new) ≡ listed_front ++ (spelling new ++ listed_back) =
-              ap (λ (s : List ℕ). s ++ (spelling new ++ drop (size_of r) (drop at page))) kept ∙ ap (λ (s : List ℕ). listed_front ++ (spelling new ++ s)) rest in
+      ap (λ (s : List ℕ). s ++ (spelling new ++ drop (size_of r) (drop at page))) kept ∙ ap (λ (s : List ℕ). listed_front ++ (spelling new ++ s)) rest in
       record {
         number_fits = is.number_fits;
         each = each-append before (new ∷ after) (each-left before (r ∷ after) is.each) (ok, (each-right before (r ∷ after) is.each).1);
         within = omega (arith, ends, is.within);
-        bytes = put ∙ rw (ends, spellings-append before (new ∷ after)) (simp append_assoc)
+        bytes = put ∙ rw (ends, spellings-append before (new ∷ after)) (simp append_assoc);
       }

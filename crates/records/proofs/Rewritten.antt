@@ -28,7 +28,7 @@ pub rewritten : (r : Stored) (value : Option (List ℕ)) (slot top rest field ro
     → field ≡ u16_bytes (length (value_bytes value)) → kind ≡ kind_of value
     → (take (length rest - k) (drop k rest) ≡ filled r.value (length (take (length rest - k) (drop k rest))) → room ≡ filled value (length (take (length rest - k) (drop k rest))))
     → set (take 18 top ++ (field ++ drop 2 (drop 18 top))) 22 kind ++ (take k rest ++ (room ++ drop (length rest - k) (drop k rest)))
-        ≡ spelling (record r { value = value })
+    ≡ spelling (record r { value = value })
 unfolding spelling
 rewritten r value slot top rest field room k kind is_slot is_size is_key is_top is_rest is_field is_kind is_room =
     let H : List ℕ = head r.link r.hash (length r.key) (length (value_bytes r.value)) r.capacity (kind_of r.value) in
@@ -43,8 +43,8 @@ rewritten r value slot top rest field room k kind is_slot is_size is_key is_top 
     let room_is : length part ≡ r.capacity = omega (arith, length-take (length rest - k) (drop k rest), length-drop k rest, sizes, is_size, is_key) in
     let part_is : part ≡ filled r.value (length part) = take_rest rest k ∙ (after ∙ ap (λ (m : ℕ). filled r.value m) (sym room_is)) in
     let nothing : drop (length rest - k) (drop k rest) ≡ [] =
-            drop_all (length rest - k) (drop k rest) (omega (arith, length-drop k rest)) in
+    drop_all (length rest - k) (drop k rest) (omega (arith, length-drop k rest)) in
     let new_head : set (take 18 top ++ (field ++ drop 2 (drop 18 top))) 22 kind ≡ head r.link r.hash (length r.key) (length (value_bytes value)) r.capacity (kind_of value) =
-            rw (header, is_field, is_kind) (head-set r.link r.hash (length r.key) (length (value_bytes r.value)) r.capacity (kind_of r.value) (length (value_bytes value)) (kind_of value)) in
+    rw (header, is_field, is_kind) (head-set r.link r.hash (length r.key) (length (value_bytes r.value)) r.capacity (kind_of r.value) (length (value_bytes value)) (kind_of value)) in
     let new_room : room ≡ filled value r.capacity = is_room part_is ∙ ap (λ (m : ℕ). filled value m) room_is in
     rw (new_head, key, nothing, append-nil, new_room) refl

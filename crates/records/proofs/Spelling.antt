@@ -109,12 +109,12 @@ module _ (page : List ℕ) (offset : ℕ) (r : Stored) (rest : List ℕ) (here :
       let n : ℕ = u16_at page (offset + 18) in
       let spare : List ℕ = replicate (r.capacity - length (value_bytes r.value)) 0 ++ rest in
       let past_key : drop (offset + 24 + k) page ≡ filled r.value r.capacity ++ rest =
-              sym (drop-drop k (offset + 24) page) ∙ (ap (λ s. drop k s) behind ∙ drop_at r.key (filled r.value r.capacity ++ rest) k (sym key_length_at)) in
+      sym (drop-drop k (offset + 24) page) ∙ (ap (λ s. drop k s) behind ∙ drop_at r.key (filled r.value r.capacity ++ rest) k (sym key_length_at)) in
       ap (λ s. take n s) (past_key ∙ append_assoc (value_bytes r.value) (replicate (r.capacity - length (value_bytes r.value)) 0) rest) ∙ take_at (value_bytes r.value) spare n (sym value_length_at)
 
   pub fields_at-is : fields_at page offset ≡ r
   unfolding fields_at
   fields_at-is =
       same_stored (fields_at page offset) r link_at hash_at key_at
-          (value_from r.value (slice_index page (offset + 22)) (u16_at page (offset + 18)) (drop (offset + 24 + u16_at page (offset + 16)) page) kind_at value_at)
-          capacity_at
+      (value_from r.value (slice_index page (offset + 22)) (u16_at page (offset + 18)) (drop (offset + 24 + u16_at page (offset + 16)) page) kind_at value_at)
+      capacity_at

@@ -62,7 +62,7 @@ module _ (number : ℕ) (before : List Stored) (r : Stored) (after : List Stored
         kind = kind_at page at r rest here ok;
         form = form_at page at r rest here ok;
         fields = fields_at-is page at r rest here ok;
-        bytes = ap (λ (s : List ℕ). take (size_of r) s) here ∙ take_at (spelling r) rest (size_of r) (length-spelling r ok.value_fits)
+        bytes = ap (λ (s : List ℕ). take (size_of r) s) here ∙ take_at (spelling r) rest (size_of r) (length-spelling r ok.value_fits);
       }
 
   between-HasChanged : (value : Option (List ℕ)) → length (value_bytes value) ≤ r.capacity
@@ -76,7 +76,7 @@ module _ (number : ℕ) (before : List Stored) (r : Stored) (after : List Stored
         number_is = page-number number (before ++ other ∷ after) new now ∙ sym (page-number number (before ++ r ∷ after) page is);
         end_is = page-end number (before ++ other ∷ after) new now ∙ (end_from-other value ∙ sym (page-end number (before ++ r ∷ after) page is));
         records_are = page-records number (before ++ other ∷ after) new now ∙ (sym (with_value-placed value 16 before r after) ∙ ap (λ (ps : List (ℕ × Stored)). map (with_value at value) ps) (sym (page-records number (before ++ r ∷ after) page is)));
-        laid_out = page-laid_out number (before ++ other ∷ after) new now
+        laid_out = page-laid_out number (before ++ other ∷ after) new now;
       }
     where
       end_from-other : (v : Option (List ℕ)) → end_from 16 (before ++ (record r { value = v }) ∷ after) ≡ end_from 16 (before ++ r ∷ after)
@@ -100,7 +100,7 @@ module _ (page : List ℕ) (offset : ℕ) (r : Stored) (was : IsLaidOut page) (t
       let s : Split 16 was.stored offset r = split in
       let is : IsPage (number_of page) (s.before ++ r ∷ s.after) page = subst (λ (rs : List Stored). IsPage (number_of page) rs page) s.whole was.is_page in
       subst (λ (at : ℕ). HasChanged page (put_mid at (size_of r) page (spelling (record r { value = value }))) at value) (sym s.at)
-          (between-HasChanged (number_of page) s.before r s.after page is value fits)
+      (between-HasChanged (number_of page) s.before r s.after page is value fits)
 
 -- such a record may be read
 kind-is-for : (value : Option (List ℕ)) (kind n : ℕ) → kind ≡ kind_of value → n ≡ length (value_bytes value) → IsKindFor kind n
@@ -122,7 +122,7 @@ IsThere-IsRecordAt page offset r t =
       key_length = omega (arith, t.key_length, ok.key_fits);
       value_length = omega (arith, t.value_length, t.capacity, value_fits);
       size = ap (λ n. n % 8) sizes ∙ ok.aligned;
-      within = omega (arith, sizes, t.within)
+      within = omega (arith, sizes, t.within);
     }
 
 -- no record is listed where none may be read

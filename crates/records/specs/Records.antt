@@ -95,7 +95,7 @@ fields_at page offset =
       hash = u64_at page (offset + 8);
       key = take key_length (drop (offset + 24) page);
       value = value_of_kind (slice_index page (offset + 22)) (take value_length (drop (offset + 24 + key_length) page));
-      capacity = u16_at page (offset + 20)
+      capacity = u16_at page (offset + 20);
     }
 
 -- the records from an offset to the end of the used part, each with its offset, and at most n of them

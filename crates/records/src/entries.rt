@@ -9,6 +9,8 @@ ghost use Rattle.records.specs.Records.{Stored, IsKindFor, value_of_kind, kind_o
 
 use crate::fields;
 use crate::pages::{HEADER_SIZE, PAGE_SIZE, Page};
+use std::error::Error;
+use std::fmt;
 
 /// The bytes of a record's header.
 pub const RECORD_HEADER: usize = 24;
@@ -47,6 +49,22 @@ pub struct NoRoom;
 /// No record can be read at the offset.
 #[derive(Clone, Copy, Debug, PartialEq, Eq)]
 pub struct NotARecord;
+
+impl fmt::Display for NoRoom {
+    fn fmt<W: fmt::Write>(&self, f: &mut fmt::Formatter<W>) -> fmt::Result {
+        f.write_str("the page has no room for the record")
+    }
+}
+
+impl fmt::Display for NotARecord {
+    fn fmt<W: fmt::Write>(&self, f: &mut fmt::Formatter<W>) -> fmt::Result {
+        f.write_str("no record can be read at this offset of the page")
+    }
+}
+
+impl Error for NoRoom {}
+
+impl Error for NotARecord {}
 
 /// The bytes that a record takes whose key and value have these lengths: its header and both,
 /// rounded up to a multiple of 8.
@@ -101,7 +119,9 @@ pub fn record_at(page: &Page, offset: usize) -> Result<Record<'_>, NotARecord>
 /// Puts a record at the end of the page's used part, and answers its offset. `None` puts a
 /// tombstone.
 ///
-/// Refuses a record that does not fit, and the page is then unchanged.
+/// Refuses a record that does not fit, and the page is then unchanged. The page has to be laid out,
+/// as `Page::new` and this module's calls leave it: so the bytes behind its used part are zero, and
+/// only the record's own bytes are written.
 #[inline]
 pub fn put_record(
     page: &mut Page,
@@ -135,7 +155,11 @@ pub fn put_record(
     Ok(end)
 }
 
-/// Puts another value, or with `None` a tombstone, into the record at `offset`, in place.
+/// Puts another value, or with `None` a tombstone, into the record at `offset`, in place. The value
+/// has to fit the record's capacity.
+///
+/// The link, the hash, the key and the capacity stay, and so do all other records. Of the bytes
+/// behind the new value only those of a longer old one are written.
 #[inline]
 #[tactic(auto, using(crate::proofs::There::room_within))]
 pub fn overwrite(page: &mut Page, offset: usize, value: Option<&[u8]>)
@@ -202,7 +226,13 @@ fn write_record(slot: &mut [u8], link: u64, hash: u64, key: &[u8], value: Option
     let (head, rest) = slot.split_at_mut(RECORD_HEADER);
     let (addresses, lengths) = head.split_at_mut(16);
     write_addresses(addresses, link, hash);
-    write_lengths(lengths, key.len() as u16, length_of(value) as u16, capacity as u16, kind_of(value));
+    write_lengths(
+        lengths,
+        key.len() as u16,
+        length_of(value) as u16,
+        capacity as u16,
+        kind_of(value),
+    );
     let (key_part, room) = rest.split_at_mut(key.len());
     key_part.copy_from_slice(key);
     write_value(room, value);

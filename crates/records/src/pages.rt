@@ -6,9 +6,8 @@ ghost use Rattle.records.specs.Page.{header, empty_page, number_of, used_end};
 ghost use Rattle.records.specs.Records.{records_of, IsLaidOut};
 ghost use Rattle.records.specs.Lends.{LendsBytes};
 
-use std::marker::Model;
-
 use crate::fields;
+use std::marker::Model;
 
 /// The bytes of a page.
 pub const PAGE_SIZE: usize = 16384;

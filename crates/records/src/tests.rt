@@ -65,14 +65,23 @@ fn a_page_in_place(rt: HostRuntime) {
 fn fifteen_of_a_thousand_bytes_fit(rt: HostRuntime) {
     let mut page = Page::new(0);
     for at in 0..15 {
-        assert_eq!(rt; put_record(&mut page, 0, at, b"k0000", Some(&[b'x'; 1000])), Ok(16 + 1032 * at as usize));
+        assert_eq!(rt;
+            put_record(&mut page, 0, at, b"k0000", Some(&[b'x'; 1000])),
+            Ok(16 + 1032 * at as usize)
+        );
     }
     assert_eq!(rt; page.used_end(), 15_496);
     let mut before = Page::new(0);
     before.copy_from(&page);
-    assert_eq!(rt; put_record(&mut page, 0, 15, b"k0000", Some(&[b'x'; 1000])), Err(NoRoom));
+    assert_eq!(rt;
+        put_record(&mut page, 0, 15, b"k0000", Some(&[b'x'; 1000])),
+        Err(NoRoom)
+    );
     assert!(rt; page == before);
-    assert_eq!(rt; put_record(&mut page, 0, 15, b"k0000", Some(&[b'x'; 859])), Ok(15_496));
+    assert_eq!(rt;
+        put_record(&mut page, 0, 15, b"k0000", Some(&[b'x'; 859])),
+        Ok(15_496)
+    );
     assert_eq!(rt; page.used_end(), 16_384);
     assert_eq!(rt; put_record(&mut page, 0, 16, b"", None), Err(NoRoom));
 }
@@ -80,9 +89,16 @@ fn fifteen_of_a_thousand_bytes_fit(rt: HostRuntime) {
 #[test]
 fn each_reason_to_refuse(rt: HostRuntime) {
     let whole = [(8, 0), (9, 0x40)];
-    assert!(rt; record_at(&patched(&whole), 16).is_ok(), "the used part may fill the page");
+    assert!(rt;
+        record_at(&patched(&whole), 16).is_ok(),
+        "the used part may fill the page"
+    );
     for (why, offset, places) in [
-        ("the used end passes the page's end", 16, [(8, 1), (9, 0x40)].as_slice()),
+        (
+            "the used end passes the page's end",
+            16,
+            [(8, 1), (9, 0x40)].as_slice(),
+        ),
         ("an offset in the page's header", 8, whole.as_slice()),
         ("an offset at the used end", 48, [].as_slice()),
         ("an offset past the page", 16_384, whole.as_slice()),
@@ -90,9 +106,17 @@ fn each_reason_to_refuse(rt: HostRuntime) {
         ("an offset that is no multiple of 8", 20, whole.as_slice()),
         ("another form", 16, [(39, 2)].as_slice()),
         ("another kind", 16, [(38, 3)].as_slice()),
-        ("a key of 520 bytes", 16, [(8, 0), (9, 0x40), (32, 8), (33, 2), (34, 0), (36, 0)].as_slice()),
+        (
+            "a key of 520 bytes",
+            16,
+            [(8, 0), (9, 0x40), (32, 8), (33, 2), (34, 0), (36, 0)].as_slice(),
+        ),
         ("a value longer than its capacity", 16, [(34, 8)].as_slice()),
-        ("a size that is no multiple of 8", 16, [(8, 0), (9, 0x40), (36, 8)].as_slice()),
+        (
+            "a size that is no multiple of 8",
+            16,
+            [(8, 0), (9, 0x40), (36, 8)].as_slice(),
+        ),
         ("a size that passes the used end", 16, [(36, 15)].as_slice()),
         ("a header that passes the used end", 32, [].as_slice()),
         ("a tombstone with a value length", 16, [(38, 2)].as_slice()),
@@ -104,7 +128,10 @@ fn each_reason_to_refuse(rt: HostRuntime) {
 #[test]
 fn a_shorter_value_in_place(rt: HostRuntime) {
     let mut page = Page::new(0);
-    assert_eq!(rt; put_record(&mut page, 0, HASH, b"a", Some(b"1234567")), Ok(16));
+    assert_eq!(rt;
+        put_record(&mut page, 0, HASH, b"a", Some(b"1234567")),
+        Ok(16)
+    );
     overwrite(&mut page, 16, Some(b"1"));
     assert!(rt; page == patched(&[]));
 }
@@ -112,7 +139,10 @@ fn a_shorter_value_in_place(rt: HostRuntime) {
 #[test]
 fn a_tombstone_in_place(rt: HostRuntime) {
     let mut page = Page::new(0);
-    assert_eq!(rt; put_record(&mut page, 0, HASH, b"a", Some(b"1234567")), Ok(16));
+    assert_eq!(rt;
+        put_record(&mut page, 0, HASH, b"a", Some(b"1234567")),
+        Ok(16)
+    );
     overwrite(&mut page, 16, None);
     assert!(rt; page == patched(&[(34, 0), (38, 2), (41, 0)]));
 }

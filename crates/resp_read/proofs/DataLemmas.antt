@@ -30,12 +30,3 @@ pub data_without_lf : (left size due : ℕ) (bytes : Bytes) → get_or bytes due
 data_without_lf left size due bytes cr lt differs =
     data_front_at left size due 13 bytes (omega arith) cr
     ∙ (ap (front_from (DataEnd left size)) (drop_more bytes (due + 1) 0 lt) ∙ data_lf_due left size (get_or bytes (due + 1) 0) (drop ((due + 1) + 1) bytes) differs)
-
-pub data_is_whole : (due : ℕ) (bytes : Bytes) → get_or bytes due 0 ≡ 13 → due + 1 < length bytes → get_or bytes (due + 1) 0 ≡ 10 → bytes ≡ take due bytes ++ (crlf ++ drop (due + 2) bytes)
-data_is_whole due bytes cr lt lf = sym (take-append-drop due bytes) ∙ ap (λ (r : Bytes). take due bytes ++ r) ends where
-  two : (due + 1) + 1 ≡ due + 2
-  two = omega arith
-  lf_on : drop (due + 1) bytes ≡ 10 ∷ drop (due + 2) bytes
-  lf_on = drop_more bytes (due + 1) 0 lt ∙ (ap (λ (b : ℕ). b ∷ drop ((due + 1) + 1) bytes) lf ∙ ap (λ (k : ℕ). 10 ∷ drop k bytes) two)
-  ends : drop due bytes ≡ crlf ++ drop (due + 2) bytes
-  ends = drop_more bytes due 0 (omega arith) ∙ (ap (λ (b : ℕ). b ∷ drop (due + 1) bytes) cr ∙ ap (λ (r : Bytes). 13 ∷ r) lf_on)

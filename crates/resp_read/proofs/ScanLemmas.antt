@@ -137,21 +137,6 @@ count_goes bytes rest scanned value width none is line some most = (due, omega (
   due =
       subst (λ (k : ℕ). WordIsDue bytes k (value - 1) 0) width_is (count_scanned bytes value width (subst (λ (b : Bytes). BeginsWithLine 42 value width b) whole line) some most)
 
--- the line of a length has been scanned
-pub length_scanned : (bytes rest : Bytes) (scanned left size value width : ℕ) → WordIsDue bytes scanned left size → rest ≡ drop scanned bytes → BeginsWithLine 36 value width rest → value ≤ WORD_BYTES_MAX → size + value ≤ REQUEST_BYTES_MAX → DataIsDue bytes (scanned + width) left (size + value) value
-length_scanned bytes rest scanned left size value width due is line short room = record {
-  words = due.words;
-  within = omega (arith, due.within, line.within, ap length is, length-drop scanned bytes);
-  can = due.can;
-  short = short;
-  together = ap (λ (k : ℕ). k + value) due.together;
-  room = room;
-  begins = due.begins ∙ (ap (λ (r : Bytes). spelled_so_far due.words left ++ r) rest_is ∙ sym (append_assoc (spelled_so_far due.words left) (header 36 value) (drop (scanned + width) bytes)));
-}
-  where
-  rest_is : drop scanned bytes ≡ header 36 value ++ drop (scanned + width) bytes
-  rest_is = sym is ∙ (line.begins ∙ ap (λ (r : Bytes). header 36 value ++ r) (ap (drop width) is ∙ drop-drop width scanned bytes))
-
 -- the bytes with the word that has been scanned
 data_joined : (bytes rest : Bytes) (scanned left size length_due : ℕ) (due : DataIsDue bytes scanned left size length_due) → rest ≡ drop scanned bytes → length_due + 2 ≤ length rest → rest ≡ take length_due rest ++ (crlf ++ drop (length_due + 2) rest) → bytes ≡ (header 42 (length due.words + suc left) ++ flat_map bulk_string (due.words ++ take length_due rest ∷ [])) ++ drop (scanned + length_due + 2) bytes
 data_joined bytes rest scanned left size length_due due is long whole = joined where
@@ -219,30 +204,3 @@ request_scanned bytes rest scanned left size length_due due last is long whole =
   spelled_is =
       data_joined bytes rest scanned left size length_due due is long whole
       ∙ ap (λ (k : ℕ). (header 42 k ++ flat_map bulk_string (due.words ++ take length_due rest ∷ [])) ++ drop (scanned + length_due + 2) bytes) count_is
-
--- what has been scanned stays so where more bytes come
-scanned_stays : (bytes more : Bytes) (scanned : ℕ) (due : Due) → IsDue bytes scanned due → IsDue (bytes ++ more) scanned due
-scanned_stays bytes more scanned Count at_start = at_start
-scanned_stays bytes more scanned (Word left size) due = record {
-  words = due.words;
-  within = omega (arith, due.within, length-append bytes more);
-  can = due.can;
-  together = due.together;
-  room = due.room;
-  begins = ap (λ (b : Bytes). b ++ more) due.begins ∙ (append_assoc (spelled_so_far due.words left) (drop scanned bytes) more ∙ ap (λ (r : Bytes). spelled_so_far due.words left ++ r) (sym (drop-append-le scanned bytes more due.within)));
-}
-scanned_stays bytes more scanned (Data left size length_due) due = record {
-  words = due.words;
-  within = omega (arith, due.within, length-append bytes more);
-  can = due.can;
-  short = due.short;
-  together = due.together;
-  room = due.room;
-  begins = ap (λ (b : Bytes). b ++ more) due.begins ∙ (append_assoc (spelled_so_far due.words left ++ header 36 length_due) (drop scanned bytes) more ∙ ap (λ (r : Bytes). (spelled_so_far due.words left ++ header 36 length_due) ++ r) (sym (drop-append-le scanned bytes more due.within)));
-}
-
-pub scanned_after_feed : {T E : Type 0} (result : Result T E) (old new more : Bytes) (progress : Progress) → IsScanned old progress → OnOk result (new ≡ old ++ more) → OnErr result (new ≡ old) → IsScanned new progress
-scanned_after_feed (Ok x) old new more progress scanned fed same =
-    subst (λ (b : Bytes). IsDue b progress.scanned progress.due) (sym fed) (scanned_stays old more progress.scanned progress.due scanned)
-scanned_after_feed (Err e) old new more progress scanned fed same =
-    subst (λ (b : Bytes). IsDue b progress.scanned progress.due) (sym same) scanned

@@ -236,25 +236,6 @@ next_is_long bytes part words at count so_far left is long = record {
   too_long : WORD_INLINE < length next.0
   too_long = long next.0 (flat_map bulk_string next.1) (short_at words next.0 next.1 next.2.short) (is ∙ next.4)
 
--- there are more words than the inline room holds
-pub too_many : (bytes : Bytes) (words : List Bytes) (at count : ℕ) → TakenSoFar bytes words at count → length words < count → (length words < WORDS_INLINE → ⊥) → NeedsMemory bytes
-too_many bytes words at count so_far left many = record {
-  words = words ++ so_far.rest;
-  more = [];
-  request = so_far.request;
-  begins = so_far.spelled ∙ sym (append-nil (spelling (words ++ so_far.rest)));
-  large = λ fit. absurd (omega (arith, fit.0, so_far.all, many));
-}
-
-pub all_taken : (bytes : Bytes) (words : List Bytes) (at count : ℕ) → TakenSoFar bytes words at count → count ≤ length words → IsRequest words × (bytes ≡ spelling words)
-all_taken bytes words at count so_far none =
-    (subst (λ (ws : List Bytes). IsRequest ws) words_are so_far.request, so_far.spelled ∙ ap spelling words_are)
-  where
-  nothing : so_far.rest ≡ []
-  nothing = nil_from_length so_far.rest (omega (arith, so_far.all, length-append words so_far.rest))
-  words_are : words ++ so_far.rest ≡ words
-  words_are = ap (λ (ws : List Bytes). words ++ ws) nothing ∙ append-nil words
-
 -- what a request needs, the bytes that it stands in front of need
 pub needs_memory_in_front : (bytes front_part : Bytes) (width : ℕ) → front_part ≡ take width bytes → NeedsMemory front_part → NeedsMemory bytes
 needs_memory_in_front bytes front_part width is needs = record {

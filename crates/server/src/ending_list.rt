@@ -1,7 +1,7 @@
 //! How connections ended.
 
 ghost use Rattle.std.specs.Prelude.{◌≡◌, IfOk, IfSome};
-ghost use Rattle.connection.specs.Endings.{number_of};
+ghost use Rattle.connection.specs.Served.{number_of};
 ghost use Rattle.server.specs.Numbers.{IsEndingNumber};
 
 use boxcar::table::Keeps;

@@ -33,5 +33,5 @@ returns c =
     let old = read-value_length _ _ _ _ _ there c.bytes_mut-bytes.ensures.bytes c.u16_at-old_length.ensures in
     let room = read-capacity _ _ _ _ _ there c.bytes_mut-bytes.ensures.bytes c.u16_at-capacity.ensures in
     let changed = changed-by_steps _ _ _ _ _ _ _ _ (option_copied c.args.value) c.requires.laid_out c.requires.fits.listed c.requires.fits.fits
-            c.bytes_mut-bytes.ensures.bytes key old room c.rewrite_value.ensures in
+    c.bytes_mut-bytes.ensures.bytes key old room c.rewrite_value.ensures in
     record { changed = changed.records_are; end = changed.end_is; number = changed.number_is; laid_out = changed.laid_out }

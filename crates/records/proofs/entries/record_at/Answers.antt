@@ -25,20 +25,20 @@ returns-in_err-value-clause-found c = λ was r there.
 pub returns : goal.returns
 returns c =
     let read = read-fields c.args.page.now c.bytes-bytes.result.now _ c.args.offset c.u64_at.result c.u64_at-2.result c.u16_at-key_length.result c.u16_at-value_length.result c.u16_at-capacity.result _ (option_copied c.in_ok-value.value)
-            c.bytes-bytes.ensures.bytes c.u64_at.ensures c.u64_at-2.ensures c.u16_at-key_length.ensures c.u16_at-value_length.ensures c.u16_at-capacity.ensures refl
-            refl c.in_ok-value.ensures.1 in
+    c.bytes-bytes.ensures.bytes c.u64_at.ensures c.u64_at-2.ensures c.u16_at-key_length.ensures c.u16_at-value_length.ensures c.u16_at-capacity.ensures refl
+    refl c.in_ok-value.ensures.1 in
     let within : c.args.offset + 24 + c.u16_at-key_length.result + c.u16_at-value_length.result ≤ 16384 = omega arith in
     let kind = kind-in_page c.args.page.now c.bytes-bytes.result.now c.args.offset c.u16_at-key_length.result c.u16_at-value_length.result c.bytes-bytes.ensures.bytes c.bytes-bytes.ensures.size within c.u16_at-value_length.ensures c.in_ok-value.ensures.0 in
     let at : IsRecordAt c.args.page.now c.args.offset = record {
-            ends_in_page = search rules;
-            past_header = search rules;
-            used = search rules;
-            aligned = search rules;
-            form = search rules;
-            kind = kind;
-            key_length = search rules;
-            value_length = search rules;
-            size = search rules;
-            within = search rules
-          } in
+      ends_in_page = search rules;
+      past_header = search rules;
+      used = search rules;
+      aligned = search rules;
+      form = search rules;
+      kind = kind;
+      key_length = search rules;
+      value_length = search rules;
+      size = search rules;
+      within = search rules;
+    } in
     record { exact = (at, read); found = read-listed c.args.page.now c.args.offset _ read }

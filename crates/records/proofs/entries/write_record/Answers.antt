@@ -10,5 +10,5 @@ unfolding spelling head u64_bytes
 returns c =
     let before = c.split_at_mut-key_part.ensures.back ∙ ap (λ (s : List ℕ). drop (length c.args.key.now) s) c.split_at_mut-head.ensures.back in
     let room : c.write_value.new.room ≡ filled (option_copied c.args.value) (length c.args.slot.now - 24 - length c.args.key.now) =
-            filled-blank c.args.slot.now _ _ (option_copied c.args.value) (length c.args.key.now) (length c.args.slot.now) c.requires.blank before c.write_value.ensures in
+    filled-blank c.args.slot.now _ _ (option_copied c.args.value) (length c.args.key.now) (length c.args.slot.now) c.requires.blank before c.write_value.ensures in
     search rules

@@ -1,7 +1,7 @@
 use Rattle.std.proofs.Common.{arith, ◌≡◌, ◌∙◌, sym, ◌-◌, List, ℕ, ap, take, drop, length}
 use Rattle.std.proofs.lemmas.List.{take_rest}
 use Rattle.words.specs.Stream.{front_from, Word, Data}
-use Rattle.resp_read.proofs.ScanLemmas.{word_due_front, data_due_front, count_goes, length_scanned, data_goes, request_scanned}
+use Rattle.resp_read.proofs.ScanLemmas.{word_due_front, data_due_front, count_goes, data_goes, request_scanned}
 use Rattle.resp_read.proofs.scan.advance.Goals as goal
 
 pub returns-in-Number : goal.returns-in-Number

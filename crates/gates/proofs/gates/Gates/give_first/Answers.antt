@@ -38,6 +38,7 @@ returns-clause-holding g c =
     let first = c.requires.first in
     record {
       table = c.store.ensures.0 ∙ h.table;
+      small = h.small;
       seat = gave_seat c.args.self.now.table.shared.table_id.slots c.args.pass.now.number c.args.stripe first.0 c.args.pass.now.seat.me c.store.new.seat.me h.seat first.1
           (c.store.ensures.2 c.args.stripe c.word_index-word.ensures);
     }

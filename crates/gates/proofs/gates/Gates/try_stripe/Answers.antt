@@ -13,7 +13,7 @@ pub compare_exchange-found-requires : goal.compare_exchange-found-requires
 compare_exchange-found-requires g c =
     let pass = c.args.pass.now in
     let h = c.requires.holding in
-    let few = pass.few in
+    let few = h.small in
     let sized = c.args.self.now.sized in
     (
       h.table,
@@ -35,7 +35,7 @@ returns-then-found-ne0 g c =
     let missed : Missed c.args.stripe found m w = MatchBool-at_false (Took g.T.Part.contents n c.args.stripe m w) (Missed c.args.stripe found m w) (ne_eqb found 0 c.if-found-ne0.true) told in
     let knows = missed_knows n pass.number c.args.stripe found m w h.seat missed in
     record {
-      holding = record { table = c.compare_exchange-found.ensures.0 ∙ h.table; seat = missed_seat n pass.number c.args.stripe found m w h.seat missed };
+      holding = record { table = c.compare_exchange-found.ensures.0 ∙ h.table; small = h.small; seat = missed_seat n pass.number c.args.stripe found m w h.seat missed };
       fit = missed_fit n pass.number c.args.stripe found m w h.seat missed g.T.Part.contents c.requires.fit;
       taken = λ e. absurd (false≢true e);
       missed = λ _. (knows, missed_parts n pass.number c.args.stripe found m w h.seat missed);
@@ -59,6 +59,7 @@ returns g c =
     record {
       holding = record {
         table = c.turn.ensures.0 ∙ c.compare_exchange-found.ensures.0 ∙ h.table;
+        small = h.small;
         seat = subst (IsSeatOf n pass.number) (sym turn) (took_seat contents n pass.number i m w h.seat c.requires.below none_held took);
       };
       fit = subst (λ y. AllFit contents n (own y.0).seen y.1) (sym turn) (took_fit contents n pass.number i m w h.seat c.requires.below none_held took c.requires.fit);

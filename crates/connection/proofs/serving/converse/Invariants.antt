@@ -1,0 +1,23 @@
+use Rattle.std.proofs.Common.{◌≡◌, ℕ, List, []}
+use Rattle.std.specs.Io.KnownBytes.{Appends, Consumes}
+use Rattle.words.specs.Stream.{front, Part}
+use Rattle.engine.specs.Contents.{contents, pass_number}
+use Rattle.connection.specs.Streams.{stream_of, told_of, tries_of}
+use Rattle.connection.specs.Conversations.{Conversation}
+use Rattle.connection.proofs.serving.converse.Given as goal
+
+abbrev pub invariant-loop-ended : goal.invariant-loop-ended
+invariant-loop-ended g l = record {
+  talk : (fed said : List ℕ)
+    × Consumes (g.R.Read.remaining (stream_of l.initial.reader)) (g.R.Read.remaining (stream_of l.reader)) fed
+    × Appends (g.W.Write.contents (stream_of l.initial.writer)) (g.W.Write.contents (stream_of l.writer)) said
+    × Conversation (pass_number l.initial.pass) (contents l.initial.engine) (contents l.engine) fed l.client said;
+  waits : front (l.client).unread ≡ Part;
+  empty : l.out.items ≡ [];
+  reader_told : told_of l.reader ≡ told_of l.initial.reader;
+  writer_told : told_of l.writer ≡ told_of l.initial.writer;
+  pass : l.pass ≡ l.initial.pass;
+}
+
+abbrev pub decreases-loop-ended : goal.decreases-loop-ended
+decreases-loop-ended g l = tries_of l.reader
