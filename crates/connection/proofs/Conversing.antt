@@ -127,8 +127,8 @@ entries_more : (session : ℕ) (made : History) (entry : Option Entry) (entries 
 entries_more session made None entries one = refl
 entries_more session made (Some entry) entries one =
     rw (eq-eqb entry.session session one.0) (
-      ap (λ (t : List Placed). t ++ entries) (reverse_onto (subhistory made session) (length made, entry) [])
-      ∙ append_assoc (reverse (subhistory made session)) _ entries
+    ap (λ (t : List Placed). t ++ entries) (reverse_onto (subhistory made session) (length made, entry) [])
+    ∙ append_assoc (reverse (subhistory made session)) _ entries
     )
 
 -- a conversation that has answered one more request
@@ -152,10 +152,13 @@ conversation_next session old before after fed said standing next reply talk one
       leaves = λ key. one.leaves key ∙ leaves_more old before talk.made one.entry key is;
       ready = one.ready;
       goes_on = λ others entries more goes.
-          rw (append_assoc talk.requests (one.words ∷ []) others, append_assoc talk.replies (reply ∷ []) more,
-              entries_more session talk.made one.entry entries one.own)
-            (talk.goes_on (one.words ∷ others) (at_place one.entry (length talk.made) ++ entries) (reply ∷ more)
-              (one.goes_on (length talk.made) others entries more goes));
+          rw (
+            append_assoc talk.requests (one.words ∷ []) others,
+            append_assoc talk.replies (reply ∷ []) more,
+            entries_more session talk.made one.entry entries one.own,
+          )
+          (talk.goes_on (one.words ∷ others) (at_place one.entry (length talk.made) ++ entries) (reply ∷ more)
+          (one.goes_on (length talk.made) others entries more goes));
       text = ap (λ (t : Bytes). t ++ encoding reply) talk.text ∙ sym (encodings-more talk.replies reply);
     }
 

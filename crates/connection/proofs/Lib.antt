@@ -3,3 +3,4 @@ pub mod Known
 pub mod Stages
 pub mod Turns
 pub mod Conversing
+pub mod LineLengths

@@ -1,4 +1,5 @@
-//! One connection: requests are read, answered by the engine, and their replies written.
+//! One connection: the requests of a client are read, answered by the engine, and their replies are
+//! written.
 #![tactic(auto)]
 
 pub mod client;
@@ -6,3 +7,9 @@ pub mod noted;
 pub mod resp_write;
 pub mod serving;
 mod session;
+#[cfg(test)]
+mod tests;
+
+pub use client::{Client, Next};
+pub use noted::{Noted, Told};
+pub use serving::{Ended, serve};

@@ -100,6 +100,7 @@ impl<S: Read> Noted<S> {
 }
 
 impl<S: Write> Noted<S> {
+    ghost use Rattle.std.specs.Io.KnownBytes.{Keeps};
     ghost use Rattle.connection.specs.Streams.{stream_of, told_of, IsWritten, IsSent, told_when};
 
     /// Writes some of these bytes, and says how many: at least one. `None` where the stream failed
@@ -138,5 +139,25 @@ impl<S: Write> Noted<S> {
             rest = &rest[count..];
         }
         Ok(())
+    }
+
+    /// Has the stream pass on what it keeps back, if it does.
+    pub fn flush(&mut self) -> Result<(), WriteFault>
+        ensures kept { Keeps (S.contents (stream_of self.old)) (S.contents (stream_of self.new)) }
+        ensures told { told_of self.new ≡ told_when (is_ok result) (told_of self.old) }
+    {
+        while self.tries > 0 {
+            self.tries -= 1;
+            match self.stream.flush() {
+                Ok(()) => return Ok(()),
+                Err(error) => {
+                    if error.kind() != ErrorKind::Interrupted {
+                        break;
+                    }
+                }
+            }
+        }
+        self.told = Told::Failure;
+        Err(WriteFault)
     }
 }

@@ -4,6 +4,7 @@ ghost use Rattle.std.specs.Prelude.{◌≡◌, ◌+◌, ◌≤◌, ◌^◌, ◌�
 ghost use Rattle.std.specs.List.{flat_map};
 ghost use Rattle.words.specs.Encoding.{item_encoding, command_reply_encoding, encoding};
 ghost use Rattle.words.specs.Spelling.{header, crlf, bulk_string};
+ghost use Rattle.connection.specs.Lines.{IsLine};
 ghost use Rattle.connection.specs.Streams.{IsSent, stream_of, told_of, told_when};
 
 use crate::noted::{Noted, WriteFault};
@@ -22,8 +23,8 @@ fn put(bytes: &[u8], out: &mut Vec<u8>)
     let _ = out.extend_from_slice(bytes);
 }
 
-#[tactic(auto, unfolding(words::specs::Spelling::header))]
 /// How many bytes a sign, a number in decimal and a line end take.
+#[tactic(auto, unfolding(words::specs::Spelling::header))]
 fn header_len(sign: u8, count: usize) -> usize
     ensures len { result ≡ length (header sign count) }
     ensures short { result ≤ 43 }
@@ -31,8 +32,8 @@ fn header_len(sign: u8, count: usize) -> usize
     Buffer::new().format(count).len() + 3
 }
 
-#[tactic(auto, unfolding(words::specs::Spelling::header))]
 /// Appends a sign, a number in decimal and a line end.
+#[tactic(auto, unfolding(words::specs::Spelling::header))]
 fn put_header(sign: u8, count: usize, out: &mut Vec<u8>)
     requires { vec_len out.old + length (header sign count) ≤ vec_capacity out.old }
     ensures items { out.new.items ≡ out.old.items ++ header sign count }
@@ -45,8 +46,8 @@ fn put_header(sign: u8, count: usize, out: &mut Vec<u8>)
     put(b"\r\n", out);
 }
 
-#[tactic(auto, unfolding(words::specs::Encoding::item_encoding, words::specs::Spelling::bulk_string, words::specs::Spelling::header))]
 /// How many bytes an item takes, or `None` where they are 2^64 or more.
+#[tactic(auto, unfolding(words::specs::Encoding::item_encoding, words::specs::Spelling::bulk_string, words::specs::Spelling::header))]
 fn item_len(item: &Item) -> Option<usize>
     ensures some { IfSome result (λ len. len ≡ length (item_encoding item.now)) }
     ensures none { IfNone result (2 ^ 64 ≤ length (item_encoding item.now)) }
@@ -54,15 +55,13 @@ fn item_len(item: &Item) -> Option<usize>
     match item {
         Item::Line(line) => Some(line.text().len() + 2),
         Item::Integer(number) => Some(Buffer::new().format(*number).len() + 3),
-        Item::Bulk(bytes) => {
-            (header_len(b'$', bytes.len()) + 2).checked_add(bytes.len())
-        }
+        Item::Bulk(bytes) => { (header_len(b'$', bytes.len()) + 2).checked_add(bytes.len()) }
         Item::Null => Some(5),
     }
 }
 
-#[tactic(auto, unfolding(words::specs::Encoding::item_encoding, words::specs::Spelling::bulk_string))]
 /// Appends an item.
+#[tactic(auto, unfolding(words::specs::Encoding::item_encoding, words::specs::Spelling::bulk_string))]
 fn put_item(item: &Item, out: &mut Vec<u8>)
     requires { vec_len out.old + length (item_encoding item.now) ≤ vec_capacity out.old }
     ensures items { out.new.items ≡ out.old.items ++ item_encoding item.now }
@@ -207,11 +206,15 @@ fn put_reply(reply: &Reply, out: &mut Vec<u8>)
 
 /// Appends the bytes of a reply. It takes memory only where the room is too small; after an `Err`
 /// the buffer is as it was.
+#[tactic(auto, using(crate::proofs::LineLengths::line_len))]
 pub fn encode(reply: &Reply, out: &mut Vec<u8>) -> Result<(), AllocError>
     ensures ok { OnOk result (out.new.items ≡ out.old.items ++ encoding reply.now) }
     ensures err { OnErr result (out.new.items ≡ out.old.items) }
     ensures capacity { vec_capacity out.old ≤ vec_capacity out.new }
     ensures succeeds { vec_len out.old + length (encoding reply.now) ≤ vec_capacity out.old → IsOk result }
+
+    // A line and its end are at most 66 bytes.
+    ensures line { IsLine reply.now → vec_len out.old + 66 ≤ vec_capacity out.old → IsOk result }
 {
     let Some(len) = reply_len(reply) else {
         return Err(AllocError);
@@ -297,7 +300,10 @@ fn send_header<W: Write>(sign: u8, count: usize, writer: &mut Noted<W>) -> Resul
 
 /// Writes the answer of a command.
 #[tactic(auto, unfolding(words::specs::Encoding::command_reply_encoding))]
-fn send_command_reply<W: Write>(reply: &CommandReply, writer: &mut Noted<W>) -> Result<(), WriteFault>
+fn send_command_reply<W: Write>(
+    reply: &CommandReply,
+    writer: &mut Noted<W>,
+) -> Result<(), WriteFault>
     ensures sent { IsSent (W.contents (stream_of writer.old)) (W.contents (stream_of writer.new)) result (command_reply_encoding reply.now) }
     ensures told { told_of writer.new ≡ told_when (is_ok result) (told_of writer.old) }
 {
@@ -314,7 +320,10 @@ fn send_command_reply<W: Write>(reply: &CommandReply, writer: &mut Noted<W>) -> 
 }
 
 /// Writes answers.
-fn send_command_replies<W: Write>(replies: &[CommandReply], writer: &mut Noted<W>) -> Result<(), WriteFault>
+fn send_command_replies<W: Write>(
+    replies: &[CommandReply],
+    writer: &mut Noted<W>,
+) -> Result<(), WriteFault>
     ensures sent { IsSent (W.contents (stream_of writer.old)) (W.contents (stream_of writer.new)) result (flat_map command_reply_encoding replies.now) }
     ensures told { told_of writer.new ≡ told_when (is_ok result) (told_of writer.old) }
 {

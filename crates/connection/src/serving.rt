@@ -66,6 +66,9 @@ fn flush<W: Write>(out: &mut Vec<u8>, writer: &mut Noted<W>) -> Result<(), Write
     if let Err(fault) = writer.write_all(out.as_slice()) {
         return Err(fault);
     }
+    if let Err(fault) = writer.flush() {
+        return Err(fault);
+    }
     out.clear();
     Ok(())
 }
@@ -218,7 +221,11 @@ fn answer_piece<W: Write>(
 }
 
 /// Reads a piece, and feeds it to the client. `None` where the connection goes on.
-fn take_piece<R: Read>(reader: &mut Noted<R>, piece: &mut [u8], client: &mut Client) -> Option<Ended>
+fn take_piece<R: Read>(
+    reader: &mut Noted<R>,
+    piece: &mut [u8],
+    client: &mut Client,
+) -> Option<Ended>
     requires { 0 < length piece.old }
     ensures taken { (bytes : List ℕ) × Consumes (R.remaining (stream_of reader.old)) (R.remaining (stream_of reader.new)) bytes
         × HasTaken result client.old bytes client.new }
@@ -303,6 +310,8 @@ pub fn serve<R: Read, W: Write>(
         return (pass, Ended::NoMemory);
     };
     let client = Client::new(alloc);
-    let ended = converse(client, &mut piece, &mut out, reader, writer, engine, &mut pass);
+    let ended = converse(
+        client, &mut piece, &mut out, reader, writer, engine, &mut pass,
+    );
     (pass, ended)
 }

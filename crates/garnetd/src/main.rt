@@ -10,14 +10,16 @@ use server::{Endings, Options, ServerFault, listen, run_workers};
 use std::env;
 use std::net::{Net, TcpListener, TcpStream};
 use std::process::ExitCode;
-use std::rt::Clock;
+use std::rt::{Clock, Env};
 use std::sync::Wait;
 
 /// The exit status where the server stopped before its time.
 const STOPPED: u8 = 1;
 
 fn main(rt: HostRuntime) -> Result<ExitCode> {
-    let words: Vec<String> = env::args(&rt)?.collect(rt.alloc())?;
+    let Some(words) = words_of(&rt) else {
+        return stopped(&rt, ServerFault::OutOfMemory);
+    };
     let options = match options_of(rt.alloc(), words.as_slice()) {
         Ok(options) => options,
         Err(error) if error.kind() == ErrorKind::OutOfMemory => {
@@ -32,6 +34,11 @@ fn main(rt: HostRuntime) -> Result<ExitCode> {
         Ok(()) => Ok(ExitCode::SUCCESS),
         Err(fault) => stopped(&rt, fault),
     }
+}
+
+/// The words of the command line, or `None` where there is no memory for them.
+fn words_of<R: Env + AllocGlobal>(rt: &R) -> Option<Vec<String>> {
+    env::args(rt).ok()?.collect(rt.alloc()).ok()
 }
 
 /// Listens, says where, and serves until the last connection has ended.

@@ -1,5 +1,5 @@
 -- What a pass has after each of its steps.
-use Rattle.std.proofs.Common.{◌≡◌, ◌≢◌, ◌⊎◌, ℕ, zero, suc, ◌+◌, ◌<◌, ◌≤◌, Bool, true, false, List, [], ◌∷◌, ◌++◌, Option, Some, None, cond, nat_eq, eqb, length, map, sym, refl, ap, subst, ◌∙◌, arith, eq-eqb, ne_eqb, inl, inr, ⊎_elim, append_assoc, append-nil, IsSome, ◌^◌, lt-ltb, ◌↔◌}
+use Rattle.std.proofs.Common.{◌≡◌, ◌≢◌, ◌⊎◌, ℕ, zero, suc, ◌+◌, ◌<◌, ◌≤◌, Bool, true, false, List, [], ◌∷◌, ◌++◌, Option, Some, None, cond, nat_eq, eqb, length, map, sym, refl, ap, subst, ◌∙◌, arith, eq-eqb, ne_eqb, inl, inr, ⊎_elim, append_assoc, append-nil, IsSome, ◌^◌, lt-ltb, ◌↔◌, ◌-◌, replicate, slice_index}
 use Rattle.std.proofs.lemmas.Bool.{cases_eq, MatchBool-at_true}
 use Rattle.atomic_table.specs.Table.{Me, Step, rest, turned}
 use Rattle.words.specs.declared.history.Entry.{Entry}
@@ -12,8 +12,10 @@ use Rattle.gates.specs.declared.view.Knowledge.{Knowledge}
 use Rattle.gates.specs.declared.view.View.{View}
 use Rattle.gates.specs.Sets.{times, without}
 use Rattle.gates.specs.Rule.{AllLeave, AreHeld}
-use Rattle.gates.specs.Plays.{first_of, own, IsSingle, sees, notes, commits, knowing, taking, giving, GoesOn, Took, Missed, Arms, BecomesArmed, FindsWorn, Commits}
-use Rattle.gates.specs.Passes.{stripes_among, part_at, AllFit, IsSeatOf, Learned, WasTold, Committed, KeysHeld}
+use Rattle.gates.specs.Plays.{first_of, own, IsSingle, sees, notes, commits, knowing, taking, giving, GoesOn, EachGoesOn, Took, Missed, Arms, BecomesArmed, FindsWorn, Commits, Meets, resting, joined, all_see, newcomer, newcomers, others_of}
+use Rattle.gates.specs.Passes.{stripes_among, part_at, AllFit, IsSeatOf, Learned, WasTold, WasBusy, Committed, KeysHeld, AreNew, IsResting, known}
+use Rattle.gates.specs.declared.gates.Gates.{Gates}
+use Rattle.gates.specs.declared.gates.Pass.{Pass}
 use Rattle.gates.proofs.Lists.{times_here, times_else, times-append, without_here, without_else}
 use Rattle.gates.proofs.Frames.{part_left, after_left, after_agrees}
 use Rattle.gates.proofs.Steps.{held_kind}
@@ -95,6 +97,9 @@ module _ {T : Type 0} where
     pub took_knows : Learned (own m.0) (own w.0)
     took_knows = subst (λ (v : View T). Learned (own m.0) (own v)) (sym (ap (λ (x : Me T (View T)). x.0) took.seat))
         record { number = refl; mine = refl; seen = (took.goes_on.more, took.goes_on.begins); notes = ([], refl) }
+
+    pub took_notes : (own w.0).notes ≡ (own m.0).notes
+    took_notes = ap (λ (x : Me T (View T)). (own x.0).notes) took.seat
 
     pub took_fit : AllFit contents n (own m.0).seen m.1 → AllFit contents n (own w.0).seen (turned w.1)
     took_fit fit =
@@ -276,3 +281,133 @@ module _ {T : Type 0} where
   pub no_parts : (parts : List (ℕ × T)) → stripes_among parts ≡ [] → parts ≡ []
   no_parts [] e = refl
   no_parts (x ∷ xs) e = absurd cc
+
+-- passes that hold nothing, and their meeting
+none_stands : (held : List ℕ) → ((j : ℕ) → times j held ≡ 0) → held ≡ []
+none_stands [] none = refl
+none_stands (x ∷ xs) none = absurd (omega (arith, none x, times_here x xs))
+
+module _ {T : Type 0} where
+  pub nothing_held : (n number : ℕ) (m : Me T (View T)) → IsSeatOf n number m → m.1 ≡ [] → m.0.held ≡ []
+  nothing_held n number m seat nothing = none_stands m.0.held (λ j. seat.same j ∙ ap (λ (l : List (ℕ × T)). times j (stripes_among l)) nothing)
+
+  -- two passes that have met
+  module _ (n found : ℕ) (st : Step T) (m1 m2 theirs both loaded : Me T (View T)) (one : IsSingle m1.0) (two : IsSingle m2.0) (slots : st.slots ≡ n)
+    (left : theirs ≡ (resting m2.0.passes, [])) (together : both ≡ (joined m1.0 theirs.0, m1.1)) (met : Meets st both found loaded) where
+    passes_met : both.0.passes ≡ own m1.0 ∷ own m2.0 ∷ []
+    passes_met =
+        ap (λ (x : Me T (View T)). x.0.passes) together
+        ∙ ap (λ (x : Me T (View T)). m1.0.passes ++ x.0.passes) left
+        ∙ ap (λ (l : List Knowledge). l ++ m2.0.passes) one ∙ ap (λ (l : List Knowledge). own m1.0 ∷ l) two
+
+    pub go_on : GoesOn n [] (own m1.0) met.log × GoesOn n [] (own m2.0) met.log
+    go_on =
+        let each : EachGoesOn st.slots (own m1.0 ∷ own m2.0 ∷ []) met.log = subst (λ (l : List Knowledge). EachGoesOn st.slots l met.log) passes_met met.go_on in
+        let at_n : EachGoesOn n (own m1.0 ∷ own m2.0 ∷ []) met.log = subst (λ (k : ℕ). EachGoesOn k (own m1.0 ∷ own m2.0 ∷ []) met.log) slots each in
+        (at_n.0, at_n.1.0)
+
+    pub loaded_passes : loaded.0.passes ≡ sees (own m1.0) met.log ∷ sees (own m2.0) met.log ∷ []
+    loaded_passes = ap (λ (x : Me T (View T)). x.0.passes) met.seat ∙ ap (λ (l : List Knowledge). all_see l met.log) passes_met
+
+    pub loaded_parts : loaded.1 ≡ m1.1
+    loaded_parts = ap (λ (x : Me T (View T)). x.1) met.seat ∙ ap (λ (x : Me T (View T)). x.1) together
+
+    pub loaded_held : loaded.0.held ≡ []
+    loaded_held = ap (λ (x : Me T (View T)). x.0.held) met.seat ∙ ap (λ (x : Me T (View T)). x.0.held) together
+
+  -- a pass that has seen a history, and holds nothing
+  module _ (n number : ℕ) (log : History) (m w : Me T (View T)) (seat : IsSeatOf n number m) (goes : GoesOn n [] (own m.0) log)
+    (later : w ≡ (resting (sees (own m.0) log ∷ []), [])) where
+    pub seen_seat : IsSeatOf n number w
+    seen_seat = subst (λ (x : Me T (View T)). IsSeatOf n number x) (sym later)
+        record {
+          single = refl;
+          number_is = seat.number_is;
+          unarmed = refl;
+          once = λ j. omega arith;
+          same = λ j. refl;
+          below = λ j h. absurd (omega arith);
+          legal = goes.legal;
+          mine = goes.mine;
+        }
+
+    pub seen_log : (own w.0).seen ≡ log
+    seen_log = ap (λ (x : Me T (View T)). (own x.0).seen) later
+
+    pub seen_notes : (own w.0).notes ≡ (own m.0).notes
+    seen_notes = ap (λ (x : Me T (View T)). (own x.0).notes) later
+
+    pub seen_learned : Learned (own m.0) (own w.0)
+    seen_learned = subst (λ (x : Me T (View T)). Learned (own m.0) (own x.0)) (sym later)
+        record { number = refl; mine = refl; seen = (goes.more, goes.begins); notes = ([], refl) }
+
+  -- a pass that was dealt
+  pub new_seat : (n number : ℕ) (w : Me T (View T)) → w ≡ (resting (newcomer number ∷ []), []) → IsSeatOf n number w
+  new_seat n number w is = subst (λ (x : Me T (View T)). IsSeatOf n number x) (sym is)
+      record {
+        single = refl;
+        number_is = refl;
+        unarmed = refl;
+        once = λ j. omega arith;
+        same = λ j. refl;
+        below = λ j h. absurd (omega arith);
+        legal = tt;
+        mine = refl;
+      }
+
+-- the passes that are left to deal out
+pub newcomers_next : (number passes : ℕ) → number < passes → newcomers number (passes - number) ≡ newcomer number ∷ newcomers (number + 1) (passes - (number + 1))
+newcomers_next number passes h = let k : passes - number ≡ suc (passes - (number + 1)) = omega arith in ap (newcomers number) k
+
+-- one pass more
+pub new_snoc : {T : Type 0} (gates : Gates T) (a : ℕ) (ps : List (Pass T)) (p : Pass T) → AreNew gates a ps → IsResting gates p → known p ≡ newcomer (a + length ps)
+    → AreNew gates a (ps ++ p ∷ [])
+new_snoc gates a [] p all resting is = (resting, is ∙ ap newcomer (omega arith), tt)
+new_snoc gates a (q ∷ ps) p all resting is =
+    (all.0, all.1, new_snoc gates (a + 1) ps p all.2 resting (is ∙ ap newcomer (let e : a + length (q ∷ ps) ≡ a + 1 + length ps = omega arith in e)))
+
+pub zeros : (n k : ℕ) → slice_index (replicate n 0) k ≡ 0
+zeros zero k = refl
+zeros (suc n) zero = refl
+zeros (suc n) (suc k) = zeros n k
+
+pub zeros_length : (n : ℕ) → length (replicate {A = ℕ} n 0) ≡ n
+zeros_length zero = refl
+zeros_length (suc n) = omega (arith, zeros_length n)
+
+module _ {T : Type 0} (o : Me T (View T)) (number passes : ℕ) (less : number < passes) (is : o ≡ (resting (newcomers number (passes - number)), [])) where
+  -- the pass that was dealt
+  pub dealt_first : (w : Me T (View T)) → w ≡ (resting (first_of o.0.passes ∷ []), o.1) → w ≡ (resting (newcomer number ∷ []), [])
+  dealt_first w first =
+      let F : Me T (View T) → Me T (View T) = λ x. (resting (first_of x.0.passes ∷ []), x.1) in
+      let G : List Knowledge → Me T (View T) = λ l. (resting (first_of l ∷ []), []) in
+      first ∙ ap F is ∙ ap G (newcomers_next number passes less)
+
+  -- and those that are left
+  pub dealt_others : (w : Me T (View T)) → w ≡ (resting (others_of o.0.passes), []) → w ≡ (resting (newcomers (number + 1) (passes - (number + 1))), [])
+  dealt_others w others =
+      let F : Me T (View T) → Me T (View T) = λ x. (resting (others_of x.0.passes), []) in
+      let G : List Knowledge → Me T (View T) = λ l. (resting (others_of l), []) in
+      others ∙ ap F is ∙ ap G (newcomers_next number passes less)
+
+-- the seats of two passes that have met
+module _ {T : Type 0} (m w : Me T (View T)) (one two : Knowledge) (passes : m.0.passes ≡ one ∷ two ∷ []) where
+  pub met_first : m.1 ≡ [] → w ≡ (resting (first_of m.0.passes ∷ []), m.1) → w ≡ (resting (one ∷ []), [])
+  met_first nothing is =
+      let F : List (ℕ × T) → Me T (View T) = λ l. (resting (first_of m.0.passes ∷ []), l) in
+      let G : List Knowledge → Me T (View T) = λ l. (resting (first_of l ∷ []), []) in
+      is ∙ ap F nothing ∙ ap G passes
+
+  pub met_second : w ≡ (resting (others_of m.0.passes), []) → w ≡ (resting (two ∷ []), [])
+  met_second is = let G : List Knowledge → Me T (View T) = λ l. (resting (others_of l), []) in is ∙ ap G passes
+
+-- a pass that found a stripe busy, after it had taken others
+pub was_busy : (stripe : ℕ) (a b c d : Knowledge) → Learned a b → b.notes ≡ a.notes → WasTold (Busy stripe) b c → d ≡ c → WasBusy stripe a d
+was_busy stripe a b c d learned told busy same =
+    subst (WasBusy stripe a) (sym same)
+    record {
+      number = busy.number ∙ learned.number;
+      mine = busy.mine ∙ learned.mine;
+      seen = (learned.seen.0, busy.seen ∙ learned.seen.1);
+      notes = busy.notes ∙ ap (λ (l : List Note). Busy stripe ∷ l) told;
+    }

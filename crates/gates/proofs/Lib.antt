@@ -5,3 +5,5 @@ pub mod Bits
 pub mod Holding
 pub mod Seats
 pub mod Turning
+pub mod SetCalls
+pub mod Lasts

@@ -781,3 +781,22 @@ module _ {T : Type 0} (contents : T → Store) (passes : ℕ) where
           (λ stripe h. h)),
         record { log = ruled.log; go_on = each_goes_on n slots ruled.log v.held v.passes ruled.legal f.fits; seat = refl },
       )
+
+module _ {T : Type 0} (contents : T → Store) (passes : ℕ) where
+  -- the first pass stays, and a new seat stands for the others
+  pub keep_splits : (id : ℕ) (v : View T) → v.held ≡ [] → v.passes ≡ first_of v.passes ∷ others_of v.passes
+      → Splits (Ruled contents passes) id v (resting (first_of v.passes ∷ [])) (resting (others_of v.passes))
+  keep_splits id v none_held first_is =
+      splits contents passes id v (resting (first_of v.passes ∷ [])) (resting (others_of v.passes)) none_held refl refl refl refl
+      (omega (arith, ap (λ (l : List Knowledge). length l) first_is))
+      (λ q. omega (arith, ap (λ (l : List Knowledge). times q (map (λ (k : Knowledge). k.number) l)) first_is))
+      (λ n log fits.
+        let none : EachFits n log [] v.passes = subst (λ (l : List ℕ). EachFits n log l v.passes) none_held fits in
+        let all : EachFits n log [] (first_of v.passes ∷ others_of v.passes) = subst (EachFits n log []) first_is none in
+        ((all.0, tt), all.1))
+
+  -- a new seat stands for all
+  pub leave_splits : (id : ℕ) (v : View T) → v.held ≡ [] → Splits (Ruled contents passes) id v (resting []) (resting v.passes)
+  leave_splits id v none_held =
+      splits contents passes id v (resting []) (resting v.passes) none_held refl refl refl refl (omega arith) (λ q. omega arith)
+      (λ n log fits. (tt, subst (λ (l : List ℕ). EachFits n log l v.passes) none_held fits))

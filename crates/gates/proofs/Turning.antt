@@ -184,3 +184,92 @@ module _ {T : Type 0} where
       let parts : held_parts later ≡ brought i (held_parts h) = ap (λ (x : Held T). held_parts x) is in
       let same : (i, part) ∷ rest (held_parts later) ≡ (i, t.0) ∷ rest (brought i (held_parts h)) = sym front ∙ parts ∙ t.1 in
       t.2 ∙ sym (ap (λ (l : List (ℕ × T)). front_of part l) same)
+
+  part_skip : (j : ℕ) (xs ys : List (ℕ × T)) → times j (stripes_among xs) ≡ 0 → part_at (xs ++ ys) j ≡ part_at ys j
+  part_skip j [] ys none = refl
+  part_skip j (x ∷ xs) ys none = ⊎_elim
+      (λ e. let one : times j (x.0 ∷ stripes_among xs) ≡ 1 + times j (stripes_among xs) = subst (λ (k : ℕ). times j (k ∷ stripes_among xs) ≡ 1 + times j (stripes_among xs)) (sym e) (times_here j (stripes_among xs)) in absurd (omega arith))
+      (λ ne. at_later j x (xs ++ ys) ne ∙ part_skip j xs ys (sym (times_else j x.0 (stripes_among xs) ne) ∙ none))
+      (cases_eq x.0 j)
+
+  part_none : (j : ℕ) (ys : List (ℕ × T)) → times j (stripes_among ys) ≡ 0 → part_at ys j ≡ None
+  part_none j [] none = refl
+  part_none j (y ∷ ys) none = ⊎_elim
+      (λ e. let one : times j (y.0 ∷ stripes_among ys) ≡ 1 + times j (stripes_among ys) = subst (λ (k : ℕ). times j (k ∷ stripes_among ys) ≡ 1 + times j (stripes_among ys)) (sym e) (times_here j (stripes_among ys)) in absurd (omega arith))
+      (λ ne. at_later j y ys ne ∙ part_none j ys (sym (times_else j y.0 (stripes_among ys) ne) ∙ none))
+      (cases_eq y.0 j)
+
+  part_end : (j : ℕ) (xs ys : List (ℕ × T)) → times j (stripes_among ys) ≡ 0 → part_at (xs ++ ys) j ≡ part_at xs j
+  part_end j [] ys none = part_none j ys none
+  part_end j (x ∷ xs) ys none = ap (λ (o : Option T). cond (nat_eq x.0 j) (Some x.1) o) (part_end j xs ys none)
+
+  among_append : (xs ys : List (ℕ × T)) → stripes_among (xs ++ ys) ≡ stripes_among xs ++ stripes_among ys
+  among_append [] ys = refl
+  among_append (x ∷ xs) ys = ap (λ l. x.0 ∷ l) (among_append xs ys)
+
+  times_parts : (j : ℕ) (xs ys : List (ℕ × T)) → times j (stripes_among (xs ++ ys)) ≡ times j (stripes_among xs) + times j (stripes_among ys)
+  times_parts j xs ys = ap (times j) (among_append xs ys) ∙ times-append j (stripes_among xs) (stripes_among ys)
+
+  -- the two halves
+  halves : (i : ℕ) (xs : List (ℕ × T)) → xs ≡ before_part i xs ++ from_part i xs
+  halves i [] = refl
+  halves i (x ∷ xs) = ⊎_elim
+      (λ e. sym (from_first i x xs e) ∙ ap (λ (l : List (ℕ × T)). l ++ from_part i (x ∷ xs)) (sym (before_first i x xs e)))
+      (λ ne. ap (λ (l : List (ℕ × T)). x ∷ l) (halves i xs) ∙ ap (λ (l : List (ℕ × T)). (x ∷ before_part i xs) ++ l) (sym (from_later i x xs ne))
+        ∙ ap (λ (l : List (ℕ × T)). l ++ from_part i (x ∷ xs)) (sym (before_later i x xs ne)))
+      (cases_eq x.0 i)
+
+  pub times_brought : (i j : ℕ) (xs : List (ℕ × T)) → times j (stripes_among (brought i xs)) ≡ times j (stripes_among xs)
+  times_brought i j xs =
+      omega (arith, times_parts j (from_part i xs) (before_part i xs), times_parts j (before_part i xs) (from_part i xs), ap (λ (l : List (ℕ × T)). times j (stripes_among l)) (halves i xs))
+
+  pub part_brought : (i j : ℕ) (xs : List (ℕ × T)) → times j (stripes_among xs) ≤ 1 → part_at (brought i xs) j ≡ part_at xs j
+  part_brought i j xs once =
+      let b = before_part i xs in let f = from_part i xs in
+      let sum : times j (stripes_among b) + times j (stripes_among f) ≤ 1 = omega (arith, times_parts j b f, ap (λ (l : List (ℕ × T)). times j (stripes_among l)) (halves i xs)) in
+      let whole : part_at xs j ≡ part_at (b ++ f) j = ap (λ (l : List (ℕ × T)). part_at l j) (halves i xs) in
+      ⊎_elim
+      (λ none. part_end j f b none ∙ sym (part_skip j b f none) ∙ sym whole)
+      (λ some. let none : times j (stripes_among f) ≡ 0 = omega (arith, some) in
+        part_skip j f b none ∙ sym (part_end j b f none) ∙ sym whole)
+      (cases_eq (times j (stripes_among b)) 0)
+
+  -- after a write, the stripe has the new part
+  pub written_has : (i : ℕ) (w : T) (parts : List (ℕ × T)) → part_at ((i, w) ∷ rest (brought i parts)) i ≡ Some w
+  written_has i w parts = at_first i (i, w) (rest (brought i parts)) refl
+
+  -- and each other stripe the part that it had
+  pub written_other : (i j : ℕ) (w : T) (parts : List (ℕ × T)) → IsSome (part_at parts i) → times j (stripes_among parts) ≤ 1 → j ≢ i
+      → part_at ((i, w) ∷ rest (brought i parts)) j ≡ part_at parts j
+  written_other i j w parts there once ne =
+      let t = brought_has i parts there in
+      let apart : i ≢ j = (λ e. ne (sym e)) in
+      at_later j (i, w) (rest (brought i parts)) apart ∙ sym (at_later j (i, t.0) (rest (brought i parts)) apart) ∙ ap (λ (l : List (ℕ × T)). part_at l j) (sym t.1) ∙ part_brought i j parts once
+
+  among_written : (i : ℕ) (w : T) (parts : List (ℕ × T)) → IsSome (part_at parts i) → stripes_among ((i, w) ∷ rest (brought i parts)) ≡ stripes_among (brought i parts)
+  among_written i w parts there = let t = brought_has i parts there in sym (ap (λ (l : List (ℕ × T)). stripes_among l) t.1)
+
+  -- what is held stays open
+  pub written_open : (h : Held T) (i : ℕ) (w : T) → IsOpen h → IsSome (part_at (held_parts h) i) → IsOpen (with_part h i w)
+  written_open h i w is there =
+      let s = is.holding.seat in
+      let parts = held_parts h in
+      let same : (j : ℕ) → times j (stripes_among ((i, w) ∷ rest (brought i parts))) ≡ times j (stripes_among parts) =
+            (λ j. ap (times j) (among_written i w parts there) ∙ times_brought i j parts) in
+      record {
+        holding = record {
+          table = is.holding.table;
+          small = is.holding.small;
+          seat = record {
+            single = s.single;
+            number_is = s.number_is;
+            unarmed = s.unarmed;
+            once = λ j. omega (arith, s.once j, same j);
+            same = λ j. s.same j ∙ sym (same j);
+            below = λ j at. s.below j (omega (arith, same j));
+            legal = s.legal;
+            mine = s.mine;
+          };
+        };
+        order = refl;
+      }

@@ -1,12 +1,16 @@
 -- Held stripes: what there is of them.
-use Rattle.std.specs.Prelude.{◌≡◌, ℕ, Bool, true, false, List, [], ◌∷◌, Option, Some, None}
+use Rattle.std.specs.Prelude.{◌≡◌, ◌↔◌, ◌<◌, ℕ, IsSome, Bool, true, false, List, [], ◌∷◌, Option, Some, None, refl}
+use Rattle.std.proofs.Common.{◌∙◌}
+use Rattle.std.specs.Borrow.{MutBor}
+use Rattle.words.specs.Store.{Store}
+use Rattle.gates.specs.Sets.{times}
 use Rattle.gates.specs.declared.gates.Gates.{Gates}
 use Rattle.gates.specs.declared.gates.Pass.{Pass}
 use Rattle.gates.specs.declared.held.Held.{Held}
 use Rattle.words.specs.declared.history.Entry.{Entry}
 use Rattle.words.specs.declared.history.Operation.{Operation}
 use Rattle.words.specs.declared.reply.Reply.{Reply}
-use Rattle.gates.specs.Passes.{known, parts_in, stripes_in, IsHolding}
+use Rattle.gates.specs.Passes.{known, parts_in, stripes_in, part_at, stripes_of, IsHolding, AllFit, Learned}
 
 module _ {T : Type 0} where
   -- an entry of the pass that holds
@@ -21,3 +25,36 @@ module _ {T : Type 0} where
   pub record IsOpen (held : Held T) : Type 0 where
     pub holding : IsHolding held.gates.now held.pass.now
     pub order : stripes_in held.pass.now ≡ held.order
+
+  -- nothing of what is held differs but parts
+  pub record SameHold (before later : Held T) : Type 0 where
+    pub gates : later.gates ≡ before.gates
+    pub pass : later.pass.ghost_name ≡ before.pass.ghost_name
+    pub number : later.pass.now.number ≡ before.pass.now.number
+    pub known : known later.pass.now ≡ known before.pass.now
+    pub committed : later.committed ≡ before.committed
+
+  -- nothing differs from itself
+  pub same_as_it : (held : Held T) → SameHold held held
+  same_as_it held = record { gates = refl; pass = refl; number = refl; known = refl; committed = refl }
+
+  -- what two changes keep
+  pub same_by_both : (one two three : Held T) → SameHold one two → SameHold two three → SameHold one three
+  same_by_both one two three first second = record {
+    gates = second.gates ∙ first.gates;
+    pass = second.pass ∙ first.pass;
+    number = second.number ∙ first.number;
+    known = second.known ∙ first.known;
+    committed = second.committed ∙ first.committed;
+  }
+
+  -- The pass behind a reference has taken these stripes of the gates, and nothing else. What it knows only grew, its own entries are the
+  -- same, and each part reads as its part of what the history leaves that it has seen.
+  pub record HasTaken (contents : T → Store) (gates : Gates T) (stripes : List ℕ) (pass : MutBor (Pass T)) (held : Held T) : Type 0 where
+    pub gates_are : held.gates.now ≡ gates
+    pub pass_is : held.pass.ghost_name ≡ pass.ghost_name
+    pub is_open : IsOpen held
+    pub has : (stripe : ℕ) → IsSome (part_at (held_parts held) stripe) ↔ (0 < times stripe stripes)
+    pub learned : Learned (known pass.now) (known held.pass.now)
+    pub fit : AllFit contents (stripes_of gates) (known held.pass.now).seen (held_parts held)
+    pub fresh : held.committed ≡ false

@@ -7,13 +7,14 @@ use Rattle.words.specs.Store.{Bytes, Store}
 use Rattle.words.specs.History.{History, Legal, after, subhistory}
 use Rattle.words.specs.Stripes.{stripe_of, IsPart}
 use Rattle.gates.specs.declared.view.Note.{Note}
+use Rattle.gates.specs.declared.view.Note.TheVariants.{Busy}
 use Rattle.gates.specs.declared.view.Knowledge.{Knowledge}
 use Rattle.gates.specs.declared.view.View.{View}
 use Rattle.gates.specs.declared.gates.Gates.{Gates}
 use Rattle.gates.specs.declared.gates.Pass.{Pass}
 use Rattle.gates.specs.Sets.{times}
 use Rattle.gates.specs.Rule.{AllLeave}
-use Rattle.gates.specs.Plays.{own, IsSingle}
+use Rattle.gates.specs.Plays.{own, IsSingle, newcomer}
 
 module _ {T : Type 0} where
   -- which gates they are
@@ -23,6 +24,10 @@ module _ {T : Type 0} where
   -- how many stripes there are
   abbrev pub stripes_of : Gates T → ℕ
   stripes_of gates = (id_of gates).slots
+
+  -- the number of a pass
+  abbrev pub pass_number : Pass T → ℕ
+  pass_number pass = pass.number
 
   -- what a pass knows
   abbrev pub known : Pass T → Knowledge
@@ -74,6 +79,11 @@ module _ {T : Type 0} where
     pub holding : IsHolding gates pass
     pub nothing : parts_in pass ≡ []
 
+-- passes of the gates that have seen nothing, with the numbers from this one on
+abbrev pub AreNew : {T : Type 0} → Gates T → (number : ℕ) → List (Pass T) → Type 0
+AreNew gates number [] = Unit {0}
+AreNew gates number (pass ∷ passes) = IsResting gates pass × (known pass ≡ newcomer number) × AreNew gates (number + 1) passes
+
 -- What a pass knows only grew, and its own entries are the same.
 pub record Learned (before later : Knowledge) : Type 0 where
   pub number : later.number ≡ before.number
@@ -104,3 +114,10 @@ pub record Committed {T : Type 0} (stripes : ℕ) (parts : List (ℕ × T)) (ent
 abbrev pub KeysHeld : {T : Type 0} → (stripes : ℕ) (parts : List (ℕ × T)) → List Bytes → Type 0
 KeysHeld stripes parts [] = Unit {0}
 KeysHeld stripes parts (key ∷ keys) = IsSome (part_at parts (stripe_of stripes key)) × KeysHeld stripes parts keys
+
+-- The pass tried a stripe that another held. What it has seen may have grown, and its own entries are the same.
+pub record WasBusy (stripe : ℕ) (before later : Knowledge) : Type 0 where
+  pub number : later.number ≡ before.number
+  pub mine : later.mine ≡ before.mine
+  pub seen : (more : History) × (later.seen ≡ more ++ before.seen)
+  pub notes : later.notes ≡ Busy stripe ∷ before.notes

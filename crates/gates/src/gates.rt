@@ -1,15 +1,16 @@
 //! Gates over the parts of a store, and the passes that take them.
 
-ghost use Rattle.std.specs.Prelude.{◌≡◌, ◌+◌, ◌*◌, ◌^◌, ◌<◌, ◌≤◌, ◌++◌, ◌∷◌, [], ℕ, true, false, length, map, IsTrue, IsFalse, IfOk, OnErr, MatchBool};
+ghost use Rattle.std.specs.Prelude.{◌≡◌, ◌+◌, ◌*◌, ◌^◌, ◌<◌, ◌≤◌, ◌++◌, ◌∷◌, [], ℕ, true, false, length, map, IsTrue, IsFalse, IfOk, OnErr, vec_len, vec_capacity, MatchBool};
 ghost use Rattle.gates.specs.Rule.{word_of};
 
 use crate::part::Part;
-use crate::rule::{Arm, Commit, Give, OneHistory, Told, Try};
+use crate::rule::{Arm, Commit, Give, Keep, Leave, Meet, OneHistory, Together, Told, Try};
 use crate::view::View;
-use atomic_table::{Seat, Table};
-use std::alloc::Global;
+use atomic_table::{Refused, Seat, Table};
+use std::alloc::{AllocError, Global};
 use words::history::Operation;
 use words::reply::Reply;
+use words::word::OutOfMemory;
 
 /// The table's word that counts commits.
 const COMMITS: usize = 0;
@@ -21,6 +22,7 @@ const COMMITS_LIMIT: u64 = 1 << 62;
 const STRIDE: usize = 16;
 
 /// The parts of a store, one a stripe, which passes take and give back.
+#[derive(Drop)]
 pub struct Gates<T: Part> {
     pub(crate) table: Table<T, View<T>, u64, OneHistory, Global>,
     ghost sized: { table.shared.table_id.words ≡ word_of table.shared.table_id.slots },
@@ -32,6 +34,17 @@ pub struct Gates<T: Part> {
 pub struct Pass<T> {
     pub(crate) number: u64,
     pub(crate) seat: Seat<T, View<T>>,
+}
+
+impl<T> Pass<T> {
+    ghost use Rattle.gates.specs.Passes.{pass_number};
+
+    /// The number of the pass.
+    pub fn number(&self) -> u64
+        ensures { result ≡ pass_number self.now }
+    {
+        self.number
+    }
 }
 
 impl<T> Drop for Pass<T> {
@@ -46,7 +59,7 @@ pub struct CommitsWornOut;
 
 /// The table's word of a stripe.
 fn word_index(stripe: usize) -> usize
-    requires { stripe < 64 }
+    requires { stripe ≤ 64 }
     ensures { result ≡ word_of stripe }
 {
     STRIDE * (stripe + 1)
@@ -56,9 +69,90 @@ impl<T: Part> Gates<T> {
     ghost use Rattle.gates.specs.declared.view.Note.{Note};
     ghost use Rattle.gates.specs.declared.view.Note.TheVariants.{Busy, Worn};
     ghost use Rattle.gates.specs.Sets.{times};
-    ghost use Rattle.gates.specs.Passes.{stripes_of, known, parts_in, stripes_in, AllFit, IsHolding, IsResting, Learned, WasTold, Committed, KeysHeld};
+    ghost use Rattle.gates.specs.Passes.{stripes_of, known, parts_in, stripes_in, AllFit, IsHolding, IsResting, Learned, WasTold, Committed, KeysHeld, id_of, AreNew};
+    ghost use Rattle.gates.specs.Plays.{AreEmpty, unmet};
     ghost use Rattle.atomic_table.specs.Table.{rest};
     ghost use Rattle.words.specs.History.{Legal, keys_named};
+
+    /// Gates over these parts, one a stripe, each of which reads as empty, and their passes, numbered 0,
+    /// 1, 2 and so on, which have seen nothing.
+    ///
+    /// # Errors
+    ///
+    /// [`OutOfMemory`] where there is no memory for the words or the list of passes.
+    pub fn new(
+        alloc: Global,
+        parts: Vec<T>,
+        passes: usize,
+    ) -> Result<(Gates<T>, Vec<Pass<T>>), OutOfMemory>
+    where
+        T: Drop,
+        requires some { 1 ≤ vec_len parts }
+        requires most { vec_len parts ≤ 64 }
+        requires few { passes < 2 ^ 62 }
+        requires empty { AreEmpty T.contents parts.items }
+        ensures stripes { IfOk result (λ made. stripes_of made.0 ≡ vec_len parts) }
+        ensures count { IfOk result (λ made. vec_len made.1 ≡ passes) }
+        ensures passes { IfOk result (λ made. AreNew made.0 0 made.1.items) }
+    {
+        let words = vec![in alloc; 0u64; word_index(parts.len())]?;
+        let dealt = Vec::with_capacity(alloc, passes)?;
+        match Table::new(alloc, words.as_slice(), parts, &(passes as u64)) {
+            Ok((table, seat)) => {
+                let gates = Gates { table };
+                let dealt = gates.deal(seat, dealt, passes);
+                Ok((gates, dealt))
+            }
+            Err(Refused { slots: _ }) => Err(AllocError),
+        }
+    }
+
+    /// Deals out a seat's passes.
+    fn deal(
+        &self,
+        seat: Seat<T, View<T>>,
+        mut dealt: Vec<Pass<T>>,
+        passes: usize,
+    ) -> Vec<Pass<T>>
+        requires table { seat.table_id ≡ id_of self.now }
+        requires all { seat.me ≡ (unmet passes, []) }
+        requires none { dealt.items ≡ [] }
+        requires room { passes ≤ vec_capacity dealt }
+        requires few { passes < 2 ^ 62 }
+        ensures count { vec_len result ≡ passes }
+        ensures passes { AreNew self.now 0 result.items }
+    {
+        let mut others = seat;
+        for number in 0..passes {
+            let mut seat = others;
+            others = self.table.shared.split_seat::<Keep>(&mut seat);
+            dealt.push_reserved(Pass {
+                number: number as u64,
+                seat,
+            });
+        }
+        dealt
+    }
+
+    /// Both passes have then seen one history, which begins with what each had seen, and has the
+    /// entries of each.
+    pub fn meet(&self, first: &mut Pass<T>, second: &mut Pass<T>)
+        requires first { IsResting self.now first.old }
+        requires second { IsResting self.now second.old }
+        ensures first { IsResting self.now first.new }
+        ensures second { IsResting self.now second.new }
+        ensures one { (known first.new).seen ≡ (known second.new).seen }
+        ensures first_learned { Learned (known first.old) (known first.new) }
+        ensures second_learned { Learned (known second.old) (known second.new) }
+        ensures first_told { (known first.new).notes ≡ (known first.old).notes }
+        ensures second_told { (known second.new).notes ≡ (known second.old).notes }
+    {
+        let shared = &self.table.shared;
+        let theirs = shared.split_seat::<Leave>(&mut second.seat);
+        shared.join_seat::<Together>(&mut first.seat, theirs);
+        shared.load::<Meet>(&mut first.seat, word_index(0));
+        second.seat = shared.split_seat::<Keep>(&mut first.seat);
+    }
 
     /// How many stripes there are.
     pub fn stripes(&self) -> usize
@@ -113,7 +207,7 @@ impl<T: Part> Gates<T> {
         requires fit { AllFit T.contents (stripes_of self.now) (known pass.old).seen (parts_in pass.old) }
         ensures holding { IsHolding self.now pass.new }
         ensures fit { AllFit T.contents (stripes_of self.now) (known pass.new).seen (parts_in pass.new) }
-        ensures taken { IsTrue result → Learned (known pass.old) (known pass.new) × ((part : T) × (parts_in pass.new ≡ parts_in pass.old ++ (stripe, part) ∷ [])) }
+        ensures taken { IsTrue result → Learned (known pass.old) (known pass.new) × ((known pass.new).notes ≡ (known pass.old).notes) × ((part : T) × (parts_in pass.new ≡ parts_in pass.old ++ (stripe, part) ∷ [])) }
         ensures missed { IsFalse result → WasTold (Busy stripe) (known pass.old) (known pass.new) × (parts_in pass.new ≡ parts_in pass.old) }
     {
         let word = word_index(stripe);

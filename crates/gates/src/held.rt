@@ -4,7 +4,7 @@ ghost use Rattle.std.specs.Prelude.{◌≡◌, ◌+◌, ◌<◌, ◌≤◌, ◌+
 
 use crate::gates::{CommitsWornOut, Gates, Pass};
 use crate::order::Order;
-use crate::part::Part;
+use crate::part::{Part, Parts};
 use crate::sorted::Sorted;
 use crossbeam_utils::Backoff;
 use std::marker::Brand;
@@ -21,6 +21,7 @@ pub struct Held<'a, T: Part> {
 }
 
 /// A stripe that another pass held when it was tried, and the pass that tried it, which holds nothing.
+#[derive(Drop)]
 pub struct Busy<'a, T> {
     /// The stripe.
     pub stripe: usize,
@@ -31,8 +32,8 @@ pub struct Busy<'a, T> {
 impl<T: Part> Gates<T> {
     ghost use Rattle.gates.specs.declared.view.Note.TheVariants as note;
     ghost use Rattle.gates.specs.Sets.{times, AreBelow};
-    ghost use Rattle.gates.specs.Passes.{stripes_of, known, parts_in, part_at, stripes_in, AllFit, IsHolding, IsResting, Learned, WasTold, Committed, KeysHeld};
-    ghost use Rattle.gates.specs.Helds.{IsOpen, held_parts};
+    ghost use Rattle.gates.specs.Passes.{stripes_of, known, parts_in, part_at, stripes_in, AllFit, IsHolding, IsResting, Learned, WasTold, WasBusy, Committed, KeysHeld};
+    ghost use Rattle.gates.specs.Helds.{IsOpen, held_parts, HasTaken};
 
     /// Takes a stripe that the pass does not have, and waits where another has it.
     fn wait_stripe<R: Wait>(&self, rt: &R, pass: &mut Pass<T>, stripe: usize)
@@ -55,6 +56,54 @@ impl<T: Part> Gates<T> {
         unreachable!()
     }
 
+    /// Gives back all parts, in this order.
+    fn give_all(&self, pass: &mut Pass<T>, mut order: Order)
+        requires holding { IsHolding self.now pass.old }
+        requires order { stripes_in pass.old ≡ order }
+        requires fit { AllFit T.contents (stripes_of self.now) (known pass.old).seen (parts_in pass.old) }
+        ensures resting { IsResting self.now pass.new }
+        ensures known { known pass.new ≡ known pass.old }
+    {
+        while let Some(stripe) = order.first() {
+            self.give_first(pass, stripe);
+            order.pop();
+        }
+    }
+
+    /// Takes stripes, in rising order, with one try each.
+    ///
+    /// # Errors
+    ///
+    /// [`Busy`] with the first stripe whose word was read as another pass's. Nothing is held then.
+    pub fn try_take<'a>(
+        &'a self,
+        pass: &'a mut Pass<T>,
+        stripes: &Sorted,
+    ) -> Result<Held<'a, T>, Busy<'a, T>>
+        requires own { IsResting self.now pass.old }
+        requires known { AreBelow (stripes_of self.now) stripes.now }
+        ensures ok { IfOk result (λ held. HasTaken T.contents self.now stripes.now pass.entry held × ((known held.pass.now).notes ≡ (known pass.old).notes)) }
+        ensures busy { IfErr result (λ busy. (busy.pass.ghost_name ≡ pass.entry.ghost_name) × IsResting self.now busy.pass.now × (0 < times busy.stripe stripes.now) × WasBusy busy.stripe (known pass.old) (known busy.pass.now)) }
+    {
+        stripes.rises();
+        let mut left = stripes.again();
+        let mut taken = Sorted::none();
+        while let Some((stripe, others)) = left.split_first() {
+            if !self.try_stripe(pass, stripe) {
+                self.give_all(pass, Order::of(taken));
+                return Err(Busy { stripe, pass });
+            }
+            taken = taken.with(stripe);
+            left = others;
+        }
+        Ok(Held {
+            gates: self,
+            pass,
+            order: Order::of(taken),
+            committed: false,
+        })
+    }
+
     /// Takes stripes, in rising order, and waits where others hold them.
     pub fn take<'a, R: Wait>(
         &'a self,
@@ -64,13 +113,7 @@ impl<T: Part> Gates<T> {
     ) -> Held<'a, T>
         requires own { IsResting self.now pass.old }
         requires known { AreBelow (stripes_of self.now) stripes.now }
-        ensures gates { result.gates.now ≡ self.now }
-        ensures pass { result.pass.ghost_name ≡ pass.entry.ghost_name }
-        ensures open { IsOpen result }
-        ensures stripes { (stripe : ℕ) → IsSome (part_at (held_parts result) stripe) ↔ (0 < times stripe stripes.now) }
-        ensures learned { Learned (known pass.old) (known result.pass.now) }
-        ensures fit { AllFit T.contents (stripes_of self.now) (known result.pass.now).seen (held_parts result) }
-        ensures fresh { result.committed ≡ false }
+        ensures { HasTaken T.contents self.now stripes.now pass.entry result }
     {
         stripes.rises();
         let mut left = stripes.again();
@@ -91,7 +134,7 @@ impl<'a, T: Part> Held<'a, T> {
     ghost use Rattle.words.specs.declared.history.Entry.{Entry};
     ghost use Rattle.words.specs.History.{Legal, keys_named};
     ghost use Rattle.gates.specs.declared.view.Note.TheVariants as note;
-    ghost use Rattle.gates.specs.Passes.{stripes_of, known, parts_in, part_at, AllFit, IsHolding, IsResting, WasTold, Committed, KeysHeld};
+    ghost use Rattle.gates.specs.Passes.{stripes_of, known, parts_in, part_at, AllFit, IsHolding, IsResting, WasTold, Committed, KeysHeld, pass_number};
     ghost use Rattle.gates.specs.Helds.{IsOpen, held_parts, entry_of};
 
     /// Commits one entry of the pass, an operation and what it is answered, and says its position in
@@ -122,6 +165,13 @@ impl<'a, T: Part> Held<'a, T> {
         Ok(place)
     }
 
+    /// The number of the pass.
+    pub fn number(&self) -> u64
+        ensures { result ≡ pass_number self.now.pass.now }
+    {
+        self.pass.number
+    }
+
     /// Gives all stripes back. Each part has to read as its part of what the history leaves that the
     /// pass has seen.
     pub fn give(self)
@@ -133,13 +183,10 @@ impl<'a, T: Part> Held<'a, T> {
         let Held {
             gates,
             pass,
-            mut order,
+            order,
             committed: _,
         } = self;
-        while let Some(stripe) = order.first() {
-            gates.give_first(pass, stripe);
-            order.pop();
-        }
+        gates.give_all(pass, order);
     }
 }
 
@@ -166,8 +213,8 @@ impl<'a, T: Part> Held<'a, T> {
         }
     }
 
-    /// Lends the part of a stripe for writing.
-    pub fn part(&mut self, stripe: usize) -> &mut T
+    /// Lends the part of a stripe.
+    fn lend(&mut self, stripe: usize) -> &mut T
         requires open { IsOpen self.old }
         requires there { IsSome (part_at (held_parts self.old) stripe) }
         ensures* writes_back { sem 𝓛 (Lends (the_row (record { mir = named 1; lft = [] }) T.row T.Part) T.row self.entry result (with_part self.old stripe)) }
@@ -178,5 +225,26 @@ impl<'a, T: Part> Held<'a, T> {
         let pass = &mut *self.pass;
         let seat = &mut pass.seat;
         seat.slot_mut(shared, stripe)
+    }
+}
+
+impl<'a, T: Part> Parts<T> for Held<'a, T> {
+    ghost use Rattle.gates.specs.Passes.{part_at};
+    ghost use Rattle.gates.specs.Helds.{IsOpen, held_parts, SameHold, same_as_it, same_by_both};
+    ghost use Rattle.gates.specs.Lending as lending;
+    ghost part_of = { λ held stripe. part_at (held_parts held) stripe };
+
+    ghost with_part = { lending.with_part };
+
+    ghost is_open = { IsOpen };
+
+    ghost keeps = { SameHold };
+
+    ghost keeps_same = { same_as_it };
+
+    ghost keeps_both = { same_by_both };
+
+    fn part(&mut self, stripe: usize) -> &mut T {
+        self.lend(stripe)
     }
 }

@@ -3,12 +3,19 @@
 
 pub mod gates;
 pub mod held;
+pub mod keys;
+pub mod latch;
+pub mod map;
 mod order;
 pub mod part;
 mod rule;
 pub mod sorted;
+#[cfg(test)]
+mod tests;
 pub mod view;
 
 pub use gates::{CommitsWornOut, Gates, Pass};
 pub use held::{Busy, Held};
+pub use latch::{Latch, Open, Point};
+pub use part::{Part, Parts};
 pub use sorted::Sorted;

@@ -77,16 +77,16 @@ impl<T> Play<T, View<T>> for Meet {
     ghost then = { Meets };
 }
 
-/// A seat of its own for the first pass.
-pub(crate) struct Deal;
+/// The first pass stays, and a new seat stands for the others.
+pub(crate) struct Keep;
 
-impl<T> Split<View<T>> for Deal {
+impl<T> Split<View<T>> for Keep {
     ghost use Rattle.std.specs.Prelude.{[], ◌∷◌};
     ghost use Rattle.gates.specs.Plays.{resting, first_of, others_of};
 
-    ghost left = { λ v. resting (others_of v.passes) };
+    ghost left = { λ v. resting (first_of v.passes ∷ []) };
 
-    ghost right = { λ v. resting (first_of v.passes ∷ []) };
+    ghost right = { λ v. resting (others_of v.passes) };
 }
 
 /// A seat for all passes, and none of them stays.

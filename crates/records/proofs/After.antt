@@ -1,12 +1,11 @@
 -- What a page that is laid out holds after a record is put into it, or takes another value.
-use Rattle.std.proofs.Common.{◌≡◌, ℕ, ◌+◌, ◌-◌, ◌*◌, ◌/◌, ◌%◌, ◌<◌, ◌≤◌, ◌^◌, List, [], ◌∷◌, ◌++◌, length, map, Option, refl, sym, ap, ◌∙◌, arith, subst, drop, take, replicate, length-append, length-take, length-drop}
-use Rattle.std.specs.List.{Contains}
+use Rattle.std.proofs.Common.{◌≡◌, ℕ, ◌+◌, ◌-◌, ◌<◌, ◌≤◌, ◌^◌, List, [], ◌∷◌, ◌++◌, length, Option, refl, sym, ap, ◌∙◌, arith, subst, drop, take, replicate, length-append, length-take, length-drop}
 use borrow.Rule.Slice.PartMut.{put_mid}
 use Rattle.records.specs.Fields.{u32_bytes}
 use Rattle.records.specs.Page.{empty_page, number_of, used_end}
-use Rattle.records.specs.Records.{Stored, IsStored, value_bytes, size_of, size_for, new_record, spelling, end_from, placed, IsPage, records_of, IsLaidOut, with_value}
-use Rattle.records.proofs.Lists.{end_from-append, placed-append, Split, split_at, with_value-placed}
-use Rattle.records.proofs.Laid.{page-number, page-end, page-records, page-laid_out, page-length, empty-page, appended-page, blank-behind, listed-ok, listed-within, listed-here, listed_back, overwritten-page}
+use Rattle.records.specs.Records.{Stored, IsStored, value_bytes, size_of, size_for, new_record, spelling, end_from, IsPage, records_of, IsLaidOut}
+use Rattle.records.proofs.Lists.{end_from-append, placed-append}
+use Rattle.records.proofs.Laid.{page-number, page-end, page-records, page-laid_out, empty-page, appended-page, blank-behind}
 
 -- the size of a new record
 pub size_of-new_record : (link hash : ℕ) (key : List ℕ) (value : Option (List ℕ)) → size_of (new_record link hash key value) ≡ size_for (length key) (length (value_bytes value))

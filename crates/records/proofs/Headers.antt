@@ -1,5 +1,5 @@
 -- The header of a page.
-use Rattle.std.proofs.Common.{◌≡◌, ℕ, ◌+◌, ◌<◌, ◌≤◌, ◌^◌, List, [], ◌++◌, length, take, drop, refl, sym, ap, ◌∙◌}
+use Rattle.std.proofs.Common.{◌≡◌, ℕ, ◌<◌, ◌^◌, List, [], ◌++◌, length, drop, refl}
 use borrow.Rule.Slice.PartMut.{put_mid}
 use Rattle.records.specs.Fields.{u32_bytes, u64_bytes, u32_at, u64_at}
 use Rattle.records.specs.Page.{header, number_of, used_end}

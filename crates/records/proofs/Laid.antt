@@ -1,15 +1,15 @@
 -- A page with these records is laid out, and its records are read back.
-use Rattle.std.proofs.Common.{◌≡◌, ℕ, zero, suc, ◌+◌, ◌-◌, ◌<◌, ◌≤◌, ◌^◌, List, [], ◌∷◌, ◌++◌, length, drop, take, map, replicate, Option, refl, sym, ap, ◌∙◌, arith, length-append, append_assoc, append-nil, lit≤, subst, cond, ltb, nat_lt, true, false}
-use Rattle.std.specs.List.{AllByRecursion, Contains, flat_map}
+use Rattle.std.proofs.Common.{◌≡◌, ℕ, zero, suc, ◌+◌, ◌-◌, ◌<◌, ◌≤◌, ◌^◌, List, [], ◌∷◌, ◌++◌, length, drop, take, replicate, Option, refl, sym, ap, ◌∙◌, arith, length-append, append_assoc, append-nil, lit≤, subst, ltb, true, false}
+use Rattle.std.specs.List.{AllByRecursion, flat_map}
 use Rattle.std.proofs.lemmas.Bool.Decides.{nat_tests}
 use Rattle.std.proofs.lemmas.List.{take_at, drop_at, drop-drop, length-replicate, drop-replicate, take-replicate}
 use borrow.Rule.Slice.PartMut.{put_mid}
 use Rattle.records.specs.Fields.{u32_bytes}
 use Rattle.records.specs.Page.{header, empty_page, number_of, used_end}
-use Rattle.records.specs.Records.{Stored, IsStored, value_bytes, size_of, spelling, end_from, placed, IsPage, fields_at, records_from, records_of, IsLaidOut, with_value}
+use Rattle.records.specs.Records.{Stored, IsStored, value_bytes, size_of, spelling, end_from, placed, IsPage, fields_at, records_from, records_of, IsLaidOut}
 use Rattle.records.proofs.Headers.{length-header, drop-header, number_of-header, used_end-header, header-with_end}
 use Rattle.records.proofs.Spelling.{length-spelling, fields_at-is}
-use Rattle.records.proofs.Lists.{end_from-le, end_from-append, placed-append, spellings-append, each-append, each-left, each-right, length-spellings, length-le-spellings, Split, split_at, with_value-placed, placed-each, placed-in_order}
+use Rattle.records.proofs.Lists.{end_from-le, end_from-append, spellings-append, each-append, each-left, each-right, length-spellings, length-le-spellings, placed-each, placed-in_order}
 
 pub records_from-is : (rs : List Stored) (n : ℕ) (page : List ℕ) (offset : ℕ) (spare : List ℕ)
     → AllByRecursion IsStored rs → drop offset page ≡ flat_map spelling rs ++ spare → used_end page ≡ end_from offset rs → length rs ≤ n

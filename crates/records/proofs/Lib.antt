@@ -1,4 +1,5 @@
 pub mod Numbers
+pub mod Words
 pub mod Spelling
 pub mod Filled
 pub mod Headers

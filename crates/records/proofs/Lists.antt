@@ -1,8 +1,8 @@
 -- Records one after the other: where they end, and the list of them with their offsets.
-use Rattle.std.proofs.Common.{◌≡◌, ◌≢◌, ℕ, zero, suc, ◌+◌, ◌-◌, ◌%◌, ◌<◌, ◌≤◌, List, [], ◌∷◌, ◌++◌, length, map, Option, refl, sym, ap, ◌∙◌, arith, length-append, append_assoc, add-zero, cond, eqb, true, false, subst, eq-eqb}
-use Rattle.std.specs.List.{All, AllByRecursion, AllPairs, Contains, flat_map, slice_index_or}
+use Rattle.std.proofs.Common.{◌≡◌, ℕ, zero, suc, ◌+◌, ◌%◌, ◌<◌, ◌≤◌, List, [], ◌∷◌, ◌++◌, length, map, Option, refl, sym, ap, ◌∙◌, arith, length-append, append_assoc, add-zero, eqb, true, false}
+use Rattle.std.specs.List.{All, AllByRecursion, AllPairs, flat_map, slice_index_or}
 use Rattle.std.proofs.lemmas.Bool.Decides.{nat_tests}
-use Rattle.records.specs.Records.{Stored, IsStored, IsPlaced, value_bytes, size_of, spelling, end_from, placed, with_value}
+use Rattle.records.specs.Records.{Stored, IsStored, IsPlaced, size_of, spelling, end_from, placed, with_value}
 use Rattle.records.proofs.Spelling.{length-spelling}
 
 pub end_from-le : (offset : ℕ) (rs : List Stored) → offset ≤ end_from offset rs

@@ -1,5 +1,5 @@
 -- The bytes of a record after another value was written into them.
-use Rattle.std.proofs.Common.{◌≡◌, ℕ, ◌+◌, ◌-◌, ◌<◌, ◌≤◌, List, [], ◌∷◌, ◌++◌, length, take, drop, Option, refl, sym, ap, ◌∙◌, arith, length-append, length-take, length-drop, append-nil, subst}
+use Rattle.std.proofs.Common.{◌≡◌, ℕ, ◌-◌, List, [], ◌++◌, length, take, drop, Option, refl, sym, ap, ◌∙◌, arith, length-take, length-drop, append-nil}
 use Rattle.std.proofs.Math.ListN.{set}
 use Rattle.std.proofs.lemmas.List.{take_at, drop_at, drop_all, take_rest}
 use Rattle.records.specs.Fields.{u16_bytes, u64_bytes}

@@ -1,5 +1,5 @@
 -- The bytes of a record: their number, and what they say.
-use Rattle.std.proofs.Common.{◌≡◌, ℕ, ◌+◌, ◌-◌, ◌<◌, ◌≤◌, ◌^◌, List, [], ◌∷◌, ◌++◌, length, take, drop, replicate, Option, None, Some, refl, sym, ap, ◌∙◌, arith, length-append, append_assoc, slice_index, subst, cond, eqb}
+use Rattle.std.proofs.Common.{◌≡◌, ℕ, ◌+◌, ◌-◌, ◌<◌, ◌≤◌, ◌^◌, List, [], ◌++◌, length, take, drop, replicate, Option, None, Some, refl, sym, ap, ◌∙◌, arith, length-append, append_assoc, slice_index, cond, eqb}
 use Rattle.std.proofs.lemmas.List.{take_at, drop_at, drop-drop, get_or-drop, length-replicate}
 use Rattle.records.specs.Fields.{u16_bytes, u64_bytes, u16_at, u64_at}
 use Rattle.records.specs.Records.{Stored, IsStored, value_bytes, kind_of, size_of, head, filled, spelling, fields_at}

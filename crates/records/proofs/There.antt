@@ -1,6 +1,6 @@
 -- A record that is listed among the records of a page that is laid out: what stands at its offset, and the page after
 -- it takes another value.
-use Rattle.std.proofs.Common.{◌≡◌, ◌⊎◌, ℕ, ◌+◌, ◌-◌, ◌%◌, ◌<◌, ◌≤◌, ◌^◌, List, [], ◌∷◌, ◌++◌, length, map, take, drop, slice_index, Option, None, Some, refl, sym, ap, ◌∙◌, arith, subst, inl, inr, length-take, length-drop}
+use Rattle.std.proofs.Common.{◌≡◌, ℕ, ◌+◌, ◌-◌, ◌%◌, ◌≤◌, List, [], ◌∷◌, ◌++◌, length, map, take, drop, slice_index, Option, None, Some, refl, sym, ap, ◌∙◌, arith, subst, inl, inr, length-take, length-drop}
 use Rattle.std.specs.List.{AllByRecursion, Contains}
 use Rattle.std.proofs.lemmas.List.{take_at}
 use borrow.Rule.Slice.PartMut.{put_mid}

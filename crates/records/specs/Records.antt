@@ -1,8 +1,9 @@
--- The records of a page. A record has a header of 24 bytes (link, 8; hash of the key, 8; key length, 2; value
+-- The records of a page, as in the log of FASTER (Chandramouli and others, 2018): each links to the next older one of its
+-- hash bucket. The bytes are this project's own. A record has a header of 24 bytes (link, 8; hash of the key, 8; key length, 2; value
 -- length, 2; value capacity, 2; kind, 1; form, 1), then the key, then as many bytes as its capacity: the value, then
 -- zero bytes. Numbers are little-endian, the kind is 1 for a value and 2 for a tombstone, the form is 1, and a
 -- record's size is a multiple of 8.
-use Rattle.std.specs.Prelude.{◌≡◌, ◌<◌, ◌≤◌, ◌⊎◌, ℕ, zero, suc, ◌+◌, ◌-◌, ◌*◌, ◌/◌, ◌%◌, ◌^◌, List, [], ◌∷◌, ◌++◌, length, take, drop, map, replicate, slice_index, Option, None, Some, unwrap_or, nat_lt, ◌==◌, if◌then◌else◌}
+use Rattle.std.specs.Prelude.{◌≡◌, ◌<◌, ◌≤◌, ◌⊎◌, ℕ, zero, suc, ◌+◌, ◌-◌, ◌*◌, ◌/◌, ◌%◌, ◌^◌, List, [], ◌∷◌, ◌++◌, length, take, drop, replicate, slice_index, Option, None, Some, unwrap_or, nat_lt, ◌==◌, if◌then◌else◌}
 use Rattle.std.specs.List.{All, AllByRecursion, AllPairs, Contains, flat_map}
 use Rattle.records.specs.Fields.{u16_bytes, u64_bytes, u16_at, u64_at}
 use Rattle.records.specs.Page.{header, number_of, used_end}
@@ -20,6 +21,7 @@ pub record Stored : Type 0 where
 abbrev pub value_bytes : Option (List ℕ) → List ℕ
 value_bytes value = unwrap_or value []
 
+-- the kind of a record with this value
 abbrev pub kind_of : Option (List ℕ) → ℕ
 kind_of None = 2
 kind_of (Some bytes) = 1

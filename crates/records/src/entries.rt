@@ -1,6 +1,6 @@
 // The records of a page.
 
-ghost use Rattle.std.specs.Prelude.{◌≡◌, ◌<◌, ◌≤◌, ◌↔◌, ℕ, ◌+◌, ◌-◌, ◌*◌, ◌/◌, ◌%◌, ◌^◌, List, [], ◌∷◌, ◌++◌, length, drop, map, replicate, Option, IsErr, IfOk, IsOkAnd, OnOk, OnErr, MatchResult, Contains};
+ghost use Rattle.std.specs.Prelude.{◌≡◌, ◌<◌, ◌≤◌, ◌↔◌, ℕ, ◌+◌, ◌-◌, ◌*◌, ◌/◌, ◌%◌, ◌^◌, List, [], ◌∷◌, ◌++◌, length, drop, map, replicate, Option, IsTrue, IsErr, IfOk, IsOkAnd, OnOk, OnErr, MatchResult, Contains};
 ghost use Rattle.std.specs.Option.{option_copied};
 ghost use Rattle.records.specs.Page.{number_of, used_end};
 ghost use Rattle.records.specs.Fields.{u16_bytes, u64_bytes};
@@ -8,7 +8,7 @@ ghost use Rattle.records.specs.Read.{shown};
 ghost use Rattle.records.specs.Records.{Stored, IsKindFor, value_of_kind, kind_of, size_of, size_for, new_record, value_bytes, filled, spelling, fields_at, records_of, IsLaidOut, HasRoomAt, IsRecordAt, with_value};
 
 use crate::fields;
-use crate::pages::{HEADER_SIZE, PAGE_SIZE, Page};
+use crate::pages::{self, HEADER_SIZE, PAGE_SIZE, Page};
 use std::error::Error;
 use std::fmt;
 
@@ -17,6 +17,19 @@ pub const RECORD_HEADER: usize = 24;
 
 /// The longest key, in bytes.
 pub const MAX_KEY: usize = 512;
+
+// Where the fields of a record's header stand, after the link at its front.
+const HASH_AT: usize = 8;
+
+const KEY_LENGTH_AT: usize = 16;
+
+const VALUE_LENGTH_AT: usize = 18;
+
+const CAPACITY_AT: usize = 20;
+
+const KIND_AT: usize = 22;
+
+const FORM_AT: usize = 23;
 
 /// The form of the records that this crate writes.
 const FORM: u8 = 1;
@@ -40,6 +53,16 @@ pub struct Record<'a> {
     pub value: Option<&'a [u8]>,
     /// How long a value may be that takes the place of this one.
     pub capacity: usize,
+}
+
+impl Record<'_> {
+    /// Whether the record is one of this key.
+    #[inline]
+    pub fn has_key(&self, key: &[u8]) -> bool
+        ensures { IsTrue result ↔ (self.now.key.now ≡ key.now) }
+    {
+        fields::same_bytes(self.key, key)
+    }
 }
 
 /// The page has no room left for the record.
@@ -95,21 +118,24 @@ pub fn record_at(page: &Page, offset: usize) -> Result<Record<'_>, NotARecord>
     if offset >= end || end - offset < RECORD_HEADER {
         return Err(NotARecord);
     }
-    let key_length = fields::u16_at(bytes, offset + 16) as usize;
-    let value_length = fields::u16_at(bytes, offset + 18) as usize;
-    let capacity = fields::u16_at(bytes, offset + 20) as usize;
+    let key_length = fields::u16_at(bytes, offset + KEY_LENGTH_AT) as usize;
+    let value_length = fields::u16_at(bytes, offset + VALUE_LENGTH_AT) as usize;
+    let capacity = fields::u16_at(bytes, offset + CAPACITY_AT) as usize;
     let size = RECORD_HEADER + key_length + capacity;
     if key_length > MAX_KEY || value_length > capacity || size % 8 != 0 || size > end - offset {
         return Err(NotARecord);
     }
-    if bytes[offset + 23] != FORM {
+    if bytes[offset + FORM_AT] != FORM {
         return Err(NotARecord);
     }
     let key_end = offset + RECORD_HEADER + key_length;
-    let value = value_of_kind(bytes[offset + 22], &bytes[key_end..key_end + value_length])?;
+    let value = value_of_kind(
+        bytes[offset + KIND_AT],
+        &bytes[key_end..key_end + value_length],
+    )?;
     Ok(Record {
         link: fields::u64_at(bytes, offset),
-        hash: fields::u64_at(bytes, offset + 8),
+        hash: fields::u64_at(bytes, offset + HASH_AT),
         key: &bytes[offset + RECORD_HEADER..key_end],
         value,
         capacity,
@@ -150,7 +176,7 @@ pub fn put_record(
         return Err(NoRoom);
     }
     let bytes = page.bytes_mut();
-    bytes[8..12].copy_from_slice(&((end + size) as u32).to_le_bytes());
+    bytes[pages::END_AT..pages::FORM_AT].copy_from_slice(&((end + size) as u32).to_le_bytes());
     write_record(&mut bytes[end..end + size], link, hash, key, value);
     Ok(end)
 }
@@ -171,9 +197,9 @@ pub fn overwrite(page: &mut Page, offset: usize, value: Option<&[u8]>)
     ensures laid_out { IsLaidOut page.new }
 {
     let bytes = page.bytes_mut();
-    let key_length = fields::u16_at(bytes, offset + 16) as usize;
-    let old_length = fields::u16_at(bytes, offset + 18) as usize;
-    let capacity = fields::u16_at(bytes, offset + 20) as usize;
+    let key_length = fields::u16_at(bytes, offset + KEY_LENGTH_AT) as usize;
+    let old_length = fields::u16_at(bytes, offset + VALUE_LENGTH_AT) as usize;
+    let capacity = fields::u16_at(bytes, offset + CAPACITY_AT) as usize;
     let end = offset + RECORD_HEADER + key_length + capacity;
     rewrite_value(&mut bytes[offset..end], key_length, old_length, value);
 }
@@ -224,7 +250,7 @@ fn write_record(slot: &mut [u8], link: u64, hash: u64, key: &[u8], value: Option
 {
     let capacity = slot.len() - RECORD_HEADER - key.len();
     let (head, rest) = slot.split_at_mut(RECORD_HEADER);
-    let (addresses, lengths) = head.split_at_mut(16);
+    let (addresses, lengths) = head.split_at_mut(KEY_LENGTH_AT);
     write_addresses(addresses, link, hash);
     write_lengths(
         lengths,
@@ -245,7 +271,7 @@ fn write_addresses(head: &mut [u8], link: u64, hash: u64)
     requires { length head.old ≡ 16 }
     ensures { head.new ≡ u64_bytes link ++ u64_bytes hash }
 {
-    let (link_field, hash_field) = head.split_at_mut(8);
+    let (link_field, hash_field) = head.split_at_mut(HASH_AT);
     link_field.copy_from_slice(&link.to_le_bytes());
     hash_field.copy_from_slice(&hash.to_le_bytes());
 }
@@ -300,7 +326,7 @@ fn rewrite_value(slot: &mut [u8], key_length: usize, old_length: usize, value: O
     ensures { (r : Stored) → slot.old ≡ spelling r → length slot.old ≡ size_of r → key_length ≡ length r.key → old_length ≡ length (value_bytes r.value) → slot.new ≡ spelling (record r { value = option_copied value.entry }) }
 {
     let (head, rest) = slot.split_at_mut(RECORD_HEADER);
-    head[18..20].copy_from_slice(&(length_of(value) as u16).to_le_bytes());
-    head[22] = kind_of(value);
+    head[VALUE_LENGTH_AT..CAPACITY_AT].copy_from_slice(&(length_of(value) as u16).to_le_bytes());
+    head[KIND_AT] = kind_of(value);
     replace_value(&mut rest[key_length..], old_length, value);
 }

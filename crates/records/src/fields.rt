@@ -1,7 +1,7 @@
 // Numbers in bytes, lowest byte first.
 
-ghost use Rattle.std.specs.Prelude.{◌≡◌, ◌+◌, ◌≤◌, length, replicate};
-ghost use Rattle.records.specs.Fields.{u16_at, u32_at, u64_at};
+ghost use Rattle.std.specs.Prelude.{◌≡◌, ◌+◌, ◌≤◌, ◌↔◌, IsTrue, length, take, drop, replicate};
+ghost use Rattle.records.specs.Fields.{u16_at, u32_at, u64_at, u64_bytes};
 
 /// The number in the two bytes from `at`.
 #[inline]
@@ -28,7 +28,8 @@ pub(crate) fn u32_at(bytes: &[u8], at: usize) -> u32
 #[tactic(auto, unfolding(crate::specs::Fields::u64_at))]
 pub(crate) fn u64_at(bytes: &[u8], at: usize) -> u64
     requires { at + 8 ≤ length bytes.now }
-    ensures { result ≡ u64_at bytes.now at }
+    ensures value { result ≡ u64_at bytes.now at }
+    ensures bytes { u64_bytes result ≡ take 8 (drop at bytes.now) }
 {
     u64::from_le_bytes([
         bytes[at],
@@ -48,4 +49,27 @@ pub(crate) fn fill_zeros(bytes: &mut [u8])
     ensures { bytes.new ≡ replicate (length bytes.old) 0 }
 {
     bytes.fill(0);
+}
+
+/// Whether two slices have the same bytes. Eight are compared at a time, without a call: keys are
+/// short, and one is compared for each record that a chain leads to.
+#[inline]
+pub(crate) fn same_bytes(a: &[u8], b: &[u8]) -> bool
+    ensures { IsTrue result ↔ (a.now ≡ b.now) }
+{
+    if a.len() != b.len() {
+        return false;
+    }
+    if a.len() < 8 {
+        return a == b;
+    }
+    let last = a.len() - 8;
+    let mut at = 0;
+    while at < last {
+        if u64_at(a, at) != u64_at(b, at) {
+            return false;
+        }
+        at += 8;
+    }
+    u64_at(a, last) == u64_at(b, last)
 }

@@ -15,6 +15,11 @@ pub const PAGE_SIZE: usize = 16384;
 /// The bytes of a page's header.
 pub const HEADER_SIZE: usize = 16;
 
+// Where the end of the used part and the form stand in a page's header, after the number.
+pub(crate) const END_AT: usize = 8;
+
+pub(crate) const FORM_AT: usize = 12;
+
 /// The form of the pages that this crate writes.
 const FORM: u32 = 1;
 
@@ -108,7 +113,7 @@ impl Page {
     pub fn used_end(&self) -> u32
         ensures { result ≡ used_end self.now }
     {
-        fields::u32_at(&self.bytes, 8)
+        fields::u32_at(&self.bytes, END_AT)
     }
 }
 
@@ -128,9 +133,9 @@ fn write_header(head: &mut [u8], number: u64, used: u32)
     requires { length head.old ≡ 16 }
     ensures { head.new ≡ header number used }
 {
-    let (number_field, rest) = head.split_at_mut(8);
+    let (number_field, rest) = head.split_at_mut(END_AT);
     number_field.copy_from_slice(&number.to_le_bytes());
-    let (used_field, form_field) = rest.split_at_mut(4);
+    let (used_field, form_field) = rest.split_at_mut(FORM_AT - END_AT);
     used_field.copy_from_slice(&used.to_le_bytes());
     form_field.copy_from_slice(&FORM.to_le_bytes());
 }

@@ -38,6 +38,8 @@ fn the_example_of_the_format(rt: HostRuntime) {
     };
     assert_eq!(rt; (record.link, record.hash, record.capacity), (0, HASH, 7));
     assert!(rt; record.key == b"a".as_slice());
+    assert!(rt; record.has_key(b"a"));
+    assert!(rt; !record.has_key(b"b"));
     assert!(rt; record.value == Some(b"1".as_slice()));
 }
 

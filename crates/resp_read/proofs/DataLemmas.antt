@@ -1,9 +1,8 @@
 -- The bytes of a word and the line end after them.
-use Rattle.std.proofs.Common.{ℕ, zero, suc, ◌≡◌, ◌≢◌, ◌+◌, ◌<◌, ◌≤◌, List, [], ◌∷◌, ◌++◌, length, take, drop, get_or, refl, sym, ap, ◌∙◌, arith}
-use Rattle.std.proofs.lemmas.List.{drop_more, drop_all, take-append-drop}
+use Rattle.std.proofs.Common.{ℕ, zero, suc, ◌≡◌, ◌≢◌, ◌+◌, ◌<◌, ◌≤◌, [], ◌∷◌, length, drop, get_or, refl, ap, ◌∙◌, arith}
+use Rattle.std.proofs.lemmas.List.{drop_more, drop_all}
 use Rattle.words.specs.declared.reply.ProtocolFault.TheVariants.{MissingLineEnd}
 use Rattle.words.specs.Store.{Bytes}
-use Rattle.words.specs.Spelling.{crlf}
 use Rattle.words.specs.Stream.{Data, DataEnd, Part, Faulty, front_from}
 use Rattle.resp_read.proofs.Steps.{data_cr_due, data_lf_due}
 

@@ -1,12 +1,12 @@
 -- A header line as a whole: where it leads, and that it has one reading.
-use Rattle.std.proofs.Common.{ℕ, zero, suc, ◌≡◌, ◌≢◌, ◌+◌, ◌-◌, ◌*◌, ◌/◌, ◌%◌, ◌^◌, ◌<◌, ◌≤◌, ◌⊎◌, inl, inr, List, [], ◌∷◌, ◌++◌, Bool, Some, None, true, false, cond, length, refl, sym, ap, ◌∙◌, arith, append_assoc}
+use Rattle.std.proofs.Common.{ℕ, ◌≡◌, ◌+◌, ◌-◌, ◌*◌, ◌/◌, ◌%◌, ◌^◌, ◌<◌, ◌≤◌, [], ◌∷◌, ◌++◌, Some, None, ap, ◌∙◌, arith, append_assoc}
 use Rattle.std.specs.Fmt.{decimal}
-use Rattle.std.proofs.lemmas.Fmt.{decimal_digit, decimal_step, decimal_by_steps}
+use Rattle.std.proofs.lemmas.Fmt.{decimal_step, decimal_by_steps}
 use Rattle.words.specs.declared.limits.TheConstants.{WORDS_MAX, WORD_BYTES_MAX, REQUEST_BYTES_MAX}
 use Rattle.words.specs.Store.{Bytes}
 use Rattle.words.specs.Spelling.{header, crlf}
-use Rattle.words.specs.Stream.{Place, First, Count, CountEnd, Word, Length, LengthEnd, Data, DataEnd, Front, front, front_from, is_digit}
-use Rattle.resp_read.proofs.Steps.{digit_is, count_first, count_digit, length_first, length_digit}
+use Rattle.words.specs.Stream.{Count, Word, Length, Data, front, front_from}
+use Rattle.resp_read.proofs.Steps.{count_first, count_digit, length_first, length_digit}
 
 -- a number is its tenth and its last digit
 decimal_split : (m tenth digit : ℕ) → 10 ≤ m → m < 2 ^ 64 → m / 10 ≡ tenth → m % 10 ≡ digit → decimal m ≡ decimal tenth ++ (48 + digit) ∷ []

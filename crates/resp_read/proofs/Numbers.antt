@@ -1,10 +1,10 @@
 -- The digits of a line so far, in the loops that read them, and what the loops find.
-use Rattle.std.proofs.Common.{ℕ, zero, suc, ◌≡◌, ◌≢◌, ◌+◌, ◌-◌, ◌*◌, ◌^◌, ◌<◌, ◌≤◌, ◌⊎◌, inl, inr, List, [], ◌∷◌, ◌++◌, Some, None, length, take, drop, get_or, refl, sym, ap, ◌∙◌, subst, arith, append_assoc}
+use Rattle.std.proofs.Common.{ℕ, zero, suc, ◌≡◌, ◌≢◌, ◌+◌, ◌-◌, ◌*◌, ◌^◌, ◌<◌, ◌≤◌, ◌⊎◌, inl, inr, [], ◌∷◌, ◌++◌, Some, None, length, take, drop, get_or, refl, sym, ap, ◌∙◌, subst, arith, append_assoc}
 use Rattle.std.specs.Fmt.{decimal}
 use Rattle.std.proofs.lemmas.Fmt.{decimal_digit}
 use Rattle.std.proofs.lemmas.List.{drop_more, drop_all, drop-drop, length-drop, take_rest, nil_from_length}
 use Rattle.words.specs.declared.limits.TheConstants.{WORDS_MAX, WORD_BYTES_MAX, REQUEST_BYTES_MAX}
-use Rattle.words.specs.declared.reply.ProtocolFault.TheVariants.{ExpectedArray, BadCount, ExpectedBulk, BadLength, MissingLineEnd, RequestTooLarge}
+use Rattle.words.specs.declared.reply.ProtocolFault.TheVariants.{ExpectedArray, BadCount, ExpectedBulk, BadLength, RequestTooLarge}
 use Rattle.words.specs.Store.{Bytes}
 use Rattle.words.specs.Spelling.{header, crlf}
 use Rattle.words.specs.Stream as stream
@@ -43,20 +43,21 @@ line_begins sign value at bytes digits rest e spelled lt cr is lf =
     let size : length bytes ≡ suc (length digits) = ap length e in
     let left : length rest ≡ length digits - (at + 1) = ap length is ∙ length-drop (at + 1) digits in
     let after_sign : drop (at + 3) bytes ≡ drop (at + 2) digits =
-      ap (drop (at + 3)) e ∙ (ap (λ (k : ℕ). drop k (sign ∷ digits)) three) in
+    ap (drop (at + 3)) e ∙ (ap (λ (k : ℕ). drop k (sign ∷ digits)) three) in
     let after_lf : drop 1 rest ≡ drop (at + 2) digits = ap (drop 1) is ∙ (drop-drop 1 (at + 1) digits ∙ ap (λ (k : ℕ). drop k digits) two) in
     let ends : drop at digits ≡ 13 ∷ (10 ∷ drop (at + 3) bytes) =
-      drop_more digits at 0 lt ∙ (ap (λ (b : ℕ). b ∷ drop (at + 1) digits) cr ∙ ap (λ (r : Bytes). 13 ∷ r) (sym is ∙ (lf ∙ ap (λ (r : Bytes). 10 ∷ r) (after_lf ∙ sym after_sign)))) in
+    drop_more digits at 0 lt ∙ (ap (λ (b : ℕ). b ∷ drop (at + 1) digits) cr ∙ ap (λ (r : Bytes). 13 ∷ r) (sym is ∙ (lf ∙ ap (λ (r : Bytes). 10 ∷ r) (after_lf ∙ sym after_sign)))) in
     record {
       within = omega arith;
       some = omega arith;
       begins = e ∙ (ap (λ (d : Bytes). sign ∷ d) (spelled ∙ (ap (λ (r : Bytes). decimal value ++ r) ends ∙ sym (append_assoc (decimal value) crlf (drop (at + 3) bytes)))));
     }
   where
-  three : at + 3 ≡ suc (at + 2)
-  three = omega arith
-  two : (at + 1) + 1 ≡ at + 2
-  two = omega arith
+    three : at + 3 ≡ suc (at + 2)
+    three = omega arith
+
+    two : (at + 1) + 1 ≡ at + 2
+    two = omega arith
 
 -- no digit of a count has been read, or these, which spell it
 abbrev pub CountSoFar : Bytes → (at count : ℕ) → Type 0
@@ -122,10 +123,13 @@ pub count_more : (digits : Bytes) (at count digit : ℕ) → CountSoFar digits a
 count_more digits at count digit (inl h) lt is low some fits = inr (omega arith, some, fits, first) where
   zero_is : 10 * count + digit ≡ digit
   zero_is = omega arith
+
   at_start : digits ≡ decimal digit ++ drop 1 digits
   at_start = digits_first digits digit (omega arith) (subst (λ (k : ℕ). get_or digits k 0 ≡ 48 + digit) h.0 is) low
+
   one_is : 1 ≡ at + 1
   one_is = omega arith
+
   first : digits ≡ decimal (10 * count + digit) ++ drop (at + 1) digits
   first = rw (zero_is, ← one_is) at_start
 count_more digits at count digit (inr h) lt is low some fits =
@@ -225,10 +229,13 @@ pub length_more : (size : ℕ) (digits : Bytes) (at n digit : ℕ) → LengthSoF
 length_more size digits at n digit (inl h) lt is some low fits room = inr (omega arith, fits, room, first) where
   zero_is : 10 * n + digit ≡ digit
   zero_is = omega arith
+
   at_start : digits ≡ decimal digit ++ drop 1 digits
   at_start = digits_first digits digit (omega arith) (subst (λ (k : ℕ). get_or digits k 0 ≡ 48 + digit) h.0 is) low
+
   one_is : 1 ≡ at + 1
   one_is = omega arith
+
   first : digits ≡ decimal (10 * n + digit) ++ drop (at + 1) digits
   first = rw (zero_is, ← one_is) at_start
 length_more size digits at n digit (inr h) lt is (inr none) low fits room = absurd (omega arith)

@@ -1,7 +1,7 @@
 -- What has been scanned of a request: where it leads, and how it grows by a line or by the bytes of a word.
-use Rattle.std.proofs.Common.{ℕ, zero, suc, ◌≡◌, ◌+◌, ◌-◌, ◌<◌, ◌≤◌, List, [], ◌∷◌, ◌++◌, length, take, drop, refl, sym, ap, ◌∙◌, subst, arith, append_assoc, length-append, length-drop, Result, Ok, Err, OnOk, OnErr}
+use Rattle.std.proofs.Common.{ℕ, suc, ◌≡◌, ◌+◌, ◌-◌, ◌<◌, ◌≤◌, List, [], ◌∷◌, ◌++◌, length, take, drop, refl, sym, ap, ◌∙◌, subst, arith, append_assoc, length-append, length-drop}
 use Rattle.std.specs.List.{flat_map}
-use Rattle.std.proofs.lemmas.List.{length_push, length-take-le, take_at, drop-drop, drop-append-le, append-nil}
+use Rattle.std.proofs.lemmas.List.{length_push, length-take-le, take_at, drop-drop, append-nil}
 use Rattle.std.proofs.lemmas.List.Concat.{flat_map-append}
 use Rattle.words.specs.declared.limits.TheConstants.{WORDS_MAX, WORD_BYTES_MAX, REQUEST_BYTES_MAX}
 use Rattle.words.specs.Store.{Bytes}
@@ -10,10 +10,7 @@ use Rattle.words.specs.Stream as stream
 use Rattle.words.specs.Stream.{Place, First, Front, Whole, front, front_from}
 use Rattle.resp_read.specs.Lines.{BeginsWithLine}
 use Rattle.resp_read.specs.Taken.{IsSpelled}
-use Rattle.resp_read.specs.declared.scan.Due.{Due}
-use Rattle.resp_read.specs.declared.scan.Due.TheVariants.{Count, Word, Data}
-use Rattle.resp_read.specs.declared.scan.Progress.{Progress}
-use Rattle.resp_read.specs.Scanned.{spelled_so_far, CanBegin, WordIsDue, DataIsDue, IsDue, IsScanned}
+use Rattle.resp_read.specs.Scanned.{spelled_so_far, CanBegin, WordIsDue, DataIsDue}
 use Rattle.resp_read.proofs.Steps.{data_leads}
 use Rattle.resp_read.proofs.Headers.{count_line_leads, length_line_leads}
 
@@ -67,8 +64,10 @@ pub so_far_leads : (words : List Bytes) (left : ℕ) (rest : Bytes) → CanBegin
 so_far_leads words left rest can room = front_is where
   less_one : (length words + suc left) - 1 ≡ length words + left
   less_one = omega arith
+
   none : 0 + bytes_of words ≡ bytes_of words
   none = omega arith
+
   front_is : front (spelled_so_far words left ++ rest) ≡ front_from (stream.Word left (bytes_of words)) rest
   front_is =
       ap front (append_assoc (header 42 (length words + suc left)) (flat_map bulk_string words) rest)
@@ -106,10 +105,13 @@ unfolding bulk_string
 spelled_push words count word more = joined where
   front : Bytes
   front = header 42 count ++ flat_map bulk_string words
+
   line : Bytes
   line = header 36 (length word)
+
   word_is : (word ++ crlf) ++ more ≡ word ++ (crlf ++ more)
   word_is = append_assoc word crlf more
+
   joined : (header 42 count ++ flat_map bulk_string words ++ header 36 (length word)) ++ (word ++ (crlf ++ more)) ≡ (header 42 count ++ flat_map bulk_string (words ++ word ∷ [])) ++ more
   joined = rw (flat_map-push words word, ← word_is) (simp append_assoc)
 
@@ -124,15 +126,17 @@ count_scanned bytes value width line some most = record {
   begins = line.begins ∙ ap (λ (h : Bytes). h ++ drop width bytes) (ap (header 42) all ∙ sym (append-nil (header 42 (0 + suc (value - 1)))));
 }
   where
-  all : value ≡ 0 + suc (value - 1)
-  all = omega arith
+    all : value ≡ 0 + suc (value - 1)
+    all = omega arith
 
 pub count_goes : (bytes rest : Bytes) (scanned value width : ℕ) → scanned ≡ 0 → rest ≡ drop scanned bytes → BeginsWithLine 42 value width rest → 1 ≤ value → value ≤ WORDS_MAX → WordIsDue bytes (scanned + width) (value - 1) 0 × (scanned < scanned + width) × (scanned + width ≤ length bytes)
 count_goes bytes rest scanned value width none is line some most = (due, omega (arith, line.some), due.within) where
   whole : rest ≡ bytes
   whole = is ∙ ap (λ (k : ℕ). drop k bytes) none
+
   width_is : width ≡ scanned + width
   width_is = omega arith
+
   due : WordIsDue bytes (scanned + width) (value - 1) 0
   due =
       subst (λ (k : ℕ). WordIsDue bytes k (value - 1) 0) width_is (count_scanned bytes value width (subst (λ (b : Bytes). BeginsWithLine 42 value width b) whole line) some most)
@@ -142,12 +146,16 @@ data_joined : (bytes rest : Bytes) (scanned left size length_due : ℕ) (due : D
 data_joined bytes rest scanned left size length_due due is long whole = joined where
   word_is : length (take length_due rest) ≡ length_due
   word_is = length-take-le length_due rest (omega arith)
+
   sum_is : scanned + (length_due + 2) ≡ scanned + length_due + 2
   sum_is = omega arith
+
   after : drop (length_due + 2) rest ≡ drop (scanned + length_due + 2) bytes
   after = ap (drop (length_due + 2)) is ∙ (drop-drop (length_due + 2) scanned bytes ∙ ap (λ (k : ℕ). drop k bytes) sum_is)
+
   front : Bytes
   front = header 42 (length due.words + suc left) ++ flat_map bulk_string due.words
+
   joined : bytes ≡ (header 42 (length due.words + suc left) ++ flat_map bulk_string (due.words ++ take length_due rest ∷ [])) ++ drop (scanned + length_due + 2) bytes
   joined =
       due.begins
@@ -166,10 +174,11 @@ data_scanned bytes rest scanned left size length_due due some is long whole = re
   begins = data_joined bytes rest scanned left size length_due due is long whole ∙ ap (λ (k : ℕ). (header 42 k ++ flat_map bulk_string (due.words ++ take length_due rest ∷ [])) ++ drop (scanned + length_due + 2) bytes) count_is;
 }
   where
-  word_is : length (take length_due rest) ≡ length_due
-  word_is = length-take-le length_due rest (omega arith)
-  count_is : length due.words + suc left ≡ length (due.words ++ take length_due rest ∷ []) + suc (left - 1)
-  count_is = omega (arith, length_push due.words (take length_due rest))
+    word_is : length (take length_due rest) ≡ length_due
+    word_is = length-take-le length_due rest (omega arith)
+
+    count_is : length due.words + suc left ≡ length (due.words ++ take length_due rest ∷ []) + suc (left - 1)
+    count_is = omega (arith, length_push due.words (take length_due rest))
 
 pub data_goes : (bytes rest : Bytes) (scanned left size length_due : ℕ) → DataIsDue bytes scanned left size length_due → (left ≡ 0 → ⊥) → rest ≡ drop scanned bytes → length_due + 2 ≤ length rest → rest ≡ take length_due rest ++ (crlf ++ drop (length_due + 2) rest) → WordIsDue bytes (scanned + length_due + 2) (left - 1) size × (scanned < scanned + length_due + 2) × (scanned + length_due + 2 ≤ length bytes)
 data_goes bytes rest scanned left size length_due due some is long whole = (next, omega arith, next.within) where
@@ -183,24 +192,30 @@ front_of_bytes bytes front width within e = ap (take width) e ∙ take_at front 
 -- the bytes of the last word have been scanned
 pub request_scanned : (bytes rest : Bytes) (scanned left size length_due : ℕ) → DataIsDue bytes scanned left size length_due → left ≡ 0 → rest ≡ drop scanned bytes → length_due + 2 ≤ length rest → rest ≡ take length_due rest ++ (crlf ++ drop (length_due + 2) rest) → (scanned + length_due + 2 ≤ length bytes) × IsSpelled (take (scanned + length_due + 2) bytes)
 unfolding spelling
-request_scanned bytes rest scanned left size length_due due last is long whole = (within, record {
-  words = due.words ++ take length_due rest ∷ [];
-  request = record {
-    some = omega (arith, count_is);
-    most = omega (arith, due.can.most, count_is);
-    short = AreShort-push due.words (take length_due rest) due.can.short (omega (arith, word_is, due.short));
-    together = omega (arith, bytes_of-push due.words (take length_due rest), word_is, due.together, due.room);
-  };
-  spelled = front_of_bytes bytes (spelling (due.words ++ take length_due rest ∷ [])) (scanned + length_due + 2) within spelled_is;
-})
+request_scanned bytes rest scanned left size length_due due last is long whole = (
+  within,
+  record {
+    words = due.words ++ take length_due rest ∷ [];
+    request = record {
+      some = omega (arith, count_is);
+      most = omega (arith, due.can.most, count_is);
+      short = AreShort-push due.words (take length_due rest) due.can.short (omega (arith, word_is, due.short));
+      together = omega (arith, bytes_of-push due.words (take length_due rest), word_is, due.together, due.room);
+    };
+    spelled = front_of_bytes bytes (spelling (due.words ++ take length_due rest ∷ [])) (scanned + length_due + 2) within spelled_is;
+  },
+)
   where
-  within : scanned + length_due + 2 ≤ length bytes
-  within = omega (arith, due.within, ap length is, length-drop scanned bytes)
-  word_is : length (take length_due rest) ≡ length_due
-  word_is = length-take-le length_due rest (omega arith)
-  count_is : length due.words + suc left ≡ length (due.words ++ take length_due rest ∷ [])
-  count_is = omega (arith, length_push due.words (take length_due rest))
-  spelled_is : bytes ≡ spelling (due.words ++ take length_due rest ∷ []) ++ drop (scanned + length_due + 2) bytes
-  spelled_is =
-      data_joined bytes rest scanned left size length_due due is long whole
-      ∙ ap (λ (k : ℕ). (header 42 k ++ flat_map bulk_string (due.words ++ take length_due rest ∷ [])) ++ drop (scanned + length_due + 2) bytes) count_is
+    within : scanned + length_due + 2 ≤ length bytes
+    within = omega (arith, due.within, ap length is, length-drop scanned bytes)
+
+    word_is : length (take length_due rest) ≡ length_due
+    word_is = length-take-le length_due rest (omega arith)
+
+    count_is : length due.words + suc left ≡ length (due.words ++ take length_due rest ∷ [])
+    count_is = omega (arith, length_push due.words (take length_due rest))
+
+    spelled_is : bytes ≡ spelling (due.words ++ take length_due rest ∷ []) ++ drop (scanned + length_due + 2) bytes
+    spelled_is =
+        data_joined bytes rest scanned left size length_due due is long whole
+        ∙ ap (λ (k : ℕ). (header 42 k ++ flat_map bulk_string (due.words ++ take length_due rest ∷ [])) ++ drop (scanned + length_due + 2) bytes) count_is

@@ -1,10 +1,10 @@
 -- What one byte does at a place of a request, as equations of what stands at the front.
-use Rattle.std.proofs.Common.{ℕ, zero, suc, ◌≡◌, ◌≢◌, ◌+◌, ◌-◌, ◌*◌, ◌<◌, ◌≤◌, ◌⊎◌, inl, inr, List, [], ◌∷◌, ◌++◌, Bool, Some, None, true, false, cond, length, eqb, leb, ltb, refl, sym, ap, ◌∙◌, arith, ◌&&◌}
-use Rattle.std.proofs.lemmas.Bool.{le-leb, lt-leb, lt-ltb, le-ltb, eq-eqb, ne_eqb}
+use Rattle.std.proofs.Common.{ℕ, zero, suc, ◌≡◌, ◌≢◌, ◌+◌, ◌-◌, ◌*◌, ◌<◌, ◌≤◌, ◌⊎◌, inl, inr, [], ◌∷◌, ◌++◌, Bool, Some, None, true, false, cond, length, refl, ap, ◌∙◌, arith, ◌&&◌}
+use Rattle.std.proofs.lemmas.Bool.{le-leb, lt-leb, lt-ltb, le-ltb, ne_eqb}
 use Rattle.words.specs.declared.limits.TheConstants.{WORDS_MAX, WORD_BYTES_MAX, REQUEST_BYTES_MAX}
 use Rattle.words.specs.declared.reply.ProtocolFault.TheVariants.{ExpectedArray, BadCount, ExpectedBulk, BadLength, MissingLineEnd, RequestTooLarge}
 use Rattle.words.specs.Store.{Bytes}
-use Rattle.words.specs.Stream.{Place, First, Count, CountEnd, Word, Length, LengthEnd, Data, DataEnd, Step, Goes, Ends, Fails, Whole, Part, Faulty, Front, front_from, front_after, step, is_digit, with_count, with_length}
+use Rattle.words.specs.Stream.{Place, First, Count, CountEnd, Word, Length, LengthEnd, Data, DataEnd, Step, Goes, Fails, Part, Faulty, front_from, front_after, step, is_digit, with_count, with_length}
 
 -- the front from a byte on, once it is known what the byte does
 pub front_by_step : (place : Place) (byte : ℕ) (rest : Bytes) (does : Step) → step place byte ≡ does → front_from place (byte ∷ rest) ≡ front_after does (λ next. front_from next rest) rest

@@ -1,19 +1,19 @@
 -- A request has one reading: its numbers, its words, and what is left after each.
-use Rattle.std.proofs.Common.{ℕ, zero, suc, ◌≡◌, ◌≢◌, ◌+◌, ◌-◌, ◌*◌, ◌/◌, ◌%◌, ◌^◌, ◌<◌, ◌≤◌, List, [], ◌∷◌, ◌++◌, Bool, true, false, cond, length, take, drop, refl, sym, ap, ◌∙◌, subst, arith, append_assoc, length-append, length-drop, Result, Ok, Err, OnErr}
+use Rattle.std.proofs.Common.{ℕ, ◌≡◌, ◌+◌, ◌-◌, ◌*◌, ◌/◌, ◌%◌, ◌^◌, ◌<◌, ◌≤◌, List, [], ◌∷◌, ◌++◌, Bool, cond, length, take, drop, refl, sym, ap, ◌∙◌, subst, arith, append_assoc, length-append, length-drop, Result, Ok, Err, OnErr}
 use Rattle.std.specs.List.{flat_map}
 use Rattle.std.specs.Fmt.{decimal}
 use Rattle.std.proofs.lemmas.Fmt.{decimal_by_steps}
 use Rattle.std.proofs.lemmas.List.{take_at, drop_at, drop-drop, append-nil, nil_from_length, take-append-drop}
-use Rattle.words.specs.declared.limits.TheConstants.{WORDS_MAX, WORD_BYTES_MAX, REQUEST_BYTES_MAX}
+use Rattle.words.specs.declared.limits.TheConstants.{WORDS_MAX, WORD_BYTES_MAX}
 use Rattle.words.specs.declared.word.TheConstants.{WORD_INLINE, WORDS_INLINE}
 use Rattle.words.specs.Store.{Bytes}
-use Rattle.words.specs.Spelling.{header, crlf, bulk_string, spelling, bytes_of, AreShort, IsRequest}
+use Rattle.words.specs.Spelling.{header, crlf, bulk_string, spelling, AreShort, IsRequest}
 use Rattle.words.specs.Stream as stream
 use Rattle.words.specs.Stream.{Word, front, front_from, is_digit}
 use Rattle.resp_read.specs.declared.lines.Line.{Line}
 use Rattle.resp_read.specs.declared.lines.Line.TheVariants.{Number, Part, Faulty}
 use Rattle.resp_read.specs.Lines.{TellsCount, TellsLength, BeginsWithLine}
-use Rattle.resp_read.specs.Taken.{IsSpelled, BeginsWithWord, HasTaken, AreInline, FitInline, NeedsMemory}
+use Rattle.resp_read.specs.Taken.{IsSpelled, BeginsWithWord, HasTaken, AreInline, NeedsMemory}
 use Rattle.resp_read.proofs.Steps.{digit_is}
 use Rattle.resp_read.proofs.ScanLemmas.{bulk_ends, request_front}
 
@@ -101,17 +101,20 @@ word_taken bytes word more taken value width line small short e is = record {
   begins = e ∙ (ap (λ (w : Bytes). bulk_string w ++ more) (sym taken_is) ∙ ap (λ (r : Bytes). bulk_string taken ++ r) (sym rest_is));
 }
   where
-  tells : (value ≡ length word) × (drop width bytes ≡ word ++ (crlf ++ more))
-  tells = word_line bytes word more value width line small short e
-  taken_is : taken ≡ word
-  taken_is = is ∙ word_between bytes word more value width line small short e
-  sum_is : width + value + 2 ≡ width + (value + 2)
-  sum_is = omega arith
-  rest_is : drop (width + value + 2) bytes ≡ more
-  rest_is =
-      ap (λ (k : ℕ). drop k bytes) sum_is
-      ∙ (sym (drop-drop (value + 2) width bytes)
-      ∙ (ap (drop (value + 2)) (tells.1 ∙ sym (append_assoc word crlf more)) ∙ drop_at (word ++ crlf) more (value + 2) (omega (arith, tells.0, length-append word crlf))))
+    tells : (value ≡ length word) × (drop width bytes ≡ word ++ (crlf ++ more))
+    tells = word_line bytes word more value width line small short e
+
+    taken_is : taken ≡ word
+    taken_is = is ∙ word_between bytes word more value width line small short e
+
+    sum_is : width + value + 2 ≡ width + (value + 2)
+    sum_is = omega arith
+
+    rest_is : drop (width + value + 2) bytes ≡ more
+    rest_is =
+        ap (λ (k : ℕ). drop k bytes) sum_is
+        ∙ (sym (drop-drop (value + 2) width bytes)
+        ∙ (ap (drop (value + 2)) (tells.1 ∙ sym (append_assoc word crlf more)) ∙ drop_at (word ++ crlf) more (value + 2) (omega (arith, tells.0, length-append word crlf))))
 
 -- a word that its inline room did not hold
 pub word_is_long : (bytes word more : Bytes) (value width : ℕ) → BeginsWithLine 36 value width bytes → value ≤ WORD_BYTES_MAX → length word ≤ WORD_BYTES_MAX → bytes ≡ bulk_string word ++ more → (length (take (width + value - width) (drop width bytes)) ≤ WORD_INLINE → ⊥) → WORD_INLINE < length word
@@ -141,12 +144,16 @@ same_word word other more rest short_word short_other e = (word_is, rest_is) whe
   lines : (length word ≡ length other) × ((word ++ crlf) ++ more ≡ (other ++ crlf) ++ rest)
   lines =
       same_header 36 (length word) (length other) ((word ++ crlf) ++ more) ((other ++ crlf) ++ rest) (omega arith) (omega arith) (sym (append_assoc (header 36 (length word)) (word ++ crlf) more) ∙ (e ∙ append_assoc (header 36 (length other)) (other ++ crlf) rest))
+
   both : word ++ (crlf ++ more) ≡ other ++ (crlf ++ rest)
   both = sym (append_assoc word crlf more) ∙ (lines.1 ∙ append_assoc other crlf rest)
+
   word_is : word ≡ other
   word_is = sym (take_at word (crlf ++ more) (length word) refl) ∙ (ap (take (length word)) both ∙ take_at other (crlf ++ rest) (length word) (sym lines.0))
+
   ends : crlf ++ more ≡ crlf ++ rest
   ends = sym (drop_at word (crlf ++ more) (length word) refl) ∙ (ap (drop (length word)) both ∙ drop_at other (crlf ++ rest) (length word) (sym lines.0))
+
   rest_is : more ≡ rest
   rest_is = ap (drop 2) ends
 
@@ -169,8 +176,8 @@ none_taken bytes count start spelled line most = record {
   begins = tells.1;
 }
   where
-  tells : (count ≡ length spelled.words) × (drop start bytes ≡ flat_map bulk_string spelled.words)
-  tells = request_line bytes spelled.words count start line most spelled.request spelled.spelled
+    tells : (count ≡ length spelled.words) × (drop start bytes ≡ flat_map bulk_string spelled.words)
+    tells = request_line bytes spelled.words count start line most spelled.request spelled.spelled
 
 short_at : (words : List Bytes) (word : Bytes) (rest : List Bytes) → AreShort (words ++ word ∷ rest) → length word ≤ WORD_BYTES_MAX
 short_at [] word rest short = short.0
@@ -210,15 +217,18 @@ taken_more bytes part words at count taken width so_far left is has = record {
   begins = sym (drop-drop width at bytes) ∙ (ap (drop width) (sym is) ∙ same.1);
 }
   where
-  next : NextWord bytes words at count
-  next = next_word bytes words at count so_far left
-  same : (taken ≡ next.0) × (drop width part ≡ flat_map bulk_string next.1)
-  same =
-      same_word taken next.0 (drop width part) (flat_map bulk_string next.1) has.short (short_at words next.0 next.1 next.2.short) (sym has.begins ∙ (is ∙ next.4))
-  words_are : words ++ next.0 ∷ next.1 ≡ (words ++ taken ∷ []) ++ next.1
-  words_are = ap (λ (w : Bytes). words ++ w ∷ next.1) (sym same.0) ∙ sym (append_assoc words (taken ∷ []) next.1)
-  same_length : length (words ++ next.0 ∷ next.1) ≡ count
-  same_length = next.5
+    next : NextWord bytes words at count
+    next = next_word bytes words at count so_far left
+
+    same : (taken ≡ next.0) × (drop width part ≡ flat_map bulk_string next.1)
+    same =
+        same_word taken next.0 (drop width part) (flat_map bulk_string next.1) has.short (short_at words next.0 next.1 next.2.short) (sym has.begins ∙ (is ∙ next.4))
+
+    words_are : words ++ next.0 ∷ next.1 ≡ (words ++ taken ∷ []) ++ next.1
+    words_are = ap (λ (w : Bytes). words ++ w ∷ next.1) (sym same.0) ∙ sym (append_assoc words (taken ∷ []) next.1)
+
+    same_length : length (words ++ next.0 ∷ next.1) ≡ count
+    same_length = next.5
 
 -- the word that stands next is too long for its inline room
 pub next_is_long : (bytes part : Bytes) (words : List Bytes) (at count : ℕ) → TakenSoFar bytes words at count → length words < count → part ≡ drop at bytes → ((word more : Bytes) → length word ≤ WORD_BYTES_MAX → part ≡ bulk_string word ++ more → WORD_INLINE < length word) → NeedsMemory bytes
@@ -231,10 +241,31 @@ next_is_long bytes part words at count so_far left is long = record {
   large = λ fit. absurd (omega (arith, inline_at words next.0 next.1 fit.1, too_long));
 }
   where
-  next : NextWord bytes words at count
-  next = next_word bytes words at count so_far left
-  too_long : WORD_INLINE < length next.0
-  too_long = long next.0 (flat_map bulk_string next.1) (short_at words next.0 next.1 next.2.short) (is ∙ next.4)
+    next : NextWord bytes words at count
+    next = next_word bytes words at count so_far left
+
+    too_long : WORD_INLINE < length next.0
+    too_long = long next.0 (flat_map bulk_string next.1) (short_at words next.0 next.1 next.2.short) (is ∙ next.4)
+
+-- there are more words than the inline room holds
+pub too_many : (bytes : Bytes) (words : List Bytes) (at count : ℕ) → TakenSoFar bytes words at count → length words < count → (length words < WORDS_INLINE → ⊥) → NeedsMemory bytes
+too_many bytes words at count so_far left many = record {
+  words = words ++ so_far.rest;
+  more = [];
+  request = so_far.request;
+  begins = so_far.spelled ∙ sym (append-nil (spelling (words ++ so_far.rest)));
+  large = λ fit. absurd (omega (arith, fit.0, so_far.all, many));
+}
+
+pub all_taken : (bytes : Bytes) (words : List Bytes) (at count : ℕ) → TakenSoFar bytes words at count → count ≤ length words → IsRequest words × (bytes ≡ spelling words)
+all_taken bytes words at count so_far none =
+    (subst (λ (ws : List Bytes). IsRequest ws) words_are so_far.request, so_far.spelled ∙ ap spelling words_are)
+  where
+    nothing : so_far.rest ≡ []
+    nothing = nil_from_length so_far.rest (omega (arith, so_far.all, length-append words so_far.rest))
+
+    words_are : words ++ so_far.rest ≡ words
+    words_are = ap (λ (ws : List Bytes). words ++ ws) nothing ∙ append-nil words
 
 -- what a request needs, the bytes that it stands in front of need
 pub needs_memory_in_front : (bytes front_part : Bytes) (width : ℕ) → front_part ≡ take width bytes → NeedsMemory front_part → NeedsMemory bytes

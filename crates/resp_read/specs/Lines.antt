@@ -2,7 +2,6 @@
 -- serialization protocol, version 2.)
 use Rattle.std.specs.Prelude.{ℕ, ◌≡◌, ◌≢◌, ◌+◌, ◌≤◌, [], ◌∷◌, ◌++◌, length, take, drop}
 use Rattle.words.specs.declared.limits.TheConstants.{WORDS_MAX, WORD_BYTES_MAX, REQUEST_BYTES_MAX}
-use Rattle.words.specs.declared.reply.ProtocolFault.{ProtocolFault}
 use Rattle.words.specs.declared.reply.ProtocolFault.TheVariants.{MissingLineEnd}
 use Rattle.words.specs.Store.{Bytes}
 use Rattle.words.specs.Spelling.{header, crlf}

@@ -1,6 +1,6 @@
 //! A client's bytes on their way to requests.
 
-ghost use Rattle.std.specs.Prelude.{◌≡◌, [], ◌++◌, OnOk, OnErr, IfOk, IfErr, IfSome, IfNone, OnSome};
+ghost use Rattle.std.specs.Prelude.{◌≡◌, ◌≤◌, [], ◌++◌, length, OnOk, OnErr, IfOk, IfErr, IfSome, IfNone, OnSome};
 ghost use Rattle.words.specs.Spelling.{spelling, IsRequest};
 ghost use Rattle.words.specs.Stream.{front, Part, Whole};
 
@@ -9,7 +9,9 @@ use crate::take::words_of;
 use bytes::{Bytes, BytesMut};
 use std::alloc::Global;
 use std::marker::Model;
+use words::limits::PART_BYTES_MAX;
 use words::reply::ProtocolFault;
+use words::stream_laws::part_is_a_beginning;
 use words::word::{OutOfMemory, Words};
 
 /// Why the reader gives no request.
@@ -25,21 +27,24 @@ pub enum ReadFault {
 /// The bytes of one client that were fed and are not yet given as requests. Contracts see it as these
 /// bytes.
 ///
-/// No byte of a waiting request is scanned again for each piece that comes: the reader keeps which
-/// whole lines and words it has scanned, so a request costs time in its length however it is cut (a
-/// line of at most 6 bytes that is not yet whole is looked at again from its sign). It takes memory
-/// for its buffer alone until a request is whole; then words of at most `WORD_INLINE` bytes, and the
-/// first `WORDS_INLINE` of them, take none.
+/// A waiting request is not scanned anew for each piece that comes: the reader keeps how many whole lines
+/// and words of it have been scanned and goes on from there, so a request costs time in its length
+/// however it is cut. Only a line that has not come whole, of at most 6 bytes so far, is looked at again.
+/// The reader takes memory for its buffer alone until a request is whole. Then words of at most
+/// [`WORD_INLINE`] bytes, and the first [`WORDS_INLINE`] words, take none.
+///
+/// [`WORD_INLINE`]: words::word::WORD_INLINE
+/// [`WORDS_INLINE`]: words::word::WORDS_INLINE
 ///
 /// # Memory
 ///
-/// A part of a request within the limits has at most 66,694 bytes: 6 of the line of its count, 9 of the
-/// line and the line end of each of 128 words, and 65,536 of the words. Where pieces of at most 16,384
-/// bytes are fed, each only after [`next`] gave `None`, the buffer holds at most 83,078 bytes, and its
-/// capacity is at most twice that, since it grows by doubling. It is kept from request to request, and
-/// a reader holds no other memory.
+/// Where [`next`] gives `None`, at most [`PART_BYTES_MAX`] bytes are left, 66,694. So where pieces of at
+/// most 16,384 bytes are fed, each only after it gave `None`, the buffer never holds more than 83,078
+/// bytes, and its capacity is at most twice that, since it grows by doubling. It is kept from request to
+/// request, and a reader holds no other memory.
 ///
 /// [`next`]: Reader::next
+/// [`PART_BYTES_MAX`]: words::limits::PART_BYTES_MAX
 #[derive(Drop)]
 pub struct Reader {
     buffer: BytesMut,
@@ -100,12 +105,16 @@ impl Reader {
         ensures whole { IfOk result (λ given. OnSome given (front self.old ≡ Whole self.new)) }
         ensures none { IfOk result (λ given. IfNone given (front self.old ≡ Part)) }
         ensures waits { IfOk result (λ given. IfNone given (self.new ≡ self.old)) }
+        ensures bounded { IfOk result (λ given. IfNone given (length self.new ≤ PART_BYTES_MAX)) }
         ensures fault { IfErr result (λ fault. TellsFault self.old fault) }
         ensures err { OnErr result (self.new ≡ self.old) }
     {
         let unread = self.buffer.as_slice();
         match scan(unread, &mut self.progress) {
-            Found::Part => Ok(None),
+            Found::Part => {
+                part_is_a_beginning();
+                Ok(None)
+            }
             Found::Faulty(fault) => Err(ReadFault::Protocol(fault)),
             Found::Whole(width) => {
                 let alloc = *self.buffer.allocator();

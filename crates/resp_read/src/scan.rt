@@ -14,7 +14,10 @@ pub(crate) enum Due {
     Count,
     /// The line of a word's length. After this word `left` are due, and those before it have `size`
     /// bytes.
-    Word { left: usize, size: usize },
+    Word {
+        left: usize,
+        size: usize,
+    },
     /// The `length` bytes of a word and their line end. After this word `left` are due, and with it
     /// the words have `size` bytes.
     Data {

@@ -35,10 +35,8 @@ impl Log {
         Ok(())
     }
 
-    fn feed(&mut self, alloc: Global, piece: &[u8]) -> Result<(), Fail> {
-        self.reader
-            .feed(Bytes::copy_from_slice(alloc, piece)?)
-            .map_err(|refused| refused.1)?;
+    fn feed(&mut self, piece: &[u8]) -> Result<(), Fail> {
+        self.reader.feed_slice(piece)?;
         for _ in 0..=piece.len() {
             match self.reader.next() {
                 Ok(Some(words)) => self.write(&words)?,
@@ -71,10 +69,10 @@ fn check_pieces(
         if rest.len() <= size {
             break;
         }
-        log.feed(alloc, &rest[..size])?;
+        log.feed(&rest[..size])?;
         rest = &rest[size..];
     }
-    log.feed(alloc, rest)?;
+    log.feed(rest)?;
     assert_eq!(rt; log.text.as_slice(), given, "in pieces of {size}");
     Ok(())
 }
@@ -87,8 +85,8 @@ fn check(rt: &impl Abort, alloc: Global, stream: &[u8], given: &[u8]) -> Result<
     }
     for at in 0..stream.len() {
         let mut log = Log::new(alloc);
-        log.feed(alloc, &stream[..at])?;
-        log.feed(alloc, &stream[at..])?;
+        log.feed(&stream[..at])?;
+        log.feed(&stream[at..])?;
         assert_eq!(rt; log.text.as_slice(), given, "cut at {at}");
     }
     Ok(())
@@ -103,9 +101,9 @@ fn ping(rt: HostRuntime) -> Result<(), Fail> {
 #[test]
 fn set_then_get_in_two_pieces(rt: HostRuntime) -> Result<(), Fail> {
     let mut log = Log::new(rt.alloc());
-    log.feed(rt.alloc(), b"*3\r\n$3\r\nSET\r\n$1\r\nk\r\n$5\r\nhe")?;
+    log.feed(b"*3\r\n$3\r\nSET\r\n$1\r\nk\r\n$5\r\nhe")?;
     assert_eq!(rt; log.text.len(), 0);
-    log.feed(rt.alloc(), b"llo\r\n*2\r\n$3\r\nGET\r\n$1\r\nk\r\n*1\r\n$4\r\nPI")?;
+    log.feed(b"llo\r\n*2\r\n$3\r\nGET\r\n$1\r\nk\r\n*1\r\n$4\r\nPI")?;
     assert_eq!(rt; log.text.as_slice(), b"SET,k,hello,;GET,k,;".as_slice());
     Ok(())
 }
@@ -151,10 +149,22 @@ fn each_place_has_its_fault(rt: HostRuntime) -> Result<(), Fail> {
         (b"*1\r\n$8193", b"-ERR Protocol error: bad length"),
         (b"*1\r\n$4\n", b"-ERR Protocol error: bad length"),
         (b"*1\r\n$4\r4", b"-ERR Protocol error: missing line end"),
-        (b"*1\r\n$4\r\nPINGx", b"-ERR Protocol error: missing line end"),
-        (b"*1\r\n$4\r\nPING\rx", b"-ERR Protocol error: missing line end"),
-        (b"*1\r\n$1\r\na\r\n*2\r\n$1\r\nb\r\n*", b"a,;-ERR Protocol error: expected '$'"),
-        (b"*1\r\n$0\r\n\r\n\n", b",;-ERR Protocol error: expected '*'"),
+        (
+            b"*1\r\n$4\r\nPINGx",
+            b"-ERR Protocol error: missing line end",
+        ),
+        (
+            b"*1\r\n$4\r\nPING\rx",
+            b"-ERR Protocol error: missing line end",
+        ),
+        (
+            b"*1\r\n$1\r\na\r\n*2\r\n$1\r\nb\r\n*",
+            b"a,;-ERR Protocol error: expected '$'",
+        ),
+        (
+            b"*1\r\n$0\r\n\r\n\n",
+            b",;-ERR Protocol error: expected '*'",
+        ),
     ];
     for (stream, given) in cases {
         check(&rt, rt.alloc(), stream, given)?;
@@ -246,7 +256,12 @@ fn data_of_line_ends_and_every_byte(rt: HostRuntime) -> Result<(), Fail> {
 #[test]
 fn a_fault_stays(rt: HostRuntime) -> Result<(), Fail> {
     let mut reader = Reader::new(rt.alloc());
-    for piece in [b"*1\r\n$-".as_slice(), b"1\r\n", b"", b"*1\r\n$4\r\nPING\r\n"] {
+    for piece in [
+        b"*1\r\n$-".as_slice(),
+        b"1\r\n",
+        b"",
+        b"*1\r\n$4\r\nPING\r\n",
+    ] {
         reader
             .feed(Bytes::from_static(piece))
             .map_err(|refused| refused.1)?;

@@ -29,10 +29,14 @@ fn answers(mut stream: &TcpStream, request: &[u8], reply: &[u8]) -> io::Result<b
 
 /// Whether these bytes come next.
 fn reads(mut stream: &TcpStream, bytes: &[u8]) -> io::Result<bool> {
-    let mut got = [0; 64];
-    let got = &mut got[..bytes.len()];
-    stream.read_exact(got)?;
-    Ok(&*got == bytes)
+    for byte in bytes {
+        let mut got = [0; 1];
+        stream.read_exact(&mut got)?;
+        if got[0] != *byte {
+            return Ok(false);
+        }
+    }
+    Ok(true)
 }
 
 /// Whether the server sends no more.

@@ -39,8 +39,7 @@ loop-reply-preserved g c =
     let put = c.in_default.ensures.put in
     record {
       talk = λ old fed before talk.
-          let so_far = c.loop-reply.invariant.talk old fed before talk in
-          (
+          let so_far = c.loop-reply.invariant.talk old fed before talk in (
             so_far.0 ++ put.0,
             Appends-then _ _ _ so_far.0 put.0 so_far.1 put.1,
             conversation_says _ _ _ _ _ (conversation_next _ _ _ _ _ _ _ _ _ so_far.2 answers) (regroup before so_far.0 _ _ put.0 _ put.2),

@@ -10,10 +10,10 @@ use Rattle.connection.proofs.serving.answer_all.Given as goal
 abbrev pub invariant-loop-reply : goal.invariant-loop-reply
 invariant-loop-reply g l = record {
   talk :
-    (old : Store) (fed before : List ℕ)
-    → Conversation (pass_number l.initial.pass) old (contents l.initial.engine) fed l.initial.client (before ++ l.initial.out.items)
-    → (sent : List ℕ) × Appends (g.W.Write.contents (stream_of l.initial.writer)) (g.W.Write.contents (stream_of l.writer)) sent
-    × Conversation (pass_number l.initial.pass) old (contents l.engine) fed l.client ((before ++ sent) ++ l.out.items);
+      (old : Store) (fed before : List ℕ)
+      → Conversation (pass_number l.initial.pass) old (contents l.initial.engine) fed l.initial.client (before ++ l.initial.out.items)
+      → (sent : List ℕ) × Appends (g.W.Write.contents (stream_of l.initial.writer)) (g.W.Write.contents (stream_of l.writer)) sent
+      × Conversation (pass_number l.initial.pass) old (contents l.engine) fed l.client ((before ++ sent) ++ l.out.items);
   ready : IsReady (l.client).stage;
   told : told_of l.writer ≡ told_of l.initial.writer;
   pass : l.pass ≡ l.initial.pass;

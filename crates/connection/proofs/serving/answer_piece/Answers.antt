@@ -16,8 +16,7 @@ with_buffer session old new fed before held standing empty talk =
 
 pub returns-in_default-clause-answered : goal.returns-in_default-clause-answered
 returns-in_default-clause-answered g c = λ old fed before talk.
-    let so_far = c.in-Input.ensures.paused old fed before (with_buffer _ _ _ _ _ _ _ c.requires.empty talk) in
-    (
+    let so_far = c.in-Input.ensures.paused old fed before (with_buffer _ _ _ _ _ _ _ c.requires.empty talk) in (
       so_far.0 ++ c.answer_all.new.out.items,
       Appends-then _ _ _ so_far.0 _ so_far.1 c.in_default.ensures.sent,
       (so_far.2.0, conversation_says _ _ _ _ _ so_far.2.1 (append_assoc before so_far.0 _), c.in_default.ensures.empty),
@@ -31,8 +30,7 @@ returns-in-Err-clause-answered g c = λ old fed before talk.
 
 pub returns-in_default-flush-2-clause-answered : goal.returns-in_default-flush-2-clause-answered
 returns-in_default-flush-2-clause-answered g c = λ old fed before talk.
-    let so_far = c.in-NoMemory.ensures.paused old fed before (with_buffer _ _ _ _ _ _ _ c.requires.empty talk) in
-    (
+    let so_far = c.in-NoMemory.ensures.paused old fed before (with_buffer _ _ _ _ _ _ _ c.requires.empty talk) in (
       so_far.0 ++ c.answer_all.new.out.items,
       Appends-then _ _ _ so_far.0 _ so_far.1 c.in_default-flush-2.ensures.sent,
       (closed so_far.2.1, sym (append_assoc before so_far.0 _) ∙ so_far.2.1.text),
@@ -59,21 +57,19 @@ pub returns-in-Err-flush-clause-answered : goal.returns-in-Err-flush-clause-answ
 returns-in-Err-flush-clause-answered g c = λ old fed before talk.
     let so_far = c.in-Malformed.ensures.paused old fed before (with_buffer _ _ _ _ _ _ _ c.requires.empty talk) in
     let put = rw c.line_as_reply-line.ensures at c.in_default-said.ensures.put in
-    let cut = c.in-Err-flush.ensures.sent in
-    (
+    let cut = c.in-Err-flush.ensures.sent in (
       (so_far.0 ++ put.0) ++ cut.0,
       Appends-then _ _ _ _ cut.0 (Appends-then _ _ _ so_far.0 put.0 so_far.1 put.1) cut.3,
       served_cut_fault c.in-Malformed.fault _ cut.1 so_far.2.1 so_far.2.0
-        (regroup before so_far.0 _ _ put.0 _ put.2 ∙ regroup_cut before (so_far.0 ++ put.0) _ cut.0 cut.1 cut.2),
+          (regroup before so_far.0 _ _ put.0 _ put.2 ∙ regroup_cut before (so_far.0 ++ put.0) _ cut.0 cut.1 cut.2),
     )
 
 pub returns-in_default-flush-clause-answered : goal.returns-in_default-flush-clause-answered
 returns-in_default-flush-clause-answered g c = λ old fed before talk.
     let so_far = c.in-Malformed.ensures.paused old fed before (with_buffer _ _ _ _ _ _ _ c.requires.empty talk) in
-    let put = rw c.line_as_reply-line.ensures at c.in_default-said.ensures.put in
-    (
+    let put = rw c.line_as_reply-line.ensures at c.in_default-said.ensures.put in (
       (so_far.0 ++ put.0) ++ c.say-said.new.out.items,
       Appends-then _ _ _ _ _ (Appends-then _ _ _ so_far.0 put.0 so_far.1 put.1) c.in_default-flush.ensures.sent,
       served_fault c.in-Malformed.fault _ so_far.2.1 so_far.2.0
-        (regroup before so_far.0 _ _ put.0 _ put.2 ∙ append_assoc before (so_far.0 ++ put.0) _),
+          (regroup before so_far.0 _ _ put.0 _ put.2 ∙ append_assoc before (so_far.0 ++ put.0) _),
     )

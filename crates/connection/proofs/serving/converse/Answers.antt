@@ -17,8 +17,7 @@ loop-ended-init g c = record {
 pub returns-in-Some-clause-served : goal.returns-in-Some-clause-served
 returns-in-Some-clause-served g c =
     let so_far = c.loop-ended.invariant.talk in
-    let taken = c.in-Some.ensures.taken in
-    (
+    let taken = c.in-Some.ensures.taken in (
       so_far.0 ++ taken.0,
       so_far.1,
       Consumes-then _ _ _ so_far.0 taken.0 so_far.2 taken.1,
@@ -31,8 +30,7 @@ returns-in-Some-answer_piece-clause-served g c =
     let so_far = c.loop-ended.invariant.talk in
     let taken = c.in_default.ensures.taken in
     let talk = conversation_after _ _ _ _ _ taken.0 _ _ so_far.4 taken.2 in
-    let answered = (rw c.loop-ended.invariant.pass at c.in-Some-answer_piece.ensures.answered) _ _ _ talk in
-    (
+    let answered = (rw c.loop-ended.invariant.pass at c.in-Some-answer_piece.ensures.answered) _ _ _ talk in (
       so_far.0 ++ taken.0,
       so_far.1 ++ answered.0,
       Consumes-then _ _ _ so_far.0 taken.0 so_far.2 taken.1,

@@ -9,9 +9,9 @@ use Rattle.connection.proofs.serving.converse.Given as goal
 abbrev pub invariant-loop-ended : goal.invariant-loop-ended
 invariant-loop-ended g l = record {
   talk : (fed said : List ℕ)
-    × Consumes (g.R.Read.remaining (stream_of l.initial.reader)) (g.R.Read.remaining (stream_of l.reader)) fed
-    × Appends (g.W.Write.contents (stream_of l.initial.writer)) (g.W.Write.contents (stream_of l.writer)) said
-    × Conversation (pass_number l.initial.pass) (contents l.initial.engine) (contents l.engine) fed l.client said;
+      × Consumes (g.R.Read.remaining (stream_of l.initial.reader)) (g.R.Read.remaining (stream_of l.reader)) fed
+      × Appends (g.W.Write.contents (stream_of l.initial.writer)) (g.W.Write.contents (stream_of l.writer)) said
+      × Conversation (pass_number l.initial.pass) (contents l.initial.engine) (contents l.engine) fed l.client said;
   waits : front (l.client).unread ≡ Part;
   empty : l.out.items ≡ [];
   reader_told : told_of l.reader ≡ told_of l.initial.reader;

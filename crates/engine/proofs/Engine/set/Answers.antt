@@ -1,4 +1,3 @@
-use Rattle.std.proofs.Common.{rules, List, ℕ}
 use Rattle.std.proofs.lemmas.Map.Text.{is_eq-slice_cmp}
 use Rattle.engine.specs.Contents.{contents}
 use Rattle.engine.proofs.Engine.set.Goals as goal

@@ -1,4 +1,4 @@
-use Rattle.std.proofs.Common.{ℕ, ◌+◌, ◌≤◌, length, arith, length-take, length-drop}
+use Rattle.std.proofs.Common.{ℕ, arith, length-take, length-drop}
 use Rattle.std.specs.Option.{option_copied}
 use Rattle.records.proofs.There.{listed-IsThere, read-key_length, read-value_length, read-capacity, changed-by_steps}
 use Rattle.records.proofs.entries.overwrite.Goals as goal

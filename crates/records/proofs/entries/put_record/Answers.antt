@@ -1,4 +1,4 @@
-use Rattle.std.proofs.Common.{rules, ◌≡◌, ℕ, List, ◌∙◌, ap, length, arith, sym}
+use Rattle.std.proofs.Common.{rules, ℕ, List, ◌∙◌, ap, length, arith}
 use Rattle.std.specs.Option.{option_copied}
 use Rattle.records.specs.Fields.{u32_bytes}
 use Rattle.records.proofs.After.{put-by_steps, slot-length, slot-blank}

@@ -1,6 +1,5 @@
 use Rattle.std.proofs.Common.{◌+◌, ◌≤◌, rules, refl, arith}
 use Rattle.std.specs.Option.{option_copied}
-use Rattle.records.specs.Read.{shown}
 use Rattle.records.proofs.There.{unlisted, read-listed, read-fields, kind-in_page, kind-in_part}
 use Rattle.records.specs.Records.{IsRecordAt}
 use Rattle.records.proofs.entries.record_at.Goals as goal
@@ -25,7 +24,7 @@ returns-in_err-value-clause-found c = λ was r there.
 pub returns : goal.returns
 returns c =
     let read = read-fields c.args.page.now c.bytes-bytes.result.now _ c.args.offset c.u64_at.result c.u64_at-2.result c.u16_at-key_length.result c.u16_at-value_length.result c.u16_at-capacity.result _ (option_copied c.in_ok-value.value)
-    c.bytes-bytes.ensures.bytes c.u64_at.ensures c.u64_at-2.ensures c.u16_at-key_length.ensures c.u16_at-value_length.ensures c.u16_at-capacity.ensures refl
+    c.bytes-bytes.ensures.bytes c.u64_at.ensures.value c.u64_at-2.ensures.value c.u16_at-key_length.ensures c.u16_at-value_length.ensures c.u16_at-capacity.ensures refl
     refl c.in_ok-value.ensures.1 in
     let within : c.args.offset + 24 + c.u16_at-key_length.result + c.u16_at-value_length.result ≤ 16384 = omega arith in
     let kind = kind-in_page c.args.page.now c.bytes-bytes.result.now c.args.offset c.u16_at-key_length.result c.u16_at-value_length.result c.bytes-bytes.ensures.bytes c.bytes-bytes.ensures.size within c.u16_at-value_length.ensures c.in_ok-value.ensures.0 in

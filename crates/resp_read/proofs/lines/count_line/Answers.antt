@@ -1,4 +1,4 @@
-use Rattle.std.proofs.Common.{arith, refl, ◌≡◌, ◌∷◌, ◌-◌, List, ℕ, take, drop, get_or, length, sym}
+use Rattle.std.proofs.Common.{arith, refl, ◌-◌, List, ℕ, take, drop, length}
 use Rattle.std.proofs.lemmas.List.{take_rest}
 use Rattle.resp_read.proofs.Numbers.{bytes_by_sign, front_of_nothing, front_without_star, count_part, count_no_digit, count_bad_digit, count_more, count_ends}
 use Rattle.resp_read.proofs.lines.count_line.Goals as goal

@@ -1,4 +1,4 @@
-use Rattle.std.proofs.Common.{arith, refl, ◌≡◌, ◌∷◌, ◌-◌, List, ℕ, take, drop, get_or, length, sym}
+use Rattle.std.proofs.Common.{arith, refl, ◌-◌, List, ℕ, take, drop, length}
 use Rattle.std.proofs.lemmas.List.{take_rest}
 use Rattle.resp_read.proofs.Numbers.{bytes_by_sign, word_of_nothing, word_without_dollar, length_part, length_no_digit, length_leading_zero, length_too_long, length_too_large, length_more, length_ends}
 use Rattle.resp_read.proofs.lines.length_line.Goals as goal

@@ -1,4 +1,4 @@
-use Rattle.std.proofs.Common.{arith, ◌≡◌, ◌∙◌, sym, ◌-◌, List, ℕ, ap, take, drop, length}
+use Rattle.std.proofs.Common.{◌∙◌, sym, ℕ, ap}
 use Rattle.std.proofs.lemmas.List.{take_rest}
 use Rattle.words.specs.Stream.{front_from, Word, Data}
 use Rattle.resp_read.proofs.ScanLemmas.{word_due_front, data_due_front, count_goes, data_goes, request_scanned}

@@ -10,7 +10,7 @@ pub slice_bounds-from_slice-end : goal.slice_bounds-from_slice-end
 slice_bounds-from_slice-end c =
     let e = c.in-Number.ensures in
     let within : c.in-Number.start + c.in-Number.length + 2 ≤ length c.args.bytes.now =
-      word_within c.args.bytes.now c.requires.word c.requires.more c.in-Number.length c.in-Number.start e.0 e.1 c.requires.short c.requires.begins in
+    word_within c.args.bytes.now c.requires.word c.requires.more c.in-Number.length c.in-Number.start e.0 e.1 c.requires.short c.requires.begins in
     omega arith
 
 pub returns-in_err-word-clause-inline : goal.returns-in_err-word-clause-inline

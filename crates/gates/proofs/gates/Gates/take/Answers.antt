@@ -1,4 +1,4 @@
-use Rattle.std.proofs.Common.{◌≡◌, ◌∙◌, ◌++◌, ◌∷◌, [], sym, ap, subst, append_assoc, List, ℕ}
+use Rattle.std.proofs.Common.{◌≡◌, ◌∙◌, ◌++◌, ◌∷◌, [], sym, ap, subst, append_assoc, append-nil, refl, List, ℕ}
 use Rattle.gates.specs.Sets.{times, AreBelow}
 use Rattle.gates.specs.Passes.{known, parts_in, stripes_in, stripes_among, stripes_of}
 use Rattle.gates.proofs.Bits.{times_rising}
@@ -28,7 +28,16 @@ loop-stripe-preserved g c =
       below.1,
     )
 
-pub returns-clause-stripes : goal.returns-clause-stripes
-returns-clause-stripes g c =
-    parts_are (parts_in c.loop-stripe.pass) c.args.stripes.now
-    (c.loop-stripe.invariant.3 ∙ ap (λ (l : List ℕ). stripes_in c.loop-stripe.pass ++ l) c.in_default.ensures.first)
+pub returns : goal.returns
+returns g c =
+    let i = c.loop-stripe.invariant in
+    let is : c.args.stripes.now ≡ stripes_in c.loop-stripe.pass ++ [] = i.3 ∙ ap (λ (l : List ℕ). stripes_in c.loop-stripe.pass ++ l) c.in_default.ensures.first in
+    record {
+      gates_are = refl;
+      pass_is = refl;
+      is_open = record { holding = i.0; order = sym (is ∙ append-nil (stripes_in c.loop-stripe.pass)) ∙ sym c.again.ensures ∙ sym c.of.ensures };
+      has = parts_are (parts_in c.loop-stripe.pass) c.args.stripes.now is;
+      learned = i.2;
+      fit = i.1;
+      fresh = refl;
+    }

@@ -6,7 +6,7 @@ use Rattle.gates.specs.declared.view.View.{View}
 use Rattle.gates.specs.Plays.{own, Took, Missed}
 use Rattle.gates.specs.Passes.{AllFit, IsSeatOf, Learned}
 use Rattle.gates.proofs.Steps.{tries_at}
-use Rattle.gates.proofs.Holding.{took_seat, took_parts, took_knows, took_fit, missed_seat, missed_parts, missed_knows, missed_fit}
+use Rattle.gates.proofs.Holding.{took_seat, took_parts, took_knows, took_notes, took_fit, missed_seat, missed_parts, missed_knows, missed_fit}
 use Rattle.gates.proofs.gates.Gates.try_stripe.Goals as goal
 
 pub compare_exchange-found-requires : goal.compare_exchange-found-requires
@@ -65,6 +65,7 @@ returns g c =
       fit = subst (λ y. AllFit contents n (own y.0).seen y.1) (sym turn) (took_fit contents n pass.number i m w h.seat c.requires.below none_held took c.requires.fit);
       taken = λ _. (
         subst (λ y. Learned (own m.0) (own y.0)) (sym turn) (took_knows contents n pass.number i m w h.seat c.requires.below none_held took),
+        ap (λ y. (own y.0).notes) turn ∙ took_notes contents n pass.number i m w h.seat c.requires.below none_held took,
         (took.part, ap (λ y. y.1) turn ∙ took_parts contents n pass.number i m w h.seat c.requires.below none_held took),
       );
       missed = λ e. absurd (true≢false e);

@@ -1,4 +1,4 @@
-use Rattle.std.proofs.Common.{◌≡◌, ℕ, List, ◌++◌, drop, length, replicate, ap, ◌∙◌, sym, subst, rules, arith}
+use Rattle.std.proofs.Common.{◌≡◌, ℕ, List, sym, subst, rules, arith}
 use Rattle.records.specs.Page.{empty_page}
 use Rattle.records.proofs.After.{IsEmpty, empty_page-IsEmpty}
 use Rattle.records.proofs.pages.Page.new.Goals as goal

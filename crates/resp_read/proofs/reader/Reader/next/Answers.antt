@@ -1,4 +1,4 @@
-use Rattle.std.proofs.Common.{◌≡◌, ◌∙◌, List, ℕ, ap, sym, take, drop}
+use Rattle.std.proofs.Common.{◌∙◌, List, ℕ, ap, sym, take, drop}
 use Rattle.words.specs.Stream.{Whole}
 use Rattle.resp_read.proofs.TakeLemmas.{needs_memory_in_front, whole_in_front}
 use Rattle.resp_read.proofs.reader.Reader.next.Goals as goal

@@ -1,9 +1,0 @@
-pub mod Numbers
-pub mod Spelling
-pub mod Filled
-pub mod Headers
-pub mod Lists
-pub mod Rewritten
-pub mod Laid
-pub mod After
-pub mod There

@@ -1,5 +1,0 @@
-pub mod Fields
-pub mod Page
-pub mod Records
-pub mod Read
-pub mod Lends

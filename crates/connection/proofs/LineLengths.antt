@@ -1,0 +1,35 @@
+-- How long a line is.
+use Rattle.std.proofs.Common.{◌≡◌, ◌≤◌, ◌+◌, ◌++◌, length, arith, length-append, lit≤}
+use Rattle.words.specs.declared.reply.Line.{Line}
+use Rattle.words.specs.declared.reply.Line.TheVariants.{Done, Pong, Refused, Faulty, Malformed}
+use Rattle.words.specs.declared.reply.Refusal.TheVariants.{UnknownCommand, WrongArity, Syntax, KeyTooLong, WritesTooMuch}
+use Rattle.words.specs.declared.reply.Fault.TheVariants.{OutOfMemory}
+use Rattle.words.specs.declared.reply.ProtocolFault.TheVariants.{ExpectedArray, BadCount, ExpectedBulk, BadLength, MissingLineEnd, RequestTooLarge}
+use Rattle.words.specs.declared.reply.Reply.{Reply}
+use Rattle.words.specs.Lines.{line_text}
+use Rattle.words.specs.Spelling.{crlf}
+use Rattle.words.specs.Encoding.{encoding, command_reply_encoding, item_encoding}
+use Rattle.words.specs.Session.{line_reply}
+use Rattle.connection.specs.Lines.{IsLine}
+
+-- a line's text has at most 64 bytes
+line_text-len : (line : Line) → length (line_text line) ≤ 64
+line_text-len Done = lit≤ tt
+line_text-len Pong = lit≤ tt
+line_text-len (Refused UnknownCommand) = lit≤ tt
+line_text-len (Refused WrongArity) = lit≤ tt
+line_text-len (Refused Syntax) = lit≤ tt
+line_text-len (Refused KeyTooLong) = lit≤ tt
+line_text-len (Refused WritesTooMuch) = lit≤ tt
+line_text-len (Faulty OutOfMemory) = lit≤ tt
+line_text-len (Malformed ExpectedArray) = lit≤ tt
+line_text-len (Malformed BadCount) = lit≤ tt
+line_text-len (Malformed ExpectedBulk) = lit≤ tt
+line_text-len (Malformed BadLength) = lit≤ tt
+line_text-len (Malformed MissingLineEnd) = lit≤ tt
+line_text-len (Malformed RequestTooLarge) = lit≤ tt
+
+-- with its line end at most 66
+pub line_len : (reply : Reply) → IsLine reply → length (encoding reply) ≤ 66
+unfolding encoding command_reply_encoding item_encoding
+line_len reply is = rw is.1 (simp length-append (omega (arith, line_text-len is.0)))

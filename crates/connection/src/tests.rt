@@ -1,0 +1,493 @@
+//! Connections over streams in memory.
+
+use crate::noted::{Noted, Told, WriteFault};
+use crate::resp_write::{encode, encode_within, send};
+use crate::serving::{Ended, serve};
+use engine::{Engine, Pass};
+use std::alloc::{AllocError, Global};
+use std::io;
+use std::io::{ErrorKind, Read, Write};
+use std::process::Abort;
+use std::test::Fail;
+use words::limits::Limits;
+use words::reply::{CommandReplies, CommandReply, Item, Items, Line, Refusal, Reply};
+use words::word::Word;
+
+/// A reader over bytes in memory.
+#[derive(Drop)]
+struct Source<'a> {
+    bytes: &'a [u8],
+    /// The most bytes that a read gives.
+    most: usize,
+    /// How many bytes are given before reads fail, if they do.
+    fails_after: Option<usize>,
+    /// Whether each other read is interrupted.
+    interrupts: bool,
+    interrupted: bool,
+}
+
+impl Source<'_> {
+    /// All bytes, in reads of at most so many.
+    fn new(bytes: &[u8], most: usize) -> Source<'_> {
+        Source {
+            bytes,
+            most,
+            fails_after: None,
+            interrupts: false,
+            interrupted: false,
+        }
+    }
+}
+
+impl Read for Source<'_> {
+    fn read(&mut self, buffer: &mut [u8]) -> io::Result<usize> {
+        self.interrupted = self.interrupts && !self.interrupted;
+        if self.interrupted {
+            return Err(ErrorKind::Interrupted.into());
+        }
+        let mut count = self.bytes.len().min(self.most).min(buffer.len());
+        if let Some(left) = self.fails_after {
+            if left == 0 {
+                return Err(ErrorKind::ConnectionReset.into());
+            }
+            count = count.min(left);
+            self.fails_after = Some(left - count);
+        }
+        let bytes = self.bytes;
+        let (front, back) = bytes.split_at(count);
+        buffer[..count].copy_from_slice(front);
+        self.bytes = back;
+        Ok(count)
+    }
+}
+
+/// A writer into memory.
+#[derive(Drop)]
+struct Sink {
+    text: Vec<u8>,
+    /// The most bytes that a write takes.
+    most: usize,
+    /// How many bytes are taken before writes fail, if they do.
+    fails_after: Option<usize>,
+    /// Whether each other write is interrupted.
+    interrupts: bool,
+    interrupted: bool,
+    /// How many writes took bytes.
+    writes: u64,
+}
+
+impl Sink {
+    /// It takes all, in writes of at most so many bytes.
+    fn new(alloc: Global, most: usize) -> Result<Sink, AllocError> {
+        Ok(Sink {
+            text: Vec::with_capacity(alloc, 262_144)?,
+            most,
+            fails_after: None,
+            interrupts: false,
+            interrupted: false,
+            writes: 0,
+        })
+    }
+}
+
+impl Write for Sink {
+    fn write(&mut self, bytes: &[u8]) -> io::Result<usize> {
+        self.interrupted = self.interrupts && !self.interrupted;
+        if self.interrupted {
+            return Err(ErrorKind::Interrupted.into());
+        }
+        let mut count = bytes.len().min(self.most);
+        if let Some(left) = self.fails_after {
+            if left == 0 {
+                return Err(ErrorKind::BrokenPipe.into());
+            }
+            count = count.min(left);
+            self.fails_after = Some(left - count);
+        }
+        self.text.extend_from_slice(&bytes[..count])?;
+        self.writes = self.writes.saturating_add(1);
+        Ok(count)
+    }
+
+    fn flush(&mut self) -> io::Result<()> {
+        Ok(())
+    }
+}
+
+/// What a connection wrote, and how it ended.
+#[derive(Drop)]
+struct Outcome {
+    text: Vec<u8>,
+    writes: u64,
+    ended: Ended,
+    told: (Told, Told),
+}
+
+/// An empty engine, and one of its passes.
+fn engine(alloc: Global) -> Result<(Engine, Pass), AllocError> {
+    let (engine, mut passes) = Engine::new(alloc, &Limits::default())?;
+    let pass = passes.pop().ok_or(AllocError)?;
+    Ok((engine, pass))
+}
+
+/// Serves a connection over a new engine.
+fn run(alloc: Global, source: Source<'_>, sink: Sink) -> Result<Outcome, AllocError> {
+    let (mut engine, pass) = engine(alloc)?;
+    let mut reader = Noted::new(source);
+    let mut writer = Noted::new(sink);
+    let (_pass, ended) = serve(alloc, &mut reader, &mut writer, &mut engine, pass);
+    let told = (reader.told(), writer.told());
+    let sink = writer.into_inner();
+    Ok(Outcome {
+        text: sink.text,
+        writes: sink.writes,
+        ended,
+        told,
+    })
+}
+
+/// Appends the spelling of a request.
+fn spell(input: &mut Vec<u8>, words: &[&[u8]]) -> Result<(), AllocError> {
+    let alloc = *input.allocator();
+    input.extend_from_slice(format!(in alloc; "*{}\r\n", words.len())?.as_bytes())?;
+    for word in words {
+        input.extend_from_slice(format!(in alloc; "${}\r\n", word.len())?.as_bytes())?;
+        input.extend_from_slice(word)?;
+        input.extend_from_slice(b"\r\n")?;
+    }
+    Ok(())
+}
+
+const PING: &[u8] = b"*1\r\n$4\r\nPING\r\n";
+
+/// SET of a value that looks like the beginning of a request: 31 bytes.
+const SET: &[u8] = b"*3\r\n$3\r\nSET\r\n$1\r\nk\r\n$5\r\na\r\n*1\r\n";
+
+const SET_AND_GET: &[u8] =
+    b"*3\r\n$3\r\nSET\r\n$1\r\nk\r\n$5\r\na\r\n*1\r\n*2\r\n$3\r\nGET\r\n$1\r\nk\r\n*2\r\n$3\r\nGE";
+
+const SET_AND_GET_ANSWER: &[u8] = b"+OK\r\n$5\r\na\r\n*1\r\n";
+
+/// Input, text and ending of some connections.
+const ROWS: [(&[u8], &[u8], Ended); 14] = [
+    (PING, b"+PONG\r\n", Ended::EndOfInput),
+    (b"", b"", Ended::EndOfInput),
+    (SET_AND_GET, SET_AND_GET_ANSWER, Ended::EndOfInput),
+    (
+        b"*1\r\n$04\r\nPING\r\n",
+        b"-ERR Protocol error: bad length\r\n",
+        Ended::ProtocolFault,
+    ),
+    (b"*2\r\n$3\r\nGET\r\n$1\r\n", b"", Ended::EndOfInput),
+    (
+        b"*129",
+        b"-ERR Protocol error: bad count\r\n",
+        Ended::ProtocolFault,
+    ),
+    (
+        b"*1\r\n$4\r\nPING\r\nPING\r\n",
+        b"+PONG\r\n-ERR Protocol error: expected '*'\r\n",
+        Ended::ProtocolFault,
+    ),
+    (
+        b"*2\r\n$4\r\nping\r\n$2\r\nhi\r\n",
+        b"$2\r\nhi\r\n",
+        Ended::EndOfInput,
+    ),
+    (
+        b"*4\r\n$3\r\nSET\r\n$1\r\nm\r\n$1\r\nv\r\n$2\r\nXX\r\n*2\r\n$3\r\nGET\r\n$1\r\nm\r\n",
+        b"-ERR syntax error\r\n$-1\r\n",
+        Ended::EndOfInput,
+    ),
+    (
+        b"*2\r\n$7\r\nCOMMAND\r\n$4\r\nDOCS\r\n*1\r\n$4\r\nPING\r\n",
+        b"-ERR unknown command\r\n+PONG\r\n",
+        Ended::EndOfInput,
+    ),
+    (
+        b"*1\r\n$3\r\nGET\r\n*1\r\n$4\r\nPING\r\n",
+        b"-ERR wrong number of arguments\r\n+PONG\r\n",
+        Ended::EndOfInput,
+    ),
+    (
+        b"*3\r\n$4\r\nPING\r\n$1\r\na\r\n$1\r\nb\r\n",
+        b"-ERR wrong number of arguments\r\n",
+        Ended::EndOfInput,
+    ),
+    (
+        b"*3\r\n$3\r\nset\r\n$1\r\na\r\n$0\r\n\r\n*2\r\n$3\r\ngEt\r\n$1\r\na\r\n",
+        b"+OK\r\n$0\r\n\r\n",
+        Ended::EndOfInput,
+    ),
+    (
+        b"*1\r\n$4\r\nPINGxx",
+        b"-ERR Protocol error: missing line end\r\n",
+        Ended::ProtocolFault,
+    ),
+];
+
+/// The rows answer so however the input is cut, whatever the writer takes at a time, and where calls
+/// are interrupted. None meets a fault.
+#[test]
+fn ample_memory_answers(rt: HostRuntime) -> Result<(), Fail> {
+    let alloc = rt.alloc();
+    for (input, text, ended) in ROWS {
+        for most in [16_384, 31, 7, 1] {
+            for interrupts in [false, true] {
+                let mut source = Source::new(input, most);
+                source.interrupts = interrupts;
+                let mut sink = Sink::new(alloc, most)?;
+                sink.interrupts = interrupts;
+                let outcome = run(alloc, source, sink)?;
+                assert_eq!(rt; outcome.text.as_slice(), text, "{input:?} by {most}");
+                assert_eq!(rt; outcome.ended, ended, "{input:?} by {most}");
+            }
+        }
+    }
+    Ok(())
+}
+
+/// The replies of one read take one write.
+#[test]
+fn one_write_for_one_read(rt: HostRuntime) -> Result<(), Fail> {
+    let alloc = rt.alloc();
+    let mut input = Vec::new(alloc);
+    for _ in 0..64 {
+        input.extend_from_slice(PING)?;
+    }
+    let outcome = run(
+        alloc,
+        Source::new(&input, 16_384),
+        Sink::new(alloc, 16_384)?,
+    )?;
+    assert_eq!(rt; outcome.writes, 1);
+    assert_eq!(rt; outcome.text.len(), 64 * 7);
+    let outcome = run(
+        alloc,
+        Source::new(&input, PING.len()),
+        Sink::new(alloc, 16_384)?,
+    )?;
+    assert_eq!(rt; outcome.writes, 64);
+    Ok(())
+}
+
+/// Words at the limits and past them.
+#[test]
+fn long_words(rt: HostRuntime) -> Result<(), Fail> {
+    let alloc = rt.alloc();
+    let long = vec![in alloc; b'x'; 8_192]?;
+    let mut input = Vec::new(alloc);
+    spell(&mut input, &[b"GET", &long[..513]])?;
+    spell(&mut input, &[b"SET", &long[..512], &long])?;
+    for _ in 0..20 {
+        spell(&mut input, &[b"GET", &long[..512]])?;
+    }
+    let mut text = Vec::from_slice(alloc, b"-ERR key is too long\r\n+OK\r\n")?;
+    for _ in 0..20 {
+        text.extend_from_slice(b"$8192\r\n")?;
+        text.extend_from_slice(&long)?;
+        text.extend_from_slice(b"\r\n")?;
+    }
+    let outcome = run(
+        alloc,
+        Source::new(&input, 16_384),
+        Sink::new(alloc, 100_000)?,
+    )?;
+    assert!(rt; outcome.text == text);
+    assert_eq!(rt; outcome.ended, Ended::EndOfInput);
+
+    let mut large = Vec::from_slice(alloc, b"*9\r\n")?;
+    for _ in 0..8 {
+        large.extend_from_slice(b"$8192\r\n")?;
+        large.extend_from_slice(&long)?;
+        large.extend_from_slice(b"\r\n")?;
+    }
+    large.extend_from_slice(b"$1")?;
+    let outcome = run(
+        alloc,
+        Source::new(&large, 16_384),
+        Sink::new(alloc, 16_384)?,
+    )?;
+    assert_eq!(rt;
+        outcome.text.as_slice(),
+        b"-ERR Protocol error: request too large\r\n".as_slice()
+    );
+    assert_eq!(rt; outcome.ended, Ended::ProtocolFault);
+    Ok(())
+}
+
+/// A read that fails after a complete request: it is answered, and the answer is written.
+#[test]
+fn a_read_that_fails(rt: HostRuntime) -> Result<(), Fail> {
+    let alloc = rt.alloc();
+    let mut source = Source::new(SET_AND_GET, 16_384);
+    source.fails_after = Some(SET.len());
+    let outcome = run(alloc, source, Sink::new(alloc, 16_384)?)?;
+    assert_eq!(rt; outcome.text.as_slice(), b"+OK\r\n".as_slice());
+    assert_eq!(rt; outcome.ended, Ended::ReadFailed);
+    assert_eq!(rt; outcome.told, (Told::Failure, Told::Nothing));
+    Ok(())
+}
+
+/// A write that fails after each number of bytes, or takes none: a beginning of the text is written.
+#[test]
+fn a_write_that_fails(rt: HostRuntime) -> Result<(), Fail> {
+    let alloc = rt.alloc();
+    for (input, text, ended) in ROWS {
+        for room in 0..text.len() {
+            for most in [16_384, 1] {
+                let mut sink = Sink::new(alloc, most)?;
+                sink.fails_after = Some(room);
+                let outcome = run(alloc, Source::new(input, 16_384), sink)?;
+                assert_eq!(rt;
+                    outcome.text.as_slice(),
+                    &text[..room],
+                    "{input:?} at {room}"
+                );
+                assert_eq!(rt; outcome.ended, Ended::WriteFailed, "{input:?} at {room}");
+                assert_eq!(rt; outcome.told, (Told::Nothing, Told::Failure));
+            }
+        }
+        let outcome = run(alloc, Source::new(input, 16_384), Sink::new(alloc, 0)?)?;
+        assert_eq!(rt; outcome.text.len(), 0);
+        let wanted = if text.is_empty() {
+            ended
+        } else {
+            Ended::WriteFailed
+        };
+        assert_eq!(rt; outcome.ended, wanted, "{input:?}");
+    }
+    Ok(())
+}
+
+/// What comes after the first reply of a text: that reply, or the line of want of memory.
+fn after_reply<'a>(text: &'a [u8], reply: &[u8]) -> Option<(bool, &'a [u8])> {
+    if let Some(rest) = text.strip_prefix(reply) {
+        return Some((true, rest));
+    }
+    match text.strip_prefix(b"-OOM out of memory\r\n") {
+        Some(rest) => Some((false, rest)),
+        None => None,
+    }
+}
+
+/// Where an allocation is refused (`rt try --test --fail-alloc`), each request has its reply or the
+/// line of want of memory, in order, or the connection ends before it. No reply is lost or doubled.
+#[test]
+fn a_refused_allocation(rt: HostRuntime) -> Result<(), Fail> {
+    let alloc = rt.alloc();
+    let Ok(sink) = Sink::new(alloc, 16_384) else {
+        return Ok(());
+    };
+    let input =
+        b"*3\r\n$3\r\nSET\r\n$24\r\nkkkkkkkkkkkkkkkkkkkkkkkk\r\n$30\r\nvvvvvvvvvvvvvvvvvvvvvvvvvvvvvv\r\n*2\r\n$3\r\nGET\r\n$24\r\nkkkkkkkkkkkkkkkkkkkkkkkk\r\n*2\r\n$4\r\nPING\r\n$25\r\nttttttttttttttttttttttttt\r\n";
+    let Ok(outcome) = run(alloc, Source::new(input, 100), sink) else {
+        return Ok(());
+    };
+    let value = b"$30\r\nvvvvvvvvvvvvvvvvvvvvvvvvvvvvvv\r\n".as_slice();
+    let mut rest = outcome.text.as_slice();
+    let mut answered = 0;
+    let mut stored = false;
+    if let Some((done, more)) = after_reply(rest, b"+OK\r\n") {
+        stored = done;
+        rest = more;
+        answered = 1;
+        let wanted = if stored { value } else { b"$-1\r\n" };
+        if let Some((_, more)) = after_reply(rest, wanted) {
+            rest = more;
+            answered = 2;
+            if let Some((done, more)) = after_reply(rest, b"$25\r\nttttttttttttttttttttttttt\r\n") {
+                assert!(rt; done);
+                rest = more;
+                answered = 3;
+            }
+        }
+    }
+    assert_eq!(rt; rest.len(), 0);
+    if answered == 3 {
+        assert_eq!(rt; outcome.ended, Ended::EndOfInput);
+    } else {
+        assert_eq!(rt; outcome.ended, Ended::NoMemory);
+    }
+    Ok(())
+}
+
+/// The replies of each form.
+fn replies(alloc: Global) -> Result<Vec<(Reply, &'static [u8])>, AllocError> {
+    let line = |line| Reply::Single(CommandReply::One(Item::Line(line)));
+    let mut items = Vec::new(alloc);
+    items.push(Item::Bulk(Word::from_slice(alloc, b"2")?))?;
+    items.push(Item::Null)?;
+    items.push(Item::Integer(i64::MIN))?;
+    let mut answers = Vec::new(alloc);
+    answers.push(CommandReply::One(Item::Line(Line::Done)))?;
+    answers.push(CommandReply::Array(Items::from_vec(items)))?;
+    answers.push(CommandReply::One(Item::Integer(2)))?;
+    let mut all = Vec::new(alloc);
+    all.push((line(Line::Pong), b"+PONG\r\n".as_slice()))?;
+    all.push((
+        line(Line::Refused(Refusal::KeyTooLong)),
+        b"-ERR key is too long\r\n".as_slice(),
+    ))?;
+    all.push((
+        Reply::Single(CommandReply::One(Item::Integer(0))),
+        b":0\r\n".as_slice(),
+    ))?;
+    all.push((
+        Reply::Single(CommandReply::One(Item::Bulk(Word::from_slice(alloc, b"a\r\n*1")?))),
+        b"$5\r\na\r\n*1\r\n".as_slice(),
+    ))?;
+    all.push((
+        Reply::Single(CommandReply::One(Item::Null)),
+        b"$-1\r\n".as_slice(),
+    ))?;
+    all.push((Reply::NullArray, b"*-1\r\n".as_slice()))?;
+    all.push((
+        Reply::Array(CommandReplies::from_vec(answers)),
+        b"*3\r\n+OK\r\n*3\r\n$1\r\n2\r\n$-1\r\n:-9223372036854775808\r\n:2\r\n".as_slice(),
+    ))?;
+    Ok(all)
+}
+
+/// Each reply is encoded into an empty vector, into one with room and not into one without, and sent.
+#[test]
+fn replies_are_encoded_and_sent(rt: HostRuntime) -> Result<(), Fail> {
+    let alloc = rt.alloc();
+    for (reply, text) in replies(alloc)?.iter() {
+        let mut out = Vec::new(alloc);
+        encode(reply, &mut out)?;
+        assert_eq!(rt; out.as_slice(), *text);
+        let mut out = Vec::with_capacity(alloc, text.len())?;
+        assert!(rt; encode_within(reply, &mut out));
+        assert_eq!(rt; out.as_slice(), *text);
+        assert!(rt; !encode_within(reply, &mut out));
+        assert_eq!(rt; out.as_slice(), *text);
+        for room in 0..text.len() {
+            let mut sink = Sink::new(alloc, 3)?;
+            sink.fails_after = Some(room);
+            let mut writer = Noted::new(sink);
+            assert_eq!(rt; send(reply, &mut writer), Err(WriteFault));
+            assert_eq!(rt; writer.into_inner().text.as_slice(), &text[..room]);
+        }
+        let mut writer = Noted::new(Sink::new(alloc, 3)?);
+        assert_eq!(rt; send(reply, &mut writer), Ok(()));
+        assert_eq!(rt; writer.into_inner().text.as_slice(), *text);
+    }
+    Ok(())
+}
+
+/// The numbers by which endings are listed.
+#[test]
+fn endings_have_numbers(rt: HostRuntime) {
+    let all = [
+        Ended::EndOfInput,
+        Ended::Quit,
+        Ended::ProtocolFault,
+        Ended::ReadFailed,
+        Ended::WriteFailed,
+        Ended::NoMemory,
+    ];
+    for (place, ended) in all.into_iter().enumerate() {
+        assert_eq!(rt; usize::from(ended.number()), place + 1);
+    }
+}

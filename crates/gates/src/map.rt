@@ -1,0 +1,188 @@
+//! Ordered maps as parts, and the calls of one key over them.
+
+ghost use Rattle.std.specs.Prelude.{◌≡◌, ◌<◌, ◌≤◌, ◌+◌, ◌∷◌, [], ℕ, List, length, IfOk, IfErr, OnOk, OnErr, IsSome, Some, None, Ok, option_copied};
+ghost use Rattle.std.specs.Map.{update};
+ghost use Rattle.std.specs.Str.{bytes_eq};
+ghost use Rattle.words.specs.declared.command.Command.TheVariants.{Set};
+ghost use Rattle.words.specs.declared.history.Operation.TheVariants.{Run};
+ghost use Rattle.gates.specs.Passes.{IsResting, known};
+ghost use Rattle.gates.specs.Calls.{set_entry};
+ghost use Rattle.words.specs.declared.limits.TheConstants.{WEIGHT_MAX, WEIGHT_OF_KEY};
+
+use crate::gates::{CommitsWornOut, Gates, Pass};
+use crate::keys::stripe_of;
+use crate::latch::{Latch, Point};
+use crate::part::{Part, Parts};
+use crate::sorted::Sorted;
+use std::alloc::Global;
+use std::collections::BTreeMap;
+use std::sync::Wait;
+use words::command::Command;
+use words::history::Operation;
+use words::reply::{CommandReply, Item, Line, Reply};
+use words::word::{OutOfMemory, Word};
+
+/// A part that is an ordered map. A key may have a place in it before it has a value.
+#[derive(Drop)]
+pub struct MapPart {
+    map: BTreeMap<Word, Option<Word>>,
+}
+
+impl Part for MapPart {
+    ghost use Rattle.gates.specs.Maps.{map_contents};
+
+    ghost contents = { map_contents };
+}
+
+impl MapPart {
+    ghost use Rattle.gates.specs.Maps.{map_contents, has_place};
+
+    /// A part with no key.
+    #[tactic(auto, unfolding(crate::specs::Maps::map_contents, crate::specs::Maps::has_place))]
+    pub fn new(alloc: Global) -> MapPart
+        ensures { (key : List ℕ) → map_contents result key ≡ None }
+    {
+        MapPart {
+            map: BTreeMap::new(alloc),
+        }
+    }
+
+    /// Makes a place for a key. Its value stays.
+    #[tactic(auto, unfolding(crate::specs::Maps::map_contents, crate::specs::Maps::has_place))]
+    pub fn reserve(&mut self, key: Word) -> Result<(), OutOfMemory>
+        ensures same { (k : List ℕ) → map_contents self.new k ≡ map_contents self.old k }
+        ensures place { OnOk result (has_place self.new key) }
+    {
+        if !self.map.contains_key(&key) {
+            self.map.insert(key, None)?;
+        }
+        Ok(())
+    }
+
+    /// Gives a key that has a place this value.
+    #[tactic(auto, unfolding(crate::specs::Maps::map_contents, crate::specs::Maps::has_place))]
+    pub fn put(&mut self, key: Word, value: Word)
+        requires { has_place self.old key }
+        ensures { (k : List ℕ) → map_contents self.new k ≡ update bytes_eq (map_contents self.old) key (Some value) k }
+    {
+        let Ok(_) = self.map.insert(key, Some(value)) else {
+            unreachable!()
+        };
+    }
+
+    /// The value of a key.
+    #[tactic(auto, unfolding(crate::specs::Maps::map_contents, crate::specs::Maps::has_place))]
+    pub fn get(&self, key: &Word) -> Option<&Word>
+        ensures { option_copied result ≡ map_contents self.now key.now }
+    {
+        match self.map.get(key) {
+            Some(Some(value)) => Some(value),
+            _ => None,
+        }
+    }
+}
+
+/// Why a SET was not done. Nothing was changed.
+#[derive(Clone, Copy, Debug, PartialEq, Eq)]
+pub enum SetFault {
+    /// There was no memory for the key.
+    OutOfMemory,
+    /// The commit word was read at 2^62 or more.
+    CommitsWornOut,
+}
+
+/// The words of a SET, with what it commits.
+#[derive(Drop)]
+pub struct SetCall {
+    room: Word,
+    key: Word,
+    value: Word,
+    operation: Operation,
+    ghost same: { room ≡ key },
+    ghost set: { operation ≡ Run (Set key value) },
+}
+
+impl SetCall {
+    /// A SET of these words.
+    pub fn new(key: &Word, value: &Word) -> Result<SetCall, OutOfMemory>
+        ensures { IfOk result (λ call. (call.key ≡ key.now) × (call.value ≡ value.now)) }
+    {
+        let operation = Operation::Run(Command::Set(key.clone()?, value.clone()?));
+        let room = key.clone()?;
+        let key = key.clone()?;
+        let value = value.clone()?;
+        Ok(SetCall {
+            room,
+            key,
+            value,
+            operation,
+        })
+    }
+}
+
+/// Sets a key in one call over the gates: takes its stripe, commits, writes the part, and gives the
+/// stripe back. It says the position of its entry.
+///
+/// # Errors
+///
+/// [`SetFault`]: nothing was committed or changed.
+pub fn set<R: Wait, L: Latch>(
+    rt: &R,
+    latch: &L,
+    gates: &Gates<MapPart>,
+    pass: &mut Pass<MapPart>,
+    call: SetCall,
+) -> Result<u64, SetFault>
+    requires own { IsResting gates.now pass.old }
+    requires light { WEIGHT_OF_KEY + length call.key + length call.value ≤ WEIGHT_MAX }
+    ensures own { IsResting gates.now pass.new }
+    ensures one { IfOk result (λ place. (known pass.new).mine ≡ (place, set_entry (known pass.old).number call.key call.value) ∷ (known pass.old).mine) }
+    ensures none { OnErr result ((known pass.new).mine ≡ (known pass.old).mine) }
+{
+    let number = pass.number();
+    latch.at(number, Point::Before);
+    let outcome = set_between(rt, latch, gates, pass, call);
+    latch.at(number, Point::After);
+    outcome
+}
+
+/// The same, from the take to the give.
+fn set_between<R: Wait, L: Latch>(
+    rt: &R,
+    latch: &L,
+    gates: &Gates<MapPart>,
+    pass: &mut Pass<MapPart>,
+    call: SetCall,
+) -> Result<u64, SetFault>
+    requires own { IsResting gates.now pass.old }
+    requires light { WEIGHT_OF_KEY + length call.key + length call.value ≤ WEIGHT_MAX }
+    ensures own { IsResting gates.now pass.new }
+    ensures one { IfOk result (λ place. (known pass.new).mine ≡ (place, set_entry (known pass.old).number call.key call.value) ∷ (known pass.old).mine) }
+    ensures none { OnErr result ((known pass.new).mine ≡ (known pass.old).mine) }
+{
+    let SetCall {
+        room,
+        key,
+        value,
+        operation,
+    } = call;
+    let stripe = stripe_of(key.as_slice(), gates.stripes());
+    let mut held = gates.take(rt, pass, &Sorted::none().with(stripe));
+    latch.at(held.number(), Point::Holding);
+    if held.part(stripe).reserve(room).is_err() {
+        held.give();
+        return Err(SetFault::OutOfMemory);
+    }
+    let reply = Reply::Single(CommandReply::One(Item::Line(Line::Done)));
+    match held.commit(&operation, &reply) {
+        Err(CommitsWornOut) => {
+            held.give();
+            Err(SetFault::CommitsWornOut)
+        }
+        Ok(place) => {
+            held.part(stripe).put(key, value);
+            held.give();
+            Ok(place)
+        }
+    }
+}
