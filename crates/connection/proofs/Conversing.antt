@@ -1,5 +1,5 @@
 -- A conversation, from one turn to the next.
-use Rattle.std.proofs.Common.{◌≡◌, ℕ, suc, ◌<◌, List, [], ◌∷◌, ◌++◌, length, reverse, Option, Some, None, refl, sym, ap, ◌∙◌, subst, append_assoc, append-nil, arith, inl, inr}
+use Rattle.std.proofs.Common.{◌≡◌, ℕ, ◌<◌, List, [], ◌∷◌, ◌++◌, length, reverse, Option, Some, None, refl, sym, ap, ◌∙◌, append_assoc, append-nil, arith, inl, inr}
 use mathlib.Core.Path.{fun_ext}
 use Rattle.std.proofs.lemmas.Bool.{eq-eqb}
 use Rattle.std.specs.List.{flat_map}
@@ -12,9 +12,9 @@ use Rattle.words.specs.Store.{Bytes, Store}
 use Rattle.words.specs.Spelling.{spelling, spellings, header, AreRequests, IsRequest}
 use Rattle.words.specs.Stream.{front, Part, Faulty}
 use Rattle.words.specs.Encoding.{encoding, encodings}
-use Rattle.words.specs.History.{History, HasPlace, LegalFrom, after_from, due, subhistory}
+use Rattle.words.specs.History.{History, LegalFrom, after_from, due, subhistory}
 use Rattle.words.specs.Session.{Idle, Placed, Transcript}
-use Rattle.connection.specs.Clients.{Standing, start, mode_of, TakesOff}
+use Rattle.connection.specs.Clients.{Standing, start, TakesOff}
 use Rattle.connection.specs.Conversations.{AreOf, Conversation, Answers, AreSame, with_entry, at_place}
 use Rattle.connection.specs.declared.serving.Ended.{Ended}
 use Rattle.connection.specs.declared.serving.Ended.TheVariants as ended

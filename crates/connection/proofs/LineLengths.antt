@@ -1,5 +1,5 @@
 -- How long a line is.
-use Rattle.std.proofs.Common.{◌≡◌, ◌≤◌, ◌+◌, ◌++◌, length, arith, length-append, lit≤}
+use Rattle.std.proofs.Common.{◌≤◌, length, arith, length-append, lit≤}
 use Rattle.words.specs.declared.reply.Line.{Line}
 use Rattle.words.specs.declared.reply.Line.TheVariants.{Done, Pong, Refused, Faulty, Malformed}
 use Rattle.words.specs.declared.reply.Refusal.TheVariants.{UnknownCommand, WrongArity, Syntax, KeyTooLong, WritesTooMuch}
@@ -7,9 +7,7 @@ use Rattle.words.specs.declared.reply.Fault.TheVariants.{OutOfMemory}
 use Rattle.words.specs.declared.reply.ProtocolFault.TheVariants.{ExpectedArray, BadCount, ExpectedBulk, BadLength, MissingLineEnd, RequestTooLarge}
 use Rattle.words.specs.declared.reply.Reply.{Reply}
 use Rattle.words.specs.Lines.{line_text}
-use Rattle.words.specs.Spelling.{crlf}
 use Rattle.words.specs.Encoding.{encoding, command_reply_encoding, item_encoding}
-use Rattle.words.specs.Session.{line_reply}
 use Rattle.connection.specs.Lines.{IsLine}
 
 -- a line's text has at most 64 bytes

@@ -1,14 +1,12 @@
 -- One turn of a session, as a step of its transcript.
 use Rattle.std.proofs.Common.{◌≡◌, ℕ, List, [], ◌∷◌, ◌++◌, Option, Some, None, refl, sym, ap, ◌∙◌, inl, inr}
 use Rattle.words.specs.declared.reply.Reply.{Reply}
-use Rattle.words.specs.declared.reply.Fault.{Fault}
-use Rattle.words.specs.declared.reply.Fault.TheVariants as fault
 use Rattle.words.specs.declared.history.Operation.{Operation}
 use Rattle.words.specs.declared.history.Entry.{Entry}
 use Rattle.words.specs.Store.{Bytes, Store}
 use Rattle.words.specs.Spelling.{spelling}
 use Rattle.words.specs.History.{HasPlace, after_from, due}
-use Rattle.words.specs.Session.{Mode, Idle, Turn, Says, Tries, Calls, turn, Placed, Rest, Follows, Transcript}
+use Rattle.words.specs.Session.{Mode, Turn, Says, Tries, Calls, turn, Placed, Rest, Follows}
 use Rattle.engine.specs.declared.Call.{Call}
 use Rattle.engine.specs.declared.Answer.{Answer}
 use Rattle.engine.specs.declared.Answer.TheVariants as answer

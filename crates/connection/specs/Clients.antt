@@ -1,7 +1,6 @@
 -- What a client does: the core of a connection, between the bytes that it is fed and the calls and replies that it gives.
 use Rattle.std.specs.Prelude.{ℕ, ◌≡◌, ◌⊎◌, List, [], ◌++◌}
 use Rattle.words.specs.declared.reply.Reply.{Reply}
-use Rattle.words.specs.declared.reply.Fault.{Fault}
 use Rattle.words.specs.declared.reply.Fault.TheVariants as fault
 use Rattle.words.specs.declared.reply.Line.TheVariants.{Faulty}
 use Rattle.words.specs.declared.history.Operation.{Operation}
@@ -9,6 +8,7 @@ use Rattle.words.specs.Store.{Bytes}
 use Rattle.words.specs.Spelling.{IsRequest, spelling}
 use Rattle.words.specs.Stream as stream
 use Rattle.words.specs.Session.{Mode, Idle, Turn, Says, Tries, Calls, turn, line_reply}
+use Rattle.resp_read.specs.Taken.{FitInline}
 use Rattle.engine.specs.declared.Call.{Call}
 use Rattle.engine.specs.declared.Answer.{Answer}
 use Rattle.engine.specs.declared.Answer.TheVariants as answer
@@ -70,7 +70,8 @@ IsAsked (Says said after) asked stage = ⊥
 IsAsked (Tries said done faulty) asked stage = ⊥
 IsAsked (Calls operation done faulty) asked stage = (asked ≡ operation) × (stage ≡ Called done faulty)
 
--- What a client that stands so does next, and how it stands then.
+-- What a client that stands so does next, and how it stands then. It finds no memory only for a request of more or longer words than are
+-- held without an allocation.
 abbrev pub Gives : Standing → Next → Standing → Type 0
 Gives old next.Input new = (stream.front old.unread ≡ stream.Part) × (new ≡ old)
 Gives old (next.Says reply) new =
@@ -79,7 +80,8 @@ Gives old (next.Calls call) new =
     (words : List Bytes) × TakesOff old.unread words new.unread × IsAsked (turn (mode_of old.stage) words) (operation_of call) new.stage
 Gives old (next.Malformed fault) new = (stream.front old.unread ≡ stream.Faulty fault) × (new ≡ old)
 Gives old next.OutOfMemory new =
-    (words : List Bytes) × (rest : Bytes) × TakesOff old.unread words rest × ((new ≡ old) ⊎ (new ≡ record old { unread = rest }))
+    (words : List Bytes) × (rest : Bytes) × TakesOff old.unread words rest × ¬ FitInline words
+    × ((new ≡ old) ⊎ (new ≡ record old { unread = rest }))
 
 -- the call that the client makes is such
 abbrev pub IfCalls : Next → (Call → Type 0) → Type 0

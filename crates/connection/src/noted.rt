@@ -40,12 +40,14 @@ pub struct Noted<S> {
 }
 
 impl<S> Noted<S> {
-    ghost use Rattle.connection.specs.Streams.{stream_of, told_of};
+    ghost use Rattle.std.specs.Prelude.{◌-◌, ◌^◌};
+    ghost use Rattle.connection.specs.Streams.{stream_of, told_of, tries_of};
 
     /// The stream, which has told nothing yet.
     pub fn new(stream: S) -> Noted<S>
         ensures stream { stream_of result ≡ stream }
         ensures told { told_of result ≡ Told.Nothing }
+        ensures tries { tries_of result ≡ 2 ^ 64 - 1 }
     {
         Noted {
             stream,

@@ -1,6 +1,6 @@
 //! Serving one connection: what a reader gives is answered by the engine, and the replies go to a writer.
 
-ghost use Rattle.std.specs.Prelude.{◌≡◌, ◌<◌, ℕ, [], ◌++◌, List, length, OnOk, IfNone, is_ok};
+ghost use Rattle.std.specs.Prelude.{◌≡◌, ◌<◌, ℕ, [], ◌++◌, List, length, OnOk, IfOk, IfNone, is_ok};
 ghost use Rattle.words.specs.Encoding.{encoding};
 ghost use Rattle.words.specs.Store.{Store};
 ghost use Rattle.engine.specs.Contents.{contents, pass_number};
@@ -15,7 +15,7 @@ use crate::noted::{Input, Noted, WriteFault};
 use crate::resp_write::{encode_within, send};
 use crate::session::line_as_reply;
 use engine::{Engine, Pass};
-use std::alloc::Global;
+use std::alloc::{AllocError, Global};
 use std::io::{Read, Write};
 use words::reply::{Line, ProtocolFault, Reply};
 
@@ -275,6 +275,13 @@ fn converse<R: Read, W: Write>(
     }
 }
 
+/// A buffer for the pieces that are read.
+fn piece_buffer(alloc: Global) -> Result<Vec<u8>, AllocError>
+    ensures { IfOk result (λ piece. 0 < length piece.items) }
+{
+    vec![in alloc; 0u8; PIECE_BYTES]
+}
+
 /// Serves one connection: reads requests, answers them by the engine, and writes the replies, until
 /// the connection ends. It gives the pass back, and says how the connection ended.
 ///
@@ -306,7 +313,7 @@ pub fn serve<R: Read, W: Write>(
     };
     // More room where memory serves: it saves writes.
     let _ = out.reserve(OUTPUT_BYTES);
-    let Ok(mut piece) = vec![in alloc; 0u8; PIECE_BYTES] else {
+    let Ok(mut piece) = piece_buffer(alloc) else {
         return (pass, Ended::NoMemory);
     };
     let client = Client::new(alloc);

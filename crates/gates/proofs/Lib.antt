@@ -7,3 +7,4 @@ pub mod Seats
 pub mod Turning
 pub mod SetCalls
 pub mod Lasts
+pub mod GetCalls

@@ -1,6 +1,7 @@
 -- Entries of single commands.
 use Rattle.std.specs.Prelude.{ℕ}
-use Rattle.words.specs.declared.command.Command.TheVariants.{Set}
+use Rattle.words.specs.declared.command.Command.TheVariants.{Get, Set}
+use Rattle.words.specs.Commands.{bulk}
 use Rattle.words.specs.declared.reply.Line.TheVariants.{Done}
 use Rattle.words.specs.declared.reply.Item.TheVariants as item
 use Rattle.words.specs.declared.reply.CommandReply.TheVariants.{One}
@@ -8,7 +9,7 @@ use Rattle.words.specs.declared.reply.Reply.{Reply}
 use Rattle.words.specs.declared.reply.Reply.TheVariants.{Single}
 use Rattle.words.specs.declared.history.Operation.TheVariants.{Run}
 use Rattle.words.specs.declared.history.Entry.{Entry}
-use Rattle.words.specs.Store.{Bytes}
+use Rattle.words.specs.Store.{Bytes, Store}
 
 -- the reply of a command that was done
 abbrev pub done : Reply
@@ -17,3 +18,15 @@ done = Single (One (item.Line Done))
 -- the entry of a SET that was done
 abbrev pub set_entry : ℕ → (key value : Bytes) → Entry
 set_entry number key value = record { session = number; operation = Run (Set key value); reply = done }
+
+-- the value of a key in a store, as a reply
+abbrev pub value_in : Store → Bytes → Reply
+value_in store key = Single (bulk (store key))
+
+-- the same of what stands for a store
+abbrev pub value_of_key : {T : Type 0} → (T → Store) → T → Bytes → Reply
+value_of_key contents part key = value_in (contents part) key
+
+-- the entry of a GET
+abbrev pub get_entry : ℕ → (key : Bytes) → Reply → Entry
+get_entry number key reply = record { session = number; operation = Run (Get key); reply = reply }

@@ -3,10 +3,11 @@
 ghost use Rattle.std.specs.Prelude.{◌≡◌, ◌<◌, ◌≤◌, ◌+◌, ◌∷◌, [], ℕ, List, length, IfOk, IfErr, OnOk, OnErr, IsSome, Some, None, Ok, option_copied};
 ghost use Rattle.std.specs.Map.{update};
 ghost use Rattle.std.specs.Str.{bytes_eq};
-ghost use Rattle.words.specs.declared.command.Command.TheVariants.{Set};
+ghost use Rattle.words.specs.declared.command.Command.TheVariants.{Get, Set};
 ghost use Rattle.words.specs.declared.history.Operation.TheVariants.{Run};
 ghost use Rattle.gates.specs.Passes.{IsResting, known};
-ghost use Rattle.gates.specs.Calls.{set_entry};
+ghost use Rattle.gates.specs.Calls.{set_entry, get_entry, value_of_key};
+ghost use Rattle.gates.specs.Maps.{map_contents};
 ghost use Rattle.words.specs.declared.limits.TheConstants.{WEIGHT_MAX, WEIGHT_OF_KEY};
 
 use crate::gates::{CommitsWornOut, Gates, Pass};
@@ -82,10 +83,10 @@ impl MapPart {
     }
 }
 
-/// Why a SET was not done. Nothing was changed.
+/// Why a call was not done. Nothing was changed.
 #[derive(Clone, Copy, Debug, PartialEq, Eq)]
-pub enum SetFault {
-    /// There was no memory for the key.
+pub enum CallFault {
+    /// There was no memory for the key or for the reply.
     OutOfMemory,
     /// The commit word was read at 2^62 or more.
     CommitsWornOut,
@@ -125,14 +126,14 @@ impl SetCall {
 ///
 /// # Errors
 ///
-/// [`SetFault`]: nothing was committed or changed.
+/// [`CallFault`]: nothing was committed or changed.
 pub fn set<R: Wait, L: Latch>(
     rt: &R,
     latch: &L,
     gates: &Gates<MapPart>,
     pass: &mut Pass<MapPart>,
     call: SetCall,
-) -> Result<u64, SetFault>
+) -> Result<u64, CallFault>
     requires own { IsResting gates.now pass.old }
     requires light { WEIGHT_OF_KEY + length call.key + length call.value ≤ WEIGHT_MAX }
     ensures own { IsResting gates.now pass.new }
@@ -153,7 +154,7 @@ fn set_between<R: Wait, L: Latch>(
     gates: &Gates<MapPart>,
     pass: &mut Pass<MapPart>,
     call: SetCall,
-) -> Result<u64, SetFault>
+) -> Result<u64, CallFault>
     requires own { IsResting gates.now pass.old }
     requires light { WEIGHT_OF_KEY + length call.key + length call.value ≤ WEIGHT_MAX }
     ensures own { IsResting gates.now pass.new }
@@ -171,18 +172,84 @@ fn set_between<R: Wait, L: Latch>(
     latch.at(held.number(), Point::Holding);
     if held.part(stripe).reserve(room).is_err() {
         held.give();
-        return Err(SetFault::OutOfMemory);
+        return Err(CallFault::OutOfMemory);
     }
     let reply = Reply::Single(CommandReply::One(Item::Line(Line::Done)));
     match held.commit(&operation, &reply) {
         Err(CommitsWornOut) => {
             held.give();
-            Err(SetFault::CommitsWornOut)
+            Err(CallFault::CommitsWornOut)
         }
         Ok(place) => {
             held.part(stripe).put(key, value);
             held.give();
             Ok(place)
+        }
+    }
+}
+
+/// The key of a GET, with what it commits.
+#[derive(Drop)]
+pub struct GetCall {
+    key: Word,
+    operation: Operation,
+    ghost get: { operation ≡ Run (Get key) },
+}
+
+impl GetCall {
+    /// A GET of this key.
+    pub fn new(key: &Word) -> Result<GetCall, OutOfMemory>
+        ensures { IfOk result (λ call. call.key ≡ key.now) }
+    {
+        let operation = Operation::Run(Command::Get(key.clone()?));
+        let key = key.clone()?;
+        Ok(GetCall { key, operation })
+    }
+}
+
+/// What a key's value is in a part, as a reply.
+fn value_reply(part: &MapPart, key: &Word) -> Result<Reply, OutOfMemory>
+    ensures { IfOk result (λ reply. reply ≡ value_of_key map_contents part.now key.now) }
+{
+    let item = match part.get(key) {
+        None => Item::Null,
+        Some(value) => Item::Bulk(value.clone()?),
+    };
+    Ok(Reply::Single(CommandReply::One(item)))
+}
+
+/// Reads a key in one call over the gates: takes its stripe, reads the part, commits, and gives the
+/// stripe back. It says the position of its entry, and its reply.
+///
+/// # Errors
+///
+/// [`CallFault`]: nothing was committed.
+pub fn get<R: Wait>(
+    rt: &R,
+    gates: &Gates<MapPart>,
+    pass: &mut Pass<MapPart>,
+    call: GetCall,
+) -> Result<(u64, Reply), CallFault>
+    requires { IsResting gates.now pass.old }
+    ensures own { IsResting gates.now pass.new }
+    ensures one { IfOk result (λ done. (known pass.new).mine ≡ (done.0, get_entry (known pass.old).number call.key done.1) ∷ (known pass.old).mine) }
+    ensures none { OnErr result ((known pass.new).mine ≡ (known pass.old).mine) }
+{
+    let GetCall { key, operation } = call;
+    let stripe = stripe_of(key.as_slice(), gates.stripes());
+    let mut held = gates.take(rt, pass, &Sorted::none().with(stripe));
+    let Ok(reply) = value_reply(held.part(stripe), &key) else {
+        held.give();
+        return Err(CallFault::OutOfMemory);
+    };
+    match held.commit(&operation, &reply) {
+        Err(CommitsWornOut) => {
+            held.give();
+            Err(CallFault::CommitsWornOut)
+        }
+        Ok(place) => {
+            held.give();
+            Ok((place, reply))
         }
     }
 }

@@ -44,3 +44,16 @@ pub trait Parts<T> {
     /// What two writes keep.
     ghost keeps_both: { (one two three : Self) → keeps one two → keeps two three → keeps one three };
 }
+
+/// Puts a part in the place of a stripe's, and gives the old one back.
+pub fn replace<T, P: Parts<T>>(parts: &mut P, stripe: usize, part: T) -> T
+    requires open { P.is_open parts.old }
+    requires there { IsSome (P.part_of parts.old stripe) }
+    ensures old { P.part_of parts.old stripe ≡ Some result }
+    ensures written { P.part_of parts.new stripe ≡ Some part }
+    ensures others { (other : ℕ) → other ≢ stripe → P.part_of parts.new other ≡ P.part_of parts.old other }
+    ensures open { P.is_open parts.new }
+    ensures keeps { P.keeps parts.old parts.new }
+{
+    std::mem::replace(parts.part(stripe), part)
+}

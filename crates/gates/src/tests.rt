@@ -9,7 +9,7 @@ ghost use Rattle.gates.specs.Maps.{map_contents};
 
 use crate::gates::{Gates, Pass};
 use crate::latch::{Latch, Open, Point};
-use crate::map::{MapPart, SetCall, SetFault, set};
+use crate::map::{MapPart, SetCall, set};
 use crate::sorted::Sorted;
 use std::alloc::Global;
 use std::sync::Wait;

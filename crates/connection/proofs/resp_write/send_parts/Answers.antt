@@ -1,5 +1,4 @@
 use Rattle.std.proofs.Common.{arith}
-use Rattle.std.specs.Borrow.{Bor}
 use Rattle.connection.proofs.Joined.{cut_within}
 use Rattle.connection.proofs.resp_write.send_parts.Goals as goal
 

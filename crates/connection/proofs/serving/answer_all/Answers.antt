@@ -1,7 +1,4 @@
-use Rattle.std.proofs.Common.{◌≡◌, ℕ, List, ◌++◌, ◌∙◌, subst}
-use Rattle.words.specs.Encoding.{encoding}
-use Rattle.engine.specs.Contents.{contents, pass_number}
-use Rattle.connection.specs.Conversations.{Conversation, Answers}
+use Rattle.std.proofs.Common.{◌++◌, ◌∙◌}
 use Rattle.connection.proofs.Known.{Appends-then, regroup}
 use Rattle.connection.proofs.Conversing.{conversation_next, conversation_same, conversation_says, fewer_unread}
 use Rattle.connection.proofs.serving.answer_all.Goals as goal

@@ -1,9 +1,7 @@
 use Rattle.std.proofs.Common.{◌≡◌, ℕ, List, [], ◌++◌, ◌∙◌, sym, ap, append_assoc, append-nil}
 use Rattle.words.specs.Store.{Store}
-use Rattle.words.specs.Encoding.{encoding}
 use Rattle.connection.specs.Clients.{Standing}
 use Rattle.connection.specs.Conversations.{Conversation}
-use Rattle.connection.specs.Served.{fault_line}
 use Rattle.connection.proofs.Known.{Appends-then, regroup, regroup_cut}
 use Rattle.connection.proofs.Conversing.{conversation_says, closed, served_cut, served_cut_fault, served_fault}
 use Rattle.connection.proofs.serving.answer_piece.Goals as goal

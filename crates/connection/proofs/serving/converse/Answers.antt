@@ -1,5 +1,4 @@
-use Rattle.std.proofs.Common.{◌≡◌, ℕ, List, [], ◌++◌, ◌∙◌, refl}
-use Rattle.engine.specs.Contents.{contents, pass_number}
+use Rattle.std.proofs.Common.{[], ◌++◌, ◌∙◌, refl}
 use Rattle.connection.proofs.Known.{Keeps-same, Appends-none, Appends-then, Consumes-none, Consumes-then}
 use Rattle.connection.proofs.Conversing.{conversation_begins, conversation_after, front-none, served_taken}
 use Rattle.connection.proofs.serving.converse.Goals as goal

@@ -7,6 +7,6 @@ pub returns-in_default-clause-served : goal.returns-in_default-clause-served
 returns-in_default-clause-served g c =
     ([], [], Consumes-none _ _ (Keeps-same _), Appends-none _ _ (Keeps-same _), served_nothing _ _)
 
-pub returns-in_default-vec-clause-served : goal.returns-in_default-vec-clause-served
-returns-in_default-vec-clause-served g c =
+pub returns-in_default-piece_buffer-clause-served : goal.returns-in_default-piece_buffer-clause-served
+returns-in_default-piece_buffer-clause-served g c =
     ([], [], Consumes-none _ _ (Keeps-same _), Appends-none _ _ (Keeps-same _), served_nothing _ _)

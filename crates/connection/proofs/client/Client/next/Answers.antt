@@ -1,9 +1,8 @@
-use Rattle.std.proofs.Common.{◌≡◌, ◌++◌, inl, ap, rules}
+use Rattle.std.proofs.Common.{◌≡◌, ◌++◌, inl, ap}
 use Rattle.words.specs.Spelling.{IsRequest, spelling}
-use Rattle.words.specs.Commands.{command_of}
-use Rattle.words.specs.Session.{idle_turn_of, Idle}
+use Rattle.words.specs.Session.{Idle}
 use Rattle.resp_read.specs.Taken.{NeedsMemory}
-use Rattle.connection.specs.Clients.{IsReady, Standing, Ready, stage_of}
+use Rattle.connection.specs.Clients.{IsReady, Ready, stage_of}
 use Rattle.connection.proofs.Stages.{idle, said}
 use Rattle.connection.proofs.client.Client.next.Goals as goal
 
@@ -11,7 +10,7 @@ pub returns-in-Err-OutOfMemory-clause-gives : goal.returns-in-Err-OutOfMemory-cl
 returns-in-Err-OutOfMemory-clause-gives c =
     let needs : NeedsMemory c.self.inside.reader = rw c.in-Err-OutOfMemory.field-0-is at c.in-Err-OutOfMemory.ensures.fault in
     let same = c.in-Err-OutOfMemory.ensures.err in
-    (needs.words, needs.more, rw (← c.self.view_is) (record { request = needs.request; taken = needs.begins }), inl (rw (← c.self.view_is) (ap (λ (bytes : _). record { unread = bytes; stage = stage_of c.self.inside.state }) same)))
+    (needs.words, needs.more, rw (← c.self.view_is) (record { request = needs.request; taken = needs.begins }), needs.large, inl (rw (← c.self.view_is) (ap (λ (bytes : _). record { unread = bytes; stage = stage_of c.self.inside.state }) same)))
 
 pub returns-in-Says-clause-gives : goal.returns-in-Says-clause-gives
 returns-in-Says-clause-gives c =

@@ -1,6 +1,4 @@
-use Rattle.std.proofs.Common.{◌≡◌, ℕ, List, ◌++◌, take, drop, ap, ◌∙◌, sym, append_assoc, arith}
-use Rattle.std.proofs.lemmas.List.{take-append-drop}
-use Rattle.std.proofs.lemmas.Grind.{common_steps}
+use Rattle.std.proofs.Common.{◌++◌, take, ◌∙◌}
 use Rattle.connection.proofs.Known.{Appends-then, rest_sent}
 use Rattle.connection.proofs.noted.Noted.write_all.Goals as goal
 
