@@ -15,9 +15,9 @@ stream_of noted = noted.stream
 abbrev pub told_of : {S : Type 0} → Noted S → Told
 told_of noted = noted.told
 
--- how many tries it has left
-abbrev pub tries_of : {S : Type 0} → Noted S → ℕ
-tries_of noted = noted.tries
+-- how often it may still give bytes
+abbrev pub reads_of : {S : Type 0} → Noted S → ℕ
+reads_of noted = noted.reads
 
 -- What a read gave, where the bytes that the stream has left are known before and after it: those at the start of the buffer, or none.
 abbrev pub IsRead : Option (List ℕ) → Option (List ℕ) → List ℕ → Input → Type 0
@@ -25,11 +25,11 @@ IsRead old new buffer (Bytes count) = (0 < count) × (count ≤ length buffer) �
 IsRead old new buffer End = Keeps old new × IsAtEnd new
 IsRead old new buffer Failure = Keeps old new
 
--- whether a read gave bytes
-abbrev pub IsBytes : Input → Type 0
-IsBytes (Bytes count) = Unit {0}
-IsBytes End = ⊥
-IsBytes Failure = ⊥
+-- how often a read gave bytes: once, or not
+abbrev pub bytes_count : Input → ℕ
+bytes_count (Bytes count) = 1
+bytes_count End = 0
+bytes_count Failure = 0
 
 -- what a stream has told after a read
 abbrev pub told_after : Input → Told → Told

@@ -1,6 +1,6 @@
 //! A stream with a note of what it has told: its end, or that it failed.
 
-ghost use Rattle.std.specs.Prelude.{◌≡◌, ◌<◌, length, is_ok, is_some};
+ghost use Rattle.std.specs.Prelude.{◌≡◌, ◌<◌, ◌+◌, length, is_ok, is_some};
 
 use std::io::{ErrorKind, Read, Write};
 
@@ -30,29 +30,30 @@ pub enum Input {
 #[derive(Clone, Copy, Debug, PartialEq, Eq)]
 pub struct WriteFault;
 
-/// A stream, and what it has told. A call that was interrupted is tried again; after 2^64 - 1 tries
-/// in all the stream counts as failed, since no call may go on forever.
+/// A stream, and what it has told. A call that was interrupted is tried again. Since nothing may go on
+/// forever, a stream counts as failed once it gave bytes 2^64 - 1 times, or where one call was
+/// interrupted as often.
 #[derive(Debug, Drop)]
 pub struct Noted<S> {
     stream: S,
     told: Told,
-    tries: u64,
+    reads: u64,
 }
 
 impl<S> Noted<S> {
     ghost use Rattle.std.specs.Prelude.{◌-◌, ◌^◌};
-    ghost use Rattle.connection.specs.Streams.{stream_of, told_of, tries_of};
+    ghost use Rattle.connection.specs.Streams.{stream_of, told_of, reads_of};
 
     /// The stream, which has told nothing yet.
     pub fn new(stream: S) -> Noted<S>
         ensures stream { stream_of result ≡ stream }
         ensures told { told_of result ≡ Told.Nothing }
-        ensures tries { tries_of result ≡ 2 ^ 64 - 1 }
+        ensures reads { reads_of result ≡ 2 ^ 64 - 1 }
     {
         Noted {
             stream,
             told: Told::Nothing,
-            tries: u64::MAX,
+            reads: u64::MAX,
         }
     }
 
@@ -72,23 +73,28 @@ impl<S> Noted<S> {
 }
 
 impl<S: Read> Noted<S> {
-    ghost use Rattle.connection.specs.Streams.{stream_of, told_of, tries_of, IsRead, IsBytes, told_after};
+    ghost use Rattle.connection.specs.Streams.{stream_of, told_of, reads_of, IsRead, bytes_count, told_after};
 
     /// Reads some bytes into the buffer, which has room.
     pub fn read(&mut self, buffer: &mut [u8]) -> Input
         requires { 0 < length buffer.old }
         ensures read { IsRead (S.remaining (stream_of self.old)) (S.remaining (stream_of self.new)) buffer.new result }
         ensures told { told_of self.new ≡ told_after result (told_of self.old) }
-        ensures fewer { IsBytes result → tries_of self.new < tries_of self.old }
+        ensures reads { reads_of self.old ≡ reads_of self.new + bytes_count result }
     {
-        while self.tries > 0 {
-            self.tries -= 1;
+        for _ in 0..u64::MAX {
+            if self.reads == 0 {
+                break;
+            }
             match self.stream.read(buffer) {
                 Ok(0) => {
                     self.told = Told::End;
                     return Input::End;
                 }
-                Ok(count) => return Input::Bytes(count),
+                Ok(count) => {
+                    self.reads -= 1;
+                    return Input::Bytes(count);
+                }
                 Err(error) => {
                     if error.kind() != ErrorKind::Interrupted {
                         break;
@@ -103,7 +109,7 @@ impl<S: Read> Noted<S> {
 
 impl<S: Write> Noted<S> {
     ghost use Rattle.std.specs.Io.KnownBytes.{Keeps};
-    ghost use Rattle.connection.specs.Streams.{stream_of, told_of, IsWritten, IsSent, told_when};
+    ghost use Rattle.connection.specs.Streams.{stream_of, told_of, reads_of, IsWritten, IsSent, told_when};
 
     /// Writes some of these bytes, and says how many: at least one. `None` where the stream failed
     /// or took none.
@@ -111,9 +117,9 @@ impl<S: Write> Noted<S> {
         requires { 0 < length bytes.now }
         ensures written { IsWritten (S.contents (stream_of self.old)) (S.contents (stream_of self.new)) bytes.now result }
         ensures told { told_of self.new ≡ told_when (is_some result) (told_of self.old) }
+        ensures reads { reads_of self.new ≡ reads_of self.old }
     {
-        while self.tries > 0 {
-            self.tries -= 1;
+        for _ in 0..u64::MAX {
             match self.stream.write(bytes) {
                 Ok(0) => break,
                 Ok(count) => return Some(count),
@@ -132,6 +138,7 @@ impl<S: Write> Noted<S> {
     pub fn write_all(&mut self, bytes: &[u8]) -> Result<(), WriteFault>
         ensures sent { IsSent (S.contents (stream_of self.old)) (S.contents (stream_of self.new)) result bytes.now }
         ensures told { told_of self.new ≡ told_when (is_ok result) (told_of self.old) }
+        ensures reads { reads_of self.new ≡ reads_of self.old }
     {
         let mut rest = bytes;
         while !rest.is_empty() {
@@ -147,9 +154,9 @@ impl<S: Write> Noted<S> {
     pub fn flush(&mut self) -> Result<(), WriteFault>
         ensures kept { Keeps (S.contents (stream_of self.old)) (S.contents (stream_of self.new)) }
         ensures told { told_of self.new ≡ told_when (is_ok result) (told_of self.old) }
+        ensures reads { reads_of self.new ≡ reads_of self.old }
     {
-        while self.tries > 0 {
-            self.tries -= 1;
+        for _ in 0..u64::MAX {
             match self.stream.flush() {
                 Ok(()) => return Ok(()),
                 Err(error) => {

@@ -4,7 +4,7 @@ ghost use Rattle.std.specs.Prelude.{◌≡◌, ◌<◌, ℕ, [], ◌++◌, List,
 ghost use Rattle.words.specs.Encoding.{encoding};
 ghost use Rattle.words.specs.Store.{Store};
 ghost use Rattle.engine.specs.Contents.{contents, pass_number};
-ghost use Rattle.connection.specs.Streams.{IsSent, IsPut, stream_of, told_of, tries_of, told_when};
+ghost use Rattle.connection.specs.Streams.{IsSent, IsPut, stream_of, told_of, reads_of, told_when};
 ghost use Rattle.connection.specs.Clients.{IsReady, start};
 ghost use Rattle.connection.specs.Conversations.{IsDue, Conversation};
 ghost use Rattle.connection.specs.Served.{HasPaused, paused_told, HasAnswered, EndsAnswering, answered_told, HasTaken, taken_told, Served, reader_told, writer_told};
@@ -231,7 +231,7 @@ fn take_piece<R: Read>(
         × HasTaken result client.old bytes client.new }
     ensures end { result ≡ Some Ended.EndOfInput → IsAtEnd (R.remaining (stream_of reader.new)) }
     ensures told { told_of reader.new ≡ taken_told result (told_of reader.old) }
-    ensures fewer { IfNone result (tries_of reader.new < tries_of reader.old) }
+    ensures fewer { IfNone result (reads_of reader.new < reads_of reader.old) }
 {
     match reader.read(piece) {
         Input::Bytes(count) => match client.feed(&piece[..count]) {

@@ -74,6 +74,8 @@ struct Sink {
     interrupted: bool,
     /// How many writes took bytes.
     writes: u64,
+    /// How many bytes it held when it was last told to pass them on.
+    flushed: usize,
 }
 
 impl Sink {
@@ -86,6 +88,7 @@ impl Sink {
             interrupts: false,
             interrupted: false,
             writes: 0,
+            flushed: 0,
         })
     }
 }
@@ -110,6 +113,11 @@ impl Write for Sink {
     }
 
     fn flush(&mut self) -> io::Result<()> {
+        self.interrupted = self.interrupts && !self.interrupted;
+        if self.interrupted {
+            return Err(ErrorKind::Interrupted.into());
+        }
+        self.flushed = self.text.len();
         Ok(())
     }
 }
@@ -119,6 +127,7 @@ impl Write for Sink {
 struct Outcome {
     text: Vec<u8>,
     writes: u64,
+    flushed: usize,
     ended: Ended,
     told: (Told, Told),
 }
@@ -141,6 +150,7 @@ fn run(alloc: Global, source: Source<'_>, sink: Sink) -> Result<Outcome, AllocEr
     Ok(Outcome {
         text: sink.text,
         writes: sink.writes,
+        flushed: sink.flushed,
         ended,
         told,
     })
@@ -227,7 +237,7 @@ const ROWS: [(&[u8], &[u8], Ended); 14] = [
 ];
 
 /// The rows answer so however the input is cut, whatever the writer takes at a time, and where calls
-/// are interrupted. None meets a fault.
+/// are interrupted. None meets a fault, and nothing is kept back.
 #[test]
 fn ample_memory_answers(rt: HostRuntime) -> Result<(), Fail> {
     let alloc = rt.alloc();
@@ -241,6 +251,7 @@ fn ample_memory_answers(rt: HostRuntime) -> Result<(), Fail> {
                 let outcome = run(alloc, source, sink)?;
                 assert_eq!(rt; outcome.text.as_slice(), text, "{input:?} by {most}");
                 assert_eq!(rt; outcome.ended, ended, "{input:?} by {most}");
+                assert_eq!(rt; outcome.flushed, text.len(), "{input:?} by {most}");
             }
         }
     }

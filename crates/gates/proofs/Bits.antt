@@ -77,20 +77,20 @@ set_from a b k (suc count) place low high one others =
     let rest_b = ones_from count (place + 1) b in
     ⊎_elim
     (λ here.
-        let b_one : nat_eq (bit_at b place) 1 ≡ true = eq-eqb (bit_at b place) 1 (ap (bit_at b) here ∙ one) in
-        let same : rest_b ≡ rest_a = same_from b a count (place + 1) (λ i low' high'. others i (λ e. omega arith)) in
-        ap (λ t. cond t (place ∷ rest_b) rest_b) b_one ∙ ap (λ xs. place ∷ xs) same
-        ∙ subst (λ (n : ℕ). place ∷ rest_a ≡ inserted n (ones_from (suc count) place a)) here
-        (at_bit (nat_eq (bit_at a place) 1) (λ l. place ∷ rest_a ≡ inserted place l) (place ∷ rest_a) rest_a
-          (λ _. sym (inserted_same place rest_a)) (λ _. sym (inserted_first place rest_a (above_all place count (place + 1) a (omega arith))))))
+    let b_one : nat_eq (bit_at b place) 1 ≡ true = eq-eqb (bit_at b place) 1 (ap (bit_at b) here ∙ one) in
+    let same : rest_b ≡ rest_a = same_from b a count (place + 1) (λ i low' high'. others i (λ e. omega arith)) in
+    ap (λ t. cond t (place ∷ rest_b) rest_b) b_one ∙ ap (λ xs. place ∷ xs) same
+    ∙ subst (λ (n : ℕ). place ∷ rest_a ≡ inserted n (ones_from (suc count) place a)) here
+    (at_bit (nat_eq (bit_at a place) 1) (λ l. place ∷ rest_a ≡ inserted place l) (place ∷ rest_a) rest_a
+    (λ _. sym (inserted_same place rest_a)) (λ _. sym (inserted_first place rest_a (above_all place count (place + 1) a (omega arith))))))
     (λ apart.
-        let same : bit_at b place ≡ bit_at a place = others place apart in
-        let step : rest_b ≡ inserted k rest_a = set_from a b k count (place + 1) (omega arith) (omega arith) one others in
-        ap (λ x. cond (nat_eq x 1) (place ∷ rest_b) rest_b) same
-        ∙ ap (λ xs. cond (nat_eq (bit_at a place) 1) (place ∷ xs) xs) step
-        ∙ at_bit (nat_eq (bit_at a place) 1) (λ l. cond (nat_eq (bit_at a place) 1) (place ∷ inserted k rest_a) (inserted k rest_a) ≡ inserted k l) (place ∷ rest_a) rest_a
-          (λ one'. ap (λ t. cond t (place ∷ inserted k rest_a) (inserted k rest_a)) one' ∙ sym (inserted_later k place rest_a (omega arith)))
-          (λ none'. ap (λ t. cond t (place ∷ inserted k rest_a) (inserted k rest_a)) none'))
+    let same : bit_at b place ≡ bit_at a place = others place apart in
+    let step : rest_b ≡ inserted k rest_a = set_from a b k count (place + 1) (omega arith) (omega arith) one others in
+    ap (λ x. cond (nat_eq x 1) (place ∷ rest_b) rest_b) same
+    ∙ ap (λ xs. cond (nat_eq (bit_at a place) 1) (place ∷ xs) xs) step
+    ∙ at_bit (nat_eq (bit_at a place) 1) (λ l. cond (nat_eq (bit_at a place) 1) (place ∷ inserted k rest_a) (inserted k rest_a) ≡ inserted k l) (place ∷ rest_a) rest_a
+    (λ one'. ap (λ t. cond t (place ∷ inserted k rest_a) (inserted k rest_a)) one' ∙ sym (inserted_later k place rest_a (omega arith)))
+    (λ none'. ap (λ t. cond t (place ∷ inserted k rest_a) (inserted k rest_a)) none'))
     (cases_eq place k)
 
 pub ones_set : (a k : ℕ) → k < 64 → ones (bit_or a (1 * 2 ^ k % 2 ^ 64)) ≡ inserted k (ones a)
@@ -106,18 +106,18 @@ first_from a b k (suc count) place low high one below gone others =
     let rest_b = ones_from count (place + 1) b in
     ⊎_elim
     (λ here.
-        let a_one : nat_eq (bit_at a place) 1 ≡ true = eq-eqb (bit_at a place) 1 (ap (bit_at a) here ∙ one) in
-        let b_zero : bit_at b place ≡ 0 = ap (bit_at b) here ∙ gone in
-        let b_none : nat_eq (bit_at b place) 1 ≡ false = ne_eqb (bit_at b place) 1 (λ e. omega arith) in
-        let same : rest_a ≡ rest_b = same_from a b count (place + 1) (λ i low' high'. sym (others i (omega arith) (λ e. omega arith))) in
-        ap (λ t. cond t (place ∷ rest_a) rest_a) a_one ∙ ap (λ xs. place ∷ xs) same ∙ ap (λ n. n ∷ rest_b) here
-        ∙ ap (λ xs. k ∷ xs) (sym (ap (λ t. cond t (place ∷ rest_b) rest_b) b_none)))
+    let a_one : nat_eq (bit_at a place) 1 ≡ true = eq-eqb (bit_at a place) 1 (ap (bit_at a) here ∙ one) in
+    let b_zero : bit_at b place ≡ 0 = ap (bit_at b) here ∙ gone in
+    let b_none : nat_eq (bit_at b place) 1 ≡ false = ne_eqb (bit_at b place) 1 (λ e. omega arith) in
+    let same : rest_a ≡ rest_b = same_from a b count (place + 1) (λ i low' high'. sym (others i (omega arith) (λ e. omega arith))) in
+    ap (λ t. cond t (place ∷ rest_a) rest_a) a_one ∙ ap (λ xs. place ∷ xs) same ∙ ap (λ n. n ∷ rest_b) here
+    ∙ ap (λ xs. k ∷ xs) (sym (ap (λ t. cond t (place ∷ rest_b) rest_b) b_none)))
     (λ apart.
-        let a_zero : bit_at a place ≡ 0 = below place (omega arith) in
-        let b_zero : bit_at b place ≡ 0 = others place (omega arith) apart ∙ a_zero in
-        ap (λ x. cond (nat_eq x 1) (place ∷ rest_a) rest_a) a_zero
-        ∙ first_from a b k count (place + 1) (omega arith) (omega arith) one below gone (λ i h. others i (omega arith))
-        ∙ ap (λ xs. k ∷ xs) (sym (ap (λ x. cond (nat_eq x 1) (place ∷ rest_b) rest_b) b_zero)))
+    let a_zero : bit_at a place ≡ 0 = below place (omega arith) in
+    let b_zero : bit_at b place ≡ 0 = others place (omega arith) apart ∙ a_zero in
+    ap (λ x. cond (nat_eq x 1) (place ∷ rest_a) rest_a) a_zero
+    ∙ first_from a b k count (place + 1) (omega arith) (omega arith) one below gone (λ i h. others i (omega arith))
+    ∙ ap (λ xs. k ∷ xs) (sym (ap (λ x. cond (nat_eq x 1) (place ∷ rest_b) rest_b) b_zero)))
     (cases_eq place k)
 
 pub ones_first : (a : ℕ) → 0 < a → a < 2 ^ 64
@@ -159,7 +159,7 @@ times_rising n [] rising = omega arith
 times_rising n (x ∷ xs) rising =
     ⊎_elim
     (λ e.
-        let one : times n (x ∷ xs) ≡ 1 + times n xs = subst (λ (k : ℕ). times n (k ∷ xs) ≡ 1 + times n xs) (sym e) (times_here n xs) in
-        omega (arith, times_above n x xs (omega arith) rising.0))
+    let one : times n (x ∷ xs) ≡ 1 + times n xs = subst (λ (k : ℕ). times n (k ∷ xs) ≡ 1 + times n xs) (sym e) (times_here n xs) in
+    omega (arith, times_above n x xs (omega arith) rising.0))
     (λ ne. omega (arith, times_else n x xs ne, times_rising n xs rising.1))
     (cases_eq x n)

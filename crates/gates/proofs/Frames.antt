@@ -84,7 +84,7 @@ module _ (P : Bytes → Type 0) where
       let first = answer_agrees one two command (AreOf-left (keys_of command) (keys_of_all commands) of) agree in
       let writes = (answer one command).1 in
       let rest = answers_agree (written one writes) (written two writes) commands (AreOf-right (keys_of command) (keys_of_all commands) of)
-            (written_agrees one two writes agree) in
+      (written_agrees one two writes agree) in
       let join : (f : CommandReply × List Write) (others : List CommandReply × List Write) → List CommandReply × List Write = λ f others. (f.0 ∷ others.0, f.1 ++ others.1) in
       ap (λ all. join (answer one command) all) rest
       ∙ ap (λ f. join f (answers (written two f.1) commands)) first
@@ -117,13 +117,13 @@ module _ (P : Bytes → Type 0) where
       let one = after before in let two = after later in
       let writes : List Write → Type 0 = λ ws. written one (outcome one entry.operation).1 key ≡ written two ws key in
       let both : written one (outcome one entry.operation).1 key ≡ written two (outcome two entry.operation).1 key =
-            subst writes (ap (λ (all : Reply × List Write). all.1) (outcome_agrees one two entry.operation of agree))
-            (written_agrees one two (outcome one entry.operation).1 agree key is) in
+      subst writes (ap (λ (all : Reply × List Write). all.1) (outcome_agrees one two entry.operation of agree))
+      (written_agrees one two (outcome one entry.operation).1 agree key is) in
       ⊎_elim
       (λ yes. ap (λ b. cond b one (written one (outcome one entry.operation).1) key) yes ∙ agree key is
-        ∙ sym (ap (λ b. cond b two (written two (outcome two entry.operation).1) key) yes))
+      ∙ sym (ap (λ b. cond b two (written two (outcome two entry.operation).1) key) yes))
       (λ no. ap (λ b. cond b one (written one (outcome one entry.operation).1) key) no ∙ both
-        ∙ sym (ap (λ b. cond b two (written two (outcome two entry.operation).1) key) no))
+      ∙ sym (ap (λ b. cond b two (written two (outcome two entry.operation).1) key) no))
       (cases_Bool (was_not_done entry.reply))
 
   -- an entry whose keys are of the kind leaves every other key
@@ -132,7 +132,7 @@ module _ (P : Bytes → Type 0) where
       let store = after before in
       ⊎_elim (λ yes. ap (λ b. cond b store (written store (outcome store entry.operation).1) key) yes)
       (λ no. ap (λ b. cond b store (written store (outcome store entry.operation).1) key) no
-        ∙ written_leaves store (outcome store entry.operation).1 key (outcome_writes store entry.operation of) other)
+      ∙ written_leaves store (outcome store entry.operation).1 key (outcome_writes store entry.operation of) other)
       (cases_Bool (was_not_done entry.reply))
 
 -- keys of other stripes, as a kind
@@ -155,7 +155,7 @@ part_left stripes stripe part more seen all reads key =
     reads key ∙ dite (ℕ_discrete (stripe_of stripes key) stripe)
     (λ here. ap (λ v. cond (nat_eq (stripe_of stripes key) stripe) v None) (sym (after_left stripes stripe more seen key all here)))
     (λ other. ap (λ b. cond b (after seen key) None) (ne_eqb (stripe_of stripes key) stripe other)
-      ∙ sym (ap (λ b. cond b (after (more ++ seen) key) None) (ne_eqb (stripe_of stripes key) stripe other)))
+    ∙ sym (ap (λ b. cond b (after (more ++ seen) key) None) (ne_eqb (stripe_of stripes key) stripe other)))
 
 -- what the empty store has, whether a key is asked for or not
 pub none_both : (b : Bool) (value : Option Bytes) → value ≡ None → cond b value None ≡ None

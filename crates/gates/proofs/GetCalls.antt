@@ -29,8 +29,8 @@ pub still_fit : {T : Type 0} (contents : T → Store) (n m : ℕ) (parts : List 
 still_fit {T} contents n m parts seen later same fit leaves j q e k =
     subst (λ (x : ℕ). contents q k ≡ cond (nat_eq (stripe_of x k) j) (after seen k) None) (sym same) (fit j q e k)
     ∙ ⊎_elim
-      (λ here.
-        let some : IsSome (part_at parts (stripe_of m k)) = subst (λ (x : ℕ). IsSome (part_at parts x)) (sym here) (subst (λ o. IsSome o) (sym e) refl) in
-        ap (λ v. cond (nat_eq (stripe_of m k) j) v None) (sym (leaves k some)))
-      (λ other. let t = ne_eqb (stripe_of m k) j other in ap (λ b. cond b (after seen k) None) t ∙ sym (ap (λ b. cond b (after later k) None) t))
-      (cases_eq (stripe_of m k) j)
+    (λ here.
+    let some : IsSome (part_at parts (stripe_of m k)) = subst (λ (x : ℕ). IsSome (part_at parts x)) (sym here) (subst (λ o. IsSome o) (sym e) refl) in
+    ap (λ v. cond (nat_eq (stripe_of m k) j) v None) (sym (leaves k some)))
+    (λ other. let t = ne_eqb (stripe_of m k) j other in ap (λ b. cond b (after seen k) None) t ∙ sym (ap (λ b. cond b (after later k) None) t))
+    (cases_eq (stripe_of m k) j)

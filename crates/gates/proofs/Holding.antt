@@ -41,10 +41,10 @@ module _ {T : Type 0} where
       (cases_eq i j)
   at_snoc (x ∷ xs) i j part q e = ⊎_elim
       (λ same. let here = eq-eqb x.0 j same in
-        inl (ap (λ b. cond b (Some x.1) (part_at xs j)) here ∙ sym (ap (λ b. cond b (Some x.1) (part_at (xs ++ (i, part) ∷ []) j)) here) ∙ e))
+      inl (ap (λ b. cond b (Some x.1) (part_at xs j)) here ∙ sym (ap (λ b. cond b (Some x.1) (part_at (xs ++ (i, part) ∷ []) j)) here) ∙ e))
       (λ ne. let there = ne_eqb x.0 j ne in
-        ⊎_elim (λ old. inl (ap (λ b. cond b (Some x.1) (part_at xs j)) there ∙ old)) (λ new. inr new)
-        (at_snoc xs i j part q (sym (ap (λ b. cond b (Some x.1) (part_at (xs ++ (i, part) ∷ []) j)) there) ∙ e)))
+      ⊎_elim (λ old. inl (ap (λ b. cond b (Some x.1) (part_at xs j)) there ∙ old)) (λ new. inr new)
+      (at_snoc xs i j part q (sym (ap (λ b. cond b (Some x.1) (part_at (xs ++ (i, part) ∷ []) j)) there) ∙ e)))
       (cases_eq x.0 j)
 
   -- a stripe with a part is among the stripes
@@ -68,14 +68,14 @@ module _ {T : Type 0} where
     unfolding after_take
     took_seat' =
         let stands : (j : ℕ) → times j (stripes_among (m.1 ++ (i, took.part) ∷ [])) ≡ times j (stripes_among m.1) + times j (i ∷ []) =
-              (λ j. ap (times j) (among_snoc m.1 i took.part) ∙ times-append j (stripes_among m.1) (i ∷ [])) in
+        (λ j. ap (times j) (among_snoc m.1 i took.part) ∙ times-append j (stripes_among m.1) (i ∷ [])) in
         record {
           single = refl;
           number_is = seat.number_is;
           unarmed = seat.unarmed;
           once = λ j. ⊎_elim
               (λ e. let none_before : times j (stripes_among m.1) ≡ 0 = subst (λ (k : ℕ). times k (stripes_among m.1) ≡ 0) e other in
-                let one : times j (i ∷ []) ≡ 1 = subst (λ (k : ℕ). times k (i ∷ []) ≡ 1) e (times_here i []) in omega (arith, stands j))
+              let one : times j (i ∷ []) ≡ 1 = subst (λ (k : ℕ). times k (i ∷ []) ≡ 1) e (times_here i []) in omega (arith, stands j))
               (λ ne. omega (arith, stands j, times_else j i [] ne, seat.once j))
               (cases_eq i j);
           same = λ j. omega (arith, stands j, seat.same j);
@@ -107,13 +107,13 @@ module _ {T : Type 0} where
         let seen : (own w.0).seen ≡ log = ap (λ (x : Me T (View T)). (own x.0).seen) took.seat in
         subst (λ (l : List (ℕ × T)). AllFit contents n (own w.0).seen l) (sym took_parts)
         (subst (λ (h : History). AllFit contents n h (m.1 ++ (i, took.part) ∷ [])) (sym seen)
-          (λ j q e. ⊎_elim
-            (λ old.
-              let held : 0 < times j m.0.held = omega (arith, seat.same j, part_stands m.1 j q old) in
-              subst (λ (h : History). IsPart n j (contents q) (after h)) (sym took.goes_on.begins)
-              (part_left n j (contents q) took.goes_on.more (own m.0).seen (took.goes_on.leave j held) (fit j q old)))
-            (λ new. subst (λ (k : ℕ). IsPart n k (contents q) (after log)) new.0 (subst (λ (p : T). IsPart n i (contents p) (after log)) new.1 took.reads))
-            (at_snoc m.1 i j took.part q e)))
+        (λ j q e. ⊎_elim
+        (λ old.
+        let held : 0 < times j m.0.held = omega (arith, seat.same j, part_stands m.1 j q old) in
+        subst (λ (h : History). IsPart n j (contents q) (after h)) (sym took.goes_on.begins)
+        (part_left n j (contents q) took.goes_on.more (own m.0).seen (took.goes_on.leave j held) (fit j q old)))
+        (λ new. subst (λ (k : ℕ). IsPart n k (contents q) (after log)) new.0 (subst (λ (p : T). IsPart n i (contents p) (after log)) new.1 took.reads))
+        (at_snoc m.1 i j took.part q e)))
 
   -- the seat after a stripe was found busy
   module _ (n number i found : ℕ) (m w : Me T (View T)) (seat : IsSeatOf n number m) (missed : Missed i found m w) where
@@ -210,7 +210,7 @@ module _ {T : Type 0} where
 
   -- a commit, after that look
   module _ (n number found : ℕ) (entry : Entry) (st : Step T) (m later w : Me T (View T)) (seat : IsSeatOf n number m) (slots : st.slots ≡ n)
-    (is : later ≡ (record (m.0) { armed = true }, m.1)) (keys : KeysHeld n m.1 (keys_named entry.operation)) (did : Commits entry st later found w) where
+      (is : later ≡ (record (m.0) { armed = true }, m.1)) (keys : KeysHeld n m.1 (keys_named entry.operation)) (did : Commits entry st later found w) where
     did' : Commits entry st (record (m.0) { armed = true }, m.1) found w
     did' = subst (λ (x : Me T (View T)). Commits entry st x found w) is did
 
@@ -231,7 +231,7 @@ module _ {T : Type 0} where
               let P : Bytes → Type 0 = λ k. 0 < times (stripe_of n k) m.0.held in
               let held : AreHeld n m.0.held (keys_named entry.operation) = keys_held n m.1 m.0.held seat.same (keys_named entry.operation) keys in
               let leave : (stripe : ℕ) → 0 < times stripe m.0.held → AllLeave n stripe d.goes_on.more =
-                    subst (λ (k : ℕ). (stripe : ℕ) → 0 < times stripe m.0.held → AllLeave k stripe d.goes_on.more) slots d.goes_on.leave in
+              subst (λ (k : ℕ). (stripe : ℕ) → 0 < times stripe m.0.held → AllLeave k stripe d.goes_on.more) slots d.goes_on.leave in
               after_agrees P d.before (own m.0).seen entry (held_kind n m.0.held (keys_named entry.operation) held)
               (λ k h. ap (λ (l : History). after l k) d.goes_on.begins ∙ after_left n (stripe_of n k) d.goes_on.more (own m.0).seen k (leave (stripe_of n k) h) refl)
               key (omega (arith, seat.same (stripe_of n key), part_some m.1 (stripe_of n key) some));
@@ -293,7 +293,7 @@ module _ {T : Type 0} where
 
   -- two passes that have met
   module _ (n found : ℕ) (st : Step T) (m1 m2 theirs both loaded : Me T (View T)) (one : IsSingle m1.0) (two : IsSingle m2.0) (slots : st.slots ≡ n)
-    (left : theirs ≡ (resting m2.0.passes, [])) (together : both ≡ (joined m1.0 theirs.0, m1.1)) (met : Meets st both found loaded) where
+      (left : theirs ≡ (resting m2.0.passes, [])) (together : both ≡ (joined m1.0 theirs.0, m1.1)) (met : Meets st both found loaded) where
     passes_met : both.0.passes ≡ own m1.0 ∷ own m2.0 ∷ []
     passes_met =
         ap (λ (x : Me T (View T)). x.0.passes) together
@@ -317,7 +317,7 @@ module _ {T : Type 0} where
 
   -- a pass that has seen a history, and holds nothing
   module _ (n number : ℕ) (log : History) (m w : Me T (View T)) (seat : IsSeatOf n number m) (goes : GoesOn n [] (own m.0) log)
-    (later : w ≡ (resting (sees (own m.0) log ∷ []), [])) where
+      (later : w ≡ (resting (sees (own m.0) log ∷ []), [])) where
     pub seen_seat : IsSeatOf n number w
     seen_seat = subst (λ (x : Me T (View T)). IsSeatOf n number x) (sym later)
         record {

@@ -110,6 +110,6 @@ pub without_else : (n m : ℕ) (xs : List ℕ) → m ≢ n → times m (without 
 without_else n m [] ne = refl
 without_else n m (x ∷ xs) ne = dite (ℕ_discrete x n)
     (λ e. let P : List ℕ → Type 0 = λ l. times m l ≡ times m (x ∷ xs) in
-      subst (λ b. P (cond b (without n xs) (x ∷ without n xs))) (sym (eq-eqb x n e)) (without_else n m xs ne ∙ sym (times_else m x xs (λ h. ne (sym h ∙ e)))))
+    subst (λ b. P (cond b (without n xs) (x ∷ without n xs))) (sym (eq-eqb x n e)) (without_else n m xs ne ∙ sym (times_else m x xs (λ h. ne (sym h ∙ e)))))
     (λ n'. let P : List ℕ → Type 0 = λ l. times m l ≡ times m (x ∷ xs) in
-      subst (λ b. P (cond b (without n xs) (x ∷ without n xs))) (sym (ne_eqb x n n')) (ap (λ (k : ℕ). cond (nat_eq x m) 1 0 + k) (without_else n m xs ne)))
+    subst (λ b. P (cond b (without n xs) (x ∷ without n xs))) (sym (ne_eqb x n n')) (ap (λ (k : ℕ). cond (nat_eq x m) 1 0 + k) (without_else n m xs ne)))

@@ -20,16 +20,16 @@ set_fits n i number key value seen later before reserved written here fits same 
     let old : map_contents reserved k ≡ cond (nat_eq (stripe_of n k) i) (after seen k) None = same k ∙ fits k in
     ⊎_elim
     (λ mine.
-        let test = eq-eqb (stripe_of n k) i mine in
-        put k ∙ ap (λ v. cond (bytes_eq key k) (Some value) v) (old ∙ ap (λ b. cond b (after seen k) None) test)
-        ∙ sym (grown k mine) ∙ sym (ap (λ b. cond b (after later k) None) test))
+    let test = eq-eqb (stripe_of n k) i mine in
+    put k ∙ ap (λ v. cond (bytes_eq key k) (Some value) v) (old ∙ ap (λ b. cond b (after seen k) None) test)
+    ∙ sym (grown k mine) ∙ sym (ap (λ b. cond b (after later k) None) test))
     (λ other.
-        let test = ne_eqb (stripe_of n k) i other in
-        let apart : bytes_eq key k ≡ false = ⊎_elim
-              (λ one. absurd (other (ap (stripe_of n) (sym ((bytes_eq-Decides key k).0 one)) ∙ here)))
-              (λ none. none) (cases_Bool (bytes_eq key k)) in
-        put k ∙ ap (λ b. cond b (Some value) (map_contents reserved k)) apart ∙ old ∙ ap (λ b. cond b (after seen k) None) test
-        ∙ sym (ap (λ b. cond b (after later k) None) test))
+    let test = ne_eqb (stripe_of n k) i other in
+    let apart : bytes_eq key k ≡ false = ⊎_elim
+    (λ one. absurd (other (ap (stripe_of n) (sym ((bytes_eq-Decides key k).0 one)) ∙ here)))
+    (λ none. none) (cases_Bool (bytes_eq key k)) in
+    put k ∙ ap (λ b. cond b (Some value) (map_contents reserved k)) apart ∙ old ∙ ap (λ b. cond b (after seen k) None) test
+    ∙ sym (ap (λ b. cond b (after later k) None) test))
     (cases_eq (stripe_of n k) i)
 
 -- only one stripe has a part

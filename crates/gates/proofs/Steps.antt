@@ -120,14 +120,14 @@ module _ {T : Type 0} (contents : T → Store) (passes : ℕ) (s : State T (View
       → get_elem? homes stripe ≡ get_elem? s.homes stripe → IsHeld s stripe → IsHeld {T = T} record { words = words; homes = homes; views = set s.views id w } stripe
   stays_held words homes w stripe keep same h = dite (ℕ_discrete h.seat id)
       (λ e.
-          let is : h.view ≡ v = some-injective h.view v (sym h.there ∙ ap (get_elem? s.views) e ∙ at) in
-          record {
-            seat = id;
-            view = w;
-            there = set_here s.views id w v at;
-            holds = keep (subst (λ (x : View T). 0 < times stripe x.held) is h.holds);
-            away = same ∙ h.away;
-          })
+      let is : h.view ≡ v = some-injective h.view v (sym h.there ∙ ap (get_elem? s.views) e ∙ at) in
+      record {
+        seat = id;
+        view = w;
+        there = set_here s.views id w v at;
+        holds = keep (subst (λ (x : View T). 0 < times stripe x.held) is h.holds);
+        away = same ∙ h.away;
+      })
       (λ ne. record { seat = h.seat; view = h.view; there = set_else s.views id h.seat w ne ∙ h.there; holds = h.holds; away = same ∙ h.away })
 
   -- another view, where the words of its stripes stay
@@ -225,31 +225,31 @@ module _ {T : Type 0} (contents : T → Store) (passes slots id : ℕ) where
       let one = own_weight v single in
       ⊎_elim
       (λ below.
-          let w : View T = record v { armed = true } in
-          let less = total-less armed_by weight s.views id v at (omega arith) (λ j u there. (ruled.views j u there).ready) in
-          let f = mine_fits contents passes s ruled id v at in (
-            w,
-            keeps,
-            tt,
-            loaded (Ruled contents passes) s commit_word id w (looks contents passes s ruled id v at w refl (λ q. refl)
-              (omega (arith, total-set armed_by s.views id v w at, ruled.counts, ruled.dealt))
-              record { fits = f.fits; ready = omega arith; names = f.names } (λ stripe h. h)),
-            subst (λ b. MatchBool b (BecomesArmed m (w, m.1)) (FindsWorn m (w, m.1))) (sym (lt-ltb found (2 ^ 62) below)) refl,
-          ))
+      let w : View T = record v { armed = true } in
+      let less = total-less armed_by weight s.views id v at (omega arith) (λ j u there. (ruled.views j u there).ready) in
+      let f = mine_fits contents passes s ruled id v at in (
+        w,
+        keeps,
+        tt,
+        loaded (Ruled contents passes) s commit_word id w (looks contents passes s ruled id v at w refl (λ q. refl)
+            (omega (arith, total-set armed_by s.views id v w at, ruled.counts, ruled.dealt))
+            record { fits = f.fits; ready = omega arith; names = f.names } (λ stripe h. h)),
+        subst (λ b. MatchBool b (BecomesArmed m (w, m.1)) (FindsWorn m (w, m.1))) (sym (lt-ltb found (2 ^ 62) below)) refl,
+      ))
       (λ above.
-          let w : View T = knowing v (notes (own v) Worn) in
-          let f = mine_fits contents passes s ruled id v at in (
-            w,
-            keeps,
-            tt,
-            loaded (Ruled contents passes) s commit_word id w (looks contents passes s ruled id v at w (sym one)
-              (λ q. ap (λ (ks : List Knowledge). times q (map (λ (k : Knowledge). k.number) ks)) (sym single))
-              (omega (arith, total-set armed_by s.views id v w at, ruled.room))
-              (same_fits (length s.homes) s.words ruled.log v single (notes (own v) Worn) refl
-                (noted (length s.homes) ruled.log v.held (own v) (notes (own v) Worn) refl refl refl (own_fits v single (length s.homes) ruled.log f.fits)) f)
-              (λ stripe h. h)),
-            subst (λ b. MatchBool b (BecomesArmed m (w, m.1)) (FindsWorn m (w, m.1))) (sym (le-ltb found (2 ^ 62) above)) refl,
-          ))
+      let w : View T = knowing v (notes (own v) Worn) in
+      let f = mine_fits contents passes s ruled id v at in (
+        w,
+        keeps,
+        tt,
+        loaded (Ruled contents passes) s commit_word id w (looks contents passes s ruled id v at w (sym one)
+            (λ q. ap (λ (ks : List Knowledge). times q (map (λ (k : Knowledge). k.number) ks)) (sym single))
+            (omega (arith, total-set armed_by s.views id v w at, ruled.room))
+            (same_fits (length s.homes) s.words ruled.log v single (notes (own v) Worn) refl
+            (noted (length s.homes) ruled.log v.held (own v) (notes (own v) Worn) refl refl refl (own_fits v single (length s.homes) ruled.log f.fits)) f)
+            (λ stripe h. h)),
+        subst (λ b. MatchBool b (BecomesArmed m (w, m.1)) (FindsWorn m (w, m.1))) (sym (le-ltb found (2 ^ 62) above)) refl,
+      ))
       (cases_lt found (2 ^ 62))
 
   -- A commit
@@ -275,15 +275,14 @@ module _ {T : Type 0} (contents : T → Store) (passes slots id : ℕ) where
       let P : Bytes → Type 0 = λ key. 0 < times (stripe_of n key) v.held in
       let agree : Agree P (after (own v).seen) (after log) = (λ key h. sym (ap (λ (l : History). after l key) g.begins ∙ after_left n (stripe_of n key) g.more (own v).seen key (g.leave (stripe_of n key) h) refl)) in
       let legal : Legal (entry ∷ log) = (
-            ruled.legal,
-            due_here.1,
-            due_here.2 ∙ due_agrees P (own v).seen log entry.operation (held_kind n v.held (keys_named entry.operation) held_keys) agree,
-          ) in
+        ruled.legal,
+        due_here.1,
+        due_here.2 ∙ due_agrees P (own v).seen log entry.operation (held_kind n v.held (keys_named entry.operation) held_keys) agree,
+      ) in
       let leaves : (stripe : ℕ) → times stripe v.held ≡ 0 → LeavesStripe n stripe entry.operation = (λ stripe h. entry_leaves n stripe v.held (keys_named entry.operation) held_keys h) in
       let mine : (length log, entry) ∷ (own v).mine ≡ subhistory (entry ∷ log) (own v).number =
-            ap (λ (l : List (ℕ × Entry)). (length log, entry) ∷ l) g.mine
-            ∙ sym (ap (λ b. cond b ((length log, entry) ∷ subhistory log (own v).number) (subhistory log (own v).number)) (eq-eqb entry.session (own v).number session)) in
-      (
+      ap (λ (l : List (ℕ × Entry)). (length log, entry) ∷ l) g.mine
+      ∙ sym (ap (λ b. cond b ((length log, entry) ∷ subhistory log (own v).number) (subhistory log (own v).number)) (eq-eqb entry.session (own v).number session)) in (
         w,
         keeps,
         tt,
@@ -313,19 +312,19 @@ module _ {T : Type 0} (contents : T → Store) (passes slots id : ℕ) where
                 );
               }
               (λ j u ne there.
-                let old = ruled.views j u there in
-                record {
-                  fits = each_later n log entry u.held u.passes
-                      (ap (λ (k : ℕ). times k (map (λ (x : Knowledge). x.number) u.passes)) session ∙ others_stand contents passes s ruled id v at single j u ne there)
-                      (λ stripe h. leaves stripe (omega (arith, λ (mine_too : 0 < times stripe v.held). not_both contents passes s ruled id v at single stripe j u ne there mine_too h)))
-                      old.fits;
-                  ready = old.ready;
-                  names = λ stripe h. let t = old.names stripe h in (
-                    t.0,
-                    names_at s.words (set s.words commit_word ((found + 1) % 2 ^ 64)) stripe u.passes
-                    (get_or-set_other s.words commit_word (word_of stripe) ((found + 1) % 2 ^ 64) 0 (λ e. omega arith)) t.1,
-                  );
-                });
+              let old = ruled.views j u there in
+              record {
+                fits = each_later n log entry u.held u.passes
+                    (ap (λ (k : ℕ). times k (map (λ (x : Knowledge). x.number) u.passes)) session ∙ others_stand contents passes s ruled id v at single j u ne there)
+                    (λ stripe h. leaves stripe (omega (arith, λ (mine_too : 0 < times stripe v.held). not_both contents passes s ruled id v at single stripe j u ne there mine_too h)))
+                    old.fits;
+                ready = old.ready;
+                names = λ stripe h. let t = old.names stripe h in (
+                  t.0,
+                  names_at s.words (set s.words commit_word ((found + 1) % 2 ^ 64)) stripe u.passes
+                      (get_or-set_other s.words commit_word (word_of stripe) ((found + 1) % 2 ^ 64) 0 (λ e. omega arith)) t.1,
+                );
+              });
           stripes = λ stripe h. ⊎_elim
               (λ free. inl record {
                 word = get_or-set_other s.words commit_word (word_of stripe) ((found + 1) % 2 ^ 64) 0 (λ e. omega arith) ∙ free.word;
@@ -374,123 +373,121 @@ module _ {T : Type 0} (contents : T → Store) (passes slots id : ℕ) where
       let then : ℕ → Me T (View T) → Type 0 = Tries contents (step slots (word_of i) 0 ((own v).number + 1) none) m in
       let Goal : ℕ → Type 0 = λ x. (w : View T) × (a : Act T) × Valid s.homes m.1 a × Ruled contents passes (stepped s (word_of i) x id m.1 w a) × then found (w, carried_after m.1 a) in
       let at_stripe : (w : Me T (View T)) (b : Bool) → nat_eq found 0 ≡ b → MatchBool b (Took contents slots i m w) (Missed i found m w) → then found w =
-            (λ w b is told stripe e.
-              let same : i ≡ stripe = omega arith in
-              subst (λ (k : ℕ). MatchBool (nat_eq found 0) (Took contents slots k m w) (Missed k found m w)) same
-              (subst (λ c. MatchBool c (Took contents slots i m w) (Missed i found m w)) (sym is) told)) in
+      (λ w b is told stripe e.
+      let same : i ≡ stripe = omega arith in
+      subst (λ (k : ℕ). MatchBool (nat_eq found 0) (Took contents slots k m w) (Missed k found m w)) same
+      (subst (λ c. MatchBool c (Took contents slots i m w) (Missed i found m w)) (sym is) told)) in
       dite (ℕ_discrete found 0)
       (λ zero_word.
-          subst (λ b. Goal (either b ((own v).number + 1) found)) (sym (eq-eqb found 0 zero_word))
-          (⊎_elim
-            (λ free.
-              let w : View T = taking v i free.part ruled.log in
-              let later = set words (word_of i) ((own v).number + 1) in
-              (
-                w,
-                takes i free.part,
-                free.home,
-                record {
-                  log = ruled.log;
-                  legal = ruled.legal;
-                  wide = length-set words (word_of i) ((own v).number + 1) ∙ ruled.wide ∙ ap word_of (sym (length-set s.homes i none));
-                  few = ruled.few;
-                  counts = get_or-set_other words (word_of i) commit_word ((own v).number + 1) 0 (λ e. omega arith) ∙ ruled.counts;
-                  room = omega (arith, total-set armed_by s.views id v w at, ruled.room);
-                  dealt = dealt_set contents passes s ruled id v at w (sym (own_weight v single));
-                  once = once_set contents passes s ruled id v at w (λ q. ap (λ (ks : List Knowledge). times q (map (λ (k : Knowledge). k.number) ks)) (sym single));
-                  views = let same_size : length (set s.homes i none) ≡ n = length-set s.homes i none in
-                    subst (λ (k : ℕ). (j : ℕ) (u : View T) → get_elem? (set s.views id w) j ≡ some u → FitsView k later ruled.log u) (sym same_size)
-                    (each_set (λ j u. FitsView n later ruled.log u) s.views id w
+      subst (λ b. Goal (either b ((own v).number + 1) found)) (sym (eq-eqb found 0 zero_word))
+      (⊎_elim
+      (λ free.
+      let w : View T = taking v i free.part ruled.log in
+      let later = set words (word_of i) ((own v).number + 1) in (
+        w,
+        takes i free.part,
+        free.home,
+        record {
+          log = ruled.log;
+          legal = ruled.legal;
+          wide = length-set words (word_of i) ((own v).number + 1) ∙ ruled.wide ∙ ap word_of (sym (length-set s.homes i none));
+          few = ruled.few;
+          counts = get_or-set_other words (word_of i) commit_word ((own v).number + 1) 0 (λ e. omega arith) ∙ ruled.counts;
+          room = omega (arith, total-set armed_by s.views id v w at, ruled.room);
+          dealt = dealt_set contents passes s ruled id v at w (sym (own_weight v single));
+          once = once_set contents passes s ruled id v at w (λ q. ap (λ (ks : List Knowledge). times q (map (λ (k : Knowledge). k.number) ks)) (sym single));
+          views = let same_size : length (set s.homes i none) ≡ n = length-set s.homes i none in
+              subst (λ (k : ℕ). (j : ℕ) (u : View T) → get_elem? (set s.views id w) j ≡ some u → FitsView k later ruled.log u) (sym same_size)
+              (each_set (λ j u. FitsView n later ruled.log u) s.views id w
+              record {
+                fits = (record { more = []; begins = refl; leave = λ _ _. tt; mine = g.mine; mine_seen = g.mine }, tt);
+                ready = omega (arith, own_weight v single, f.ready);
+                names = λ stripe h. dite (ℕ_discrete stripe i)
+                    (λ e. (
+                      omega arith,
                       record {
-                        fits = (record { more = []; begins = refl; leave = λ _ _. tt; mine = g.mine; mine_seen = g.mine }, tt);
-                        ready = omega (arith, own_weight v single, f.ready);
-                        names = λ stripe h. dite (ℕ_discrete stripe i)
-                            (λ e. (
-                              omega arith,
-                              record {
-                                knows = sees (own v) ruled.log;
-                                single = refl;
-                                word = ap (λ (k : ℕ). slice_index later (word_of k)) e ∙ get_or-set_same words (word_of i) ((own v).number + 1) 0 (omega (arith, ruled.wide));
-                              },
-                            ))
-                            (λ ne.
-                              let t = f.names stripe (omega (arith, times_else stripe i v.held (λ e. ne (sym e)))) in (
-                                t.0,
-                                record {
-                                  knows = sees (own v) ruled.log;
-                                  single = refl;
-                                  word = other_word words i stripe ((own v).number + 1) ne ∙ named_word words stripe v t.1;
-                                },
-                              ));
-                      }
-                      (λ j u ne there. fits_still contents passes s ruled id v at later j u there
-                        (λ stripe h. other_word words i stripe ((own v).number + 1)
-                          (λ e. word_not_zero words i u (((ruled.views j u there).names i (subst (λ (k : ℕ). 0 < times k u.held) e h)).1) zero_word))));
-                  stripes = let same_size : length (set s.homes i none) ≡ n = length-set s.homes i none in
-                    λ stripe h. dite (ℕ_discrete stripe i)
-                    (λ e. inr record {
-                      seat = id;
-                      view = w;
-                      there = set_here s.views id w v at;
-                      holds = subst (λ (k : ℕ). 0 < times k (i ∷ v.held)) (sym e) (omega (arith, times_here i v.held));
-                      away = ap (get_elem? (set s.homes i none)) e ∙ set_here s.homes i none (some free.part) free.home;
-                    })
-                    (λ ne. ⊎_elim
-                      (λ other. inl record {
-                        word = other_word words i stripe ((own v).number + 1) ne ∙ other.word;
-                        part = other.part;
-                        home = set_else s.homes i stripe none ne ∙ other.home;
-                        reads = subst (λ (k : ℕ). IsPart k stripe (contents other.part) (after ruled.log)) (sym same_size) other.reads;
-                      })
-                      (λ held. inr (stays_held contents passes s ruled id v at later (set s.homes i none) w stripe
-                        (λ x. omega (arith, times_else stripe i v.held (λ e. ne (sym e)))) (set_else s.homes i stripe none ne) held))
-                      (ruled.stripes stripe (omega (arith, same_size))));
-                },
-                at_stripe (w, (i, free.part) ∷ m.1) true (eq-eqb found 0 zero_word)
-                  record {
-                    part = free.part;
-                    log = ruled.log;
-                    goes_on = record {
-                      more = g.more;
-                      begins = g.begins;
-                      leave = subst (λ (k : ℕ). (stripe : ℕ) → 0 < times stripe v.held → AllLeave k stripe g.more) wide g.leave;
-                      legal = ruled.legal;
-                      mine = g.mine;
-                    };
-                    reads = subst (λ (k : ℕ). IsPart k i (contents free.part) (after ruled.log)) wide free.reads;
-                    seat = refl;
-                  },
-              ))
-            (λ held. let t = (ruled.views held.seat held.view held.there).names i held.holds in absurd (word_not_zero words i held.view t.1 zero_word))
-            (ruled.stripes i (omega arith))))
+                        knows = sees (own v) ruled.log;
+                        single = refl;
+                        word = ap (λ (k : ℕ). slice_index later (word_of k)) e ∙ get_or-set_same words (word_of i) ((own v).number + 1) 0 (omega (arith, ruled.wide));
+                      },
+                    ))
+                    (λ ne.
+                    let t = f.names stripe (omega (arith, times_else stripe i v.held (λ e. ne (sym e)))) in (
+                      t.0,
+                      record {
+                        knows = sees (own v) ruled.log;
+                        single = refl;
+                        word = other_word words i stripe ((own v).number + 1) ne ∙ named_word words stripe v t.1;
+                      },
+                    ));
+              }
+              (λ j u ne there. fits_still contents passes s ruled id v at later j u there
+              (λ stripe h. other_word words i stripe ((own v).number + 1)
+              (λ e. word_not_zero words i u (((ruled.views j u there).names i (subst (λ (k : ℕ). 0 < times k u.held) e h)).1) zero_word))));
+          stripes = let same_size : length (set s.homes i none) ≡ n = length-set s.homes i none in
+              λ stripe h. dite (ℕ_discrete stripe i)
+              (λ e. inr record {
+                seat = id;
+                view = w;
+                there = set_here s.views id w v at;
+                holds = subst (λ (k : ℕ). 0 < times k (i ∷ v.held)) (sym e) (omega (arith, times_here i v.held));
+                away = ap (get_elem? (set s.homes i none)) e ∙ set_here s.homes i none (some free.part) free.home;
+              })
+              (λ ne. ⊎_elim
+              (λ other. inl record {
+                word = other_word words i stripe ((own v).number + 1) ne ∙ other.word;
+                part = other.part;
+                home = set_else s.homes i stripe none ne ∙ other.home;
+                reads = subst (λ (k : ℕ). IsPart k stripe (contents other.part) (after ruled.log)) (sym same_size) other.reads;
+              })
+              (λ held. inr (stays_held contents passes s ruled id v at later (set s.homes i none) w stripe
+              (λ x. omega (arith, times_else stripe i v.held (λ e. ne (sym e)))) (set_else s.homes i stripe none ne) held))
+              (ruled.stripes stripe (omega (arith, same_size))));
+        },
+        at_stripe (w, (i, free.part) ∷ m.1) true (eq-eqb found 0 zero_word)
+            record {
+              part = free.part;
+              log = ruled.log;
+              goes_on = record {
+                more = g.more;
+                begins = g.begins;
+                leave = subst (λ (k : ℕ). (stripe : ℕ) → 0 < times stripe v.held → AllLeave k stripe g.more) wide g.leave;
+                legal = ruled.legal;
+                mine = g.mine;
+              };
+              reads = subst (λ (k : ℕ). IsPart k i (contents free.part) (after ruled.log)) wide free.reads;
+              seat = refl;
+            },
+      ))
+      (λ held. let t = (ruled.views held.seat held.view held.there).names i held.holds in absurd (word_not_zero words i held.view t.1 zero_word))
+      (ruled.stripes i (omega arith))))
       (λ other_word'.
-          subst (λ b. Goal (either b ((own v).number + 1) found)) (sym (ne_eqb found 0 other_word'))
-          (
-            let w : View T = knowing v (notes (own v) (Busy i)) in
-            let others : found ≢ (own v).number + 1 = (λ e. ⊎_elim (λ free. other_word' free.word)
-                  (λ held.
-                    let t = (ruled.views held.seat held.view held.there).names i held.holds in
-                    let same : (own held.view).number ≡ (own v).number = omega (arith, named_word words i held.view t.1) in
-                    dite (ℕ_discrete held.seat id)
-                    (λ here.
-                      let is : held.view ≡ v = some-injective held.view v (sym held.there ∙ ap (get_elem? s.views) here ∙ at) in
-                      let h : 0 < times i v.held = subst (λ (x : View T). 0 < times i x.held) is held.holds in
-                      omega arith)
-                    (λ ne. number_apart contents passes s ruled id v at single held.seat held.view ne held.there (named_single words i held.view t.1) same))
-                  (ruled.stripes i (omega arith))) in
-            (
-              w,
-              keeps,
-              tt,
-              loaded (Ruled contents passes) s (word_of i) id w (looks contents passes s ruled id v at w (sym (own_weight v single))
-                (λ q. ap (λ (ks : List Knowledge). times q (map (λ (k : Knowledge). k.number) ks)) (sym single))
-                (omega (arith, total-set armed_by s.views id v w at, ruled.room))
-                (same_fits n words ruled.log v single (notes (own v) (Busy i)) refl
-                  (noted n ruled.log v.held (own v) (notes (own v) (Busy i)) refl refl refl g) f)
-                (λ stripe h. h)),
-              at_stripe (w, m.1) false (ne_eqb found 0 other_word') record { others = others; seat = refl },
-            )
-          ))
+      subst (λ b. Goal (either b ((own v).number + 1) found)) (sym (ne_eqb found 0 other_word'))
+      (
+      let w : View T = knowing v (notes (own v) (Busy i)) in
+      let others : found ≢ (own v).number + 1 = (λ e. ⊎_elim (λ free. other_word' free.word)
+      (λ held.
+      let t = (ruled.views held.seat held.view held.there).names i held.holds in
+      let same : (own held.view).number ≡ (own v).number = omega (arith, named_word words i held.view t.1) in
+      dite (ℕ_discrete held.seat id)
+      (λ here.
+      let is : held.view ≡ v = some-injective held.view v (sym held.there ∙ ap (get_elem? s.views) here ∙ at) in
+      let h : 0 < times i v.held = subst (λ (x : View T). 0 < times i x.held) is held.holds in
+      omega arith)
+      (λ ne. number_apart contents passes s ruled id v at single held.seat held.view ne held.there (named_single words i held.view t.1) same))
+      (ruled.stripes i (omega arith))) in (
+        w,
+        keeps,
+        tt,
+        loaded (Ruled contents passes) s (word_of i) id w (looks contents passes s ruled id v at w (sym (own_weight v single))
+            (λ q. ap (λ (ks : List Knowledge). times q (map (λ (k : Knowledge). k.number) ks)) (sym single))
+            (omega (arith, total-set armed_by s.views id v w at, ruled.room))
+            (same_fits n words ruled.log v single (notes (own v) (Busy i)) refl
+            (noted n ruled.log v.held (own v) (notes (own v) (Busy i)) refl refl refl g) f)
+            (λ stripe h. h)),
+        at_stripe (w, m.1) false (ne_eqb found 0 other_word') record { others = others; seat = refl },
+      )
+      ))
 
   -- the same at a word and a number that are the stripe's and the pass's
   pub tries_at : (m : Me T (View T)) (i word mine : ℕ) → word ≡ word_of i → mine ≡ (own m.0).number + 1 → IsSingle m.0 → i < slots → times i m.0.held ≡ 0 → mine < 2 ^ 64
@@ -498,7 +495,7 @@ module _ {T : Type 0} (contents : T → Store) (passes slots id : ℕ) where
   tries_at m i word mine word_is mine_is single below none_held small =
       subst (λ (x : ℕ). Allows (Ruled contents passes) slots id m x (λ n. either (eqb n 0) mine n) (Tries contents (step slots x 0 mine none) m)) (sym word_is)
       (subst (λ (y : ℕ). Allows (Ruled contents passes) slots id m (word_of i) (λ n. either (eqb n 0) y n) (Tries contents (step slots (word_of i) 0 y none) m)) (sym mine_is)
-        (tries m i single below none_held (subst (λ (y : ℕ). y < 2 ^ 64) mine_is small)))
+      (tries m i single below none_held (subst (λ (y : ℕ). y < 2 ^ 64) mine_is small)))
 
   -- The stripe in front is given back
   pub gives_back : (v : View T) (i : ℕ) (part : T) (more : List (ℕ × T)) → IsSingle v → 0 < times i v.held → IsPart slots i (contents part) (after (own v).seen)
@@ -515,9 +512,8 @@ module _ {T : Type 0} (contents : T → Store) (passes slots id : ℕ) where
       let same_size : length homes ≡ n = length-set s.homes i (some part) in
       let below : i < n = (f.names i mine_held).0 in
       let reads_now : IsPart n i (contents part) (after ruled.log) =
-            subst (λ (l : History). IsPart n i (contents part) (after l)) (sym g.begins)
-            (part_left n i (contents part) g.more (own v).seen (g.leave i mine_held) (subst (λ (k : ℕ). IsPart k i (contents part) (after (own v).seen)) (sym wide) reads)) in
-      (
+      subst (λ (l : History). IsPart n i (contents part) (after l)) (sym g.begins)
+      (part_left n i (contents part) g.more (own v).seen (g.leave i mine_held) (subst (λ (k : ℕ). IsPart k i (contents part) (after (own v).seen)) (sym wide) reads)) in (
         w,
         gives,
         tt,
@@ -532,17 +528,17 @@ module _ {T : Type 0} (contents : T → Store) (passes slots id : ℕ) where
           once = once_set contents passes s ruled id v at w (λ q. refl);
           views = subst (λ (k : ℕ). (j : ℕ) (u : View T) → get_elem? (set s.views id w) j ≡ some u → FitsView k later ruled.log u) (sym same_size)
               (each_set (λ j u. FitsView n later ruled.log u) s.views id w
-                record {
-                  fits = fewer_held n ruled.log i v.held v.passes f.fits;
-                  ready = f.ready;
-                  names = λ stripe h.
-                      let ne : stripe ≢ i = (λ e. let none_left : times stripe (without i v.held) ≡ 0 = ap (λ (k : ℕ). times k (without i v.held)) e ∙ without_here i v.held in omega arith) in
-                      let t = f.names stripe (omega (arith, without_else i stripe v.held ne)) in
-                      (t.0, names_at words later stripe v.passes (other_word words i stripe 0 ne) t.1);
-                }
-                (λ j u ne there. fits_still contents passes s ruled id v at later j u there
-                  (λ stripe h. other_word words i stripe 0
-                    (λ e. not_both contents passes s ruled id v at single i j u ne there mine_held (subst (λ (k : ℕ). 0 < times k u.held) e h)))));
+              record {
+                fits = fewer_held n ruled.log i v.held v.passes f.fits;
+                ready = f.ready;
+                names = λ stripe h.
+                    let ne : stripe ≢ i = (λ e. let none_left : times stripe (without i v.held) ≡ 0 = ap (λ (k : ℕ). times k (without i v.held)) e ∙ without_here i v.held in omega arith) in
+                    let t = f.names stripe (omega (arith, without_else i stripe v.held ne)) in
+                    (t.0, names_at words later stripe v.passes (other_word words i stripe 0 ne) t.1);
+              }
+              (λ j u ne there. fits_still contents passes s ruled id v at later j u there
+              (λ stripe h. other_word words i stripe 0
+              (λ e. not_both contents passes s ruled id v at single i j u ne there mine_held (subst (λ (k : ℕ). 0 < times k u.held) e h)))));
           stripes = λ stripe h. dite (ℕ_discrete stripe i)
               (λ e. inl record {
                 word = ap (λ (k : ℕ). slice_index later (word_of k)) e ∙ get_or-set_same words (word_of i) 0 0 (omega (arith, ruled.wide));
@@ -552,15 +548,15 @@ module _ {T : Type 0} (contents : T → Store) (passes slots id : ℕ) where
                     (subst (λ (k : ℕ). IsPart n k (contents part) (after ruled.log)) (sym e) reads_now);
               })
               (λ ne. ⊎_elim
-                (λ other. inl record {
-                  word = other_word words i stripe 0 ne ∙ other.word;
-                  part = other.part;
-                  home = set_else s.homes i stripe (some part) ne ∙ other.home;
-                  reads = subst (λ (k : ℕ). IsPart k stripe (contents other.part) (after ruled.log)) (sym same_size) other.reads;
-                })
-                (λ held. inr (stays_held contents passes s ruled id v at later homes w stripe
-                  (λ x. omega (arith, without_else i stripe v.held ne)) (set_else s.homes i stripe (some part) ne) held))
-                (ruled.stripes stripe (omega (arith, same_size))));
+              (λ other. inl record {
+                word = other_word words i stripe 0 ne ∙ other.word;
+                part = other.part;
+                home = set_else s.homes i stripe (some part) ne ∙ other.home;
+                reads = subst (λ (k : ℕ). IsPart k stripe (contents other.part) (after ruled.log)) (sym same_size) other.reads;
+              })
+              (λ held. inr (stays_held contents passes s ruled id v at later homes w stripe
+              (λ x. omega (arith, without_else i stripe v.held ne)) (set_else s.homes i stripe (some part) ne) held))
+              (ruled.stripes stripe (omega (arith, same_size))));
         },
         λ stripe e. let same : i ≡ stripe = omega arith in ap (λ (k : ℕ). (giving v k, more)) same,
       )
@@ -572,7 +568,7 @@ module _ {T : Type 0} (contents : T → Store) (passes slots id : ℕ) where
   gives_first m i word part word_is first single held reads =
       subst (λ (x : ℕ). Allows (Ruled contents passes) slots id m x (λ _. 0) (λ _. Gives (step slots x 0 0 none) m 0)) (sym word_is)
       (subst (λ (l : List (ℕ × T)). Allows (Ruled contents passes) slots id (m.0, l) (word_of i) (λ _. 0) (λ _. Gives (step slots (word_of i) 0 0 none) (m.0, l) 0)) (sym first)
-        (gives_back m.0 i part (rest m.1) single held reads))
+      (gives_back m.0 i part (rest m.1) single held reads))
 
 -- passes that have all seen the log
 each_sees : (n : ℕ) (log : History) (held : List ℕ) (ps : List Knowledge) → EachFits n log held ps → EachFits n log held (all_see ps log)
@@ -621,8 +617,8 @@ times_new : (q number count : ℕ) → times q (map (λ (k : Knowledge). k.numbe
 times_new q number zero = omega arith
 times_new q number (suc count) = dite (ℕ_discrete number q)
     (λ e. let l = map (λ (k : Knowledge). k.number) (newcomers (number + 1) count) in
-      let one : times q (number ∷ l) ≡ 1 + times q l = subst (λ (k : ℕ). times q (k ∷ l) ≡ 1 + times q l) (sym e) (times_here q l) in
-      omega (arith, times_lower q (number + 1) count (omega arith)))
+    let one : times q (number ∷ l) ≡ 1 + times q l = subst (λ (k : ℕ). times q (k ∷ l) ≡ 1 + times q l) (sym e) (times_here q l) in
+    omega (arith, times_lower q (number + 1) count (omega arith)))
     (λ ne. omega (arith, times_else q number (map (λ (k : Knowledge). k.number) (newcomers (number + 1) count)) ne, times_new q (number + 1) count))
 
 length_somes : {T : Type 0} (parts : List T) → length (map some parts) ≡ length parts
@@ -702,7 +698,7 @@ module _ {T : Type 0} (contents : T → Store) (passes : ℕ) where
         once = λ q. omega (arith, ruled.once q, stands q, total-append (stands_for q) (set s.views id left) (right ∷ []), total-set (stands_for q) s.views id v left at);
         views = λ j u there. ⊎_elim
             (λ old. each_set (λ j u. FitsView n s.words ruled.log u) s.views id left (resting_fits n s.words ruled.log left left_held zero_left halves.0)
-              (λ k x ne was. ruled.views k x was) j u old)
+            (λ k x ne was. ruled.views k x was) j u old)
             (λ new. subst (λ (x : View T). FitsView n s.words ruled.log x) new (resting_fits n s.words ruled.log right right_held zero_right halves.1))
             (at_snoc (set s.views id left) right u j there);
         stripes = λ stripe h. ⊎_elim
@@ -739,13 +735,18 @@ module _ {T : Type 0} (contents : T → Store) (passes : ℕ) where
         counts = ruled.counts;
         room = omega (arith, ruled.room, one, two);
         dealt = omega (arith, ruled.dealt, heavy_one, heavy_two, length-append v.passes w.passes);
-        once = λ q. omega (arith, ruled.once q, total-set (stands_for q) s.views id v (joined v w) at,
-          total-set (stands_for q) (set s.views id (joined v w)) other w (resting []) at_both, numbers_append q v.passes w.passes);
+        once = λ q. omega (
+          arith,
+          ruled.once q,
+          total-set (stands_for q) s.views id v (joined v w) at,
+          total-set (stands_for q) (set s.views id (joined v w)) other w (resting []) at_both,
+          numbers_append q v.passes w.passes,
+        );
         views = each_set (λ j u. FitsView n s.words ruled.log u) (set s.views id (joined v w)) other (resting [])
             record { fits = tt; ready = omega arith; names = λ stripe h. absurd (omega arith) }
             (λ j u apart there. each_set (λ j u. FitsView n s.words ruled.log u) s.views id (joined v w)
-              record { fits = each_append n ruled.log [] v.passes w.passes f_fits g_fits; ready = omega arith; names = λ stripe h. absurd (omega arith) }
-              (λ k x ne' was. ruled.views k x was) j u there);
+            record { fits = each_append n ruled.log [] v.passes w.passes f_fits g_fits; ready = omega arith; names = λ stripe h. absurd (omega arith) }
+            (λ k x ne' was. ruled.views k x was) j u there);
         stripes = λ stripe h. ⊎_elim
             (λ free. inl record { word = free.word; part = free.part; home = free.home; reads = free.reads })
             (λ held. inr record {
@@ -765,20 +766,19 @@ module _ {T : Type 0} (contents : T → Store) (passes : ℕ) where
       let v = m.0 in
       let n = length s.homes in
       let f = mine_fits contents passes s ruled id v at in
-      let w : View T = record v { passes = all_see v.passes ruled.log } in
-      (
+      let w : View T = record v { passes = all_see v.passes ruled.log } in (
         w,
         keeps,
         tt,
         loaded (Ruled contents passes) s i id w (looks contents passes s ruled id v at w (length_see ruled.log v.passes)
-          (λ q. ap (times q) (numbers_see ruled.log v.passes))
-          (omega (arith, total-set armed_by s.views id v w at, ruled.room))
-          record {
-            fits = each_sees n ruled.log v.held v.passes f.fits;
-            ready = omega (arith, f.ready, length_see ruled.log v.passes);
-            names = λ stripe h. absurd (idle_holds v none_held stripe h);
-          }
-          (λ stripe h. h)),
+            (λ q. ap (times q) (numbers_see ruled.log v.passes))
+            (omega (arith, total-set armed_by s.views id v w at, ruled.room))
+            record {
+              fits = each_sees n ruled.log v.held v.passes f.fits;
+              ready = omega (arith, f.ready, length_see ruled.log v.passes);
+              names = λ stripe h. absurd (idle_holds v none_held stripe h);
+            }
+            (λ stripe h. h)),
         record { log = ruled.log; go_on = each_goes_on n slots ruled.log v.held v.passes ruled.legal f.fits; seat = refl },
       )
 
@@ -791,9 +791,9 @@ module _ {T : Type 0} (contents : T → Store) (passes : ℕ) where
       (omega (arith, ap (λ (l : List Knowledge). length l) first_is))
       (λ q. omega (arith, ap (λ (l : List Knowledge). times q (map (λ (k : Knowledge). k.number) l)) first_is))
       (λ n log fits.
-        let none : EachFits n log [] v.passes = subst (λ (l : List ℕ). EachFits n log l v.passes) none_held fits in
-        let all : EachFits n log [] (first_of v.passes ∷ others_of v.passes) = subst (EachFits n log []) first_is none in
-        ((all.0, tt), all.1))
+      let none : EachFits n log [] v.passes = subst (λ (l : List ℕ). EachFits n log l v.passes) none_held fits in
+      let all : EachFits n log [] (first_of v.passes ∷ others_of v.passes) = subst (EachFits n log []) first_is none in
+      ((all.0, tt), all.1))
 
   -- a new seat stands for all
   pub leave_splits : (id : ℕ) (v : View T) → v.held ≡ [] → Splits (Ruled contents passes) id v (resting []) (resting v.passes)

@@ -87,8 +87,8 @@ module _ {T : Type 0} where
   from_has i (x ∷ xs) h = ⊎_elim
       (λ e. (x.1, from_first i x xs e ∙ ap (λ (k : ℕ). (k, x.1) ∷ xs) e ∙ ap (λ (l : List (ℕ × T)). (i, x.1) ∷ rest l) (sym (from_first i x xs e)), at_first i x xs e))
       (λ ne.
-        let t = from_has i xs (some_later i x xs ne h) in
-        (t.0, from_later i x xs ne ∙ t.1 ∙ ap (λ (l : List (ℕ × T)). (i, t.0) ∷ rest l) (sym (from_later i x xs ne)), at_later i x xs ne ∙ t.2))
+      let t = from_has i xs (some_later i x xs ne h) in
+      (t.0, from_later i x xs ne ∙ t.1 ∙ ap (λ (l : List (ℕ × T)). (i, t.0) ∷ rest l) (sym (from_later i x xs ne)), at_later i x xs ne ∙ t.2))
       (cases_eq x.0 i)
 
   -- the stripe's part is in front
@@ -101,18 +101,16 @@ module _ {T : Type 0} where
         at_first i x xs e,
       ))
       (λ ne.
-        let t = brought_has i xs (some_later i x xs ne h) in
-        let from : brought i (x ∷ xs) ≡ from_part i xs ++ x ∷ before_part i xs =
-              ap (λ (l : List (ℕ × T)). l ++ before_part i (x ∷ xs)) (from_later i x xs ne) ∙ ap (λ (l : List (ℕ × T)). from_part i xs ++ l) (before_later i x xs ne) in
-        let f = from_has i xs (some_later i x xs ne h) in
-        (
-          f.0,
-          from ∙ ap (λ (l : List (ℕ × T)). l ++ x ∷ before_part i xs) f.1
-          ∙ ap (λ (l : List (ℕ × T)). (i, f.0) ∷ rest l) (sym (from ∙ ap (λ (l : List (ℕ × T)). l ++ x ∷ before_part i xs) f.1)),
-          at_later i x xs ne ∙ f.2,
-        ))
+      let t = brought_has i xs (some_later i x xs ne h) in
+      let from : brought i (x ∷ xs) ≡ from_part i xs ++ x ∷ before_part i xs =
+      ap (λ (l : List (ℕ × T)). l ++ before_part i (x ∷ xs)) (from_later i x xs ne) ∙ ap (λ (l : List (ℕ × T)). from_part i xs ++ l) (before_later i x xs ne) in
+      let f = from_has i xs (some_later i x xs ne h) in (
+        f.0,
+        from ∙ ap (λ (l : List (ℕ × T)). l ++ x ∷ before_part i xs) f.1
+            ∙ ap (λ (l : List (ℕ × T)). (i, f.0) ∷ rest l) (sym (from ∙ ap (λ (l : List (ℕ × T)). l ++ x ∷ before_part i xs) f.1)),
+        at_later i x xs ne ∙ f.2,
+      ))
       (cases_eq x.0 i)
-
 
   -- what is held, after a turn
   pub held_turned : (h : Held T) (order : List ℕ) (seat : Seat T (View T)) (i : ℕ) → seat.table_id ≡ h.pass.now.seat.table_id → seat.id ≡ h.pass.now.seat.id
@@ -139,7 +137,7 @@ module _ {T : Type 0} where
   held_done h initial i order others first same =
       let f = first_part (held_parts h) i others (order ∙ first) in
       let there : brought i (held_parts h) ≡ held_parts h =
-            ap (brought i) f.1 ∙ brought_first i (i, f.0) (rest (held_parts h)) refl ∙ sym f.1 in
+      ap (brought i) f.1 ∙ brought_first i (i, f.0) (rest (held_parts h)) refl ∙ sym f.1 in
       sym (held_same h order) ∙ ap (held_with h) (sym there) ∙ same
 
   -- a stripe that has a part is not in front, so its parts can be turned
@@ -216,7 +214,7 @@ module _ {T : Type 0} where
   halves i (x ∷ xs) = ⊎_elim
       (λ e. sym (from_first i x xs e) ∙ ap (λ (l : List (ℕ × T)). l ++ from_part i (x ∷ xs)) (sym (before_first i x xs e)))
       (λ ne. ap (λ (l : List (ℕ × T)). x ∷ l) (halves i xs) ∙ ap (λ (l : List (ℕ × T)). (x ∷ before_part i xs) ++ l) (sym (from_later i x xs ne))
-        ∙ ap (λ (l : List (ℕ × T)). l ++ from_part i (x ∷ xs)) (sym (before_later i x xs ne)))
+      ∙ ap (λ (l : List (ℕ × T)). l ++ from_part i (x ∷ xs)) (sym (before_later i x xs ne)))
       (cases_eq x.0 i)
 
   pub times_brought : (i j : ℕ) (xs : List (ℕ × T)) → times j (stripes_among (brought i xs)) ≡ times j (stripes_among xs)
@@ -231,7 +229,7 @@ module _ {T : Type 0} where
       ⊎_elim
       (λ none. part_end j f b none ∙ sym (part_skip j b f none) ∙ sym whole)
       (λ some. let none : times j (stripes_among f) ≡ 0 = omega (arith, some) in
-        part_skip j f b none ∙ sym (part_end j b f none) ∙ sym whole)
+      part_skip j f b none ∙ sym (part_end j b f none) ∙ sym whole)
       (cases_eq (times j (stripes_among b)) 0)
 
   -- after a write, the stripe has the new part
@@ -255,7 +253,7 @@ module _ {T : Type 0} where
       let s = is.holding.seat in
       let parts = held_parts h in
       let same : (j : ℕ) → times j (stripes_among ((i, w) ∷ rest (brought i parts))) ≡ times j (stripes_among parts) =
-            (λ j. ap (times j) (among_written i w parts there) ∙ times_brought i j parts) in
+      (λ j. ap (times j) (among_written i w parts there) ∙ times_brought i j parts) in
       record {
         holding = record {
           table = is.holding.table;

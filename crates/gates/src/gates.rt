@@ -108,12 +108,7 @@ impl<T: Part> Gates<T> {
     }
 
     /// Deals out a seat's passes.
-    fn deal(
-        &self,
-        seat: Seat<T, View<T>>,
-        mut dealt: Vec<Pass<T>>,
-        passes: usize,
-    ) -> Vec<Pass<T>>
+    fn deal(&self, seat: Seat<T, View<T>>, mut dealt: Vec<Pass<T>>, passes: usize) -> Vec<Pass<T>>
         requires table { seat.table_id ≡ id_of self.now }
         requires all { seat.me ≡ (unmet passes, []) }
         requires none { dealt.items ≡ [] }
@@ -212,7 +207,10 @@ impl<T: Part> Gates<T> {
     {
         let word = word_index(stripe);
         let mine = pass.number + 1;
-        let found = self.table.shared.compare_exchange::<Try>(&mut pass.seat, word, 0, mine);
+        let found = self
+            .table
+            .shared
+            .compare_exchange::<Try>(&mut pass.seat, word, 0, mine);
         if found != 0 {
             return false;
         }

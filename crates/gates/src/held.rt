@@ -232,6 +232,7 @@ impl<'a, T: Part> Parts<T> for Held<'a, T> {
     ghost use Rattle.gates.specs.Passes.{part_at};
     ghost use Rattle.gates.specs.Helds.{IsOpen, held_parts, SameHold, same_as_it, same_by_both};
     ghost use Rattle.gates.specs.Lending as lending;
+
     ghost part_of = { λ held stripe. part_at (held_parts held) stripe };
 
     ghost with_part = { lending.with_part };

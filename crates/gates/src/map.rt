@@ -243,7 +243,7 @@ pub fn get<R: Wait>(
         return Err(CallFault::OutOfMemory);
     };
     match held.commit(&operation, &reply) {
-        Err(CommitsWornOut) => {
+        Err(_) => {
             held.give();
             Err(CallFault::CommitsWornOut)
         }

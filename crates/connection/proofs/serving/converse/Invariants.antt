@@ -2,7 +2,7 @@ use Rattle.std.proofs.Common.{◌≡◌, ℕ, List, []}
 use Rattle.std.specs.Io.KnownBytes.{Appends, Consumes}
 use Rattle.words.specs.Stream.{front, Part}
 use Rattle.engine.specs.Contents.{contents, pass_number}
-use Rattle.connection.specs.Streams.{stream_of, told_of, tries_of}
+use Rattle.connection.specs.Streams.{stream_of, told_of, reads_of}
 use Rattle.connection.specs.Conversations.{Conversation}
 use Rattle.connection.proofs.serving.converse.Given as goal
 
@@ -20,4 +20,4 @@ invariant-loop-ended g l = record {
 }
 
 abbrev pub decreases-loop-ended : goal.decreases-loop-ended
-decreases-loop-ended g l = tries_of l.reader
+decreases-loop-ended g l = reads_of l.reader

@@ -47,20 +47,20 @@ give-requires-in-Ok-clause-fit g c =
     let here : stripe_of n key ≡ i = ap (λ (k : ℕ). stripe_of k key) (gates ∙ sym c.stripes.ensures) ∙ ap (stripe_of c.stripes.result) (sym c.as_slice.ensures) ∙ sym c.stripe_of-stripe.ensures.stripe in
     let fits : IsPart n i (map_contents before) (after seen) = subst (λ (k : ℕ). IsPart k i (map_contents before) (after seen)) (sym gates) (t.fit i before c.part.ensures.value) in
     let put : (k : Bytes) → map_contents last k ≡ update bytes_eq (map_contents reserved) key (Some value) k =
-          (λ k. c.put.ensures k ∙ ap (λ (p : MapPart). update bytes_eq (map_contents p) key (Some value) k) same_lent) in
+    (λ k. c.put.ensures k ∙ ap (λ (p : MapPart). update bytes_eq (map_contents p) key (Some value) k) same_lent) in
     let grown : (k : Bytes) → stripe_of n k ≡ i → after later k ≡ after (set_entry number key value ∷ seen) k =
-          (λ k at. did.store k (subst (λ (j : ℕ). IsSome (part_at (held_parts (with_part start i reserved)) j)) (sym (ap (λ (m : ℕ). stripe_of m k) same_n ∙ at)) (subst IsSome (sym (c.part.ensures.written reserved)) refl))
-            ∙ ap (λ o. after (record { session = number; operation = o; reply = done } ∷ seen) k) c.args.call.set) in
+    (λ k at. did.store k (subst (λ (j : ℕ). IsSome (part_at (held_parts (with_part start i reserved)) j)) (sym (ap (λ (m : ℕ). stripe_of m k) same_n ∙ at)) (subst IsSome (sym (c.part.ensures.written reserved)) refl))
+    ∙ ap (λ o. after (record { session = number; operation = o; reply = done } ∷ seen) k) c.args.call.set) in
     let fit : IsPart n i (map_contents last) (after later) = set_fits n i number key value seen later before reserved last here fits c.reserve.ensures.same put grown in
     let stripes : c.with.result ≡ i ∷ [] = c.with.ensures.set ∙ ap (inserted i) c.none.ensures in
     λ j q e.
     ⊎_elim
     (λ there.
-        let is : q ≡ last = same_some q last (part_at (held_parts (with_part c.commit.new.self i last)) i) (ap (part_at (held_parts (with_part c.commit.new.self i last))) there ∙ e) (c.part-in-Ok.ensures.written last) in
-        subst (λ (p : MapPart). IsPart n j (map_contents p) (after later)) (sym is) (subst (λ (k : ℕ). IsPart n k (map_contents last) (after later)) there fit))
+    let is : q ≡ last = same_some q last (part_at (held_parts (with_part c.commit.new.self i last)) i) (ap (part_at (held_parts (with_part c.commit.new.self i last))) there ∙ e) (c.part-in-Ok.ensures.written last) in
+    subst (λ (p : MapPart). IsPart n j (map_contents p) (after later)) (sym is) (subst (λ (k : ℕ). IsPart n k (map_contents last) (after later)) there fit))
     (λ apart.
-        let ne : j ≢ i = (λ x. apart (sym x)) in
-        let moved : part_at (held_parts start) j ≡ Some q =
-              sym (c.part.ensures.others reserved j ne) ∙ sym (ap (λ l. part_at l j) parts) ∙ sym (c.part-in-Ok.ensures.others last j ne) ∙ e in
-        absurd (only_part i j (part_at (held_parts start) j) (λ some. subst (λ (l : List ℕ). 0 < times j l) stripes ((t.has j).0 some)) q moved apart))
+    let ne : j ≢ i = (λ x. apart (sym x)) in
+    let moved : part_at (held_parts start) j ≡ Some q =
+    sym (c.part.ensures.others reserved j ne) ∙ sym (ap (λ l. part_at l j) parts) ∙ sym (c.part-in-Ok.ensures.others last j ne) ∙ e in
+    absurd (only_part i j (part_at (held_parts start) j) (λ some. subst (λ (l : List ℕ). 0 < times j l) stripes ((t.has j).0 some)) q moved apart))
     (cases_eq i j)

@@ -21,22 +21,20 @@ join_seat-requires g c =
     let h = c.requires.first.holding in
     let sized = c.args.self.now.sized in
     let first = c.args.first.now in
-    let left = c.split_seat-theirs.ensures.4 in
-    (
+    let left = c.split_seat-theirs.ensures.4 in (
       h.table,
       c.split_seat-theirs.ensures.3 ∙ c.requires.second.holding.table,
       ap (λ m. m.1) left,
       omega arith,
       joins g.T.Part.contents c.args.self.now.table.shared.key first.seat.id c.split_seat-theirs.result.id first.seat.me.0 c.split_seat-theirs.result.me.0
-      (nothing_held n first.number first.seat.me h.seat c.requires.first.nothing) (ap (λ m. m.0.held) left),
+          (nothing_held n first.number first.seat.me h.seat c.requires.first.nothing) (ap (λ m. m.0.held) left),
     )
 
 pub load-requires : goal.load-requires
 load-requires g c =
     let n = c.args.self.now.table.shared.table_id.slots in
     let sized = c.args.self.now.sized in
-    let small = c.args.self.now.small in
-    (
+    let small = c.args.self.now.small in (
       c.join_seat.ensures.0 ∙ c.requires.first.holding.table,
       omega (arith, c.word_index.ensures, sized, small),
       meets g.T.Part.contents c.args.self.now.table.shared.key n c.join_seat.new.seat.id c.word_index.result c.join_seat.new.seat.me (ap (λ m. m.0.held) c.join_seat.ensures.2),
@@ -50,14 +48,13 @@ split_seat-requires g c =
     let second = c.args.second.now in
     let met = c.load.ensures.2 in
     let passes = loaded_passes n c.load.result (step n c.word_index.result 0 0 none) first.seat.me second.seat.me c.split_seat-theirs.result.me c.join_seat.new.seat.me c.load.new.seat.me
-          c.requires.first.holding.seat.single c.requires.second.holding.seat.single refl c.split_seat-theirs.ensures.4 c.join_seat.ensures.2 met in
+    c.requires.first.holding.seat.single c.requires.second.holding.seat.single refl c.split_seat-theirs.ensures.4 c.join_seat.ensures.2 met in
     let held = loaded_held n c.load.result (step n c.word_index.result 0 0 none) first.seat.me second.seat.me c.split_seat-theirs.result.me c.join_seat.new.seat.me c.load.new.seat.me
-          c.requires.first.holding.seat.single c.requires.second.holding.seat.single refl c.split_seat-theirs.ensures.4 c.join_seat.ensures.2 met in
-    (
+    c.requires.first.holding.seat.single c.requires.second.holding.seat.single refl c.split_seat-theirs.ensures.4 c.join_seat.ensures.2 met in (
       c.load.ensures.0 ∙ c.join_seat.ensures.0 ∙ c.requires.first.holding.table,
       omega arith,
       keep_splits g.T.Part.contents c.args.self.now.table.shared.key c.load.new.seat.id c.load.new.seat.me.0 held
-      (passes ∙ ap (λ l. first_of l ∷ others_of l) (sym passes)),
+          (passes ∙ ap (λ l. first_of l ∷ others_of l) (sym passes)),
     )
 
 pub returns : goal.returns
@@ -73,11 +70,11 @@ returns g c =
     let left = c.split_seat-theirs.ensures.4 in
     let both = c.join_seat.ensures.2 in
     let passes = loaded_passes n c.load.result st first.seat.me second.seat.me c.split_seat-theirs.result.me c.join_seat.new.seat.me c.load.new.seat.me
-          h1.holding.seat.single h2.holding.seat.single refl left both met in
+    h1.holding.seat.single h2.holding.seat.single refl left both met in
     let parts = loaded_parts n c.load.result st first.seat.me second.seat.me c.split_seat-theirs.result.me c.join_seat.new.seat.me c.load.new.seat.me
-          h1.holding.seat.single h2.holding.seat.single refl left both met in
+    h1.holding.seat.single h2.holding.seat.single refl left both met in
     let goes = go_on n c.load.result st first.seat.me second.seat.me c.split_seat-theirs.result.me c.join_seat.new.seat.me c.load.new.seat.me
-          h1.holding.seat.single h2.holding.seat.single refl left both met in
+    h1.holding.seat.single h2.holding.seat.single refl left both met in
     let w1 = met_first c.load.new.seat.me c.split_seat.new.seat.me (sees (own first.seat.me.0) log) (sees (own second.seat.me.0) log) passes (parts ∙ h1.nothing) c.split_seat.ensures.2 in
     let w2 = met_second c.load.new.seat.me c.split_seat.result.me (sees (own first.seat.me.0) log) (sees (own second.seat.me.0) log) passes c.split_seat.ensures.4 in
     let table = c.load.ensures.0 ∙ c.join_seat.ensures.0 ∙ h1.holding.table in

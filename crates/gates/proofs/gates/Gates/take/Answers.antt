@@ -19,8 +19,7 @@ loop-stripe-preserved g c =
     let before = stripes_in c.loop-stripe.pass in
     let parts = c.wait_stripe.ensures.parts in
     let later : stripes_in c.wait_stripe.new.pass ≡ before ++ stripe ∷ [] = ap stripes_among parts.1 ∙ among_snoc (parts_in c.loop-stripe.pass) stripe parts.0 in
-    let below : AreBelow (stripes_of c.args.self.now) (stripe ∷ others) = subst (AreBelow (stripes_of c.args.self.now)) c.in-Some.ensures.first c.loop-stripe.invariant.4 in
-    (
+    let below : AreBelow (stripes_of c.args.self.now) (stripe ∷ others) = subst (AreBelow (stripes_of c.args.self.now)) c.in-Some.ensures.first c.loop-stripe.invariant.4 in (
       c.wait_stripe.ensures.holding,
       c.wait_stripe.ensures.fit,
       Learned-trans (known c.args.pass.now) (known c.loop-stripe.pass) (known c.wait_stripe.new.pass) c.loop-stripe.invariant.2 c.wait_stripe.ensures.learned,

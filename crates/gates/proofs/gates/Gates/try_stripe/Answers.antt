@@ -14,13 +14,12 @@ compare_exchange-found-requires g c =
     let pass = c.args.pass.now in
     let h = c.requires.holding in
     let few = h.small in
-    let sized = c.args.self.now.sized in
-    (
+    let sized = c.args.self.now.sized in (
       h.table,
       omega (arith, c.word_index-word.ensures, c.requires.below, sized),
       tries_at g.T.Part.contents c.args.self.now.table.shared.key c.args.self.now.table.shared.table_id.slots pass.seat.id pass.seat.me
-      c.args.stripe c.word_index-word.result (pass.number + 1) c.word_index-word.ensures (ap (λ (k : ℕ). k + 1) (sym h.seat.number_is)) h.seat.single c.requires.below
-      (h.seat.same c.args.stripe ∙ c.requires.other) (omega arith),
+          c.args.stripe c.word_index-word.result (pass.number + 1) c.word_index-word.ensures (ap (λ (k : ℕ). k + 1) (sym h.seat.number_is)) h.seat.single c.requires.below
+          (h.seat.same c.args.stripe ∙ c.requires.other) (omega arith),
     )
 
 pub returns-then-found-ne0 : goal.returns-then-found-ne0

@@ -23,8 +23,7 @@ returns-then-not-try_stripe-clause-busy g c =
     let others = c.in-Some.others in
     let before = stripes_in c.loop-stripe.pass in
     let missed = c.try_stripe.ensures.missed c.if-not-try_stripe.true in
-    let is : c.args.stripes.now ≡ before ++ stripe ∷ others = i.3 ∙ ap (λ (l : List ℕ). before ++ l) c.in-Some.ensures.first in
-    (
+    let is : c.args.stripes.now ≡ before ++ stripe ∷ others = i.3 ∙ ap (λ (l : List ℕ). before ++ l) c.in-Some.ensures.first in (
       refl,
       c.give_all.ensures.resting,
       omega (arith, ap (times stripe) is, times-append stripe before (stripe ∷ others), times_here stripe others),
@@ -41,8 +40,7 @@ loop-stripe-preserved g c =
     let later : stripes_in c.try_stripe.new.pass ≡ before ++ stripe ∷ [] = ap stripes_among taken.2.1 ∙ among_snoc (parts_in c.loop-stripe.pass) stripe taken.2.0 in
     let below : AreBelow (stripes_of c.args.self.now) (stripe ∷ others) = subst (AreBelow (stripes_of c.args.self.now)) c.in-Some.ensures.first i.4 in
     let is : c.args.stripes.now ≡ before ++ stripe ∷ others = i.3 ∙ ap (λ (l : List ℕ). before ++ l) c.in-Some.ensures.first in
-    let rising : IsRising (before ++ stripe ∷ others) = subst IsRising is c.rises.ensures.rising in
-    (
+    let rising : IsRising (before ++ stripe ∷ others) = subst IsRising is c.rises.ensures.rising in (
       c.try_stripe.ensures.holding,
       c.try_stripe.ensures.fit,
       Learned-trans (known c.args.pass.now) (known c.loop-stripe.pass) (known c.try_stripe.new.pass) i.2 taken.0,
@@ -55,8 +53,7 @@ loop-stripe-preserved g c =
 pub returns-clause-ok : goal.returns-clause-ok
 returns-clause-ok g c =
     let i = c.loop-stripe.invariant in
-    let is : c.args.stripes.now ≡ stripes_in c.loop-stripe.pass ++ [] = i.3 ∙ ap (λ (l : List ℕ). stripes_in c.loop-stripe.pass ++ l) c.in_default.ensures.first in
-    (
+    let is : c.args.stripes.now ≡ stripes_in c.loop-stripe.pass ++ [] = i.3 ∙ ap (λ (l : List ℕ). stripes_in c.loop-stripe.pass ++ l) c.in_default.ensures.first in (
       record {
         gates_are = refl;
         pass_is = refl;

@@ -19,8 +19,7 @@ pub loop-first-preserved : goal.loop-first-preserved
 loop-first-preserved g c =
     let h = c.loop-first.self in
     let i = c.args.stripe in
-    let t = turn_keeps (held_parts h) i c.in-Some.first (rest_of h.order) (c.loop-first.invariant.2 ∙ c.in-Some.ensures) c.if-first-stripe.false c.loop-first.invariant.1 in
-    (
+    let t = turn_keeps (held_parts h) i c.in-Some.first (rest_of h.order) (c.loop-first.invariant.2 ∙ c.in-Some.ensures) c.if-first-stripe.false c.loop-first.invariant.1 in (
       held_turned h c.turn.new.self c.turn-in-Some.new.self i c.turn-in-Some.ensures.0 c.turn-in-Some.ensures.1 c.turn-in-Some.ensures.2 t.0 ∙ c.loop-first.invariant.0,
       subst (λ m. IsSome (part_at m.1 i)) (sym c.turn-in-Some.ensures.2) (some_turned i (held_parts h) c.loop-first.invariant.1),
       ap (λ m. stripes_among m.1) c.turn-in-Some.ensures.2 ∙ among_turned (held_parts h) ∙ ap turned_list c.loop-first.invariant.2 ∙ sym c.turn.ensures,

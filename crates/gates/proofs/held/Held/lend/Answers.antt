@@ -11,8 +11,7 @@ pub slot_mut-requires : goal.slot_mut-requires
 slot_mut-requires g c =
     let h = c.args.self.now in
     let t = brought_has c.args.stripe (held_parts h) c.requires.there in
-    let parts : held_parts c.bring.new.self ≡ brought c.args.stripe (held_parts h) = ap (λ x. held_parts x) c.bring.ensures in
-    (
+    let parts : held_parts c.bring.new.self ≡ brought c.args.stripe (held_parts h) = ap (λ x. held_parts x) c.bring.ensures in (
       ap (λ x. x.pass.now.seat.table_id) c.bring.ensures ∙ c.requires.open.holding.table ∙ sym (ap (λ x. x.gates.now.table.shared.table_id) c.bring.ensures),
       (t.0, parts ∙ t.1 ∙ ap (λ l. (c.args.stripe, t.0) ∷ rest l) (sym parts)),
     )

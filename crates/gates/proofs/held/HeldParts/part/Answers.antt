@@ -8,8 +8,7 @@ returns g c =
     let held = c.args.self.now in
     let i = c.args.stripe in
     let is = c.requires.open in
-    let there = c.requires.there in
-    (
+    let there = c.requires.there in (
       (refl, (λ w. refl)),
       record {
         writes_back = tt;

@@ -22,9 +22,9 @@ returns-in_ok-insert-clause-same c = λ k.
     ap value_of (c.in_ok-insert.ensures.updates.0 k)
     ∙ ap (λ (b : Bool). value_of (cond b new old)) (is_eq-slice_cmp key k)
     ∙ ⊎_elim
-      (λ one. let same : key ≡ k = (bytes_eq-Decides key k).0 one in
-        let absent : is_some (get (slice_cmp nat_cmp) c.args.self.now.map key) ≡ false = sym c.contains_key.ensures ∙ c.if-not-contains_key.true in
-        ap (λ (b : Bool). value_of (cond b new old)) one
-        ∙ sym (none_of old (ap (λ (x : Bytes). is_some (get (slice_cmp nat_cmp) c.args.self.now.map x)) (sym same) ∙ absent)))
-      (λ other. ap (λ (b : Bool). value_of (cond b new old)) other)
-      (cases_Bool (bytes_eq key k))
+    (λ one. let same : key ≡ k = (bytes_eq-Decides key k).0 one in
+    let absent : is_some (get (slice_cmp nat_cmp) c.args.self.now.map key) ≡ false = sym c.contains_key.ensures ∙ c.if-not-contains_key.true in
+    ap (λ (b : Bool). value_of (cond b new old)) one
+    ∙ sym (none_of old (ap (λ (x : Bytes). is_some (get (slice_cmp nat_cmp) c.args.self.now.map x)) (sym same) ∙ absent)))
+    (λ other. ap (λ (b : Bool). value_of (cond b new old)) other)
+    (cases_Bool (bytes_eq key k))
