@@ -9,12 +9,6 @@ pub Keeps-same : (u : Option (List ℕ)) → Keeps u u
 Keeps-same None = tt
 Keeps-same (Some xs) = refl
 
-pub Keeps-then : (u v w : Option (List ℕ)) → Keeps u v → Keeps v w → Keeps u w
-Keeps-then None v w x y = tt
-Keeps-then (Some xs) None w x y = absurd x
-Keeps-then (Some xs) (Some ys) None x y = absurd y
-Keeps-then (Some xs) (Some ys) (Some zs) x y = y ∙ x
-
 pub Appends-none : (u v : Option (List ℕ)) → Keeps u v → Appends u v []
 Appends-none None v x = tt
 Appends-none (Some xs) None x = absurd x
@@ -26,18 +20,6 @@ Appends-then (Some xs) None w a b x y = absurd x
 Appends-then (Some xs) (Some ys) None a b x y = absurd y
 Appends-then (Some xs) (Some ys) (Some zs) a b x y = y ∙ ap (λ (t : List ℕ). t ++ b) x ∙ append_assoc xs a b
 
-pub Keeps-Appends : (u v w : Option (List ℕ)) (a : List ℕ) → Keeps u v → Appends v w a → Appends u w a
-Keeps-Appends None v w a x y = tt
-Keeps-Appends (Some xs) None w a x y = absurd x
-Keeps-Appends (Some xs) (Some ys) None a x y = absurd y
-Keeps-Appends (Some xs) (Some ys) (Some zs) a x y = y ∙ ap (λ (t : List ℕ). t ++ a) x
-
-pub Appends-Keeps : (u v w : Option (List ℕ)) (a : List ℕ) → Appends u v a → Keeps v w → Appends u w a
-Appends-Keeps None v w a x y = tt
-Appends-Keeps (Some xs) None w a x y = absurd x
-Appends-Keeps (Some xs) (Some ys) None a x y = absurd y
-Appends-Keeps (Some xs) (Some ys) (Some zs) a x y = y ∙ x
-
 pub Consumes-none : (u v : Option (List ℕ)) → Keeps u v → Consumes u v []
 Consumes-none None v x = tt
 Consumes-none (Some xs) None x = absurd x
@@ -48,12 +30,6 @@ Consumes-then None v w a b x y = tt
 Consumes-then (Some xs) None w a b x y = absurd x
 Consumes-then (Some xs) (Some ys) None a b x y = absurd y
 Consumes-then (Some xs) (Some ys) (Some zs) a b x y = x ∙ ap (λ (t : List ℕ). a ++ t) y ∙ sym (append_assoc a b zs)
-
-pub Keeps-Consumes : (u v w : Option (List ℕ)) (a : List ℕ) → Keeps u v → Consumes v w a → Consumes u w a
-Keeps-Consumes None v w a x y = tt
-Keeps-Consumes (Some xs) None w a x y = absurd x
-Keeps-Consumes (Some xs) (Some ys) None a x y = absurd y
-Keeps-Consumes (Some xs) (Some ys) (Some zs) a x y = sym x ∙ y
 
 -- what is left after a part is sent
 pub rest_sent : (text sent rest : List ℕ) (count : ℕ) → text ≡ sent ++ rest → text ≡ (sent ++ take count rest) ++ take (length rest - count) (drop count rest)

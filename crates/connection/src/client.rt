@@ -70,7 +70,8 @@ impl Client {
 
     /// Feeds the next bytes. After an `Err` the client is as it was.
     pub fn feed(&mut self, piece: &[u8]) -> Result<(), OutOfMemory>
-        ensures ok { OnOk result (self.new ≡ record self.old { unread = self.old.unread ++ piece.now }) }
+        ensures ok { OnOk result
+            (self.new ≡ record self.old { unread = self.old.unread ++ piece.now }) }
         ensures err { OnErr result (self.new ≡ self.old) }
     {
         self.reader.feed_slice(piece)

@@ -78,7 +78,8 @@ impl<S: Read> Noted<S> {
     /// Reads some bytes into the buffer, which has room.
     pub fn read(&mut self, buffer: &mut [u8]) -> Input
         requires { 0 < length buffer.old }
-        ensures read { IsRead (S.remaining (stream_of self.old)) (S.remaining (stream_of self.new)) buffer.new result }
+        ensures read { IsRead (S.remaining (stream_of self.old)) (S.remaining (stream_of self.new))
+            buffer.new result }
         ensures told { told_of self.new ≡ told_after result (told_of self.old) }
         ensures reads { reads_of self.old ≡ reads_of self.new + bytes_count result }
     {
@@ -115,7 +116,8 @@ impl<S: Write> Noted<S> {
     /// or took none.
     fn write_some(&mut self, bytes: &[u8]) -> Option<usize>
         requires { 0 < length bytes.now }
-        ensures written { IsWritten (S.contents (stream_of self.old)) (S.contents (stream_of self.new)) bytes.now result }
+        ensures written { IsWritten (S.contents (stream_of self.old)) (S.contents (stream_of self.new))
+            bytes.now result }
         ensures told { told_of self.new ≡ told_when (is_some result) (told_of self.old) }
         ensures reads { reads_of self.new ≡ reads_of self.old }
     {
@@ -136,7 +138,8 @@ impl<S: Write> Noted<S> {
 
     /// Writes these bytes. After an `Err` a beginning of them is written.
     pub fn write_all(&mut self, bytes: &[u8]) -> Result<(), WriteFault>
-        ensures sent { IsSent (S.contents (stream_of self.old)) (S.contents (stream_of self.new)) result bytes.now }
+        ensures sent { IsSent (S.contents (stream_of self.old)) (S.contents (stream_of self.new))
+            result bytes.now }
         ensures told { told_of self.new ≡ told_when (is_ok result) (told_of self.old) }
         ensures reads { reads_of self.new ≡ reads_of self.old }
     {

@@ -147,7 +147,8 @@ fn put_command_reply(reply: &CommandReply, out: &mut Vec<u8>)
 
 /// How many bytes these answers take, or `None` where they are 2^64 or more.
 fn command_replies_len(replies: &[CommandReply]) -> Option<usize>
-    ensures some { IfSome result (λ len. len ≡ length (flat_map command_reply_encoding replies.now)) }
+    ensures some { IfSome result
+        (λ len. len ≡ length (flat_map command_reply_encoding replies.now)) }
     ensures none { IfNone result (2 ^ 64 ≤ length (flat_map command_reply_encoding replies.now)) }
 {
     let mut len = 0usize;
@@ -159,9 +160,11 @@ fn command_replies_len(replies: &[CommandReply]) -> Option<usize>
 
 /// Appends answers.
 fn put_command_replies(replies: &[CommandReply], out: &mut Vec<u8>)
-    requires { vec_len out.old + length (flat_map command_reply_encoding replies.now) ≤ vec_capacity out.old }
+    requires { vec_len out.old + length (flat_map command_reply_encoding replies.now)
+        ≤ vec_capacity out.old }
     ensures items { out.new.items ≡ out.old.items ++ flat_map command_reply_encoding replies.now }
-    ensures len { vec_len out.new ≡ vec_len out.old + length (flat_map command_reply_encoding replies.now) }
+    ensures len { vec_len out.new ≡ vec_len out.old
+        + length (flat_map command_reply_encoding replies.now) }
     ensures capacity { vec_capacity out.old ≤ vec_capacity out.new }
 {
     for reply in replies {
@@ -211,7 +214,8 @@ pub fn encode(reply: &Reply, out: &mut Vec<u8>) -> Result<(), AllocError>
     ensures ok { OnOk result (out.new.items ≡ out.old.items ++ encoding reply.now) }
     ensures err { OnErr result (out.new.items ≡ out.old.items) }
     ensures capacity { vec_capacity out.old ≤ vec_capacity out.new }
-    ensures succeeds { vec_len out.old + length (encoding reply.now) ≤ vec_capacity out.old → IsOk result }
+    ensures succeeds { vec_len out.old + length (encoding reply.now)
+        ≤ vec_capacity out.old → IsOk result }
 
     // A line and its end are at most 66 bytes.
     ensures line { IsLine reply.now → vec_len out.old + 66 ≤ vec_capacity out.old → IsOk result }
@@ -227,7 +231,8 @@ pub fn encode(reply: &Reply, out: &mut Vec<u8>) -> Result<(), AllocError>
 /// Appends the bytes of a reply where there is room for them, and says whether there was. It takes
 /// no memory.
 pub fn encode_within(reply: &Reply, out: &mut Vec<u8>) -> bool
-    ensures fits { IsTrue result ↔ (vec_len out.old + length (encoding reply.now) ≤ vec_capacity out.old) }
+    ensures fits { IsTrue result ↔ (vec_len out.old + length (encoding reply.now)
+        ≤ vec_capacity out.old) }
     ensures done { IsTrue result → out.new.items ≡ out.old.items ++ encoding reply.now }
     ensures full { IsTrue (not result) → out.new.items ≡ out.old.items }
     ensures capacity { vec_capacity out.old ≤ vec_capacity out.new }
@@ -243,8 +248,8 @@ pub fn encode_within(reply: &Reply, out: &mut Vec<u8>) -> bool
 
 /// Writes these parts of a text, one after the other.
 fn send_parts<W: Write>(parts: &[&[u8]], writer: &mut Noted<W>) -> Result<(), WriteFault>
-    ensures sent { IsSent (W.contents (stream_of writer.old)) (W.contents (stream_of writer.new)) result
-        (flat_map (λ part. part.now) parts.now) }
+    ensures sent { IsSent (W.contents (stream_of writer.old)) (W.contents (stream_of writer.new))
+        result (flat_map (λ part. part.now) parts.now) }
     ensures told { told_of writer.new ≡ told_when (is_ok result) (told_of writer.old) }
 {
     for part in parts {
@@ -258,7 +263,8 @@ fn send_parts<W: Write>(parts: &[&[u8]], writer: &mut Noted<W>) -> Result<(), Wr
 /// Writes an item.
 #[tactic(auto, unfolding(words::specs::Encoding::item_encoding, words::specs::Spelling::bulk_string, words::specs::Spelling::header))]
 fn send_item<W: Write>(item: &Item, writer: &mut Noted<W>) -> Result<(), WriteFault>
-    ensures sent { IsSent (W.contents (stream_of writer.old)) (W.contents (stream_of writer.new)) result (item_encoding item.now) }
+    ensures sent { IsSent (W.contents (stream_of writer.old)) (W.contents (stream_of writer.new))
+        result (item_encoding item.now) }
     ensures told { told_of writer.new ≡ told_when (is_ok result) (told_of writer.old) }
 {
     let mut digits = Buffer::new();
@@ -277,7 +283,8 @@ fn send_item<W: Write>(item: &Item, writer: &mut Noted<W>) -> Result<(), WriteFa
 
 /// Writes items.
 fn send_items<W: Write>(items: &[Item], writer: &mut Noted<W>) -> Result<(), WriteFault>
-    ensures sent { IsSent (W.contents (stream_of writer.old)) (W.contents (stream_of writer.new)) result (flat_map item_encoding items.now) }
+    ensures sent { IsSent (W.contents (stream_of writer.old)) (W.contents (stream_of writer.new))
+        result (flat_map item_encoding items.now) }
     ensures told { told_of writer.new ≡ told_when (is_ok result) (told_of writer.old) }
 {
     for item in items {
@@ -291,7 +298,8 @@ fn send_items<W: Write>(items: &[Item], writer: &mut Noted<W>) -> Result<(), Wri
 /// Writes a sign, a number in decimal and a line end.
 #[tactic(auto, unfolding(words::specs::Spelling::header))]
 fn send_header<W: Write>(sign: u8, count: usize, writer: &mut Noted<W>) -> Result<(), WriteFault>
-    ensures sent { IsSent (W.contents (stream_of writer.old)) (W.contents (stream_of writer.new)) result (header sign count) }
+    ensures sent { IsSent (W.contents (stream_of writer.old)) (W.contents (stream_of writer.new))
+        result (header sign count) }
     ensures told { told_of writer.new ≡ told_when (is_ok result) (told_of writer.old) }
 {
     let mut digits = Buffer::new();
@@ -304,7 +312,8 @@ fn send_command_reply<W: Write>(
     reply: &CommandReply,
     writer: &mut Noted<W>,
 ) -> Result<(), WriteFault>
-    ensures sent { IsSent (W.contents (stream_of writer.old)) (W.contents (stream_of writer.new)) result (command_reply_encoding reply.now) }
+    ensures sent { IsSent (W.contents (stream_of writer.old)) (W.contents (stream_of writer.new))
+        result (command_reply_encoding reply.now) }
     ensures told { told_of writer.new ≡ told_when (is_ok result) (told_of writer.old) }
 {
     match reply {
@@ -324,7 +333,8 @@ fn send_command_replies<W: Write>(
     replies: &[CommandReply],
     writer: &mut Noted<W>,
 ) -> Result<(), WriteFault>
-    ensures sent { IsSent (W.contents (stream_of writer.old)) (W.contents (stream_of writer.new)) result (flat_map command_reply_encoding replies.now) }
+    ensures sent { IsSent (W.contents (stream_of writer.old)) (W.contents (stream_of writer.new))
+        result (flat_map command_reply_encoding replies.now) }
     ensures told { told_of writer.new ≡ told_when (is_ok result) (told_of writer.old) }
 {
     for reply in replies {
@@ -338,7 +348,8 @@ fn send_command_replies<W: Write>(
 /// Writes the bytes of a reply, without taking memory. After an `Err` a beginning of them is written.
 #[tactic(auto, unfolding(words::specs::Encoding::encoding))]
 pub fn send<W: Write>(reply: &Reply, writer: &mut Noted<W>) -> Result<(), WriteFault>
-    ensures sent { IsSent (W.contents (stream_of writer.old)) (W.contents (stream_of writer.new)) result (encoding reply.now) }
+    ensures sent { IsSent (W.contents (stream_of writer.old)) (W.contents (stream_of writer.new))
+        result (encoding reply.now) }
     ensures told { told_of writer.new ≡ told_when (is_ok result) (told_of writer.old) }
 {
     match reply {

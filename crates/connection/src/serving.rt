@@ -1,4 +1,5 @@
-//! Serving one connection: what a reader gives is answered by the engine, and the replies go to a writer.
+//! Serving one connection: what a reader gives is answered by the engine, and the replies go to a
+//! writer.
 
 ghost use Rattle.std.specs.Prelude.{◌≡◌, ◌<◌, ℕ, [], ◌++◌, List, length, OnOk, IfOk, IfNone, is_ok};
 ghost use Rattle.words.specs.Encoding.{encoding};
@@ -42,7 +43,8 @@ pub(crate) enum Due {
 /// Answers the client's next request, if there is a whole one.
 fn answer_next(client: &mut Client, engine: &mut Engine, pass: &mut Pass) -> Due
     requires { IsReady client.old.stage }
-    ensures due { IsDue (pass_number pass.old) (contents engine.old) client.old result (contents engine.new) client.new }
+    ensures due { IsDue (pass_number pass.old) (contents engine.old) client.old result
+        (contents engine.new) client.new }
     ensures pass { pass.new ≡ pass.old }
 {
     match client.next() {
@@ -59,7 +61,8 @@ fn answer_next(client: &mut Client, engine: &mut Engine, pass: &mut Pass) -> Due
 
 /// Writes what the output buffer holds, and empties it.
 fn flush<W: Write>(out: &mut Vec<u8>, writer: &mut Noted<W>) -> Result<(), WriteFault>
-    ensures sent { IsSent (W.contents (stream_of writer.old)) (W.contents (stream_of writer.new)) result out.old.items }
+    ensures sent { IsSent (W.contents (stream_of writer.old)) (W.contents (stream_of writer.new))
+        result out.old.items }
     ensures told { told_of writer.new ≡ told_when (is_ok result) (told_of writer.old) }
     ensures empty { OnOk result (out.new.items ≡ []) }
 {
@@ -76,7 +79,8 @@ fn flush<W: Write>(out: &mut Vec<u8>, writer: &mut Noted<W>) -> Result<(), Write
 /// Says a reply: it goes into the output buffer where there is room, else to the writer, after what
 /// the buffer holds. It takes no memory.
 fn say<W: Write>(reply: &Reply, out: &mut Vec<u8>, writer: &mut Noted<W>) -> Result<(), WriteFault>
-    ensures put { IsPut (W.contents (stream_of writer.old)) (W.contents (stream_of writer.new)) out.old.items out.new.items result (encoding reply.now) }
+    ensures put { IsPut (W.contents (stream_of writer.old)) (W.contents (stream_of writer.new))
+        out.old.items out.new.items result (encoding reply.now) }
     ensures told { told_of writer.new ≡ told_when (is_ok result) (told_of writer.old) }
 {
     if encode_within(reply, out) {
@@ -151,9 +155,12 @@ fn answer_all<W: Write>(
 ) -> Paused
     requires { IsReady client.old.stage }
     ensures paused { (old : Store) (fed before : List ℕ)
-        → Conversation (pass_number pass.old) old (contents engine.old) fed client.old (before ++ out.old.items)
-        → (sent : List ℕ) × Appends (W.contents (stream_of writer.old)) (W.contents (stream_of writer.new)) sent
-        × HasPaused (pass_number pass.old) old (contents engine.new) fed result client.new (before ++ sent) out.new.items }
+        → Conversation (pass_number pass.old) old (contents engine.old) fed client.old
+        (before ++ out.old.items)
+        → (sent : List ℕ)
+        × Appends (W.contents (stream_of writer.old)) (W.contents (stream_of writer.new)) sent
+        × HasPaused (pass_number pass.old) old (contents engine.new) fed result client.new
+        (before ++ sent) out.new.items }
     ensures told { told_of writer.new ≡ paused_told result (told_of writer.old) }
     ensures pass { pass.new ≡ pass.old }
 {
@@ -185,8 +192,10 @@ fn answer_piece<W: Write>(
     requires empty { out.old.items ≡ [] }
     ensures answered { (old : Store) (fed before : List ℕ)
         → Conversation (pass_number pass.old) old (contents engine.old) fed client.old before
-        → (sent : List ℕ) × Appends (W.contents (stream_of writer.old)) (W.contents (stream_of writer.new)) sent
-        × HasAnswered (pass_number pass.old) old (contents engine.new) fed result client.new (before ++ sent) out.new.items }
+        → (sent : List ℕ)
+        × Appends (W.contents (stream_of writer.old)) (W.contents (stream_of writer.new)) sent
+        × HasAnswered (pass_number pass.old) old (contents engine.new) fed result client.new
+        (before ++ sent) out.new.items }
     ensures ends { EndsAnswering result }
     ensures told { told_of writer.new ≡ answered_told result (told_of writer.old) }
     ensures pass { pass.new ≡ pass.old }
@@ -227,7 +236,8 @@ fn take_piece<R: Read>(
     client: &mut Client,
 ) -> Option<Ended>
     requires { 0 < length piece.old }
-    ensures taken { (bytes : List ℕ) × Consumes (R.remaining (stream_of reader.old)) (R.remaining (stream_of reader.new)) bytes
+    ensures taken { (bytes : List ℕ)
+        × Consumes (R.remaining (stream_of reader.old)) (R.remaining (stream_of reader.new)) bytes
         × HasTaken result client.old bytes client.new }
     ensures end { result ≡ Some Ended.EndOfInput → IsAtEnd (R.remaining (stream_of reader.new)) }
     ensures told { told_of reader.new ≡ taken_told result (told_of reader.old) }

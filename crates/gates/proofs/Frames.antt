@@ -1,8 +1,8 @@
 -- What an operation answers and writes depends on its own keys only, and so does what entries do to a stripe.
-use Rattle.std.proofs.Common.{◌≡◌, ◌≢◌, ℕ, zero, suc, ◌+◌, ◌<◌, ◌≤◌, Bool, true, false, List, [], ◌∷◌, ◌++◌, Option, Some, None, cond, nat_lt, nat_eq, eqb, length, sym, refl, ap, subst, ◌∙◌, arith, bytes_eq, eq-eqb, ne_eqb, ⊎_elim, ◌⊎◌}
+use Rattle.std.proofs.Common.{◌≡◌, ◌≢◌, ℕ, Bool, true, false, List, [], ◌∷◌, ◌++◌, Option, Some, None, cond, nat_lt, nat_eq, sym, refl, ap, subst, ◌∙◌, bytes_eq, ne_eqb, ⊎_elim}
 use Rattle.std.specs.Map.{update}
 use Rattle.std.proofs.lemmas.Slice.Eq.{bytes_eq-Decides}
-use Rattle.std.proofs.lemmas.Bool.{cases_Bool, both_ways}
+use Rattle.std.proofs.lemmas.Bool.{cases_Bool}
 use mathlib.Core.Logic.{dite}
 use native.Mathlib.Decide.{ℕ_discrete}
 use Rattle.words.specs.declared.limits.TheConstants.{WEIGHT_MAX}
@@ -16,8 +16,8 @@ use Rattle.words.specs.declared.history.Operation.TheVariants.{Run, Exec}
 use Rattle.words.specs.declared.history.Entry.{Entry}
 use Rattle.words.specs.Store.{Bytes, Store, Write, written, weight}
 use Rattle.words.specs.Commands.{answer, answers, keys_of, keys_of_all, bulk}
-use Rattle.words.specs.History.{History, Legal, HasPlace, after, after_from, due, outcome, too_much, was_not_done, keys_named}
-use Rattle.words.specs.Stripes.{stripe_of, IsPart, AreElsewhere, LeavesStripe}
+use Rattle.words.specs.History.{History, after, due, outcome, too_much, was_not_done, keys_named}
+use Rattle.words.specs.Stripes.{stripe_of, IsPart, AreElsewhere}
 use Rattle.gates.specs.Rule.{AllLeave}
 
 -- two stores agree on the keys of a kind

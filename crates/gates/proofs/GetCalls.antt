@@ -1,5 +1,5 @@
 -- A GET answers the value, and leaves each part as it was.
-use Rattle.std.proofs.Common.{◌≡◌, ℕ, Bool, true, false, List, ◌∷◌, Option, Some, None, IsSome, cond, nat_eq, nat_lt, sym, refl, ap, subst, ◌∙◌, eq-eqb, ne_eqb, ⊎_elim}
+use Rattle.std.proofs.Common.{◌≡◌, ℕ, Bool, true, false, List, ◌∷◌, None, IsSome, cond, nat_eq, sym, refl, ap, subst, ◌∙◌, eq-eqb, ne_eqb, ⊎_elim}
 use Rattle.std.proofs.lemmas.Bool.{cases_eq}
 use Rattle.words.specs.declared.reply.Reply.{Reply}
 use Rattle.words.specs.declared.history.Operation.TheVariants.{Run}

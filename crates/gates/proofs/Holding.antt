@@ -1,18 +1,18 @@
 -- What a pass has after each of its steps.
-use Rattle.std.proofs.Common.{◌≡◌, ◌≢◌, ◌⊎◌, ℕ, zero, suc, ◌+◌, ◌<◌, ◌≤◌, Bool, true, false, List, [], ◌∷◌, ◌++◌, Option, Some, None, cond, nat_eq, eqb, length, map, sym, refl, ap, subst, ◌∙◌, arith, eq-eqb, ne_eqb, inl, inr, ⊎_elim, append_assoc, append-nil, IsSome, ◌^◌, lt-ltb, ◌↔◌, ◌-◌, replicate, slice_index}
+use Rattle.std.proofs.Common.{◌≡◌, ◌≢◌, ◌⊎◌, ℕ, zero, suc, ◌+◌, ◌<◌, ◌≤◌, Bool, true, false, List, [], ◌∷◌, ◌++◌, Some, None, cond, nat_eq, length, sym, refl, ap, subst, ◌∙◌, arith, eq-eqb, ne_eqb, inl, inr, ⊎_elim, append_assoc, append-nil, IsSome, ◌^◌, lt-ltb, ◌↔◌, ◌-◌, replicate, slice_index}
 use Rattle.std.proofs.lemmas.Bool.{cases_eq, MatchBool-at_true}
 use Rattle.atomic_table.specs.Table.{Me, Step, rest, turned}
 use Rattle.words.specs.declared.history.Entry.{Entry}
 use Rattle.words.specs.Store.{Bytes, Store}
-use Rattle.words.specs.History.{History, Legal, after, subhistory, keys_named}
+use Rattle.words.specs.History.{History, after, keys_named}
 use Rattle.words.specs.Stripes.{IsPart, stripe_of}
 use Rattle.gates.specs.declared.view.Note.{Note}
-use Rattle.gates.specs.declared.view.Note.TheVariants.{Busy, Worn}
+use Rattle.gates.specs.declared.view.Note.TheVariants.{Busy}
 use Rattle.gates.specs.declared.view.Knowledge.{Knowledge}
 use Rattle.gates.specs.declared.view.View.{View}
 use Rattle.gates.specs.Sets.{times, without}
 use Rattle.gates.specs.Rule.{AllLeave, AreHeld}
-use Rattle.gates.specs.Plays.{first_of, own, IsSingle, sees, notes, commits, knowing, taking, giving, GoesOn, EachGoesOn, Took, Missed, Arms, BecomesArmed, FindsWorn, Commits, Meets, resting, joined, all_see, newcomer, newcomers, others_of}
+use Rattle.gates.specs.Plays.{first_of, own, IsSingle, sees, commits, taking, giving, GoesOn, EachGoesOn, Took, Missed, Arms, BecomesArmed, FindsWorn, Commits, Meets, resting, joined, all_see, newcomer, newcomers, others_of}
 use Rattle.gates.specs.Passes.{stripes_among, part_at, AllFit, IsSeatOf, Learned, WasTold, WasBusy, Committed, KeysHeld, AreNew, IsResting, known}
 use Rattle.gates.specs.declared.gates.Gates.{Gates}
 use Rattle.gates.specs.declared.gates.Pass.{Pass}

@@ -1,7 +1,5 @@
 -- Seats with the same parts are the same.
-use Rattle.std.proofs.Common.{◌≡◌, ℕ, List, sym, refl, ap, subst, ◌∙◌}
-use Rattle.atomic_table.specs.Seated.{TableId}
-use Rattle.atomic_table.specs.Table.{Me}
+use Rattle.std.proofs.Common.{◌≡◌}
 use Rattle.atomic_table.specs.declared.shared.Seat.{Seat}
 
 pub same_seat : {S V : Type 0} (a b : Seat S V) → a.table_id ≡ b.table_id → a.id ≡ b.id → a.me ≡ b.me → a ≡ b

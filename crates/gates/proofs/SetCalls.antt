@@ -1,16 +1,15 @@
 -- A SET leaves its part as the history has it.
-use Rattle.std.proofs.Common.{◌≡◌, ◌≢◌, ◌⊎◌, ℕ, ◌+◌, ◌<◌, Bool, true, false, List, [], ◌∷◌, Option, Some, None, IsSome, is_some, cond, nat_eq, sym, refl, ap, subst, ◌∙◌, arith, eq-eqb, ne_eqb, bytes_eq, ⊎_elim, ◌↔◌}
+use Rattle.std.proofs.Common.{◌≡◌, ◌≢◌, ℕ, ◌<◌, false, [], ◌∷◌, Option, Some, None, IsSome, cond, nat_eq, sym, refl, ap, subst, ◌∙◌, arith, eq-eqb, ne_eqb, bytes_eq, ⊎_elim}
 use Rattle.std.proofs.lemmas.Bool.{cases_eq, cases_Bool}
 use Rattle.std.proofs.lemmas.Slice.Eq.{bytes_eq-Decides}
 use Rattle.std.specs.Map.{update}
-use Rattle.words.specs.Store.{Bytes, Store}
+use Rattle.words.specs.Store.{Bytes}
 use Rattle.words.specs.History.{History, after}
 use Rattle.words.specs.Stripes.{stripe_of, IsPart}
 use Rattle.gates.specs.declared.map.MapPart.{MapPart}
 use Rattle.gates.specs.Sets.{times}
 use Rattle.gates.specs.Maps.{map_contents}
 use Rattle.gates.specs.Calls.{set_entry}
-use Rattle.gates.specs.Passes.{part_at, AllFit}
 use Rattle.gates.proofs.Lists.{times_else}
 
 pub set_fits : (n i number : ℕ) (key value : Bytes) (seen later : History) (before reserved written : MapPart) → stripe_of n key ≡ i → IsPart n i (map_contents before) (after seen)

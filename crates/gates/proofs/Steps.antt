@@ -1,23 +1,23 @@
 -- Each step keeps the rule.
-use Rattle.std.proofs.Common.{◌≡◌, ◌≢◌, ◌⊎◌, ℕ, zero, suc, ◌+◌, ◌*◌, ◌%◌, ◌^◌, ◌<◌, ◌≤◌, Bool, true, false, List, [], ◌∷◌, ◌++◌, cond, nat_lt, nat_eq, eqb, length, map, get_or, set, slice_index, slice_set, MatchBool, sym, refl, ap, subst, ◌∙◌, arith, eq-eqb, ne_eqb, inl, inr, ⊎_elim, length-set, get_or-set_other, get_or-set_same, append_assoc, length-append, None, lt-ltb, le-ltb, mod-eq_of_lt, append-nil}
+use Rattle.std.proofs.Common.{◌≡◌, ◌≢◌, ℕ, zero, suc, ◌+◌, ◌%◌, ◌^◌, ◌<◌, ◌≤◌, Bool, true, false, List, [], ◌∷◌, ◌++◌, cond, nat_eq, eqb, length, map, get_or, set, slice_index, slice_set, MatchBool, sym, refl, ap, subst, ◌∙◌, arith, eq-eqb, ne_eqb, inl, inr, ⊎_elim, length-set, get_or-set_other, get_or-set_same, length-append, None, lt-ltb, le-ltb, mod-eq_of_lt}
 use Rattle.std.proofs.lemmas.Bool.{cases_lt}
 use mathlib.Core.Logic.{dite}
 use mathlib.Core.Option.{Option, none, some, some-injective, some-ne-none}
 use native.Mathlib.Decide.{ℕ_discrete}
 use lib.ListN.{get_elem?}
 use prog.Atomic.{either}
-use Rattle.atomic_table.specs.Table.{State, Me, Step, step, Act, keeps, takes, gives, Valid, Allows, Splits, Joins, stepped, homes_after, carried_after, opening, rest}
+use Rattle.atomic_table.specs.Table.{State, Me, step, Act, keeps, takes, gives, Valid, Allows, Splits, Joins, stepped, carried_after, opening, rest}
 use Rattle.words.specs.declared.history.Entry.{Entry}
 use Rattle.words.specs.Store.{Bytes, Store}
-use Rattle.words.specs.History.{History, Legal, HasPlace, after, due, subhistory, keys_named}
+use Rattle.words.specs.History.{History, Legal, after, subhistory, keys_named}
 use Rattle.words.specs.Stripes.{stripe_of, IsPart, AreElsewhere, LeavesStripe}
 use Rattle.gates.specs.declared.view.Note.TheVariants.{Busy, Worn}
 use Rattle.gates.specs.declared.view.Knowledge.{Knowledge}
 use Rattle.gates.specs.declared.view.View.{View}
 use Rattle.gates.specs.Sets.{times, without}
-use Rattle.gates.specs.Rule.{word_of, AllLeave, total, Fits, EachFits, Names, weight, stands_for, armed_by, FitsView, IsFree, IsHeld, Ruled, AreHeld, commit_word}
-use Rattle.gates.specs.Plays.{first_of, own, IsSingle, sees, notes, commits, all_see, knowing, taking, giving, GoesOn, EachGoesOn, Took, Missed, Tries, Arms, BecomesArmed, FindsWorn, Commits, Gives, Meets, newcomer, newcomers, others_of, resting, unmet, joined, AreEmpty}
-use Rattle.gates.proofs.Lists.{at_snoc, at_longer, total-append, times-append, each_set, set_here, set_else, total-set, terms_le, total-less, times_here, times_else, without_here, without_else}
+use Rattle.gates.specs.Rule.{word_of, AllLeave, total, Fits, EachFits, Names, weight, stands_for, armed_by, FitsView, IsHeld, Ruled, AreHeld, commit_word}
+use Rattle.gates.specs.Plays.{first_of, own, IsSingle, sees, notes, commits, all_see, knowing, taking, giving, EachGoesOn, Took, Missed, Tries, Arms, BecomesArmed, FindsWorn, Commits, Gives, Meets, newcomers, others_of, resting, unmet, joined, AreEmpty}
+use Rattle.gates.proofs.Lists.{at_snoc, at_longer, total-append, each_set, set_here, set_else, total-set, terms_le, total-less, times_here, times_else, without_here, without_else}
 use Rattle.gates.proofs.Frames.{AreOf, Agree, none_both, part_left, after_left, due_agrees}
 
 -- a word that is set to what it is

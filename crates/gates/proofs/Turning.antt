@@ -1,17 +1,16 @@
 -- Parts, turned round until one is in front.
-use Rattle.std.proofs.Common.{◌≡◌, ◌≢◌, ◌⊎◌, ℕ, zero, suc, ◌+◌, ◌<◌, ◌≤◌, Bool, true, false, List, [], ◌∷◌, ◌++◌, Option, Some, None, cond, nat_eq, eqb, length, map, sym, refl, ap, subst, ◌∙◌, arith, eq-eqb, ne_eqb, inl, inr, ⊎_elim, append_assoc, append-nil, IsSome, length-append}
+use Rattle.std.proofs.Common.{◌≡◌, ◌≢◌, ℕ, ◌+◌, ◌<◌, ◌≤◌, List, [], ◌∷◌, ◌++◌, Option, Some, None, cond, nat_eq, length, sym, refl, ap, subst, ◌∙◌, arith, eq-eqb, ne_eqb, ⊎_elim, append_assoc, append-nil, IsSome}
 use Rattle.std.proofs.lemmas.Bool.{cases_eq}
 use Rattle.atomic_table.specs.Table.{Me, rest, turned}
-use Rattle.gates.specs.declared.gates.Pass.{Pass}
 use Rattle.gates.specs.declared.held.Held.{Held}
 use Rattle.gates.specs.Sets.{times, turned_list}
-use Rattle.gates.specs.Passes.{stripes_among, part_at, parts_in}
+use Rattle.gates.specs.Passes.{stripes_among, part_at}
 use Rattle.gates.specs.Helds.{held_parts, IsOpen}
-use Rattle.gates.specs.Lending.{from_part, before_part, brought, pass_with, held_with, with_part}
+use Rattle.gates.specs.Lending.{from_part, before_part, brought, held_with, with_part}
 use Rattle.gates.proofs.Lists.{times_here, times_else, times-append}
 use Rattle.atomic_table.specs.declared.shared.Seat.{Seat}
 use Rattle.gates.specs.declared.view.View.{View}
-use Rattle.gates.proofs.Holding.{part_some, stands_some, part_stands, among_snoc, first_part, no_parts}
+use Rattle.gates.proofs.Holding.{part_some, stands_some, among_snoc, first_part}
 
 module _ {T : Type 0} where
   -- a stripe's part at the front, or behind another

@@ -1,9 +1,10 @@
 -- Held stripes: what there is of them.
-use Rattle.std.specs.Prelude.{◌≡◌, ◌↔◌, ◌<◌, ℕ, IsSome, Bool, true, false, List, [], ◌∷◌, Option, Some, None, refl}
+use Rattle.std.specs.Prelude.{◌≡◌, ◌↔◌, ◌<◌, ℕ, IsSome, Bool, false, List, refl}
 use Rattle.std.proofs.Common.{◌∙◌}
 use Rattle.std.specs.Borrow.{MutBor}
 use Rattle.words.specs.Store.{Store}
 use Rattle.gates.specs.Sets.{times}
+use Rattle.gates.specs.declared.view.Knowledge.{Knowledge}
 use Rattle.gates.specs.declared.gates.Gates.{Gates}
 use Rattle.gates.specs.declared.gates.Pass.{Pass}
 use Rattle.gates.specs.declared.held.Held.{Held}
@@ -13,6 +14,22 @@ use Rattle.words.specs.declared.reply.Reply.{Reply}
 use Rattle.gates.specs.Passes.{known, parts_in, stripes_in, part_at, stripes_of, IsHolding, AllFit, Learned}
 
 module _ {T : Type 0} where
+  -- the gates whose stripes are held
+  abbrev pub gates_of : Held T → Gates T
+  gates_of held = held.gates.now
+
+  -- what the pass knows that holds
+  abbrev pub known_to : Held T → Knowledge
+  known_to held = known held.pass.now
+
+  -- which borrow of the pass it is
+  abbrev pub borrow_of : Held T → ℕ
+  borrow_of held = held.pass.ghost_name
+
+  -- whether an entry was committed while this is held
+  abbrev pub has_committed : Held T → Bool
+  has_committed held = held.committed
+
   -- an entry of the pass that holds
   abbrev pub entry_of : Held T → Operation → Reply → Entry
   entry_of held operation reply = record { session = (known held.pass.now).number; operation = operation; reply = reply }

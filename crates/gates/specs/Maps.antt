@@ -1,5 +1,5 @@
 -- Ordered maps as parts.
-use Rattle.std.specs.Prelude.{ℕ, List, Option, Some, None, IsSome}
+use Rattle.std.specs.Prelude.{Option, Some, None, IsSome}
 use Rattle.std.specs.BTreeMap.{get}
 use Rattle.std.specs.Cmp.Lexicographic.{slice_cmp}
 use Rattle.std.specs.Ordering.{nat_cmp}

@@ -1,5 +1,5 @@
 -- Passes and held stripes: what they know, what they have, and what their calls keep.
-use Rattle.std.specs.Prelude.{◌≡◌, ◌≢◌, ℕ, zero, suc, ◌+◌, ◌^◌, ◌<◌, ◌≤◌, ◌↔◌, Bool, true, false, List, [], ◌∷◌, ◌++◌, length, map, nat_eq, Option, Some, None, IsSome, if◌then◌else◌}
+use Rattle.std.specs.Prelude.{◌≡◌, ℕ, ◌+◌, ◌^◌, ◌<◌, ◌≤◌, false, List, [], ◌∷◌, ◌++◌, length, nat_eq, Option, Some, None, IsSome, if◌then◌else◌}
 use Rattle.atomic_table.specs.Seated.{TableId}
 use Rattle.atomic_table.specs.Table.{Me}
 use Rattle.words.specs.declared.history.Entry.{Entry}
@@ -13,7 +13,6 @@ use Rattle.gates.specs.declared.view.View.{View}
 use Rattle.gates.specs.declared.gates.Gates.{Gates}
 use Rattle.gates.specs.declared.gates.Pass.{Pass}
 use Rattle.gates.specs.Sets.{times}
-use Rattle.gates.specs.Rule.{AllLeave}
 use Rattle.gates.specs.Plays.{own, IsSingle, newcomer}
 
 module _ {T : Type 0} where

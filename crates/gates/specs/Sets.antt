@@ -1,5 +1,5 @@
 -- Sets of stripe numbers, as rising lists and as the bits of one word.
-use Rattle.std.specs.Prelude.{ℕ, zero, suc, ◌+◌, ◌*◌, ◌/◌, ◌%◌, ◌<◌, ◌≤◌, List, [], ◌∷◌, ◌++◌, nat_eq, nat_lt, cond, if◌then◌else◌}
+use Rattle.std.specs.Prelude.{ℕ, zero, suc, ◌+◌, ◌<◌, List, [], ◌∷◌, ◌++◌, nat_eq, nat_lt, cond, if◌then◌else◌}
 use Rattle.std.specs.Int.{bit_at}
 
 -- how often a number stands in a list

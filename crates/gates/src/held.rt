@@ -135,7 +135,7 @@ impl<'a, T: Part> Held<'a, T> {
     ghost use Rattle.words.specs.History.{Legal, keys_named};
     ghost use Rattle.gates.specs.declared.view.Note.TheVariants as note;
     ghost use Rattle.gates.specs.Passes.{stripes_of, known, parts_in, part_at, AllFit, IsHolding, IsResting, WasTold, Committed, KeysHeld, pass_number};
-    ghost use Rattle.gates.specs.Helds.{IsOpen, held_parts, entry_of};
+    ghost use Rattle.gates.specs.Helds.{IsOpen, held_parts, entry_of, gates_of, known_to, borrow_of, has_committed};
 
     /// Commits one entry of the pass, an operation and what it is answered, and says its position in
     /// the history. It has to be legal where it stands behind all that the pass has seen, and its keys
@@ -146,17 +146,17 @@ impl<'a, T: Part> Held<'a, T> {
     /// [`CommitsWornOut`] where the commit word was read at 2^62 or more. Nothing was committed.
     pub fn commit(&mut self, operation: &Operation, reply: &Reply) -> Result<u64, CommitsWornOut>
         requires open { IsOpen self.old }
-        requires once { self.old.committed ≡ false }
-        requires legal { Legal (entry_of self.old operation.now reply.now ∷ (known self.old.pass.now).seen) }
-        requires keys { KeysHeld (stripes_of self.old.gates.now) (held_parts self.old) (keys_named operation.now) }
+        requires once { has_committed self.old ≡ false }
+        requires legal { Legal (entry_of self.old operation.now reply.now ∷ (known_to self.old).seen) }
+        requires keys { KeysHeld (stripes_of (gates_of self.old)) (held_parts self.old) (keys_named operation.now) }
         ensures open { IsOpen self.new }
-        ensures gates { self.new.gates.now ≡ self.old.gates.now }
-        ensures pass { self.new.pass.ghost_name ≡ self.old.pass.ghost_name }
+        ensures gates { gates_of self.new ≡ gates_of self.old }
+        ensures pass { borrow_of self.new ≡ borrow_of self.old }
         ensures parts { held_parts self.new ≡ held_parts self.old }
-        ensures ok { IfOk result (λ place. Committed (stripes_of self.old.gates.now) (held_parts self.old) (entry_of self.old operation.now reply.now) place (known self.old.pass.now) (known self.new.pass.now)) }
-        ensures once { OnOk result (self.new.committed ≡ true) }
-        ensures worn { OnErr result (WasTold note.Worn (known self.old.pass.now) (known self.new.pass.now)) }
-        ensures none { OnErr result (self.new.committed ≡ false) }
+        ensures ok { IfOk result (λ place. Committed (stripes_of (gates_of self.old)) (held_parts self.old) (entry_of self.old operation.now reply.now) place (known_to self.old) (known_to self.new)) }
+        ensures once { OnOk result (has_committed self.new ≡ true) }
+        ensures worn { OnErr result (WasTold note.Worn (known_to self.old) (known_to self.new)) }
+        ensures none { OnErr result (has_committed self.new ≡ false) }
     {
         let place = self
             .gates
@@ -176,9 +176,9 @@ impl<'a, T: Part> Held<'a, T> {
     /// pass has seen.
     pub fn give(self)
         requires open { IsOpen self }
-        requires fit { AllFit T.contents (stripes_of self.gates.now) (known self.pass.now).seen (held_parts self) }
-        ensures pass { IsResting self.entry.gates.now self.exit.1.0.now }
-        ensures known { known self.exit.1.0.now ≡ known self.entry.pass.now }
+        requires fit { AllFit T.contents (stripes_of (gates_of self)) (known_to self).seen (held_parts self) }
+        ensures pass { IsResting (gates_of self.entry) self.exit.1.0.now }
+        ensures known { known self.exit.1.0.now ≡ known_to self.entry }
     {
         let Held {
             gates,

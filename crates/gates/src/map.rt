@@ -176,14 +176,14 @@ fn set_between<R: Wait, L: Latch>(
     }
     let reply = Reply::Single(CommandReply::One(Item::Line(Line::Done)));
     match held.commit(&operation, &reply) {
-        Err(CommitsWornOut) => {
-            held.give();
-            Err(CallFault::CommitsWornOut)
-        }
         Ok(place) => {
             held.part(stripe).put(key, value);
             held.give();
             Ok(place)
+        }
+        Err(CommitsWornOut) => {
+            held.give();
+            Err(CallFault::CommitsWornOut)
         }
     }
 }

@@ -1,4 +1,4 @@
-use Rattle.std.proofs.Common.{◌≡◌, ◌∷◌, ◌∙◌, refl, ap, subst, arith}
+use Rattle.std.proofs.Common.{◌∙◌, refl, ap, arith}
 use mathlib.Core.Option.{none}
 use Rattle.words.specs.declared.history.Entry.{Entry}
 use Rattle.words.specs.History.{keys_named}

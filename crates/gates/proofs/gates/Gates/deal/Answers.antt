@@ -1,8 +1,7 @@
-use Rattle.std.proofs.Common.{◌≡◌, ◌∙◌, ◌∷◌, [], ◌++◌, ◌+◌, ◌-◌, ◌<◌, ap, sym, subst, refl, arith, length, ℕ, List, vec_len}
+use Rattle.std.proofs.Common.{◌≡◌, ◌∙◌, ◌∷◌, ◌+◌, ◌-◌, ap, sym, subst, arith, length, List}
 use Rattle.gates.specs.declared.view.Knowledge.{Knowledge}
-use Rattle.gates.specs.declared.gates.Pass.{Pass}
-use Rattle.gates.specs.Plays.{own, resting, first_of, others_of, newcomer, newcomers}
-use Rattle.gates.specs.Passes.{AreNew, IsResting}
+use Rattle.gates.specs.Plays.{own, first_of, others_of, newcomer, newcomers}
+use Rattle.gates.specs.Passes.{AreNew}
 use Rattle.gates.proofs.Steps.{keep_splits}
 use Rattle.gates.proofs.Holding.{newcomers_next, new_seat, new_snoc, dealt_first, dealt_others}
 use Rattle.gates.proofs.gates.Gates.deal.Goals as goal

@@ -1,4 +1,4 @@
-use Rattle.std.proofs.Common.{◌≡◌, ◌∷◌, ◌∙◌, refl, arith}
+use Rattle.std.proofs.Common.{◌∙◌, refl, arith}
 use Rattle.gates.proofs.Steps.{gives_first}
 use Rattle.gates.proofs.Holding.{gave_seat, gave_parts, gave_knows, gave_fit, first_held, first_below, first_reads}
 use Rattle.atomic_table.specs.Table.{rest}

@@ -1,8 +1,7 @@
-use Rattle.std.proofs.Common.{◌≡◌, ◌∙◌, sym, ap, subst, refl, arith, ◌∷◌, [], ◌++◌, List}
+use Rattle.std.proofs.Common.{◌∙◌, sym, ap, refl, arith, ◌∷◌}
 use mathlib.Core.Option.{none}
 use Rattle.atomic_table.specs.Table.{step}
-use Rattle.gates.specs.declared.view.Knowledge.{Knowledge}
-use Rattle.gates.specs.Plays.{own, first_of, others_of, resting, sees, joined, Meets}
+use Rattle.gates.specs.Plays.{own, first_of, others_of, sees, Meets}
 use Rattle.gates.proofs.Steps.{keep_splits, leave_splits, joins, meets}
 use Rattle.gates.proofs.Holding.{nothing_held, go_on, loaded_passes, loaded_parts, loaded_held, seen_seat, seen_log, seen_learned, seen_notes, met_first, met_second}
 use Rattle.gates.proofs.gates.Gates.meet.Goals as goal

@@ -1,4 +1,4 @@
-use Rattle.std.proofs.Common.{◌≡◌, ◌∙◌, ap, sym, arith, ℕ, List, length, slice_index, replicate}
+use Rattle.std.proofs.Common.{◌≡◌, ◌∙◌, ap, arith, ℕ, List, length, slice_index, replicate}
 use Rattle.gates.proofs.Steps.{opens}
 use Rattle.gates.proofs.Holding.{zeros, zeros_length}
 use Rattle.gates.proofs.gates.Gates.new.Goals as goal

@@ -1,5 +1,5 @@
 use Rattle.std.proofs.Common.{◌≡◌, ◌∙◌, ◌++◌, ◌∷◌, [], sym, ap, subst, append_assoc, append-nil, refl, List, ℕ}
-use Rattle.gates.specs.Sets.{times, AreBelow}
+use Rattle.gates.specs.Sets.{AreBelow}
 use Rattle.gates.specs.Passes.{known, parts_in, stripes_in, stripes_among, stripes_of}
 use Rattle.gates.proofs.Bits.{times_rising}
 use Rattle.gates.proofs.Holding.{Learned-trans, among_snoc, apart, parts_are}

@@ -1,8 +1,6 @@
-use Rattle.std.proofs.Common.{◌≡◌, subst, sym, ap, ◌∙◌, ◌+◌, arith, eq-eqb, ne_eqb, nat_eq, [], ◌++◌, ◌∷◌, ℕ, List}
+use Rattle.std.proofs.Common.{◌≡◌, subst, sym, ap, ◌∙◌, ◌+◌, arith, eq-eqb, ne_eqb, ℕ}
 use Rattle.std.proofs.lemmas.Bool.{MatchBool-at_true, MatchBool-at_false, true≢false, false≢true}
-use Rattle.gates.specs.Sets.{times}
-use Rattle.atomic_table.specs.Table.{Me, turned}
-use Rattle.gates.specs.declared.view.View.{View}
+use Rattle.atomic_table.specs.Table.{turned}
 use Rattle.gates.specs.Plays.{own, Took, Missed}
 use Rattle.gates.specs.Passes.{AllFit, IsSeatOf, Learned}
 use Rattle.gates.proofs.Steps.{tries_at}

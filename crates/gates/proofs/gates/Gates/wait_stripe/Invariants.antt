@@ -1,4 +1,4 @@
-use Rattle.std.proofs.Common.{◌≡◌, ◌∙◌}
+use Rattle.std.proofs.Common.{◌≡◌}
 use Rattle.gates.specs.Passes.{stripes_of, known, parts_in, AllFit, IsHolding, Learned}
 use Rattle.gates.proofs.gates.Gates.wait_stripe.Given as goal
 

@@ -1,9 +1,8 @@
-use Rattle.std.proofs.Common.{◌≡◌, ◌∙◌, sym, ap, subst, length, IsSome, ℕ, List, ◌∷◌, ◌<◌, arith}
-use Rattle.atomic_table.specs.Table.{turned, Me}
+use Rattle.std.proofs.Common.{◌∙◌, sym, ap, subst, length, IsSome, ℕ, ◌∷◌, ◌<◌}
 use Rattle.gates.specs.Sets.{rest_of, turned_list}
 use Rattle.gates.specs.Passes.{stripes_among, part_at}
 use Rattle.gates.specs.Helds.{held_parts}
-use Rattle.gates.specs.Lending.{brought, before_part, held_with}
+use Rattle.gates.specs.Lending.{before_part}
 use Rattle.gates.proofs.Holding.{no_parts}
 use Rattle.gates.proofs.Turning.{held_turned, held_done, turn_keeps, some_turned, among_turned, none_has}
 use Rattle.gates.proofs.held.Held.bring.Goals as goal

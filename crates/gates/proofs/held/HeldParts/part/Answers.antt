@@ -1,4 +1,4 @@
-use Rattle.std.proofs.Common.{◌≡◌, refl}
+use Rattle.std.proofs.Common.{refl}
 use Rattle.gates.specs.Helds.{held_parts}
 use Rattle.gates.proofs.Turning.{written_open, written_has, written_other}
 use Rattle.gates.proofs.held.HeldParts.part.Goals as goal
