@@ -1,6 +1,6 @@
 //! The ring of frames that holds the resident pages of one stripe's log.
 
-#![tactic(auto, using(crate::proofs::Windows::frames_steps))]
+#![tactic(auto)]
 
 ghost use Rattle.std.specs.Prelude.{◌≡◌, ◌+◌, ◌-◌, ◌^◌, ◌<◌, ◌≤◌, ◌↔◌, [], length, IsTrue, IsSome, IsErr, IfOk, IfSome, OnOk, OnErr, MatchOption};
 ghost use Rattle.std.specs.Bool.{OnTrue, OnFalse};
@@ -34,6 +34,7 @@ pub struct Frames {
     oldest: u64,
 }
 
+#[tactic(auto, using(crate::proofs::Windows::frames_steps))]
 impl Model for Frames {
     ghost use Rattle.frames.specs.Resident.{Resident};
     ghost use Rattle.frames.specs.Ring.{shown, IsRing};
@@ -46,6 +47,7 @@ impl Model for Frames {
     ghost invariant = { λ f. IsRing (length f.frames.items) f.slot f.resident f.oldest };
 }
 
+#[tactic(auto, using(crate::proofs::Windows::frames_steps))]
 impl Frames {
     /// This many frames, at least 3, and no resident page. The only call that takes memory.
     pub fn new(alloc: Global, frames: usize) -> Result<Self, AllocError>
@@ -187,6 +189,7 @@ impl Frames {
 
 // The slot this many places after another, round the end.
 #[inline]
+#[tactic(auto, using(crate::proofs::Windows::frames_steps))]
 fn slot_after(slot: usize, count: usize, slots: usize) -> usize
     requires inside { slot < slots }
     requires once_round { count ≤ slots }
