@@ -72,7 +72,6 @@ module _ {T : Type 0} where
         record {
           single = refl;
           number_is = seat.number_is;
-          unarmed = seat.unarmed;
           once = λ j. ⊎_elim
               (λ e. let none_before : times j (stripes_among m.1) ≡ 0 = subst (λ (k : ℕ). times k (stripes_among m.1) ≡ 0) e other in
               let one : times j (i ∷ []) ≡ 1 = subst (λ (k : ℕ). times k (i ∷ []) ≡ 1) e (times_here i []) in omega (arith, stands j))
@@ -122,7 +121,6 @@ module _ {T : Type 0} where
         record {
           single = refl;
           number_is = seat.number_is;
-          unarmed = seat.unarmed;
           once = seat.once;
           same = seat.same;
           below = seat.below;
@@ -170,7 +168,6 @@ module _ {T : Type 0} where
         record {
           single = seat.single;
           number_is = seat.number_is;
-          unarmed = seat.unarmed;
           once = λ j. omega (arith, seat.once j, among_first j);
           same = λ j. ⊎_elim
               (λ e. subst (λ (k : ℕ). times k (without i m.0.held) ≡ times k (stripes_among (rest m.1))) e (without_here i m.0.held ∙ sym gone))
@@ -208,15 +205,23 @@ module _ {T : Type 0} where
   pub became_armed : (st : Step T) (m w : Me T (View T)) (found : ℕ) → found < 2 ^ 62 → Arms st m found w → w ≡ (record (m.0) { armed = true }, m.1)
   became_armed st m w found below told = MatchBool-at_true (BecomesArmed m w) (FindsWorn m w) (lt-ltb found (2 ^ 62) below) told
 
-  -- a commit, after that look
-  module _ (n number found : ℕ) (entry : Entry) (st : Step T) (m later w : Me T (View T)) (seat : IsSeatOf n number m) (slots : st.slots ≡ n)
-      (is : later ≡ (record (m.0) { armed = true }, m.1)) (keys : KeysHeld n m.1 (keys_named entry.operation)) (did : Commits entry st later found w) where
-    did' : Commits entry st (record (m.0) { armed = true }, m.1) found w
-    did' = subst (λ (x : Me T (View T)). Commits entry st x found w) is did
+  -- a commit
+  module _ (n number found : ℕ) (entry : Entry) (st : Step T) (m w : Me T (View T)) (seat : IsSeatOf n number m) (slots : st.slots ≡ n)
+      (keys : KeysHeld n m.1 (keys_named entry.operation)) (d : Commits entry st m found w) where
+    pub committed_seat : entry.session ≡ number → IsSeatOf n number w
+    committed_seat session = subst (λ (x : Me T (View T)). IsSeatOf n number x) (sym d.seat)
+        record {
+          single = refl;
+          number_is = seat.number_is;
+          once = seat.once;
+          same = seat.same;
+          below = seat.below;
+          legal = d.legal;
+          mine = d.mine;
+        }
 
     pub committed : Committed n m.1 entry found (own m.0) (own w.0)
     committed =
-        let d = did' in
         let knows : own w.0 ≡ commits (own m.0) d.before entry = ap (λ (x : Me T (View T)). own x.0) d.seat in
         subst (λ (k : Knowledge). Committed n m.1 entry found (own m.0) k) (sym knows)
         record {
@@ -323,7 +328,6 @@ module _ {T : Type 0} where
         record {
           single = refl;
           number_is = seat.number_is;
-          unarmed = refl;
           once = λ j. omega arith;
           same = λ j. refl;
           below = λ j h. absurd (omega arith);
@@ -347,7 +351,6 @@ module _ {T : Type 0} where
       record {
         single = refl;
         number_is = refl;
-        unarmed = refl;
         once = λ j. omega arith;
         same = λ j. refl;
         below = λ j h. absurd (omega arith);

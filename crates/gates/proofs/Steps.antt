@@ -1,5 +1,5 @@
 -- Each step keeps the rule.
-use Rattle.std.proofs.Common.{◌≡◌, ◌≢◌, ℕ, zero, suc, ◌+◌, ◌%◌, ◌^◌, ◌<◌, ◌≤◌, Bool, true, false, List, [], ◌∷◌, ◌++◌, cond, nat_eq, eqb, length, map, get_or, set, slice_index, slice_set, MatchBool, sym, refl, ap, subst, ◌∙◌, arith, eq-eqb, ne_eqb, inl, inr, ⊎_elim, length-set, get_or-set_other, get_or-set_same, length-append, None, lt-ltb, le-ltb, mod-eq_of_lt}
+use Rattle.std.proofs.Common.{◌≡◌, ◌≢◌, ℕ, zero, suc, ◌+◌, ◌%◌, ◌^◌, ◌<◌, ◌≤◌, Bool, true, false, List, [], ◌∷◌, ◌++◌, cond, nat_eq, nat_lt, eqb, length, map, get_or, set, slice_index, slice_set, MatchBool, sym, refl, ap, subst, ◌∙◌, arith, eq-eqb, ne_eqb, inl, inr, ⊎_elim, length-set, get_or-set_other, get_or-set_same, length-append, None, lt-ltb, le-ltb, mod-eq_of_lt}
 use Rattle.std.proofs.lemmas.Bool.{cases_lt}
 use mathlib.Core.Logic.{dite}
 use mathlib.Core.Option.{Option, none, some, some-injective, some-ne-none}
@@ -17,7 +17,7 @@ use Rattle.gates.specs.declared.view.View.{View}
 use Rattle.gates.specs.Sets.{times, without}
 use Rattle.gates.specs.Rule.{word_of, AllLeave, total, Fits, EachFits, Names, weight, stands_for, armed_by, FitsView, IsHeld, Ruled, AreHeld, commit_word}
 use Rattle.gates.specs.Plays.{first_of, own, IsSingle, sees, notes, commits, all_see, knowing, taking, giving, EachGoesOn, Took, Missed, Tries, Arms, BecomesArmed, FindsWorn, Commits, Gives, Meets, newcomers, others_of, resting, unmet, joined, AreEmpty}
-use Rattle.gates.proofs.Lists.{at_snoc, at_longer, total-append, each_set, set_here, set_else, total-set, terms_le, total-less, times_here, times_else, without_here, without_else}
+use Rattle.gates.proofs.Lists.{at_snoc, at_longer, total-append, each_set, set_here, set_else, total-set, terms_le, total-below, total-less, times_here, times_else, without_here, without_else}
 use Rattle.gates.proofs.Frames.{AreOf, Agree, none_both, part_left, after_left, due_agrees}
 
 -- a word that is set to what it is
@@ -29,6 +29,10 @@ set_same (x ∷ xs) (suc i) = ap (λ l. x ∷ l) (set_same xs i)
 -- the word of another stripe stays
 other_word : (words : List ℕ) (i j x : ℕ) → j ≢ i → slice_index (slice_set words (word_of i) x) (word_of j) ≡ slice_index words (word_of j)
 other_word words i j x ne = let apart : word_of j ≢ word_of i = (λ e. ne (omega arith)) in get_or-set_other words (word_of i) (word_of j) x 0 apart
+
+one_at_most : (b : Bool) → cond b 1 0 ≤ 1
+one_at_most true = omega arith
+one_at_most false = omega arith
 
 -- knowledge of a single pass
 module _ {T : Type 0} (v : View T) (single : IsSingle v) where
@@ -264,7 +268,8 @@ module _ {T : Type 0} (contents : T → Store) (passes slots id : ℕ) where
       let one_armed : armed_by v ≡ 1 = ap (λ b. cond b 1 0) armed in
       let f = mine_fits contents passes s ruled id v at in
       let g : Fits n log v.held (own v) = own_fits v single n log f.fits in
-      let w : View T = record v { passes = commits (own v) log entry ∷ []; armed = false } in
+      let may = nat_lt found (2 ^ 62) in
+      let w : View T = record v { passes = commits (own v) log entry ∷ []; armed = may } in
       let sum = total-set armed_by s.views id v w at in
       let few = ruled.few in
       let room = ruled.room in
@@ -292,7 +297,12 @@ module _ {T : Type 0} (contents : T → Store) (passes slots id : ℕ) where
           wide = length-set s.words commit_word ((found + 1) % 2 ^ 64) ∙ ruled.wide;
           few = few;
           counts = get_or-set_same s.words commit_word ((found + 1) % 2 ^ 64) 0 (omega (arith, ruled.wide)) ∙ next ∙ omega arith;
-          room = omega (arith, sum);
+          room = ⊎_elim
+              (λ below.
+              let stays : armed_by w ≡ 1 = ap (λ b. cond b 1 0) (lt-ltb found (2 ^ 62) below) in
+              omega (arith, sum, stays, counts, ruled.dealt, total-below armed_by weight s.views (λ j u there. (ruled.views j u there).ready)))
+              (λ above. let none : armed_by w ≡ 0 = ap (λ b. cond b 1 0) (le-ltb found (2 ^ 62) above) in omega (arith, sum, none))
+              (cases_lt found (2 ^ 62));
           dealt = dealt_set contents passes s ruled id v at w (sym (own_weight v single));
           once = once_set contents passes s ruled id v at w (λ q. ap (λ (ks : List Knowledge). times q (map (λ (k : Knowledge). k.number) ks)) (sym single));
           views = each_set (λ j u. FitsView n (set s.words commit_word ((found + 1) % 2 ^ 64)) (entry ∷ log) u) s.views id w
@@ -301,7 +311,7 @@ module _ {T : Type 0} (contents : T → Store) (passes slots id : ℕ) where
                   record { more = []; begins = refl; leave = λ _ _. tt; mine = mine; mine_seen = mine },
                   tt,
                 );
-                ready = omega arith;
+                ready = one_at_most may;
                 names = λ stripe h. let t = f.names stripe h in (
                   t.0,
                   record {
@@ -350,14 +360,6 @@ module _ {T : Type 0} (contents : T → Store) (passes slots id : ℕ) where
           seat = refl;
         },
       )
-
-  -- the same of a seat that became armed
-  pub commits_armed : (m later : Me T (View T)) (entry : Entry) → later ≡ (record (m.0) { armed = true }, m.1) → IsSingle m.0 → entry.session ≡ (own m.0).number
-      → Legal (entry ∷ (own m.0).seen) → AreHeld slots m.0.held (keys_named entry.operation)
-      → Allows (Ruled contents passes) slots id later commit_word (λ n. (n + 1) % 2 ^ 64) (Commits entry (step slots commit_word 1 0 none) later)
-  commits_armed m later entry is single session legal keys =
-      subst (λ (x : Me T (View T)). Allows (Ruled contents passes) slots id x commit_word (λ n. (n + 1) % 2 ^ 64) (Commits entry (step slots commit_word 1 0 none) x)) (sym is)
-      (commits_step (record (m.0) { armed = true }, m.1) entry single refl session legal keys)
 
   -- One try of a stripe that the pass does not hold
   pub tries : (m : Me T (View T)) (i : ℕ) → IsSingle m.0 → i < slots → times i m.0.held ≡ 0 → (own m.0).number + 1 < 2 ^ 64

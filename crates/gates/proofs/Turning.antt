@@ -257,10 +257,10 @@ module _ {T : Type 0} where
         holding = record {
           table = is.holding.table;
           small = is.holding.small;
+          armed = is.holding.armed;
           seat = record {
             single = s.single;
             number_is = s.number_is;
-            unarmed = s.unarmed;
             once = λ j. omega (arith, s.once j, same j);
             same = λ j. s.same j ∙ sym (same j);
             below = λ j at. s.below j (omega (arith, same j));

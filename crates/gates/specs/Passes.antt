@@ -1,5 +1,5 @@
 -- Passes and held stripes: what they know, what they have, and what their calls keep.
-use Rattle.std.specs.Prelude.{◌≡◌, ℕ, ◌+◌, ◌^◌, ◌<◌, ◌≤◌, false, List, [], ◌∷◌, ◌++◌, length, nat_eq, Option, Some, None, IsSome, if◌then◌else◌}
+use Rattle.std.specs.Prelude.{◌≡◌, ℕ, ◌+◌, ◌^◌, ◌<◌, ◌≤◌, List, [], ◌∷◌, ◌++◌, length, nat_eq, Option, Some, None, IsSome, if◌then◌else◌}
 use Rattle.atomic_table.specs.Seated.{TableId}
 use Rattle.atomic_table.specs.Table.{Me}
 use Rattle.words.specs.declared.history.Entry.{Entry}
@@ -60,7 +60,6 @@ module _ {T : Type 0} where
   pub record IsSeatOf (stripes number : ℕ) (me : Me T (View T)) : Type 0 where
     pub single : IsSingle me.0
     pub number_is : (own me.0).number ≡ number
-    pub unarmed : me.0.armed ≡ false
     pub once : (stripe : ℕ) → times stripe (stripes_among me.1) ≤ 1
     pub same : (stripe : ℕ) → times stripe me.0.held ≡ times stripe (stripes_among me.1)
     pub below : (stripe : ℕ) → 0 < times stripe (stripes_among me.1) → stripe < stripes
@@ -71,6 +70,7 @@ module _ {T : Type 0} where
   pub record IsHolding (gates : Gates T) (pass : Pass T) : Type 0 where
     pub table : pass.seat.table_id ≡ id_of gates
     pub small : pass.number < 2 ^ 62
+    pub armed : pass.armed ≡ pass.seat.me.0.armed
     pub seat : IsSeatOf (stripes_of gates) pass.number pass.seat.me
 
   -- the pass is one of these gates, and holds nothing

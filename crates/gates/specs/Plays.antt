@@ -119,7 +119,7 @@ module _ {T : Type 0} where
   Tries contents st m found w =
       (stripe : ℕ) → st.word ≡ word_of stripe → MatchBool (nat_eq found 0) (Took contents st.slots stripe m w) (Missed stripe found m w)
 
-  -- the seat may add to the commit word once
+  -- the seat may add to the commit word
   abbrev pub BecomesArmed : Me T (View T) → Me T (View T) → Type 0
   BecomesArmed m w = w ≡ (record (m.0) { armed = true }, m.1)
 
@@ -131,14 +131,15 @@ module _ {T : Type 0} where
   abbrev pub Arms : Step T → Me T (View T) → ℕ → Me T (View T) → Type 0
   Arms st m found w = MatchBool (nat_lt found (2 ^ 62)) (BecomesArmed m w) (FindsWorn m w)
 
-  -- a commit: the pass has seen the whole history, with its own entry as the newest, whose position is the number found
+  -- A commit: the pass has seen the whole history, with its own entry as the newest, whose position is the number found. It may commit
+  -- again where that is below 2^62.
   pub record Commits (entry : Entry) (st : Step T) (m : Me T (View T)) (found : ℕ) (w : Me T (View T)) : Type 0 where
     pub before : History
     pub goes_on : GoesOn st.slots m.0.held (own m.0) before
     pub place : found ≡ length before
     pub legal : Legal (entry ∷ before)
     pub mine : (length before, entry) ∷ (own m.0).mine ≡ subhistory (entry ∷ before) (own m.0).number
-    pub seat : w ≡ (record (m.0) { passes = commits (own m.0) before entry ∷ []; armed = false }, m.1)
+    pub seat : w ≡ (record (m.0) { passes = commits (own m.0) before entry ∷ []; armed = nat_lt found (2 ^ 62) }, m.1)
 
   -- the stripe whose part the seat has in front was given back
   abbrev pub Gives : Step T → Me T (View T) → ℕ → Me T (View T) → Type 0

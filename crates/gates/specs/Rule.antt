@@ -87,7 +87,7 @@ module _ {T : Type 0} where
     pub wide : length s.words ≡ word_of (length s.homes)
     pub few : passes < 2 ^ 62
     pub counts : slice_index s.words commit_word ≡ length log
-    -- the commit word never wraps, since each pass adds to it once for each time that it read it below 2^62
+    -- the commit word never wraps: once it is 2^62, each pass adds to it at most once more
     pub room : length log + total armed_by s.views ≤ 2 ^ 62 + passes
     pub dealt : total weight s.views ≡ passes
     pub once : (number : ℕ) → total (stands_for number) s.views ≤ 1

@@ -1,6 +1,6 @@
 //! Gates over the parts of a store, and the passes that take them.
 
-ghost use Rattle.std.specs.Prelude.{◌≡◌, ◌+◌, ◌*◌, ◌^◌, ◌<◌, ◌≤◌, ◌++◌, ◌∷◌, [], ℕ, true, false, length, map, IsTrue, IsFalse, IfOk, OnErr, vec_len, vec_capacity, MatchBool};
+ghost use Rattle.std.specs.Prelude.{◌≡◌, ◌+◌, ◌*◌, ◌^◌, ◌<◌, ◌≤◌, ◌++◌, ◌∷◌, [], ℕ, true, false, length, map, IsTrue, IsFalse, IfOk, OnOk, OnErr, vec_len, vec_capacity, MatchBool};
 ghost use Rattle.gates.specs.Rule.{word_of};
 
 use crate::part::Part;
@@ -33,6 +33,8 @@ pub struct Gates<T: Part> {
 /// calls are known in the history.
 pub struct Pass<T> {
     pub(crate) number: u64,
+    /// Whether a commit needs no look at the commit word first.
+    pub(crate) armed: bool,
     pub(crate) seat: Seat<T, View<T>>,
 }
 
@@ -49,7 +51,11 @@ impl<T> Pass<T> {
 
 impl<T> Drop for Pass<T> {
     fn drop(self) {
-        let Pass { number: _, seat: _ } = self;
+        let Pass {
+            number: _,
+            armed: _,
+            seat: _,
+        } = self;
     }
 }
 
@@ -123,6 +129,7 @@ impl<T: Part> Gates<T> {
             others = self.table.shared.split_seat::<Keep>(&mut seat);
             dealt.push_reserved(Pass {
                 number: number as u64,
+                armed: false,
                 seat,
             });
         }
@@ -147,6 +154,8 @@ impl<T: Part> Gates<T> {
         shared.join_seat::<Together>(&mut first.seat, theirs);
         shared.load::<Meet>(&mut first.seat, word_index(0));
         second.seat = shared.split_seat::<Keep>(&mut first.seat);
+        first.armed = false;
+        second.armed = false;
     }
 
     /// How many stripes there are.
@@ -157,6 +166,7 @@ impl<T: Part> Gates<T> {
     }
 
     /// Gives back the first part, which is this stripe's.
+    #[inline]
     pub(crate) fn give_first(&self, pass: &mut Pass<T>, stripe: usize)
         requires holding { IsHolding self.now pass.old }
         requires first { (part : T) × (parts_in pass.old ≡ (stripe, part) ∷ rest (parts_in pass.old)) }
@@ -170,7 +180,27 @@ impl<T: Part> Gates<T> {
         self.table.shared.store::<Give>(&mut pass.seat, word, 0);
     }
 
+    /// Looks at the commit word where the pass may not add to it yet.
+    fn arm(&self, pass: &mut Pass<T>) -> Result<(), CommitsWornOut>
+        requires { IsHolding self.now pass.old }
+        ensures holding { IsHolding self.now pass.new }
+        ensures parts { parts_in pass.new ≡ parts_in pass.old }
+        ensures number { pass.new.number ≡ pass.old.number }
+        ensures ok { OnOk result ((pass.new.armed ≡ true) × (known pass.new ≡ known pass.old)) }
+        ensures worn { OnErr result (WasTold Worn (known pass.old) (known pass.new)) }
+    {
+        if pass.armed {
+            return Ok(());
+        }
+        if self.table.shared.load::<Arm>(&mut pass.seat, COMMITS) >= COMMITS_LIMIT {
+            return Err(CommitsWornOut);
+        }
+        pass.armed = true;
+        Ok(())
+    }
+
     /// Commits the entry that is picked.
+    #[inline]
     pub(crate) fn commit_as<E: Told>(
         &self,
         pass: &mut Pass<T>,
@@ -187,14 +217,15 @@ impl<T: Part> Gates<T> {
         ensures ok { IfOk result (λ place. Committed (stripes_of self.now) (parts_in pass.old) E.entry place (known pass.old) (known pass.new)) }
         ensures worn { OnErr result (WasTold Worn (known pass.old) (known pass.new)) }
     {
+        self.arm(pass)?;
         let shared = &self.table.shared;
-        if shared.load::<Arm>(&mut pass.seat, COMMITS) >= COMMITS_LIMIT {
-            return Err(CommitsWornOut);
-        }
-        Ok(shared.fetch_add::<Commit<E>>(&mut pass.seat, COMMITS, 1))
+        let place = shared.fetch_add::<Commit<E>>(&mut pass.seat, COMMITS, 1);
+        pass.armed = place < COMMITS_LIMIT;
+        Ok(place)
     }
 
     /// One try of a stripe that the pass does not have. Its part comes last.
+    #[inline]
     pub(crate) fn try_stripe(&self, pass: &mut Pass<T>, stripe: usize) -> bool
         requires holding { IsHolding self.now pass.old }
         requires below { stripe < stripes_of self.now }

@@ -36,6 +36,25 @@ impl<T: Part> Gates<T> {
     ghost use Rattle.gates.specs.Helds.{IsOpen, held_parts, HasTaken};
 
     /// Takes a stripe that the pass does not have, and waits where another has it.
+    #[inline]
+    fn take_stripe<R: Wait>(&self, rt: &R, pass: &mut Pass<T>, stripe: usize)
+        requires holding { IsHolding self.now pass.old }
+        requires below { stripe < stripes_of self.now }
+        requires other { times stripe (stripes_in pass.old) ≡ 0 }
+        requires fit { AllFit T.contents (stripes_of self.now) (known pass.old).seen (parts_in pass.old) }
+        ensures holding { IsHolding self.now pass.new }
+        ensures fit { AllFit T.contents (stripes_of self.now) (known pass.new).seen (parts_in pass.new) }
+        ensures learned { Learned (known pass.old) (known pass.new) }
+        ensures parts { (part : T) × (parts_in pass.new ≡ parts_in pass.old ++ (stripe, part) ∷ []) }
+    {
+        let taken = self.try_stripe(pass, stripe);
+        if !taken {
+            self.wait_stripe(rt, pass, stripe);
+        }
+    }
+
+    /// The same, of a stripe that another has had.
+    #[cold]
     fn wait_stripe<R: Wait>(&self, rt: &R, pass: &mut Pass<T>, stripe: usize)
         requires holding { IsHolding self.now pass.old }
         requires below { stripe < stripes_of self.now }
@@ -48,15 +67,16 @@ impl<T: Part> Gates<T> {
     {
         let backoff = Backoff::new();
         for _ in rt.forever() {
+            backoff.snooze();
             if self.try_stripe(pass, stripe) {
                 return;
             }
-            backoff.snooze();
         }
         unreachable!()
     }
 
     /// Gives back all parts, in this order.
+    #[inline]
     fn give_all(&self, pass: &mut Pass<T>, mut order: Order)
         requires holding { IsHolding self.now pass.old }
         requires order { stripes_in pass.old ≡ order }
@@ -105,6 +125,7 @@ impl<T: Part> Gates<T> {
     }
 
     /// Takes stripes, in rising order, and waits where others hold them.
+    #[inline]
     pub fn take<'a, R: Wait>(
         &'a self,
         rt: &R,
@@ -118,7 +139,7 @@ impl<T: Part> Gates<T> {
         stripes.rises();
         let mut left = stripes.again();
         while let Some((stripe, others)) = left.split_first() {
-            self.wait_stripe(rt, pass, stripe);
+            self.take_stripe(rt, pass, stripe);
             left = others;
         }
         Held {
@@ -144,6 +165,7 @@ impl<'a, T: Part> Held<'a, T> {
     /// # Errors
     ///
     /// [`CommitsWornOut`] where the commit word was read at 2^62 or more. Nothing was committed.
+    #[inline]
     pub fn commit(&mut self, operation: &Operation, reply: &Reply) -> Result<u64, CommitsWornOut>
         requires open { IsOpen self.old }
         requires once { has_committed self.old ≡ false }
@@ -174,6 +196,7 @@ impl<'a, T: Part> Held<'a, T> {
 
     /// Gives all stripes back. Each part has to read as its part of what the history leaves that the
     /// pass has seen.
+    #[inline]
     pub fn give(self)
         requires open { IsOpen self }
         requires fit { AllFit T.contents (stripes_of (gates_of self)) (known_to self).seen (held_parts self) }

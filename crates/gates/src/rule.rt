@@ -26,7 +26,7 @@ impl<T: Part> Play<T, View<T>> for Try {
     ghost then = { Tries T.contents };
 }
 
-/// A look at the commit word before a commit.
+/// A look at the commit word by a seat that may not add to it.
 pub(crate) struct Arm;
 
 impl<T> Play<T, View<T>> for Arm {

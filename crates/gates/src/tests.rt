@@ -9,7 +9,8 @@ ghost use Rattle.gates.specs.Maps.{map_contents};
 
 use crate::gates::{Gates, Pass};
 use crate::latch::{Latch, Open, Point};
-use crate::map::{MapPart, SetCall, set};
+use crate::map::{GetCall, MapPart, SetCall, get, set};
+use crate::part::replace;
 use crate::sorted::Sorted;
 use std::alloc::Global;
 use std::sync::Wait;
@@ -17,6 +18,7 @@ use std::sync::atomic::{AtomicBool, Ordering};
 use std::test::Fail;
 use std::thread::{Threads, join, sleep};
 use std::time::{Clock, Duration};
+use words::reply::{CommandReply, Item, Reply};
 use words::word::{OutOfMemory, Word};
 
 /// How often each of two threads writes.
@@ -130,6 +132,82 @@ fn two_threads_write_to_one_stripe_and_to_several(rt: HostRuntime) -> Result<(),
     let one = write_both(&rt, rt.alloc(), 1, 1)?;
     let several = write_both(&rt, rt.alloc(), 16, 20)?;
     assert!(rt; one == Some(2 * WRITES) && several == Some(2 * WRITES));
+    Ok(())
+}
+
+/// Whether a reply is the value that is set here.
+fn is_value(reply: &Reply) -> bool {
+    match reply {
+        Reply::Single(CommandReply::One(Item::Bulk(value))) => value.as_slice()
+            == b"value".as_slice(),
+        _ => false,
+    }
+}
+
+/// The position of a GET of the key of one letter, and whether it was answered the value that is set
+/// here.
+fn read<R: Wait>(
+    rt: &R,
+    alloc: Global,
+    gates: &Gates<MapPart>,
+    pass: &mut Pass<MapPart>,
+    letter: u8,
+) -> Result<Option<(u64, bool)>, OutOfMemory>
+    requires { IsResting gates.now pass.old }
+    ensures { IsResting gates.now pass.new }
+{
+    let key = Word::from_slice(alloc, &[letter])?;
+    let call = GetCall::new(&key)?;
+    let Ok((place, reply)) = get(rt, gates, pass, call) else {
+        return Ok(None);
+    };
+    Ok(Some((place, is_value(&reply))))
+}
+
+#[test]
+fn a_value_is_read_once_it_was_set(rt: HostRuntime) -> Result<(), Fail> {
+    let alloc = rt.alloc();
+    let Some((gates, mut first, mut second)) = opened(alloc, 16)? else {
+        panic!(rt; "two passes")
+    };
+    let before = read(&rt, alloc, &gates, &mut second, b'a')?;
+    let place = set(&rt, &Open, &gates, &mut first, call_of(alloc, b'a')?);
+    let after = read(&rt, alloc, &gates, &mut second, b'a')?;
+    assert!(rt; before == Some((0, false)) && place == Ok(1) && after == Some((2, true)));
+    Ok(())
+}
+
+/// Puts an empty part in the place of the one of stripe 12, and the old one back. True where the old
+/// part had the key `a`.
+fn swap_and_put_back<R: Wait>(
+    rt: &R,
+    alloc: Global,
+    gates: &Gates<MapPart>,
+    pass: &mut Pass<MapPart>,
+) -> Result<bool, OutOfMemory>
+    requires own { IsResting gates.now pass.old }
+    requires there { 12 < stripes_of gates.now }
+    ensures { IsResting gates.now pass.new }
+{
+    let key = Word::from_slice(alloc, b"a")?;
+    let mut held = gates.take(rt, pass, &Sorted::none().with(12));
+    let old = replace(&mut held, 12, MapPart::new(alloc));
+    let had = old.get(&key).is_some();
+    let new = replace(&mut held, 12, old);
+    held.give();
+    Ok(had && new.get(&key).is_none())
+}
+
+#[test]
+fn a_part_is_replaced_and_put_back(rt: HostRuntime) -> Result<(), Fail> {
+    let alloc = rt.alloc();
+    let Some((gates, mut first, mut second)) = opened(alloc, 16)? else {
+        panic!(rt; "two passes")
+    };
+    let place = set(&rt, &Open, &gates, &mut first, call_of(alloc, b'a')?);
+    let swapped = swap_and_put_back(&rt, alloc, &gates, &mut first)?;
+    let after = read(&rt, alloc, &gates, &mut second, b'a')?;
+    assert!(rt; place == Ok(0) && swapped && after == Some((1, true)));
     Ok(())
 }
 

@@ -29,7 +29,7 @@ pub struct View<T> {
     pub passes: LinkedList<Knowledge>,
     /// The stripes that it holds.
     pub held: LinkedList<u64>,
-    /// Whether the commit word was read below 2^62 since the last commit.
+    /// Whether it may add to the commit word: it read that word below 2^62 at its last commit, or since.
     pub armed: bool,
     /// The history at the moment of the last take.
     pub base: LinkedList<Entry>,

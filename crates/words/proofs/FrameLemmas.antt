@@ -32,7 +32,7 @@ written-append [] more store = refl
 written-append (write ∷ writes) more store = written-append writes more (update bytes_eq store write.0 write.1)
 
 -- writes leave two stores the same at a key at which they were
-written_same : (writes : List Write) (one other : Store) (key : Bytes)
+pub written_same : (writes : List Write) (one other : Store) (key : Bytes)
     → one key ≡ other key → written one writes key ≡ written other writes key
 written_same [] one other key same = same
 written_same (write ∷ writes) one other key same =

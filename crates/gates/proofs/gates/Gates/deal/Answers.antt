@@ -35,7 +35,7 @@ loop-number-preserved g c =
       subst (AreNew c.args.self.now 0) (sym items)
           (new_snoc c.args.self.now 0 c.loop-number.dealt.items _ i.4
           record {
-            holding = record { table = s.0 ∙ i.0; small = omega arith; seat = new_seat n number c.split_seat-others.new.seat.me me };
+            holding = record { table = s.0 ∙ i.0; small = omega arith; armed = sym (ap (λ m. m.0.armed) me); seat = new_seat n number c.split_seat-others.new.seat.me me };
             nothing = ap (λ m. m.1) me;
           }
           (ap (λ m. own m.0) me ∙ ap newcomer dealt)),

@@ -1,4 +1,4 @@
-use Rattle.std.proofs.Common.{◌∙◌, refl, arith}
+use Rattle.std.proofs.Common.{◌∙◌, sym, refl, ap, arith}
 use Rattle.gates.proofs.Steps.{gives_first}
 use Rattle.gates.proofs.Holding.{gave_seat, gave_parts, gave_knows, gave_fit, first_held, first_below, first_reads}
 use Rattle.atomic_table.specs.Table.{rest}
@@ -38,6 +38,7 @@ returns-clause-holding g c =
     record {
       table = c.store.ensures.0 ∙ h.table;
       small = h.small;
+      armed = h.armed ∙ sym (ap (λ m. m.0.armed) (c.store.ensures.2 c.args.stripe c.word_index-word.ensures));
       seat = gave_seat c.args.self.now.table.shared.table_id.slots c.args.pass.now.number c.args.stripe first.0 c.args.pass.now.seat.me c.store.new.seat.me h.seat first.1
           (c.store.ensures.2 c.args.stripe c.word_index-word.ensures);
     }

@@ -79,11 +79,11 @@ returns g c =
     let table = c.load.ensures.0 ∙ c.join_seat.ensures.0 ∙ h1.holding.table in
     record {
       first = record {
-        holding = record { table = c.split_seat.ensures.0 ∙ table; small = h1.holding.small; seat = seen_seat n first.number log first.seat.me c.split_seat.new.seat.me h1.holding.seat goes.0 w1 };
+        holding = record { table = c.split_seat.ensures.0 ∙ table; small = h1.holding.small; armed = sym (ap (λ m. m.0.armed) w1); seat = seen_seat n first.number log first.seat.me c.split_seat.new.seat.me h1.holding.seat goes.0 w1 };
         nothing = ap (λ m. m.1) w1;
       };
       second = record {
-        holding = record { table = c.split_seat.ensures.3 ∙ table; small = h2.holding.small; seat = seen_seat n second.number log second.seat.me c.split_seat.result.me h2.holding.seat goes.1 w2 };
+        holding = record { table = c.split_seat.ensures.3 ∙ table; small = h2.holding.small; armed = sym (ap (λ m. m.0.armed) w2); seat = seen_seat n second.number log second.seat.me c.split_seat.result.me h2.holding.seat goes.1 w2 };
         nothing = ap (λ m. m.1) w2;
       };
       one = seen_log n first.number log first.seat.me c.split_seat.new.seat.me h1.holding.seat goes.0 w1

@@ -32,7 +32,12 @@ returns-then-found-ne0 g c =
     let missed : Missed c.args.stripe found m w = MatchBool-at_false (Took g.T.Part.contents n c.args.stripe m w) (Missed c.args.stripe found m w) (ne_eqb found 0 c.if-found-ne0.true) told in
     let knows = missed_knows n pass.number c.args.stripe found m w h.seat missed in
     record {
-      holding = record { table = c.compare_exchange-found.ensures.0 ∙ h.table; small = h.small; seat = missed_seat n pass.number c.args.stripe found m w h.seat missed };
+      holding = record {
+        table = c.compare_exchange-found.ensures.0 ∙ h.table;
+        small = h.small;
+        armed = h.armed ∙ sym (ap (λ y. y.0.armed) missed.seat);
+        seat = missed_seat n pass.number c.args.stripe found m w h.seat missed;
+      };
       fit = missed_fit n pass.number c.args.stripe found m w h.seat missed g.T.Part.contents c.requires.fit;
       taken = λ e. absurd (false≢true e);
       missed = λ _. (knows, missed_parts n pass.number c.args.stripe found m w h.seat missed);
@@ -57,6 +62,7 @@ returns g c =
       holding = record {
         table = c.turn.ensures.0 ∙ c.compare_exchange-found.ensures.0 ∙ h.table;
         small = h.small;
+        armed = h.armed ∙ sym (ap (λ y. y.0.armed) turn ∙ ap (λ y. y.0.armed) took.seat);
         seat = subst (IsSeatOf n pass.number) (sym turn) (took_seat contents n pass.number i m w h.seat c.requires.below none_held took);
       };
       fit = subst (λ y. AllFit contents n (own y.0).seen y.1) (sym turn) (took_fit contents n pass.number i m w h.seat c.requires.below none_held took c.requires.fit);
