@@ -14,6 +14,7 @@ use std::io::Write;
 use words::reply::{CommandReply, Item, Reply};
 
 /// Appends bytes for which there is room.
+#[inline]
 fn put(bytes: &[u8], out: &mut Vec<u8>)
     requires { vec_len out.old + length bytes.now ≤ vec_capacity out.old }
     ensures items { out.new.items ≡ out.old.items ++ bytes.now }
@@ -24,6 +25,7 @@ fn put(bytes: &[u8], out: &mut Vec<u8>)
 }
 
 /// How many bytes a sign, a number in decimal and a line end take.
+#[inline]
 #[tactic(auto, unfolding(words::specs::Spelling::header))]
 fn header_len(sign: u8, count: usize) -> usize
     ensures len { result ≡ length (header sign count) }
@@ -33,6 +35,7 @@ fn header_len(sign: u8, count: usize) -> usize
 }
 
 /// Appends a sign, a number in decimal and a line end.
+#[inline]
 #[tactic(auto, unfolding(words::specs::Spelling::header))]
 fn put_header(sign: u8, count: usize, out: &mut Vec<u8>)
     requires { vec_len out.old + length (header sign count) ≤ vec_capacity out.old }
@@ -47,6 +50,7 @@ fn put_header(sign: u8, count: usize, out: &mut Vec<u8>)
 }
 
 /// How many bytes an item takes, or `None` where they are 2^64 or more.
+#[inline]
 #[tactic(auto, unfolding(words::specs::Encoding::item_encoding, words::specs::Spelling::bulk_string, words::specs::Spelling::header))]
 fn item_len(item: &Item) -> Option<usize>
     ensures some { IfSome result (λ len. len ≡ length (item_encoding item.now)) }
@@ -61,6 +65,7 @@ fn item_len(item: &Item) -> Option<usize>
 }
 
 /// Appends an item.
+#[inline]
 #[tactic(auto, unfolding(words::specs::Encoding::item_encoding, words::specs::Spelling::bulk_string))]
 fn put_item(item: &Item, out: &mut Vec<u8>)
     requires { vec_len out.old + length (item_encoding item.now) ≤ vec_capacity out.old }
@@ -113,6 +118,7 @@ fn put_items(items: &[Item], out: &mut Vec<u8>)
 }
 
 /// How many bytes the answer of a command takes, or `None` where they are 2^64 or more.
+#[inline]
 #[tactic(auto, unfolding(words::specs::Encoding::command_reply_encoding))]
 fn command_reply_len(reply: &CommandReply) -> Option<usize>
     ensures some { IfSome result (λ len. len ≡ length (command_reply_encoding reply.now)) }
@@ -128,6 +134,7 @@ fn command_reply_len(reply: &CommandReply) -> Option<usize>
 }
 
 /// Appends the answer of a command.
+#[inline]
 #[tactic(auto, unfolding(words::specs::Encoding::command_reply_encoding))]
 fn put_command_reply(reply: &CommandReply, out: &mut Vec<u8>)
     requires { vec_len out.old + length (command_reply_encoding reply.now) ≤ vec_capacity out.old }
@@ -173,6 +180,7 @@ fn put_command_replies(replies: &[CommandReply], out: &mut Vec<u8>)
 }
 
 /// How many bytes a reply takes, or `None` where they are 2^64 or more.
+#[inline]
 #[tactic(auto, unfolding(words::specs::Encoding::encoding))]
 fn reply_len(reply: &Reply) -> Option<usize>
     ensures some { IfSome result (λ len. len ≡ length (encoding reply.now)) }
@@ -189,6 +197,7 @@ fn reply_len(reply: &Reply) -> Option<usize>
 }
 
 /// Appends a reply.
+#[inline]
 #[tactic(auto, unfolding(words::specs::Encoding::encoding))]
 fn put_reply(reply: &Reply, out: &mut Vec<u8>)
     requires { vec_len out.old + length (encoding reply.now) ≤ vec_capacity out.old }
@@ -230,6 +239,7 @@ pub fn encode(reply: &Reply, out: &mut Vec<u8>) -> Result<(), AllocError>
 
 /// Appends the bytes of a reply where there is room for them, and says whether there was. It takes
 /// no memory.
+#[inline]
 pub fn encode_within(reply: &Reply, out: &mut Vec<u8>) -> bool
     ensures fits { IsTrue result ↔ (vec_len out.old + length (encoding reply.now)
         ≤ vec_capacity out.old) }

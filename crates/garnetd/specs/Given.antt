@@ -4,6 +4,9 @@ use Rattle.std.specs.Str.Parse.{IsNumeral, digits_value, without_leading_plus}
 use Rattle.clap.specs.Words.{one_text, found_of}
 use Rattle.clap.specs.declared.parser.matches.ArgMatches.{ArgMatches}
 
--- the number is the decimal one of the option's text, where the option has a text
-abbrev pub Reads : ArgMatches → List ℕ → ℕ → Type 0
-Reads matches option number = (text : List ℕ) → one_text (found_of matches) option ≡ Some text → IsNumeral 10 (without_leading_plus text) × (number ≡ digits_value 10 (without_leading_plus text))
+-- The option has a text, and this is the number that the text writes in decimal.
+pub record Gives (matches : ArgMatches) (option : List ℕ) (number : ℕ) : Type 0 where
+  pub text : List ℕ
+  pub has : one_text (found_of matches) option ≡ Some text
+  pub numeral : IsNumeral 10 (without_leading_plus text)
+  pub value : number ≡ digits_value 10 (without_leading_plus text)

@@ -1,7 +1,8 @@
 //! The command line of `garnetd`.
 
-ghost use Rattle.std.specs.Prelude.{IfSome, codes};
-ghost use Rattle.garnetd.specs.Given.{Reads};
+ghost use Rattle.std.specs.Prelude.{ℕ, ◌<◌, ◌≤◌, ◌^◌, IfSome, IfNone, codes};
+ghost use Rattle.garnetd.specs.Given.{Gives};
+ghost use Rattle.server.specs.declared.setting.TheConstants.{ACCEPT_MAX};
 
 use clap::error::ErrorKind;
 use clap::{Arg, ArgMatches, Command, Error, value_parser};
@@ -42,10 +43,13 @@ pub fn options_of<'a, S: AsStr>(alloc: Global, words: &'a [S]) -> Result<Options
     }
 }
 
-/// The options that a parsed command line gives.
+/// The options that a parsed command line gives, or `None` where one of them is not given, or not in
+/// its range.
 fn given(matches: &ArgMatches<'_>) -> Option<Options>
-    ensures port { IfSome result (λ options. Reads matches.now (codes "port") options.port) }
-    ensures accept { IfSome result (λ options. Reads matches.now (codes "accept") options.accept) }
+    ensures port { IfSome result (λ options. Gives matches.now (codes "port") options.port) }
+    ensures accept { IfSome result (λ options. Gives matches.now (codes "accept") options.accept) }
+    ensures none { IfNone result ((port accept : ℕ) → Gives matches.now (codes "port") port → port < 2 ^ 16
+        → Gives matches.now (codes "accept") accept → 1 ≤ accept → accept ≤ ACCEPT_MAX → ⊥) }
 {
     let port = matches.get_one::<u16>("port")?;
     let accept = matches.get_one::<u32>("accept")?;

@@ -1,5 +1,5 @@
 -- Entries of single commands.
-use Rattle.std.specs.Prelude.{ℕ}
+use Rattle.std.specs.Prelude.{ℕ, ◌≡◌, List, ◌∷◌, ◌++◌}
 use Rattle.words.specs.declared.command.Command.TheVariants.{Get, Set}
 use Rattle.words.specs.Commands.{bulk}
 use Rattle.words.specs.declared.reply.Line.TheVariants.{Done}
@@ -10,6 +10,8 @@ use Rattle.words.specs.declared.reply.Reply.TheVariants.{Single}
 use Rattle.words.specs.declared.history.Operation.TheVariants.{Run}
 use Rattle.words.specs.declared.history.Entry.{Entry}
 use Rattle.words.specs.Store.{Bytes, Store}
+use Rattle.gates.specs.declared.view.Note.{Note}
+use Rattle.gates.specs.declared.view.Knowledge.{Knowledge}
 
 -- the reply of a command that was done
 abbrev pub done : Reply
@@ -30,3 +32,7 @@ value_of_key contents part key = value_in (contents part) key
 -- the entry of a GET
 abbrev pub get_entry : ℕ → (key : Bytes) → Reply → Entry
 get_entry number key reply = record { session = number; operation = Run (Get key); reply = reply }
+
+-- the pass was told this since, and nothing after it
+abbrev pub ToldLast : Note → (before later : Knowledge) → Type 0
+ToldLast note before later = (more : List Note) × (later.notes ≡ note ∷ (more ++ before.notes))

@@ -6,7 +6,9 @@ ghost use Rattle.std.specs.Str.{bytes_eq};
 ghost use Rattle.words.specs.declared.command.Command.TheVariants.{Get, Set};
 ghost use Rattle.words.specs.declared.history.Operation.TheVariants.{Run};
 ghost use Rattle.gates.specs.Passes.{IsResting, known};
-ghost use Rattle.gates.specs.Calls.{set_entry, get_entry, value_of_key};
+ghost use Rattle.gates.specs.Calls.{set_entry, get_entry, value_of_key, ToldLast};
+ghost use Rattle.gates.specs.declared.map.CallFault.TheVariants as fault;
+ghost use Rattle.gates.specs.declared.view.Note.TheVariants.{Worn};
 ghost use Rattle.gates.specs.Maps.{map_contents};
 ghost use Rattle.words.specs.declared.limits.TheConstants.{WEIGHT_MAX, WEIGHT_OF_KEY};
 
@@ -139,6 +141,7 @@ pub fn set<R: Wait, L: Latch>(
     ensures own { IsResting gates.now pass.new }
     ensures one { IfOk result (λ place. (known pass.new).mine ≡ (place, set_entry (known pass.old).number call.key call.value) ∷ (known pass.old).mine) }
     ensures none { OnErr result ((known pass.new).mine ≡ (known pass.old).mine) }
+    ensures worn { IfErr result (λ why. why ≡ fault.CommitsWornOut → ToldLast Worn (known pass.old) (known pass.new)) }
 {
     let number = pass.number();
     latch.at(number, Point::Before);
@@ -160,6 +163,7 @@ fn set_between<R: Wait, L: Latch>(
     ensures own { IsResting gates.now pass.new }
     ensures one { IfOk result (λ place. (known pass.new).mine ≡ (place, set_entry (known pass.old).number call.key call.value) ∷ (known pass.old).mine) }
     ensures none { OnErr result ((known pass.new).mine ≡ (known pass.old).mine) }
+    ensures worn { IfErr result (λ why. why ≡ fault.CommitsWornOut → ToldLast Worn (known pass.old) (known pass.new)) }
 {
     let SetCall {
         room,
@@ -234,6 +238,7 @@ pub fn get<R: Wait>(
     ensures own { IsResting gates.now pass.new }
     ensures one { IfOk result (λ done. (known pass.new).mine ≡ (done.0, get_entry (known pass.old).number call.key done.1) ∷ (known pass.old).mine) }
     ensures none { OnErr result ((known pass.new).mine ≡ (known pass.old).mine) }
+    ensures worn { IfErr result (λ why. why ≡ fault.CommitsWornOut → ToldLast Worn (known pass.old) (known pass.new)) }
 {
     let GetCall { key, operation } = call;
     let stripe = stripe_of(key.as_slice(), gates.stripes());

@@ -118,13 +118,14 @@ impl Reader {
             Found::Faulty(fault) => Err(ReadFault::Protocol(fault)),
             Found::Whole(width) => {
                 let alloc = *self.buffer.allocator();
-                let words = match words_of(alloc, &unread[..width]) {
-                    Ok(words) => words,
-                    Err(_) => return Err(ReadFault::OutOfMemory),
-                };
-                self.buffer.advance(width);
-                self.progress = Progress::START;
-                Ok(Some(words))
+                match words_of(alloc, &unread[..width]) {
+                    Ok(words) => {
+                        self.buffer.advance(width);
+                        self.progress = Progress::START;
+                        Ok(Some(words))
+                    }
+                    Err(_) => Err(ReadFault::OutOfMemory),
+                }
             }
         }
     }
