@@ -1,6 +1,6 @@
 -- What a pass has after each of its steps.
-use Rattle.std.proofs.Common.{◌≡◌, ◌≢◌, ◌⊎◌, ℕ, zero, suc, ◌+◌, ◌<◌, ◌≤◌, Bool, true, false, List, [], ◌∷◌, ◌++◌, Some, None, cond, nat_eq, length, sym, refl, ap, subst, ◌∙◌, arith, eq-eqb, ne_eqb, inl, inr, ⊎_elim, append_assoc, append-nil, IsSome, ◌^◌, lt-ltb, ◌↔◌, ◌-◌, replicate, slice_index}
-use Rattle.std.proofs.lemmas.Bool.{cases_eq, MatchBool-at_true}
+use Rattle.std.proofs.Common.{◌≡◌, ◌≢◌, ◌⊎◌, ℕ, zero, suc, ◌+◌, ◌<◌, ◌≤◌, Bool, true, false, List, [], ◌∷◌, ◌++◌, Some, None, cond, nat_eq, length, sym, refl, ap, subst, ◌∙◌, arith, eq-eqb, ne_eqb, inl, inr, ⊎_elim, append_assoc, append-nil, IsSome, ◌↔◌, ◌-◌, replicate, slice_index}
+use Rattle.std.proofs.lemmas.Bool.{cases_eq}
 use Rattle.atomic_table.specs.Table.{Me, Step, rest, turned}
 use Rattle.words.specs.declared.history.Entry.{Entry}
 use Rattle.words.specs.Store.{Bytes, Store}
@@ -12,7 +12,7 @@ use Rattle.gates.specs.declared.view.Knowledge.{Knowledge}
 use Rattle.gates.specs.declared.view.View.{View}
 use Rattle.gates.specs.Sets.{times, without}
 use Rattle.gates.specs.Rule.{AllLeave, AreHeld}
-use Rattle.gates.specs.Plays.{first_of, own, IsSingle, sees, commits, taking, giving, GoesOn, EachGoesOn, Took, Missed, Arms, BecomesArmed, FindsWorn, Commits, Meets, resting, joined, all_see, newcomer, newcomers, others_of}
+use Rattle.gates.specs.Plays.{first_of, own, IsSingle, sees, commits, taking, giving, GoesOn, EachGoesOn, Took, Missed, Commits, Meets, resting, joined, all_see, newcomer, newcomers, others_of}
 use Rattle.gates.specs.Passes.{stripes_among, part_at, AllFit, IsSeatOf, Learned, WasTold, WasBusy, Committed, KeysHeld, AreNew, IsResting, known}
 use Rattle.gates.specs.declared.gates.Gates.{Gates}
 use Rattle.gates.specs.declared.gates.Pass.{Pass}
@@ -201,25 +201,9 @@ module _ {T : Type 0} where
     pub first_reads : (contents : T → Store) → AllFit contents n (own m.0).seen m.1 → IsPart n i (contents part) (after (own m.0).seen)
     first_reads contents fit = fit i part (ap (λ (l : List (ℕ × T)). part_at l i) first ∙ ap (λ b. cond b (Some part) (part_at (rest m.1) i)) (eq-eqb i i refl))
 
-  -- the look before a commit found the word below 2^62
-  pub became_armed : (st : Step T) (m w : Me T (View T)) (found : ℕ) → found < 2 ^ 62 → Arms st m found w → w ≡ (record (m.0) { armed = true }, m.1)
-  became_armed st m w found below told = MatchBool-at_true (BecomesArmed m w) (FindsWorn m w) (lt-ltb found (2 ^ 62) below) told
-
   -- a commit
   module _ (n number found : ℕ) (entry : Entry) (st : Step T) (m w : Me T (View T)) (seat : IsSeatOf n number m) (slots : st.slots ≡ n)
       (keys : KeysHeld n m.1 (keys_named entry.operation)) (d : Commits entry st m found w) where
-    pub committed_seat : entry.session ≡ number → IsSeatOf n number w
-    committed_seat session = subst (λ (x : Me T (View T)). IsSeatOf n number x) (sym d.seat)
-        record {
-          single = refl;
-          number_is = seat.number_is;
-          once = seat.once;
-          same = seat.same;
-          below = seat.below;
-          legal = d.legal;
-          mine = d.mine;
-        }
-
     pub committed : Committed n m.1 entry found (own m.0) (own w.0)
     committed =
         let knows : own w.0 ≡ commits (own m.0) d.before entry = ap (λ (x : Me T (View T)). own x.0) d.seat in
@@ -241,9 +225,6 @@ module _ {T : Type 0} where
               (λ k h. ap (λ (l : History). after l k) d.goes_on.begins ∙ after_left n (stripe_of n k) d.goes_on.more (own m.0).seen k (leave (stripe_of n k) h) refl)
               key (omega (arith, seat.same (stripe_of n key), part_some m.1 (stripe_of n key) some));
         }
-
-pub Learned-refl : (a : Knowledge) → Learned a a
-Learned-refl a = record { number = refl; mine = refl; seen = ([], refl); notes = ([], refl) }
 
 pub Learned-trans : (a b c : Knowledge) → Learned a b → Learned b c → Learned a c
 Learned-trans a b c one two = record {

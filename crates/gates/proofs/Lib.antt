@@ -3,7 +3,6 @@ pub mod Frames
 pub mod Steps
 pub mod Bits
 pub mod Holding
-pub mod Seats
 pub mod Turning
 pub mod SetCalls
 pub mod Lasts
