@@ -1,6 +1,4 @@
-pub mod Joined
 pub mod Known
 pub mod Stages
 pub mod Turns
 pub mod Conversing
-pub mod LineLengths

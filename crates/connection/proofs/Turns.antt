@@ -1,48 +1,72 @@
 -- One turn of a session, as a step of its transcript.
-use Rattle.std.proofs.Common.{◌≡◌, ℕ, List, [], ◌∷◌, ◌++◌, Option, Some, None, refl, sym, ap, ◌∙◌, inl, inr}
+use Rattle.std.proofs.Common.{◌≡◌, ℕ, Bool, true, false, List, [], ◌∷◌, ◌++◌, length, map, Option, Some, None, IsSome, Result, Ok, Err, refl, sym, ap, ◌∙◌, subst, inl, inr, if◌then◌else◌, ◌⊎◌}
 use Rattle.words.specs.declared.reply.Reply.{Reply}
 use Rattle.words.specs.declared.history.Operation.{Operation}
 use Rattle.words.specs.declared.history.Entry.{Entry}
 use Rattle.words.specs.Store.{Bytes, Store}
 use Rattle.words.specs.Spelling.{spelling}
-use Rattle.words.specs.History.{HasPlace, after_from, due}
-use Rattle.words.specs.Session.{Mode, Turn, Says, Tries, Calls, turn, Placed, Rest, Follows}
+use Rattle.words.specs.declared.reply.Refusal.TheVariants.{UnknownCommand}
+use Rattle.words.specs.Commands.{command_of}
+use Rattle.words.specs.Commands as commands
+use Rattle.resp_read.specs.Taken.{FitInline}
+use Rattle.words.specs.History.{History, Pair, Placed, Legal, Extends, HasPlace, AreWatches, pairs_of, due}
+use Rattle.words.specs.Session.{Mode, Turn, Says, Forgets, Tries, Calls, Never, Asked, operation_of, turn, Rest, Follows, Transcript}
 use Rattle.engine.specs.declared.Call.{Call}
+use Rattle.engine.specs.declared.Call.TheVariants.{One}
 use Rattle.engine.specs.declared.Answer.{Answer}
 use Rattle.engine.specs.declared.Answer.TheVariants as answer
-use Rattle.engine.specs.Calls.{operation_of, IfReply, IfFault}
-use Rattle.connection.specs.Clients.{Standing, Stage, Ready, Called, IsReady, mode_of, TakesOff, IsSaid, IsAsked, Resumes}
-use Rattle.connection.specs.Conversations.{Answers, AreSame, at_place}
+use Rattle.engine.specs.Calls.{asked_of, operation_asked, Reads, IfReply, IfFault, IsReply, AsksNoMemory}
+use Rattle.connection.specs.Supported.{is_supported, as_supported, read_as}
+use Rattle.connection.specs.Clients.{Standing, Stage, Ready, Called, IsReady, IsCalled, mode_of, turn_at, TakesOff, WantsMemory, IsSaid, IsAsked, Resumes}
+use Rattle.connection.specs.Conversations.{Answers, AreSame, MakesEntry, MayFollow, at_place, with_entry}
+
+-- a request is read as the command that the server has
+pub read_command : (words : List Bytes) → command_of (read_as words) ≡ as_supported (command_of words)
+read_command words =
+    elim (is_supported (command_of words))
+    as (λ test. command_of (if test then words else [] ∷ []) ≡ (if test then command_of words else Err UnknownCommand)) [
+      | true ↦ refl
+      | false ↦ refl
+    ]
 
 -- a session that was asked nothing is ready
-ready_said : (t : Turn) (reply : Reply) (stage : Stage) → IsSaid t reply stage → IsReady stage
+pub ready_said : (t : Turn) (reply : Reply) (stage : Stage) → IsSaid t reply stage → IsReady stage
 ready_said (Says said after) reply stage is = rw is.1 tt
-ready_said (Tries said done faulty) reply stage (inl is) = rw is.1 tt
-ready_said (Tries said done faulty) reply stage (inr is) = rw is.1 tt
-ready_said (Calls operation done faulty) reply stage is = absurd is
+ready_said (Forgets said after) reply stage is = rw is.1 tt
+ready_said (Tries said done faulty) reply stage is = rw is.1 tt
+ready_said (Calls asked done faulty) reply stage is = absurd is
+ready_said Never reply stage is = absurd is
 
 -- what is said goes on as the turn says
 follows_said : (session : ℕ) (t : Turn) (reply : Reply) (stage : Stage) (entries : List Placed) (more : List Reply) (rest : Rest)
-    → IsSaid t reply stage → rest (mode_of stage) entries more → Follows session t entries (reply ∷ more) rest
-follows_said session (Says said after) reply stage entries more rest is goes =
-    (is.0, rw (ap mode_of is.1) at goes)
-follows_said session (Tries said done faulty) reply stage entries more rest (inl is) goes = inl (is.0, rw (ap mode_of is.1) at goes)
-follows_said session (Tries said done faulty) reply stage entries more rest (inr is) goes = inr (is.0, rw (ap mode_of is.1) at goes)
-follows_said session (Calls operation done faulty) reply stage entries more rest is goes = absurd is
+    → IsSaid t reply stage → rest (mode_of stage) [] entries more → Follows session [] t entries (reply ∷ more) rest
+follows_said session (Says said after) reply stage entries more rest is goes = (is.0, rw (ap mode_of is.1) at goes)
+follows_said session (Forgets said after) reply stage entries more rest is goes = (is.0, rw (ap mode_of is.1) at goes)
+follows_said session (Tries said done faulty) reply stage entries more rest is goes = inl (is.0, rw (ap mode_of is.1) at goes)
+follows_said session (Calls asked done faulty) reply stage entries more rest is goes = absurd is
+follows_said session Never reply stage entries more rest is goes = absurd is
+
+-- a request that is answered at once asks the store for nothing
+said_asks_nothing : (t : Turn) (reply : Reply) (stage : Stage) (store : Store) → IsSaid t reply stage → MakesEntry t store None
+said_asks_nothing (Says said after) reply stage store is = tt
+said_asks_nothing (Forgets said after) reply stage store is = tt
+said_asks_nothing (Tries said done faulty) reply stage store is = tt
+said_asks_nothing (Calls asked done faulty) reply stage store is = absurd is
+said_asks_nothing Never reply stage store is = absurd is
 
 -- a request that is answered at once
-pub answers_said : (session : ℕ) (before after : Store) (old new : Standing) (reply : Reply) (words : List Bytes)
-    → TakesOff old.unread words new.unread → IsSaid (turn (mode_of old.stage) words) reply new.stage → AreSame before after
-    → Answers session before after old new reply
-answers_said session before after old new reply words taken is same = record {
+pub answers_said : (session : ℕ) (before : History) (was store : Store) (old new : Standing) (reply : Reply) (words : List Bytes)
+    → TakesOff old.unread words new.unread → IsSaid (turn_at old.stage words) reply new.stage → Reads was before → AreSame was store
+    → Answers session before was store old new reply
+answers_said session before was store old new reply words taken is reads same = record {
   words = words;
   taken = taken;
   entry = None;
-  legal = tt;
-  own = tt;
-  leaves = same;
+  follows = tt;
+  reads = λ key. same key ∙ reads key;
   ready = ready_said _ _ _ is;
-  goes_on = λ place others entries more goes. follows_said session (turn (mode_of old.stage) words) reply new.stage entries more _ is goes;
+  makes_entry = said_asks_nothing (turn_at old.stage words) reply new.stage was is;
+  goes_on = λ others entries more goes. follows_said session (turn_at old.stage words) reply new.stage entries more _ is goes;
 }
 
 -- the entry that an answer makes, if any
@@ -51,7 +75,7 @@ entry_of session operation (answer.Reply given) = Some (record { session = sessi
 entry_of session operation (answer.Fault fault) = None
 
 -- a session that was answered is ready
-ready_called : (stage new : Stage) (a : Answer) (reply : Reply) → Resumes stage a reply new → IsReady new
+pub ready_called : (stage new : Stage) (a : Answer) (reply : Reply) → Resumes stage a reply new → IsReady new
 ready_called (Ready mode) new a reply is = absurd is
 ready_called (Called done faulty) new (answer.Reply given) reply is = rw is.1 tt
 ready_called (Called done faulty) new (answer.Fault fault) reply is = rw is.1 tt
@@ -64,46 +88,84 @@ called_faulty : {done faulty d f : Mode} → Called d f ≡ Called done faulty �
 called_faulty is = cc
 
 -- what is said to an answer goes on as the turn says
-follows_called : (session : ℕ) (t : Turn) (asked : Operation) (stage new : Stage) (a : Answer) (reply : Reply) (place : ℕ)
+follows_called : (session : ℕ) (t : Turn) (call : Call) (stage new : Stage) (a : Answer) (reply : Reply) (place : ℕ)
     (entries : List Placed) (more : List Reply) (rest : Rest)
-    → IsAsked t asked stage → Resumes stage a reply new → rest (mode_of new) entries more
-    → Follows session t (at_place (entry_of session asked a) place ++ entries) (reply ∷ more) rest
-follows_called session (Says said after) asked stage new a reply place entries more rest is resumes goes = absurd is
-follows_called session (Tries said done faulty) asked stage new a reply place entries more rest is resumes goes = absurd is
-follows_called session (Calls operation done faulty) asked (Ready mode) new a reply place entries more rest is resumes goes = absurd resumes
-follows_called session (Calls operation done faulty) asked (Called d f) new (answer.Reply given) reply place entries more rest is resumes goes =
+    → IsAsked t (asked_of call) stage → Resumes stage a reply new → rest (mode_of new) [] entries more
+    → Follows session [] t (at_place (entry_of session (operation_asked call) a) place ++ entries) (reply ∷ more) rest
+follows_called session (Says said after) call stage new a reply place entries more rest is resumes goes = absurd is
+follows_called session (Forgets said after) call stage new a reply place entries more rest is resumes goes = absurd is
+follows_called session (Tries said done faulty) call stage new a reply place entries more rest is resumes goes = absurd is
+follows_called session Never call stage new a reply place entries more rest is resumes goes = absurd is
+follows_called session (Calls asked done faulty) call (Ready mode) new a reply place entries more rest is resumes goes = absurd resumes
+follows_called session (Calls asked done faulty) (One command) (Called d f) new (answer.Reply given) reply place entries more rest is resumes goes =
     let same : d ≡ done = called_done is.1 in
-    inl (rw (is.0, resumes.0) refl, rw (ap mode_of resumes.1, same) at goes)
-follows_called session (Calls operation done faulty) asked (Called d f) new (answer.Fault fault) reply place entries more rest is resumes goes =
+    inl (rw (← is.0, resumes.0) refl, rw (← is.0) (rw (ap mode_of resumes.1, same) at goes))
+follows_called session (Calls asked done faulty) (One command) (Called d f) new (answer.Fault fault) reply place entries more rest is resumes goes =
     let same : f ≡ faulty = called_faulty is.1 in
-    inr (fault, resumes.0, rw (ap mode_of resumes.1, same) at goes)
+    inr (fault, resumes.0, rw (← is.0) (rw (ap mode_of resumes.1, same) at goes))
 
--- a request that calls the store, once it is answered
-pub answers_called : (session : ℕ) (before after : Store) (old mid new : Standing) (call : Call) (a : Answer) (reply : Reply) (words : List Bytes)
-    → TakesOff old.unread words mid.unread → IsAsked (turn (mode_of old.stage) words) (operation_of call) mid.stage
-    → HasPlace (operation_of call)
-    → IfReply a (λ given. given ≡ due before [] (operation_of call))
-    → IfReply a (λ given. let entry : Entry = record { session = session; operation = operation_of call; reply = given } in AreSame (after_from before (entry ∷ [])) after)
-    → IfFault a (λ fault. AreSame before after)
+-- a request that asks for what needs no memory makes its entry
+makes_entry_called : (session : ℕ) (t : Turn) (call : Call) (stage : Stage) (store : Store) (a : Answer)
+    → IsAsked t (asked_of call) stage → (AsksNoMemory store (asked_of call) → IsReply a) → MakesEntry t store (entry_of session (operation_asked call) a)
+makes_entry_called session (Says said after) call stage store a is memory = absurd is
+makes_entry_called session (Forgets said after) call stage store a is memory = absurd is
+makes_entry_called session (Tries said done faulty) call stage store a is memory = absurd is
+makes_entry_called session Never call stage store a is memory = absurd is
+makes_entry_called session (Calls asked done faulty) call stage store (answer.Reply given) is memory = λ spares. refl
+makes_entry_called session (Calls asked done faulty) call stage store (answer.Fault fault) is memory =
+    λ spares. absurd (memory (rw (is.0) spares))
+
+-- a single command goes by no watches
+no_watches : (call : Call) (before : History) (session : ℕ) → AreWatches before session (pairs_of (operation_asked call))
+no_watches (One command) before session = tt
+
+-- a request that asks the store, once it is answered
+pub answers_called : (session : ℕ) (before : History) (was store : Store) (old mid new : Standing) (call : Call) (a : Answer) (reply : Reply) (words : List Bytes)
+    → TakesOff old.unread words mid.unread → IsAsked (turn_at old.stage words) (asked_of call) mid.stage
+    → HasPlace (operation_asked call) → Reads was before
+    → IfReply a (λ given. (seen : History) → Reads was seen → given ≡ due seen (operation_asked call))
+    → IfReply a (λ given. (seen : History) → Reads was seen
+    → let entry : Entry = record { session = session; operation = operation_asked call; reply = given } in Reads store (entry ∷ seen))
+    → IfFault a (λ fault. AreSame was store)
+    → (AsksNoMemory was (asked_of call) → IsReply a)
     → new.unread ≡ mid.unread → Resumes mid.stage a reply new.stage
-    → Answers session before after old new reply
-answers_called session before after old mid new call (answer.Reply given) reply words taken is place is_due store fault unread resumes = record {
+    → Answers session before was store old new reply
+answers_called session before was store old mid new call (answer.Reply given) reply words taken is place reads is_due leaves fault memory unread resumes = record {
   words = words;
   taken = record { request = taken.request; taken = taken.taken ∙ ap (λ bytes. spelling words ++ bytes) (sym unread) };
-  entry = entry_of session (operation_of call) (answer.Reply given);
-  legal = (tt, place, is_due);
-  own = (refl, tt);
-  leaves = store;
+  entry = entry_of session (operation_asked call) (answer.Reply given);
+  follows = (refl, record { place = place; reply_due = is_due before reads; watches = no_watches call before session });
+  reads = leaves before reads;
   ready = ready_called _ _ (answer.Reply given) reply resumes;
-  goes_on = λ at others entries more goes. follows_called session (turn (mode_of old.stage) words) (operation_of call) mid.stage new.stage (answer.Reply given) reply at entries more _ is resumes goes;
+  makes_entry = makes_entry_called session (turn_at old.stage words) call mid.stage was (answer.Reply given) is memory;
+  goes_on = λ others entries more goes. follows_called session (turn_at old.stage words) call mid.stage new.stage (answer.Reply given) reply (length before) entries more _ is resumes goes;
 }
-answers_called session before after old mid new call (answer.Fault f) reply words taken is place is_due store fault unread resumes = record {
+answers_called session before was store old mid new call (answer.Fault f) reply words taken is place reads is_due leaves fault memory unread resumes = record {
   words = words;
   taken = record { request = taken.request; taken = taken.taken ∙ ap (λ bytes. spelling words ++ bytes) (sym unread) };
   entry = None;
-  legal = tt;
-  own = tt;
-  leaves = fault;
+  follows = tt;
+  reads = λ key. fault key ∙ reads key;
   ready = ready_called _ _ (answer.Fault f) reply resumes;
-  goes_on = λ at others entries more goes. follows_called session (turn (mode_of old.stage) words) (operation_of call) mid.stage new.stage (answer.Fault f) reply at entries more _ is resumes goes;
+  makes_entry = makes_entry_called session (turn_at old.stage words) call mid.stage was (answer.Fault f) is memory;
+  goes_on = λ others entries more goes. follows_called session (turn_at old.stage words) call mid.stage new.stage (answer.Fault f) reply (length before) entries more _ is resumes goes;
 }
+
+-- a client that asked is at a stage that waits for an answer
+pub called_stage : (t : Turn) (asked : Asked) (stage : Stage) → IsAsked t asked stage → IsCalled stage
+called_stage (Says said after) asked stage is = absurd is
+called_stage (Forgets said after) asked stage is = absurd is
+called_stage (Tries said done faulty) asked stage is = absurd is
+called_stage (Calls asks done faulty) asked stage is = rw is.1 tt
+called_stage Never asked stage is = absurd is
+
+-- a request is taken off still where as much is unread
+pub taken_after : (unread : Bytes) (words : List Bytes) (mid new : Bytes) → TakesOff unread words mid → new ≡ mid → TakesOff unread words new
+taken_after unread words mid new taken same = record { request = taken.request; taken = taken.taken ∙ ap (λ bytes. spelling words ++ bytes) (sym same) }
+
+-- a client that found no memory asked for some
+pub wants_memory : (old new : Standing) (words : List Bytes) (rest : Bytes) → TakesOff old.unread words rest
+    → ((¬ FitInline words) × (new ≡ old)) ⊎ ((¬ commands.AsksNoMemory (command_of words)) × (new ≡ record old { unread = rest }))
+    → WantsMemory old.unread
+wants_memory old new words rest taken (inl one) = (words, rest, taken, inl one.0)
+wants_memory old new words rest taken (inr one) = (words, rest, taken, inr one.0)

@@ -1,72 +1,96 @@
 -- What a client and its driver have said to each other so far, whoever the driver is: the transcript of the session.
-use Rattle.std.specs.Prelude.{ℕ, ◌≡◌, List, [], ◌∷◌, ◌++◌, Option, Some, None, reverse}
+use Rattle.std.specs.Prelude.{ℕ, ◌≡◌, List, [], ◌∷◌, ◌++◌, length, map, Option, Some, None, IsSome, reverse}
 use Rattle.words.specs.declared.reply.Reply.{Reply}
 use Rattle.words.specs.declared.history.Entry.{Entry}
 use Rattle.words.specs.Store.{Bytes, Store}
 use Rattle.words.specs.Spelling.{spellings, AreRequests}
 use Rattle.words.specs.Stream as stream
 use Rattle.words.specs.Encoding.{encodings}
-use Rattle.words.specs.History.{History, LegalFrom, after_from, subhistory}
-use Rattle.words.specs.Session.{Idle, Placed, Transcript}
+use Rattle.words.specs.History.{History, Placed, Legal, Extends, after, subhistory}
+use Rattle.words.specs.Session.{Mode, Idle, Turn, Calls, Closed, Transcript}
+use Rattle.engine.specs.Calls.{Reads, AsksNoMemory}
 use Rattle.connection.specs.declared.serving.Due.{Due}
 use Rattle.connection.specs.declared.serving.Due.TheVariants as due
-use Rattle.connection.specs.Clients.{Standing, IsReady, mode_of, TakesOff}
+use Rattle.connection.specs.Supported.{read_as}
+use Rattle.connection.specs.Clients.{Standing, IsReady, IsOpen, mode_of, turn_at, TakesOff, WantsMemory}
 
--- each entry of the history is this session's
-abbrev pub AreOf : ℕ → History → Type 0
-AreOf session [] = Unit {0}
-AreOf session (entry ∷ before) = (entry.session ≡ session) × AreOf session before
+-- A talk: a session was asked these requests, made these entries of its own, each with its position, and said these replies, and is in
+-- this mode. Whatever transcript goes on from here, this stands before it. The session watches nothing.
+abbrev pub Talk : ℕ → List (List Bytes) → List Placed → List Reply → Mode → Type 0
+Talk session requests own replies mode =
+    (others : List (List Bytes)) (entries : List Placed) (more : List Reply)
+    → Transcript session mode [] (map read_as others) entries more
+    → Transcript session Idle [] (map read_as (requests ++ others)) (own ++ entries) (replies ++ more)
 
--- A conversation so far: a client was fed these bytes and stands so, the store went from `old` to `new`, and this text was said. The
--- bytes are the spellings of the requests that are done and what is unread; the entries that the session made are a history that is
--- legal on the store before and leaves the store after; whatever transcript goes on from here, what is so far stands before it; and
--- the text is the encodings of the replies.
-pub record Conversation (session : ℕ) (old new : Store) (fed : Bytes) (standing : Standing) (said : Bytes) : Type 0 where
+-- From a history on which the store stood to the present one: it goes on from it, is legal, leaves the present store, and the entries
+-- that the session has made since are these.
+pub record Went (session : ℕ) (seen : History) (own : List Placed) (store : Store) : Type 0 where
+  pub more : History
+  pub legal : Legal (more ++ seen)
+  pub reads : Reads store (more ++ seen)
+  pub own_entries : subhistory (more ++ seen) session ≡ reverse own ++ subhistory seen session
+
+-- A conversation so far, of a session that began where the history `seen` stood: a client was fed these bytes and stands so, and this
+-- text was said. The bytes are the spellings of the requests that are done and what is unread; the requests, the session's own entries
+-- and the replies are a talk; and the text is the encodings of the replies.
+pub record Conversation (session : ℕ) (seen : History) (store : Store) (fed : Bytes) (standing : Standing) (said : Bytes) : Type 0 where
   pub requests : List (List Bytes)
-  pub made : History
+  pub own : List Placed
   pub replies : List Reply
   pub joined : fed ≡ spellings requests ++ standing.unread
   pub within : AreRequests requests
-  pub legal : LegalFrom old made
-  pub own : AreOf session made
-  pub leaves : (key : Bytes) → new key ≡ after_from old made key
+  pub went : Went session seen own store
   pub ready : IsReady standing.stage
-  pub goes_on : (others : List (List Bytes)) (entries : List Placed) (more : List Reply)
-      → Transcript session (mode_of standing.stage) others entries more
-      → Transcript session Idle (requests ++ others) (reverse (subhistory made session) ++ entries) (replies ++ more)
+  pub talk : Talk session requests own replies (mode_of standing.stage)
   pub text : said ≡ encodings replies
 
 -- the history with one more entry, if there is one
 abbrev pub with_entry : Option Entry → History → History
-with_entry None made = made
-with_entry (Some entry) made = entry ∷ made
+with_entry None before = before
+with_entry (Some entry) before = entry ∷ before
 
 -- the entry at its position, if there is one
 abbrev pub at_place : Option Entry → ℕ → List Placed
 at_place None place = []
 at_place (Some entry) place = (place, entry) ∷ []
 
--- One request is answered: it is taken off the unread bytes, makes one entry or none, and has this reply.
-pub record Answers (session : ℕ) (before after : Store) (old new : Standing) (reply : Reply) : Type 0 where
+-- the entry, if there is one, is the session's and may stand after a history
+abbrev pub MayFollow : ℕ → History → Option Entry → Type 0
+MayFollow session before None = Unit {0}
+MayFollow session before (Some entry) = (entry.session ≡ session) × Extends before entry
+
+-- a request that asks the store for what needs no memory there makes its entry
+abbrev pub MakesEntry : Turn → Store → Option Entry → Type 0
+MakesEntry (Calls asked done faulty) store entry = AsksNoMemory store asked → IsSome entry
+MakesEntry _ store entry = Unit {0}
+
+-- One request is answered where a history stands: it is taken off the unread bytes, makes one entry or none, and has this reply.
+pub record Answers (session : ℕ) (before : History) (old_store store : Store) (old new : Standing) (reply : Reply) : Type 0 where
   pub words : List Bytes
   pub taken : TakesOff old.unread words new.unread
   pub entry : Option Entry
-  pub legal : LegalFrom before (with_entry entry [])
-  pub own : AreOf session (with_entry entry [])
-  pub leaves : (key : Bytes) → after key ≡ after_from before (with_entry entry []) key
+  pub follows : MayFollow session before entry
+  pub reads : Reads store (with_entry entry before)
   pub ready : IsReady new.stage
-  pub goes_on : (place : ℕ) (others : List (List Bytes)) (entries : List Placed) (more : List Reply)
-      → Transcript session (mode_of new.stage) others entries more
-      → Transcript session (mode_of old.stage) (words ∷ others) (at_place entry place ++ entries) (reply ∷ more)
+  pub makes_entry : MakesEntry (turn_at old.stage words) old_store entry
+  pub goes_on : (others : List (List Bytes)) (entries : List Placed) (more : List Reply)
+      → Transcript session (mode_of new.stage) [] (map read_as others) entries more
+      → Transcript session (mode_of old.stage) [] (map read_as (words ∷ others)) (at_place entry (length before) ++ entries) (reply ∷ more)
 
 -- the stores have the same value at each key
 abbrev pub AreSame : Store → Store → Type 0
 AreSame before after = (key : Bytes) → after key ≡ before key
 
--- What the next turn of a client came to, between a client that stood so and one that stands so.
-abbrev pub IsDue : ℕ → Store → Standing → Due → Store → Standing → Type 0
-IsDue session before old (due.Reply reply) after new = Answers session before after old new reply
-IsDue session before old due.Input after new = (stream.front old.unread ≡ stream.Part) × (new ≡ old) × AreSame before after
-IsDue session before old (due.Malformed fault) after new =
-    (stream.front old.unread ≡ stream.Faulty fault) × (new ≡ old) × AreSame before after
-IsDue session before old due.NoMemory after new = AreSame before after
+-- How a client stands after its next turn: it took a request off the front, or no whole request is left, or a fault stands at the front,
+-- or memory was asked for, or its session has ended.
+abbrev pub HasTurned : Standing → Due → Standing → Type 0
+HasTurned old (due.Reply reply) new = (words : List Bytes) × TakesOff old.unread words new.unread × IsReady new.stage
+HasTurned old due.Input new = (stream.front old.unread ≡ stream.Part) × IsOpen (mode_of old.stage) × (new ≡ old)
+HasTurned old (due.Malformed fault) new = (stream.front old.unread ≡ stream.Faulty fault) × IsOpen (mode_of old.stage) × (new ≡ old)
+HasTurned old due.Closed new = (mode_of old.stage ≡ Closed) × (new ≡ old)
+HasTurned old due.NoMemory new = WantsMemory old.unread × IsOpen (mode_of old.stage)
+
+-- What the turn did to the store, where a history stood: it answered the request along it, or left the store.
+abbrev pub IsDue : ℕ → History → Store → Standing → Due → Store → Standing → Type 0
+IsDue session before was old (due.Reply reply) store new = Answers session before was store old new reply
+IsDue session before was old _ store new = AreSame was store

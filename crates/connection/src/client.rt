@@ -2,7 +2,7 @@
 
 ghost use Rattle.std.specs.Prelude.{◌≡◌, ◌++◌, OnOk, OnErr};
 
-use crate::session::{Turned, idle_step, line_as_reply};
+use crate::session::{Turned, idle_step, supported};
 use engine::{Answer, Call};
 use resp_read::{ReadFault, Reader};
 use std::alloc::Global;
@@ -18,6 +18,8 @@ enum State {
     Ready,
     /// It waits for the answer to a call.
     Called,
+    /// It has ended.
+    Closed,
 }
 
 /// What a client does next.
@@ -33,6 +35,8 @@ pub enum Next {
     Malformed(ProtocolFault),
     /// There was no memory for the request at the front. It is not answered.
     OutOfMemory,
+    /// Nothing: the session has ended. What was fed after its end is not answered.
+    Closed,
 }
 
 /// One client: the bytes that it was fed and its session.
@@ -54,7 +58,7 @@ impl Model for Client {
 impl Client {
     ghost use Rattle.std.specs.Prelude.{IsTrue};
     ghost use Rattle.words.specs.History.{HasPlace};
-    ghost use Rattle.engine.specs.Calls.{operation_of};
+    ghost use Rattle.engine.specs.Calls.{operation_asked};
     ghost use Rattle.connection.specs.Clients.{Standing, start, IsReady, IsCalled, Gives, IfCalls, Resumes};
 
     /// A client that was fed nothing. It takes no memory.
@@ -81,8 +85,11 @@ impl Client {
     pub fn next(&mut self) -> Next
         requires { IsReady self.old.stage }
         ensures gives { Gives self.old result self.new }
-        ensures place { IfCalls result (λ call. HasPlace (operation_of call)) }
+        ensures place { IfCalls result (λ call. HasPlace (operation_asked call)) }
     {
+        if let State::Closed = self.state {
+            return Next::Closed;
+        }
         let words = match self.reader.next() {
             Ok(Some(words)) => words,
             Ok(None) => return Next::Input,
@@ -92,8 +99,13 @@ impl Client {
         let Ok(command) = Command::of(self.alloc, &words) else {
             return Next::OutOfMemory;
         };
-        match idle_step(command) {
+        drop(words);
+        match idle_step(supported(command)) {
             Turned::Says(reply) => Next::Says(reply),
+            Turned::Ends(reply) => {
+                self.state = State::Closed;
+                Next::Says(reply)
+            }
             Turned::Calls(call) => {
                 self.state = State::Called;
                 Next::Calls(call)
@@ -111,7 +123,7 @@ impl Client {
         self.state = State::Ready;
         match answer {
             Answer::Reply(reply) => reply,
-            Answer::Fault(fault) => line_as_reply(Line::Faulty(fault)),
+            Answer::Fault(fault) => Reply::line(Line::Faulty(fault)),
         }
     }
 }

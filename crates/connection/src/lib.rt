@@ -3,13 +3,10 @@
 #![tactic(auto)]
 
 pub mod client;
-pub mod noted;
-pub mod resp_write;
 pub mod serving;
 mod session;
 #[cfg(test)]
 mod tests;
 
 pub use client::{Client, Next};
-pub use noted::{Noted, Told};
 pub use serving::{Ended, serve};

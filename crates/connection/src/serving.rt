@@ -3,21 +3,21 @@
 
 ghost use Rattle.std.specs.Prelude.{◌≡◌, ◌<◌, ℕ, [], ◌++◌, List, length, OnOk, IfOk, IfNone, is_ok};
 ghost use Rattle.words.specs.Encoding.{encoding};
-ghost use Rattle.words.specs.Store.{Store};
+ghost use Rattle.words.specs.History.{History, Legal};
+ghost use Rattle.engine.specs.Calls.{Reads};
 ghost use Rattle.engine.specs.Contents.{contents, pass_number};
-ghost use Rattle.connection.specs.Streams.{IsSent, IsPut, stream_of, told_of, reads_of, told_when};
+ghost use Rattle.streams.specs.Streams.{IsSent, IsPut, stream_of, told_of, reads_of, told_when};
 ghost use Rattle.connection.specs.Clients.{IsReady, start};
-ghost use Rattle.connection.specs.Conversations.{IsDue, Conversation};
-ghost use Rattle.connection.specs.Served.{HasPaused, paused_told, HasAnswered, EndsAnswering, answered_told, HasTaken, taken_told, Served, reader_told, writer_told};
+ghost use Rattle.connection.specs.Conversations.{HasTurned, IsDue, Conversation};
+ghost use Rattle.connection.specs.Served.{HasPaused, StandsAt, paused_told, HasAnswered, GoesOn, EndsAnswering, answered_told, HasTaken, taken_told, Served, reader_told, writer_told};
 ghost use Rattle.std.specs.Io.KnownBytes.{Appends, Consumes, IsAtEnd};
 
 use crate::client::{Client, Next};
-use crate::noted::{Input, Noted, WriteFault};
-use crate::resp_write::{encode_within, send};
-use crate::session::line_as_reply;
 use engine::{Engine, Pass};
+use resp_write::{encode_within, send};
 use std::alloc::{AllocError, Global};
 use std::io::{Read, Write};
+use streams::{Input, Noted, WriteFault};
 use words::reply::{Line, ProtocolFault, Reply};
 
 /// The most bytes that are read at a time.
@@ -38,13 +38,16 @@ pub(crate) enum Due {
     Malformed(ProtocolFault),
     /// There was no memory for the next request.
     NoMemory,
+    /// The session has ended.
+    Closed,
 }
 
 /// Answers the client's next request, if there is a whole one.
 fn answer_next(client: &mut Client, engine: &mut Engine, pass: &mut Pass) -> Due
     requires { IsReady client.old.stage }
-    ensures due { IsDue (pass_number pass.old) (contents engine.old) client.old result
-        (contents engine.new) client.new }
+    ensures turned { HasTurned client.old result client.new }
+    ensures due { (before : History) → Reads (contents engine.old) before
+        → IsDue (pass_number pass.old) before (contents engine.old) client.old result (contents engine.new) client.new }
     ensures pass { pass.new ≡ pass.old }
 {
     match client.next() {
@@ -56,6 +59,7 @@ fn answer_next(client: &mut Client, engine: &mut Engine, pass: &mut Pass) -> Due
         }
         Next::Malformed(fault) => Due::Malformed(fault),
         Next::OutOfMemory => Due::NoMemory,
+        Next::Closed => Due::Closed,
     }
 }
 
@@ -106,6 +110,8 @@ pub(crate) enum Paused {
     NoMemory,
     /// A write failed.
     WriteFailed,
+    /// The session has ended.
+    Closed,
 }
 
 /// How a connection ended.
@@ -113,7 +119,7 @@ pub(crate) enum Paused {
 pub enum Ended {
     /// The input ended. All complete requests are answered.
     EndOfInput,
-    /// The client asked to end it. No command does so yet.
+    /// The client asked to end it. All requests up to that one are answered.
     Quit,
     /// The input was no request. All requests before are answered, and the fault's line is the last.
     ProtocolFault,
@@ -154,13 +160,14 @@ fn answer_all<W: Write>(
     pass: &mut Pass,
 ) -> Paused
     requires { IsReady client.old.stage }
-    ensures paused { (old : Store) (fed before : List ℕ)
-        → Conversation (pass_number pass.old) old (contents engine.old) fed client.old
+    ensures paused { (seen : History) (fed before : List ℕ)
+        → Conversation (pass_number pass.old) seen (contents engine.old) fed client.old
         (before ++ out.old.items)
         → (sent : List ℕ)
         × Appends (W.contents (stream_of writer.old)) (W.contents (stream_of writer.new)) sent
-        × HasPaused (pass_number pass.old) old (contents engine.new) fed result client.new
+        × HasPaused (pass_number pass.old) seen (contents engine.new) fed result client.new
         (before ++ sent) out.new.items }
+    ensures stands { StandsAt result client.new }
     ensures told { told_of writer.new ≡ paused_told result (told_of writer.old) }
     ensures pass { pass.new ≡ pass.old }
 {
@@ -170,6 +177,7 @@ fn answer_all<W: Write>(
             Due::Input => return Paused::Input,
             Due::Malformed(fault) => return Paused::Malformed(fault),
             Due::NoMemory => return Paused::NoMemory,
+            Due::Closed => return Paused::Closed,
         };
         let said = say(&reply, out, writer);
         drop(reply);
@@ -190,12 +198,13 @@ fn answer_piece<W: Write>(
 ) -> Option<Ended>
     requires ready { IsReady client.old.stage }
     requires empty { out.old.items ≡ [] }
-    ensures answered { (old : Store) (fed before : List ℕ)
-        → Conversation (pass_number pass.old) old (contents engine.old) fed client.old before
+    ensures answered { (seen : History) (fed before : List ℕ)
+        → Conversation (pass_number pass.old) seen (contents engine.old) fed client.old before
         → (sent : List ℕ)
         × Appends (W.contents (stream_of writer.old)) (W.contents (stream_of writer.new)) sent
-        × HasAnswered (pass_number pass.old) old (contents engine.new) fed result client.new
-        (before ++ sent) out.new.items }
+        × HasAnswered (pass_number pass.old) seen (contents engine.new) fed result client.new
+        (before ++ sent) }
+    ensures goes_on { GoesOn result client.new out.new.items }
     ensures ends { EndsAnswering result }
     ensures told { told_of writer.new ≡ answered_told result (told_of writer.old) }
     ensures pass { pass.new ≡ pass.old }
@@ -208,7 +217,7 @@ fn answer_piece<W: Write>(
             None
         }
         Paused::Malformed(fault) => {
-            let line = line_as_reply(Line::Malformed(fault));
+            let line = Reply::line(Line::Malformed(fault));
             let said = say(&line, out, writer);
             drop(line);
             if let Err(_) = said {
@@ -224,6 +233,12 @@ fn answer_piece<W: Write>(
                 return Some(Ended::WriteFailed);
             }
             Some(Ended::NoMemory)
+        }
+        Paused::Closed => {
+            if let Err(_) = flush(out, writer) {
+                return Some(Ended::WriteFailed);
+            }
+            Some(Ended::Quit)
         }
         Paused::WriteFailed => Some(Ended::WriteFailed),
     }
@@ -266,10 +281,10 @@ fn converse<R: Read, W: Write>(
     requires begins { client ≡ start }
     requires room { 0 < length piece.old }
     requires empty { out.old.items ≡ [] }
-    ensures served { (bytes text : List ℕ)
+    ensures served { (seen : History) → Legal seen → Reads (contents engine.old) seen → (bytes text : List ℕ)
         × Consumes (R.remaining (stream_of reader.old)) (R.remaining (stream_of reader.new)) bytes
         × Appends (W.contents (stream_of writer.old)) (W.contents (stream_of writer.new)) text
-        × Served (pass_number pass.old) (contents engine.old) (contents engine.new) result bytes text }
+        × Served (pass_number pass.old) seen (contents engine.new) result bytes text }
     ensures end { result ≡ Ended.EndOfInput → IsAtEnd (R.remaining (stream_of reader.new)) }
     ensures reader_told { told_of reader.new ≡ reader_told result (told_of reader.old) }
     ensures writer_told { told_of writer.new ≡ writer_told result (told_of writer.old) }
@@ -287,7 +302,7 @@ fn converse<R: Read, W: Write>(
 
 /// A buffer for the pieces that are read.
 fn piece_buffer(alloc: Global) -> Result<Vec<u8>, AllocError>
-    ensures { IfOk result (λ piece. 0 < length piece.items) }
+    ensures { IfOk result (λ piece. length piece.items ≡ PIECE_BYTES) }
 {
     vec![in alloc; 0u8; PIECE_BYTES]
 }
@@ -306,11 +321,12 @@ pub fn serve<R: Read, W: Write>(
     engine: &mut Engine,
     mut pass: Pass,
 ) -> (Pass, Ended)
-    // Some bytes were read and some text was written, as this ending says.
-    ensures served { (bytes text : List ℕ)
+    // Whichever history the store is the result of: some bytes were read and some text was written, as
+    // this ending says, and the history has gone on.
+    ensures served { (seen : History) → Legal seen → Reads (contents engine.old) seen → (bytes text : List ℕ)
         × Consumes (R.remaining (stream_of reader.old)) (R.remaining (stream_of reader.new)) bytes
         × Appends (W.contents (stream_of writer.old)) (W.contents (stream_of writer.new)) text
-        × Served (pass_number pass) (contents engine.old) (contents engine.new) result.1 bytes text }
+        × Served (pass_number pass) seen (contents engine.new) result.1 bytes text }
 
     // An ending comes only where its cause came, and such a cause brings that ending.
     ensures end { result.1 ≡ Ended.EndOfInput → IsAtEnd (R.remaining (stream_of reader.new)) }

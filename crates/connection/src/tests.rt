@@ -1,7 +1,5 @@
 //! Connections over streams in memory.
 
-use crate::noted::{Noted, Told, WriteFault};
-use crate::resp_write::{encode, encode_within, send};
 use crate::serving::{Ended, serve};
 use engine::{Engine, Pass};
 use std::alloc::{AllocError, Global};
@@ -9,9 +7,8 @@ use std::io;
 use std::io::{ErrorKind, Read, Write};
 use std::process::Abort;
 use std::test::Fail;
+use streams::{Noted, Told};
 use words::limits::Limits;
-use words::reply::{CommandReplies, CommandReply, Item, Items, Line, Refusal, Reply};
-use words::word::Word;
 
 /// A reader over bytes in memory.
 #[derive(Drop)]
@@ -179,7 +176,7 @@ const SET_AND_GET: &[u8] =
 const SET_AND_GET_ANSWER: &[u8] = b"+OK\r\n$5\r\na\r\n*1\r\n";
 
 /// Input, text and ending of some connections.
-const ROWS: [(&[u8], &[u8], Ended); 14] = [
+const ROWS: [(&[u8], &[u8], Ended); 21] = [
     (PING, b"+PONG\r\n", Ended::EndOfInput),
     (b"", b"", Ended::EndOfInput),
     (SET_AND_GET, SET_AND_GET_ANSWER, Ended::EndOfInput),
@@ -205,9 +202,44 @@ const ROWS: [(&[u8], &[u8], Ended); 14] = [
         Ended::EndOfInput,
     ),
     (
-        b"*4\r\n$3\r\nSET\r\n$1\r\nm\r\n$1\r\nv\r\n$2\r\nXX\r\n*2\r\n$3\r\nGET\r\n$1\r\nm\r\n",
-        b"-ERR syntax error\r\n$-1\r\n",
+        b"*4\r\n$3\r\nSET\r\n$1\r\nm\r\n$1\r\nv\r\n$2\r\nXX\r\n*2\r\n$3\r\nGET\r\n$1\r\nm\r\n*5\r\n$3\r\nSET\r\n$1\r\nm\r\n$1\r\nv\r\n$2\r\nNX\r\n$2\r\nXX\r\n",
+        b"$-1\r\n$-1\r\n-ERR syntax error\r\n",
         Ended::EndOfInput,
+    ),
+    (
+        b"*4\r\n$8\r\nSETRANGE\r\n$1\r\nk\r\n$1\r\n5\r\n$2\r\nHi\r\n*2\r\n$6\r\nSTRLEN\r\n$1\r\nk\r\n*4\r\n$8\r\nGETRANGE\r\n$1\r\nk\r\n$1\r\n5\r\n$2\r\n-1\r\n*2\r\n$6\r\nEXISTS\r\n$1\r\nj\r\n",
+        b":7\r\n:7\r\n$2\r\nHi\r\n:0\r\n",
+        Ended::EndOfInput,
+    ),
+    (
+        b"*3\r\n$3\r\nSET\r\n$1\r\nn\r\n$19\r\n9223372036854775807\r\n*2\r\n$4\r\nINCR\r\n$1\r\nn\r\n*2\r\n$3\r\nGET\r\n$1\r\nn\r\n",
+        b"+OK\r\n-ERR increment or decrement would overflow\r\n$19\r\n9223372036854775807\r\n",
+        Ended::EndOfInput,
+    ),
+    (
+        b"*3\r\n$3\r\nSET\r\n$1\r\na\r\n$1\r\n1\r\n*3\r\n$3\r\nDEL\r\n$1\r\na\r\n$1\r\na\r\n*3\r\n$3\r\nSET\r\n$1\r\nb\r\n$1\r\n1\r\n*3\r\n$6\r\nEXISTS\r\n$1\r\nb\r\n$1\r\nb\r\n",
+        b"+OK\r\n:1\r\n+OK\r\n:2\r\n",
+        Ended::EndOfInput,
+    ),
+    (
+        b"*5\r\n$4\r\nMSET\r\n$1\r\na\r\n$1\r\n1\r\n$1\r\na\r\n$1\r\n2\r\n*3\r\n$4\r\nMGET\r\n$1\r\na\r\n$1\r\nz\r\n*5\r\n$6\r\nMSETNX\r\n$1\r\na\r\n$1\r\n3\r\n$1\r\ny\r\n$1\r\n4\r\n*2\r\n$6\r\nEXISTS\r\n$1\r\ny\r\n",
+        b"+OK\r\n*2\r\n$1\r\n2\r\n$-1\r\n:0\r\n:0\r\n",
+        Ended::EndOfInput,
+    ),
+    (
+        b"*3\r\n$6\r\nAPPEND\r\n$1\r\nk\r\n$2\r\nab\r\n*3\r\n$6\r\nAPPEND\r\n$1\r\nk\r\n$1\r\nc\r\n*3\r\n$6\r\nGETSET\r\n$1\r\nk\r\n$1\r\nd\r\n*2\r\n$6\r\nGETDEL\r\n$1\r\nk\r\n*3\r\n$6\r\nDECRBY\r\n$1\r\nk\r\n$1\r\n3\r\n",
+        b":2\r\n:3\r\n$3\r\nabc\r\n$1\r\nd\r\n:-3\r\n",
+        Ended::EndOfInput,
+    ),
+    (
+        b"*1\r\n$5\r\nMULTI\r\n*1\r\n$4\r\nPING\r\n",
+        b"-ERR unknown command\r\n+PONG\r\n",
+        Ended::EndOfInput,
+    ),
+    (
+        b"*1\r\n$4\r\nPING\r\n*1\r\n$4\r\nquit\r\n*1\r\n$4\r\nPING\r\n",
+        b"+PONG\r\n+OK\r\n",
+        Ended::Quit,
     ),
     (
         b"*2\r\n$7\r\nCOMMAND\r\n$4\r\nDOCS\r\n*1\r\n$4\r\nPING\r\n",
@@ -419,70 +451,6 @@ fn a_refused_allocation(rt: HostRuntime) -> Result<(), Fail> {
         assert_eq!(rt; outcome.ended, Ended::EndOfInput);
     } else {
         assert_eq!(rt; outcome.ended, Ended::NoMemory);
-    }
-    Ok(())
-}
-
-/// The replies of each form.
-fn replies(alloc: Global) -> Result<Vec<(Reply, &'static [u8])>, AllocError> {
-    let line = |line| Reply::Single(CommandReply::One(Item::Line(line)));
-    let mut items = Vec::new(alloc);
-    items.push(Item::Bulk(Word::from_slice(alloc, b"2")?))?;
-    items.push(Item::Null)?;
-    items.push(Item::Integer(i64::MIN))?;
-    let mut answers = Vec::new(alloc);
-    answers.push(CommandReply::One(Item::Line(Line::Done)))?;
-    answers.push(CommandReply::Array(Items::from_vec(items)))?;
-    answers.push(CommandReply::One(Item::Integer(2)))?;
-    let mut all = Vec::new(alloc);
-    all.push((line(Line::Pong), b"+PONG\r\n".as_slice()))?;
-    all.push((
-        line(Line::Refused(Refusal::KeyTooLong)),
-        b"-ERR key is too long\r\n".as_slice(),
-    ))?;
-    all.push((
-        Reply::Single(CommandReply::One(Item::Integer(0))),
-        b":0\r\n".as_slice(),
-    ))?;
-    all.push((
-        Reply::Single(CommandReply::One(Item::Bulk(Word::from_slice(alloc, b"a\r\n*1")?))),
-        b"$5\r\na\r\n*1\r\n".as_slice(),
-    ))?;
-    all.push((
-        Reply::Single(CommandReply::One(Item::Null)),
-        b"$-1\r\n".as_slice(),
-    ))?;
-    all.push((Reply::NullArray, b"*-1\r\n".as_slice()))?;
-    all.push((
-        Reply::Array(CommandReplies::from_vec(answers)),
-        b"*3\r\n+OK\r\n*3\r\n$1\r\n2\r\n$-1\r\n:-9223372036854775808\r\n:2\r\n".as_slice(),
-    ))?;
-    Ok(all)
-}
-
-/// Each reply is encoded into an empty vector, into one with room and not into one without, and sent.
-#[test]
-fn replies_are_encoded_and_sent(rt: HostRuntime) -> Result<(), Fail> {
-    let alloc = rt.alloc();
-    for (reply, text) in replies(alloc)?.iter() {
-        let mut out = Vec::new(alloc);
-        encode(reply, &mut out)?;
-        assert_eq!(rt; out.as_slice(), *text);
-        let mut out = Vec::with_capacity(alloc, text.len())?;
-        assert!(rt; encode_within(reply, &mut out));
-        assert_eq!(rt; out.as_slice(), *text);
-        assert!(rt; !encode_within(reply, &mut out));
-        assert_eq!(rt; out.as_slice(), *text);
-        for room in 0..text.len() {
-            let mut sink = Sink::new(alloc, 3)?;
-            sink.fails_after = Some(room);
-            let mut writer = Noted::new(sink);
-            assert_eq!(rt; send(reply, &mut writer), Err(WriteFault));
-            assert_eq!(rt; writer.into_inner().text.as_slice(), &text[..room]);
-        }
-        let mut writer = Noted::new(Sink::new(alloc, 3)?);
-        assert_eq!(rt; send(reply, &mut writer), Ok(()));
-        assert_eq!(rt; writer.into_inner().text.as_slice(), *text);
     }
     Ok(())
 }

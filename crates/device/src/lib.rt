@@ -10,22 +10,33 @@
 //! page, from its write until it is released, and a steady one serves it for good. A device may also
 //! promise neither, as one over a file does, and is then proved safe alone.
 //!
-//! `Device` and `Shows` state this, and `MemoryDevice` is steady.
+//! A receipt is released once nobody can still read by it: it is retired at an epoch, and comes back to
+//! the device with that epoch drained, as the crate `epoch` has it.
+//!
+//! `Device` and `Shows` state this. `MemoryDevice` is steady. `FileDevice` keeps pages in a file.
+//! `Faulty` fails calls of another device on demand, and promises what that device promises.
 
-ghost use Rattle.std.specs.Prelude.{◌≡◌, ℕ, ◌+◌, List, Some, codes, IsTrue, IfOk, OnOk, OnErr};
+ghost use Rattle.std.specs.Prelude.{◌≡◌, ◌≢◌, ℕ, ◌+◌, List, Some, codes, IsTrue, IfOk, OnOk, OnErr};
 
+use epoch::{Drained, Retired};
 use records::Page;
 use std::alloc::AllocError;
 use std::error::Error;
 use std::fmt;
 
 mod failures;
+mod faulty;
+mod file;
 mod memory;
-#[cfg(test)]
-mod tests;
+mod places;
+mod releasable;
 
 pub use failures::FailureCount;
+pub use faulty::Faulty;
+pub use file::{FileDevice, FileReceipt, OpenFault};
 pub use memory::{MemoryDevice, MemoryReceipt};
+pub use places::MAX_PLACES;
+pub use releasable::Releasable;
 
 /// A call of a device failed, and the opening has counted it.
 #[derive(Clone, Copy, Debug, PartialEq, Eq)]
@@ -73,6 +84,8 @@ pub trait Shows: Drop {
 /// It counts the calls that failed: a call answers `DeviceFault` exactly where the count grows by one
 /// in it, and else the count stays.
 pub trait Device: Drop {
+    ghost use Rattle.epoch.specs.Seats.{drained_epoch, retired_epoch, retired_value};
+
     /// What `write` gives.
     type Receipt: Shows;
 
@@ -102,6 +115,15 @@ pub trait Device: Drop {
 
         ensures failure { OnErr result (failures self.new ≡ failures self.old + 1) }
         ensures no_failure { OnOk result (failures self.new ≡ failures self.old) };
+
+    /// Takes back a receipt that nobody reads by any more: its own epoch is drained. Its place may be
+    /// used anew, and all receipts but it and its copies stay served.
+    fn release(&mut self, retired: Retired<Self::Receipt>, drained: &Drained)
+        requires own_epoch { retired_epoch retired ≡ drained_epoch drained.now }
+        ensures still_served { (r : Self.Receipt) → Self.Receipt.identity r ≢ Self.Receipt.identity (retired_value retired)
+            → serves self.old r → serves self.new r }
+
+        ensures no_failure { failures self.new ≡ failures self.old };
 
     // A copy is served where the receipt is.
     ghost copies: { (d : Self) (r s : Self.Receipt) → Self.Receipt.identity r ≡ Self.Receipt.identity s

@@ -4,6 +4,7 @@ ghost use Rattle.std.specs.Prelude.{◌≡◌, ℕ, IfOk, IsOk, replicate};
 
 use crate::failures::FailureCount;
 use crate::{Device, DeviceFault, Shows};
+use epoch::{Drained, Retired};
 use records::Page;
 use std::alloc::{AllocError, Global};
 use std::marker::Model;
@@ -81,6 +82,8 @@ impl MemoryDevice {
 }
 
 impl Device for MemoryDevice {
+    ghost use Rattle.epoch.specs.Seats.{drained_epoch, retired_epoch};
+
     type Receipt = MemoryReceipt;
 
     ghost failures = { λ d. d };
@@ -115,5 +118,13 @@ impl Device for MemoryDevice {
     {
         page.copy_from(&receipt.page);
         Ok(())
+    }
+
+    /// Frees the page with the last copy of its receipt.
+    fn release(&mut self, retired: Retired<MemoryReceipt>, drained: &Drained)
+        requires own_epoch { retired_epoch retired ≡ drained_epoch drained.now }
+        ensures unchanged { self.new ≡ self.old }
+    {
+        drop(retired.into_value(drained));
     }
 }

@@ -25,7 +25,7 @@ fn get(engine: &mut Engine, pass: &mut Pass, key: Word) -> Answer {
 }
 
 fn set(engine: &mut Engine, pass: &mut Pass, key: Word, value: Word) -> Answer {
-    engine.submit(pass, Call::One(Command::Set(key, value)))
+    engine.submit(pass, Call::One(Command::Set(key, value, When::Always)))
 }
 
 #[test]

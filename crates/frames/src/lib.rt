@@ -79,6 +79,8 @@ impl Frames {
     pub fn next_number(&self) -> u64
         ensures number { result ≡ next_number self.now }
         ensures in_range { result < 2 ^ 48 }
+        ensures enough { 3 ≤ self.now.frames }
+        ensures fits { length self.now.pages ≤ self.now.frames }
     {
         self.oldest + self.resident as u64
     }

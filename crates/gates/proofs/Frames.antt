@@ -1,63 +1,73 @@
--- What operations depend on and leave, in the words of the rule: stores that agree on a kind of key, and entries that leave a stripe.
-use Rattle.std.proofs.Common.{◌≡◌, ℕ, Bool, true, false, List, [], ◌∷◌, ◌++◌, Option, None, cond, refl, ap, ◌∙◌}
+-- What entries that leave a stripe leave, by the laws of histories.
+use Rattle.std.proofs.Common.{◌≡◌, ◌<◌, ℕ, Bool, true, false, List, [], ◌∷◌, ◌++◌, Option, None, cond, refl, ap, ◌∙◌}
 use Rattle.std.specs.Prelude.{if◌then◌else◌}
-use Rattle.words.specs.declared.history.Operation.{Operation}
+use Rattle.std.specs.Map.{update}
+use Rattle.std.specs.Str.{bytes_eq}
 use Rattle.words.specs.declared.history.Entry.{Entry}
-use Rattle.words.specs.Store.{Bytes, Store, empty, written}
-use Rattle.words.specs.History.{History, after, due, outcome, was_not_done, keys_named}
-use Rattle.words.specs.Stripes.{stripe_of, IsPart}
-use Rattle.words.specs.Frames.{AreSameAt}
-use Rattle.words.proofs.FrameLemmas.{written_same, outcome_same, due_same, after_leaves, IsNoneOf-elsewhere, IsPart-leaves}
-use Rattle.gates.specs.Rule.{AllLeave}
+use Rattle.words.specs.Store.{Bytes, Store, Write, written}
+use Rattle.words.specs.History.{History, after, writes_of, outcome, was_not_done, keys_named}
+use Rattle.words.specs.Stripes.{stripe_of, IsPart, AreElsewhere}
+use Rattle.words.specs.Locality.{AreSameAt, IsNoneOf, NoEntryNames, NamesNone}
+use Rattle.gates.specs.Laws.{Laws}
+use Rattle.gates.specs.Sets.{times}
+use Rattle.gates.specs.Rule.{AllLeave, AreHeld}
 
--- two stores agree on the keys of a kind
-abbrev pub Agree : (Bytes → Type 0) → Store → Store → Type 0
-Agree P one two = (key : Bytes) → P key → one key ≡ two key
+-- a key of a stripe is none of those of others
+pub none_elsewhere : (stripes stripe : ℕ) (keys : List Bytes) (key : Bytes) → AreElsewhere stripes stripe keys → stripe_of stripes key ≡ stripe → IsNoneOf keys key
+none_elsewhere stripes stripe [] key away here = tt
+none_elsewhere stripes stripe (first ∷ keys) key away here =
+    ((λ same. away.0 (ap (stripe_of stripes) same ∙ here)), none_elsewhere stripes stripe keys key away.1 here)
 
--- each key of the list is of the kind
-abbrev pub AreOf : (Bytes → Type 0) → List Bytes → Type 0
-AreOf P [] = Unit {0}
-AreOf P (key ∷ keys) = P key × AreOf P keys
+-- entries that leave a stripe do not name its keys
+pub no_entry_names : (stripes stripe : ℕ) (more : History) (key : Bytes) → AllLeave stripes stripe more → stripe_of stripes key ≡ stripe → NoEntryNames more key
+no_entry_names stripes stripe [] key all here = tt
+no_entry_names stripes stripe (entry ∷ more) key all here =
+    (none_elsewhere stripes stripe (keys_named entry.operation) key all.0 here, no_entry_names stripes stripe more key all.1 here)
 
-module _ (P : Bytes → Type 0) where
-  same_at : (keys : List Bytes) (one two : Store) → AreOf P keys → Agree P one two → AreSameAt keys one two
-  same_at [] one two all agree = tt
-  same_at (key ∷ keys) one two all agree = (agree key all.0, same_at keys one two all.1 agree)
+-- nor keys of held stripes, where they leave each of these
+pub names_none : (stripes : ℕ) (held : List ℕ) (more : History) → ((stripe : ℕ) → 0 < times stripe held → AllLeave stripes stripe more)
+    → (keys : List Bytes) → AreHeld stripes held keys → NamesNone more keys
+names_none stripes held more leave [] all = tt
+names_none stripes held more leave (key ∷ keys) all =
+    (no_entry_names stripes (stripe_of stripes key) more key (leave (stripe_of stripes key) all.0) refl, names_none stripes held more leave keys all.1)
 
-  -- what is due to an operation whose keys are of the kind depends on these only
-  pub due_agrees : (before later : History) (operation : Operation) → AreOf P (keys_named operation) → Agree P (after before) (after later)
-      → due empty before operation ≡ due empty later operation
-  due_agrees before later operation all agree =
-      due_same operation empty empty before later (same_at (keys_named operation) (after before) (after later) all agree)
+-- writes leave two stores the same at a key at which they were
+written_same : (writes : List Write) (one other : Store) (key : Bytes) → one key ≡ other key → written one writes key ≡ written other writes key
+written_same [] one other key same = same
+written_same (write ∷ writes) one other key same =
+    written_same writes (update bytes_eq one write.0 write.1) (update bytes_eq other write.0 write.1) key
+    (ap (λ value. cond (bytes_eq write.0 key) write.1 value) same)
 
-  -- an entry whose keys are of the kind leaves stores that agree on it
-  pub after_agrees : (before later : History) (entry : Entry) → AreOf P (keys_named entry.operation) → Agree P (after before) (after later)
-      → Agree P (after (entry ∷ before)) (after (entry ∷ later))
-  after_agrees before later entry all agree key is =
-      let one = after before in
-      let two = after later in
-      let operation = entry.operation in
-      elim (was_not_done entry.reply)
-      as (λ test. (if test then one else written one (outcome one operation).1) key ≡ (if test then two else written two (outcome two operation).1) key) [
-        | true ↦ agree key is
-        | false ↦ ap (λ all. written one all.1 key) (outcome_same operation one two (same_at (keys_named operation) one two all agree))
-            ∙ written_same (outcome two operation).1 one two key (agree key is)
-      ]
+module _ (laws : Laws) where
+  -- entries that leave a stripe leave its keys
+  pub after_left : (stripes stripe : ℕ) (more seen : History) (key : Bytes) → AllLeave stripes stripe more → stripe_of stripes key ≡ stripe
+      → after (more ++ seen) key ≡ after seen key
+  after_left stripes stripe more seen key all here = laws.keys more seen key (no_entry_names stripes stripe more key all here)
 
--- entries that leave a stripe leave its keys
-pub after_left : (stripes stripe : ℕ) (more seen : History) (key : Bytes) → AllLeave stripes stripe more → stripe_of stripes key ≡ stripe
-    → after (more ++ seen) key ≡ after seen key
-after_left stripes stripe [] seen key all here = refl
-after_left stripes stripe (entry ∷ more) seen key all here =
-    after_leaves empty entry (more ++ seen) key (IsNoneOf-elsewhere stripes stripe (keys_named entry.operation) key all.0 here)
-    ∙ after_left stripes stripe more seen key all.1 here
+  -- a part stays a part after them
+  pub part_left : (stripes stripe : ℕ) (part : Store) (more seen : History) → AllLeave stripes stripe more
+      → IsPart stripes stripe part (after seen) → IsPart stripes stripe part (after (more ++ seen))
+  part_left stripes stripe part [] seen all reads = reads
+  part_left stripes stripe part (entry ∷ more) seen all reads =
+      laws.parts stripes stripe part entry (more ++ seen) all.0 (part_left stripes stripe part more seen all.1 reads)
 
--- a part stays a part after them
-pub part_left : (stripes stripe : ℕ) (part : Store) (more seen : History) → AllLeave stripes stripe more
-    → IsPart stripes stripe part (after seen) → IsPart stripes stripe part (after (more ++ seen))
-part_left stripes stripe part [] seen all reads = reads
-part_left stripes stripe part (entry ∷ more) seen all reads =
-    IsPart-leaves stripes stripe part empty entry (more ++ seen) all.0 (part_left stripes stripe part more seen all.1 reads)
+  same_at : (keys : List Bytes) (more seen : History) → NamesNone more keys → AreSameAt keys (after (more ++ seen)) (after seen)
+  same_at [] more seen none = tt
+  same_at (key ∷ keys) more seen none = (laws.keys more seen key none.0, same_at keys more seen none.1)
+
+  -- an entry writes after them what it wrote before
+  pub writes_left : (entry : Entry) (more seen : History) → NamesNone more (keys_named entry.operation)
+      → writes_of (after (more ++ seen)) entry ≡ writes_of (after seen) entry
+  writes_left entry more seen none =
+      ap (λ all. if was_not_done entry.reply then [] else all.1)
+      (laws.depends entry.operation (after (more ++ seen)) (after seen) (same_at (keys_named entry.operation) more seen none))
+
+  -- and leaves the same at a key that they leave
+  pub entry_left : (entry : Entry) (more seen : History) (key : Bytes) → NamesNone more (keys_named entry.operation) → after (more ++ seen) key ≡ after seen key
+      → after (entry ∷ (more ++ seen)) key ≡ after (entry ∷ seen) key
+  entry_left entry more seen key none same =
+      ap (λ writes. written (after (more ++ seen)) writes key) (writes_left entry more seen none)
+      ∙ written_same (writes_of (after seen) entry) (after (more ++ seen)) (after seen) key same
 
 -- what the empty store has, whether a key is asked for or not
 pub none_both : (b : Bool) (value : Option Bytes) → value ≡ None → cond b value None ≡ None

@@ -17,8 +17,8 @@ use Rattle.gates.specs.Passes.{stripes_among, part_at, AllFit, IsSeatOf, Learned
 use Rattle.gates.specs.declared.gates.Gates.{Gates}
 use Rattle.gates.specs.declared.gates.Pass.{Pass}
 use Rattle.gates.proofs.Lists.{times_here, times_else, times-append, without_here, without_else}
-use Rattle.gates.proofs.Frames.{part_left, after_left, after_agrees}
-use Rattle.gates.proofs.Steps.{held_kind}
+use Rattle.gates.specs.Laws.{Laws}
+use Rattle.gates.proofs.Frames.{names_none, part_left, after_left, entry_left}
 
 module _ {T : Type 0} where
   first_is : (b : Bool) (part q : T) → b ≡ true → cond b (Some part) None ≡ Some q → part ≡ q
@@ -56,7 +56,7 @@ module _ {T : Type 0} where
       (cases_eq x.0 j)
 
   -- the seat after a stripe was taken, and turned
-  module _ (contents : T → Store) (n number i : ℕ) (m w : Me T (View T)) (seat : IsSeatOf n number m) (below : i < n) (other : times i (stripes_among m.1) ≡ 0) (took : Took contents n i m w) where
+  module _ (laws : Laws) (contents : T → Store) (n number i : ℕ) (m w : Me T (View T)) (seat : IsSeatOf n number m) (below : i < n) (other : times i (stripes_among m.1) ≡ 0) (took : Took contents n i m w) where
     after_take : Me T (View T)
     after_take = (taking m.0 i took.part took.log, m.1 ++ (i, took.part) ∷ [])
 
@@ -110,7 +110,7 @@ module _ {T : Type 0} where
         (λ old.
         let held : 0 < times j m.0.held = omega (arith, seat.same j, part_stands m.1 j q old) in
         subst (λ (h : History). IsPart n j (contents q) (after h)) (sym took.goes_on.begins)
-        (part_left n j (contents q) took.goes_on.more (own m.0).seen (took.goes_on.leave j held) (fit j q old)))
+        (part_left laws n j (contents q) took.goes_on.more (own m.0).seen (took.goes_on.leave j held) (fit j q old)))
         (λ new. subst (λ (k : ℕ). IsPart n k (contents q) (after log)) new.0 (subst (λ (p : T). IsPart n i (contents p) (after log)) new.1 took.reads))
         (at_snoc m.1 i j took.part q e)))
 
@@ -202,7 +202,7 @@ module _ {T : Type 0} where
     first_reads contents fit = fit i part (ap (λ (l : List (ℕ × T)). part_at l i) first ∙ ap (λ b. cond b (Some part) (part_at (rest m.1) i)) (eq-eqb i i refl))
 
   -- a commit
-  module _ (n number found : ℕ) (entry : Entry) (st : Step T) (m w : Me T (View T)) (seat : IsSeatOf n number m) (slots : st.slots ≡ n)
+  module _ (laws : Laws) (n number found : ℕ) (entry : Entry) (st : Step T) (m w : Me T (View T)) (seat : IsSeatOf n number m) (slots : st.slots ≡ n)
       (keys : KeysHeld n m.1 (keys_named entry.operation)) (d : Commits entry st m found w) where
     pub committed : Committed n m.1 entry found (own m.0) (own w.0)
     committed =
@@ -217,13 +217,15 @@ module _ {T : Type 0} where
           mine = ap (λ (k : ℕ). (k, entry) ∷ (own m.0).mine) (sym d.place);
           notes = refl;
           store = λ key some.
-              let P : Bytes → Type 0 = λ k. 0 < times (stripe_of n k) m.0.held in
               let held : AreHeld n m.0.held (keys_named entry.operation) = keys_held n m.1 m.0.held seat.same (keys_named entry.operation) keys in
-              let leave : (stripe : ℕ) → 0 < times stripe m.0.held → AllLeave n stripe d.goes_on.more =
-              subst (λ (k : ℕ). (stripe : ℕ) → 0 < times stripe m.0.held → AllLeave k stripe d.goes_on.more) slots d.goes_on.leave in
-              after_agrees P d.before (own m.0).seen entry (held_kind n m.0.held (keys_named entry.operation) held)
-              (λ k h. ap (λ (l : History). after l k) d.goes_on.begins ∙ after_left n (stripe_of n k) d.goes_on.more (own m.0).seen k (leave (stripe_of n k) h) refl)
-              key (omega (arith, seat.same (stripe_of n key), part_some m.1 (stripe_of n key) some));
+              let more : History = d.goes_on.more in
+              let seen : History = (own m.0).seen in
+              let leave : (stripe : ℕ) → 0 < times stripe m.0.held → AllLeave n stripe more =
+              subst (λ (k : ℕ). (stripe : ℕ) → 0 < times stripe m.0.held → AllLeave k stripe more) slots d.goes_on.leave in
+              let here : 0 < times (stripe_of n key) m.0.held = omega (arith, seat.same (stripe_of n key), part_some m.1 (stripe_of n key) some) in
+              ap (λ (l : History). after (entry ∷ l) key) d.goes_on.begins
+              ∙ entry_left laws entry more seen key (names_none n m.0.held more leave (keys_named entry.operation) held)
+              (after_left laws n (stripe_of n key) more seen key (leave (stripe_of n key) here) refl);
         }
 
 pub Learned-trans : (a b c : Knowledge) → Learned a b → Learned b c → Learned a c

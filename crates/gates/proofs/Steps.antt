@@ -9,7 +9,8 @@ use prog.Atomic.{either}
 use Rattle.atomic_table.specs.Table.{State, Me, step, Act, keeps, takes, gives, Valid, Allows, Splits, Joins, stepped, carried_after, opening, rest}
 use Rattle.words.specs.declared.history.Entry.{Entry}
 use Rattle.words.specs.Store.{Bytes, Store}
-use Rattle.words.specs.History.{History, Legal, after, subhistory, keys_named}
+use Rattle.words.specs.History.{History, Legal, Extends, after, subhistory, keys_named}
+use Rattle.gates.specs.Laws.{Laws}
 use Rattle.words.specs.Stripes.{stripe_of, IsPart, AreElsewhere, LeavesStripe}
 use Rattle.gates.specs.declared.view.Note.TheVariants.{Busy, Worn}
 use Rattle.gates.specs.declared.view.Knowledge.{Knowledge}
@@ -18,7 +19,7 @@ use Rattle.gates.specs.Sets.{times, without}
 use Rattle.gates.specs.Rule.{word_of, AllLeave, total, Fits, EachFits, Names, weight, stands_for, armed_by, FitsView, IsHeld, Ruled, AreHeld, commit_word}
 use Rattle.gates.specs.Plays.{first_of, own, IsSingle, sees, notes, commits, all_see, knowing, taking, giving, EachGoesOn, Took, Missed, Tries, Arms, BecomesArmed, FindsWorn, Commits, Gives, Meets, newcomers, others_of, resting, unmet, joined, AreEmpty}
 use Rattle.gates.proofs.Lists.{at_snoc, at_longer, total-append, each_set, set_here, set_else, total-set, terms_le, total-below, total-less, times_here, times_else, without_here, without_else}
-use Rattle.gates.proofs.Frames.{AreOf, Agree, none_both, part_left, after_left, due_agrees}
+use Rattle.gates.proofs.Frames.{none_both, names_none, part_left}
 
 -- a word that is set to what it is
 set_same : (l : List ℕ) (i : ℕ) → set l i (get_or l i 0) ≡ l
@@ -67,11 +68,6 @@ entry_leaves : (stripes stripe : ℕ) (held : List ℕ) (keys : List Bytes) → 
 entry_leaves stripes stripe held [] all none_held = tt
 entry_leaves stripes stripe held (key ∷ keys) all none_held =
     ((λ here. let h : 0 < times stripe held = subst (λ k. 0 < times k held) here all.0 in omega arith), entry_leaves stripes stripe held keys all.1 none_held)
-
--- held keys, as a kind
-pub held_kind : (stripes : ℕ) (held : List ℕ) (keys : List Bytes) → AreHeld stripes held keys → AreOf (λ key. 0 < times (stripe_of stripes key) held) keys
-held_kind stripes held [] all = tt
-held_kind stripes held (key ∷ keys) all = (all.0, held_kind stripes held keys all.1)
 
 -- entries of another pass that leave what a pass holds
 each_later : (stripes : ℕ) (log : History) (entry : Entry) (held : List ℕ) (ps : List Knowledge)
@@ -218,7 +214,7 @@ fewer_held n log i held (k ∷ ks) all =
       fewer_held n log i held ks all.1,
     )
 
-module _ {T : Type 0} (contents : T → Store) (passes slots id : ℕ) where
+module _ {T : Type 0} (laws : Laws) (contents : T → Store) (passes slots id : ℕ) where
   -- A look at the commit word
   pub arms : (m : Me T (View T)) → IsSingle m.0 → m.0.armed ≡ false
       → Allows (Ruled contents passes) slots id m commit_word (λ n. n) (Arms (step slots commit_word 0 0 none) m)
@@ -277,12 +273,10 @@ module _ {T : Type 0} (contents : T → Store) (passes slots id : ℕ) where
       let fits_word : found + 1 < 2 ^ 64 = omega arith in
       let next : (found + 1) % 2 ^ 64 ≡ found + 1 = mod-eq_of_lt fits_word in
       let held_keys : AreHeld n v.held (keys_named entry.operation) = subst (λ (k : ℕ). AreHeld k v.held (keys_named entry.operation)) (sym wide) keys in
-      let P : Bytes → Type 0 = λ key. 0 < times (stripe_of n key) v.held in
-      let agree : Agree P (after (own v).seen) (after log) = (λ key h. sym (ap (λ (l : History). after l key) g.begins ∙ after_left n (stripe_of n key) g.more (own v).seen key (g.leave (stripe_of n key) h) refl)) in
       let legal : Legal (entry ∷ log) = (
         ruled.legal,
-        due_here.1,
-        due_here.2 ∙ due_agrees P (own v).seen log entry.operation (held_kind n v.held (keys_named entry.operation) held_keys) agree,
+        subst (λ (l : History). Extends l entry) (sym g.begins)
+            (laws.extends entry g.more (own v).seen (names_none n v.held g.more g.leave (keys_named entry.operation) held_keys) due_here.1),
       ) in
       let leaves : (stripe : ℕ) → times stripe v.held ≡ 0 → LeavesStripe n stripe entry.operation = (λ stripe h. entry_leaves n stripe v.held (keys_named entry.operation) held_keys h) in
       let mine : (length log, entry) ∷ (own v).mine ≡ subhistory (entry ∷ log) (own v).number =
@@ -340,7 +334,7 @@ module _ {T : Type 0} (contents : T → Store) (passes slots id : ℕ) where
                 word = get_or-set_other s.words commit_word (word_of stripe) ((found + 1) % 2 ^ 64) 0 (λ e. omega arith) ∙ free.word;
                 part = free.part;
                 home = free.home;
-                reads = part_left n stripe (contents free.part) (entry ∷ []) log
+                reads = part_left laws n stripe (contents free.part) (entry ∷ []) log
                     (leaves stripe (omega (arith, λ (mine_too : 0 < times stripe v.held). word_not_zero s.words stripe v ((f.names stripe mine_too).1) free.word)), tt) free.reads;
               })
               (λ held. inr (stays_held contents passes s ruled id v at (set s.words commit_word ((found + 1) % 2 ^ 64)) s.homes w stripe (λ x. x) refl held)) (ruled.stripes stripe h);
@@ -515,7 +509,7 @@ module _ {T : Type 0} (contents : T → Store) (passes slots id : ℕ) where
       let below : i < n = (f.names i mine_held).0 in
       let reads_now : IsPart n i (contents part) (after ruled.log) =
       subst (λ (l : History). IsPart n i (contents part) (after l)) (sym g.begins)
-      (part_left n i (contents part) g.more (own v).seen (g.leave i mine_held) (subst (λ (k : ℕ). IsPart k i (contents part) (after (own v).seen)) (sym wide) reads)) in (
+      (part_left laws n i (contents part) g.more (own v).seen (g.leave i mine_held) (subst (λ (k : ℕ). IsPart k i (contents part) (after (own v).seen)) (sym wide) reads)) in (
         w,
         gives,
         tt,

@@ -1,7 +1,8 @@
 -- Entries of single commands.
 use Rattle.std.specs.Prelude.{ℕ, ◌≡◌, List, ◌∷◌, ◌++◌}
 use Rattle.words.specs.declared.command.Command.TheVariants.{Get, Set}
-use Rattle.words.specs.Commands.{bulk}
+use Rattle.words.specs.declared.command.When.TheVariants.{Always}
+use Rattle.words.specs.Answers.{bulk}
 use Rattle.words.specs.declared.reply.Line.TheVariants.{Done}
 use Rattle.words.specs.declared.reply.Item.TheVariants as item
 use Rattle.words.specs.declared.reply.CommandReply.TheVariants.{One}
@@ -19,7 +20,7 @@ done = Single (One (item.Line Done))
 
 -- the entry of a SET that was done
 abbrev pub set_entry : ℕ → (key value : Bytes) → Entry
-set_entry number key value = record { session = number; operation = Run (Set key value); reply = done }
+set_entry number key value = record { session = number; operation = Run (Set key value Always); reply = done }
 
 -- the value of a key in a store, as a reply
 abbrev pub value_in : Store → Bytes → Reply

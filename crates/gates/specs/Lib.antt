@@ -1,3 +1,4 @@
+pub mod Laws
 pub mod Sets
 pub mod Rule
 pub mod Plays

@@ -16,7 +16,7 @@ use Rattle.gates.specs.Rule.{AllLeave, word_of}
 
 -- An entry that is never committed: where no call picks one.
 abbrev pub an_entry : Entry
-an_entry = record { session = 0; operation = Exec []; reply = NullArray }
+an_entry = record { session = 0; operation = Exec [] []; reply = NullArray }
 
 -- a pass that has seen nothing
 abbrev pub newcomer : ℕ → Knowledge

@@ -3,6 +3,7 @@
 ghost use Rattle.std.specs.Prelude.{◌≡◌, ◌+◌, ◌*◌, ◌^◌, ◌<◌, ◌≤◌, ◌++◌, ◌∷◌, [], ℕ, true, false, length, map, IsTrue, IsFalse, IfOk, OnOk, OnErr, vec_len, vec_capacity, MatchBool};
 ghost use Rattle.gates.specs.Rule.{word_of};
 
+use crate::laws::laws;
 use crate::part::Part;
 use crate::rule::{Arm, Commit, Give, Keep, Leave, Meet, OneHistory, Together, Told, Try};
 use crate::view::View;
@@ -176,6 +177,7 @@ impl<T: Part> Gates<T> {
         ensures others { parts_in pass.new ≡ rest (parts_in pass.old) }
         ensures fit { AllFit T.contents (stripes_of self.now) (known pass.new).seen (parts_in pass.new) }
     {
+        laws();
         let word = word_index(stripe);
         self.table.shared.store::<Give>(&mut pass.seat, word, 0);
     }
@@ -189,6 +191,7 @@ impl<T: Part> Gates<T> {
         ensures ok { OnOk result ((pass.new.armed ≡ true) × (known pass.new ≡ known pass.old)) }
         ensures worn { OnErr result (WasTold Worn (known pass.old) (known pass.new)) }
     {
+        laws();
         if pass.armed {
             return Ok(());
         }
@@ -217,6 +220,7 @@ impl<T: Part> Gates<T> {
         ensures ok { IfOk result (λ place. Committed (stripes_of self.now) (parts_in pass.old) E.entry place (known pass.old) (known pass.new)) }
         ensures worn { OnErr result (WasTold Worn (known pass.old) (known pass.new)) }
     {
+        laws();
         self.arm(pass)?;
         let shared = &self.table.shared;
         let place = shared.fetch_add::<Commit<E>>(&mut pass.seat, COMMITS, 1);
@@ -236,6 +240,7 @@ impl<T: Part> Gates<T> {
         ensures taken { IsTrue result → Learned (known pass.old) (known pass.new) × ((known pass.new).notes ≡ (known pass.old).notes) × ((part : T) × (parts_in pass.new ≡ parts_in pass.old ++ (stripe, part) ∷ [])) }
         ensures missed { IsFalse result → WasTold (Busy stripe) (known pass.old) (known pass.new) × (parts_in pass.new ≡ parts_in pass.old) }
     {
+        laws();
         let word = word_index(stripe);
         let mine = pass.number + 1;
         let found = self

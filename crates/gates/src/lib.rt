@@ -3,8 +3,8 @@
 
 pub mod gates;
 pub mod held;
-pub mod keys;
 pub mod latch;
+mod laws;
 pub mod map;
 mod order;
 pub mod part;

@@ -4,6 +4,7 @@ ghost use Rattle.std.specs.Prelude.{◌≡◌, ◌<◌, ◌≤◌, ◌+◌, ◌�
 ghost use Rattle.std.specs.Map.{update};
 ghost use Rattle.std.specs.Str.{bytes_eq};
 ghost use Rattle.words.specs.declared.command.Command.TheVariants.{Get, Set};
+ghost use Rattle.words.specs.declared.command.When.TheVariants.{Always};
 ghost use Rattle.words.specs.declared.history.Operation.TheVariants.{Run};
 ghost use Rattle.gates.specs.Passes.{IsResting, known};
 ghost use Rattle.gates.specs.Calls.{set_entry, get_entry, value_of_key, ToldLast};
@@ -13,14 +14,14 @@ ghost use Rattle.gates.specs.Maps.{map_contents};
 ghost use Rattle.words.specs.declared.limits.TheConstants.{WEIGHT_MAX, WEIGHT_OF_KEY};
 
 use crate::gates::{CommitsWornOut, Gates, Pass};
-use crate::keys::stripe_of;
 use crate::latch::{Latch, Point};
 use crate::part::{Part, Parts};
 use crate::sorted::Sorted;
 use std::alloc::Global;
 use std::collections::BTreeMap;
 use std::sync::Wait;
-use words::command::Command;
+use words::command::{Command, When};
+use words::hash::stripe_of;
 use words::history::Operation;
 use words::reply::{CommandReply, Item, Line, Reply};
 use words::word::{OutOfMemory, Word};
@@ -102,7 +103,7 @@ pub struct SetCall {
     value: Word,
     operation: Operation,
     ghost same: { room ≡ key },
-    ghost set: { operation ≡ Run (Set key value) },
+    ghost set: { operation ≡ Run (Set key value Always) },
 }
 
 impl SetCall {
@@ -110,7 +111,7 @@ impl SetCall {
     pub fn new(key: &Word, value: &Word) -> Result<SetCall, OutOfMemory>
         ensures { IfOk result (λ call. (call.key ≡ key.now) × (call.value ≡ value.now)) }
     {
-        let operation = Operation::Run(Command::Set(key.clone()?, value.clone()?));
+        let operation = Operation::Run(Command::Set(key.clone()?, value.clone()?, When::Always));
         let room = key.clone()?;
         let key = key.clone()?;
         let value = value.clone()?;
@@ -178,7 +179,7 @@ fn set_between<R: Wait, L: Latch>(
         held.give();
         return Err(CallFault::OutOfMemory);
     }
-    let reply = Reply::Single(CommandReply::One(Item::Line(Line::Done)));
+    let reply = Reply::line(Line::Done);
     match held.commit(&operation, &reply) {
         Ok(place) => {
             held.part(stripe).put(key, value);

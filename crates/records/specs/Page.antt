@@ -1,6 +1,7 @@
 -- A page, as its bytes. It has 16,384 of them: a header of 16 bytes (page number, 8; end of the used part, 4;
 -- form, 4, which is 1), records without gaps up to the end of the used part, and zero bytes after it.
-use Rattle.std.specs.Prelude.{ℕ, List, ◌++◌, replicate}
+use Rattle.std.specs.Prelude.{ℕ, List, ◌++◌, ◌-◌, replicate}
+use Rattle.records.specs.declared.pages.TheConstants.{PAGE_SIZE, HEADER_SIZE}
 use Rattle.records.specs.Fields.{u32_bytes, u64_bytes, u32_at, u64_at}
 
 -- the header of the page with this number whose used part ends here
@@ -9,7 +10,7 @@ header number used = u64_bytes number ++ (u32_bytes used ++ u32_bytes 1)
 
 -- the page with this number and no record
 unfoldable pub empty_page : ℕ → List ℕ
-empty_page number = header number 16 ++ replicate 16368 0
+empty_page number = header number HEADER_SIZE ++ replicate (PAGE_SIZE - HEADER_SIZE) 0
 
 -- the number in a page's header
 unfoldable pub number_of : List ℕ → ℕ

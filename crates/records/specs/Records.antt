@@ -5,6 +5,8 @@
 -- record's size is a multiple of 8.
 use Rattle.std.specs.Prelude.{◌≡◌, ◌<◌, ◌≤◌, ◌⊎◌, ℕ, zero, suc, ◌+◌, ◌-◌, ◌*◌, ◌/◌, ◌%◌, ◌^◌, List, [], ◌∷◌, ◌++◌, length, take, drop, replicate, slice_index, Option, None, Some, unwrap_or, nat_lt, ◌==◌, if◌then◌else◌}
 use Rattle.std.specs.List.{All, AllByRecursion, AllPairs, Contains, flat_map}
+use Rattle.records.specs.declared.pages.TheConstants.{PAGE_SIZE, HEADER_SIZE}
+use Rattle.records.specs.declared.entries.TheConstants.{RECORD_HEADER, KEY_BYTES_MAX}
 use Rattle.records.specs.Fields.{u16_bytes, u64_bytes, u16_at, u64_at}
 use Rattle.records.specs.Page.{header, number_of, used_end}
 
@@ -36,22 +38,22 @@ value_of_kind kind bytes = if kind == 2 then None else Some bytes
 
 -- how many bytes a record takes
 abbrev pub size_of : Stored → ℕ
-size_of r = 24 + length r.key + r.capacity
+size_of r = RECORD_HEADER + length r.key + r.capacity
 
--- how many bytes a new record takes, by the lengths of its key and its value: 24 and both, rounded up to a multiple of 8
+-- how many bytes a new record takes, by the lengths of its key and its value: the header and both, rounded up to a multiple of 8
 abbrev pub size_for : ℕ → ℕ → ℕ
-size_for key_length value_length = (24 + key_length + value_length + 7) / 8 * 8
+size_for key_length value_length = (RECORD_HEADER + key_length + value_length + 7) / 8 * 8
 
 -- a new record, whose capacity is all that its size leaves
 abbrev pub new_record : ℕ → ℕ → List ℕ → Option (List ℕ) → Stored
 new_record link hash key value =
-    record { link = link; hash = hash; key = key; value = value; capacity = size_for (length key) (length (value_bytes value)) - 24 - length key }
+    record { link = link; hash = hash; key = key; value = value; capacity = size_for (length key) (length (value_bytes value)) - RECORD_HEADER - length key }
 
 -- a record that can be spelled
 pub record IsStored (r : Stored) : Type 0 where
   pub link_fits : r.link < 2 ^ 64
   pub hash_fits : r.hash < 2 ^ 64
-  pub key_fits : length r.key ≤ 512
+  pub key_fits : length r.key ≤ KEY_BYTES_MAX
   pub value_fits : length (value_bytes r.value) ≤ r.capacity
   pub capacity_fits : r.capacity < 2 ^ 16
   pub aligned : size_of r % 8 ≡ 0
@@ -84,8 +86,8 @@ placed offset (r ∷ rs) = (offset, r) ∷ placed (offset + size_of r) rs
 pub record IsPage (number : ℕ) (records : List Stored) (page : List ℕ) : Type 0 where
   pub number_fits : number < 2 ^ 64
   pub each : AllByRecursion IsStored records
-  pub within : end_from 16 records ≤ 16384
-  pub bytes : page ≡ header number (end_from 16 records) ++ (flat_map spelling records ++ replicate (16384 - end_from 16 records) 0)
+  pub within : end_from HEADER_SIZE records ≤ PAGE_SIZE
+  pub bytes : page ≡ header number (end_from HEADER_SIZE records) ++ (flat_map spelling records ++ replicate (PAGE_SIZE - end_from HEADER_SIZE records) 0)
 
 -- what the bytes at an offset say as a record, whatever they are
 unfoldable pub fields_at : List ℕ → ℕ → Stored
@@ -95,8 +97,8 @@ fields_at page offset =
     record {
       link = u64_at page offset;
       hash = u64_at page (offset + 8);
-      key = take key_length (drop (offset + 24) page);
-      value = value_of_kind (slice_index page (offset + 22)) (take value_length (drop (offset + 24 + key_length) page));
+      key = take key_length (drop (offset + RECORD_HEADER) page);
+      value = value_of_kind (slice_index page (offset + 22)) (take value_length (drop (offset + RECORD_HEADER + key_length) page));
       capacity = u16_at page (offset + 20);
     }
 
@@ -108,12 +110,12 @@ records_from (suc n) page offset =
 
 -- the records of a page, oldest first, each with its offset
 unfoldable pub records_of : List ℕ → List (ℕ × Stored)
-records_of page = records_from (length page) page 16
+records_of page = records_from (length page) page HEADER_SIZE
 
 -- a record stands at this offset of a page whose used part has this end
 pub record IsPlaced (end : ℕ) (entry : ℕ × Stored) : Type 0 where
   pub stored : IsStored entry.1
-  pub past_header : 16 ≤ entry.0
+  pub past_header : HEADER_SIZE ≤ entry.0
   pub aligned : entry.0 % 8 ≡ 0
   pub within : entry.0 + size_of entry.1 ≤ end
 
@@ -122,9 +124,9 @@ pub record IsPlaced (end : ℕ) (entry : ℕ × Stored) : Type 0 where
 pub record IsLaidOut (page : List ℕ) : Type 0 where
   pub stored : List Stored
   pub is_page : IsPage (number_of page) stored page
-  pub used : used_end page ≡ end_from 16 stored
-  pub records : records_of page ≡ placed 16 stored
-  pub in_page : used_end page ≤ 16384
+  pub used : used_end page ≡ end_from HEADER_SIZE stored
+  pub records : records_of page ≡ placed HEADER_SIZE stored
+  pub in_page : used_end page ≤ PAGE_SIZE
   pub each : All (IsPlaced (used_end page)) (records_of page)
   pub in_order : AllPairs (λ a b. a.0 + size_of a.1 ≤ b.0) (records_of page)
 
@@ -140,13 +142,13 @@ with_value offset value entry = if entry.0 == offset then (entry.0, record entry
 
 -- a record may be read at this offset, whatever the bytes of the page are
 pub record IsRecordAt (page : List ℕ) (offset : ℕ) : Type 0 where
-  pub ends_in_page : used_end page ≤ 16384
-  pub past_header : 16 ≤ offset
+  pub ends_in_page : used_end page ≤ PAGE_SIZE
+  pub past_header : HEADER_SIZE ≤ offset
   pub used : offset < used_end page
   pub aligned : offset % 8 ≡ 0
   pub form : slice_index page (offset + 23) ≡ 1
   pub kind : IsKindFor (slice_index page (offset + 22)) (u16_at page (offset + 18))
-  pub key_length : u16_at page (offset + 16) ≤ 512
+  pub key_length : u16_at page (offset + 16) ≤ KEY_BYTES_MAX
   pub value_length : u16_at page (offset + 18) ≤ u16_at page (offset + 20)
-  pub size : (24 + u16_at page (offset + 16) + u16_at page (offset + 20)) % 8 ≡ 0
-  pub within : offset + (24 + u16_at page (offset + 16) + u16_at page (offset + 20)) ≤ used_end page
+  pub size : (RECORD_HEADER + u16_at page (offset + 16) + u16_at page (offset + 20)) % 8 ≡ 0
+  pub within : offset + (RECORD_HEADER + u16_at page (offset + 16) + u16_at page (offset + 20)) ≤ used_end page

@@ -16,7 +16,7 @@ use std::fmt;
 pub const RECORD_HEADER: usize = 24;
 
 /// The longest key, in bytes.
-pub const MAX_KEY: usize = 512;
+pub const KEY_BYTES_MAX: usize = 512;
 
 // Where the fields of a record's header stand, after the link at its front.
 const HASH_AT: usize = 8;
@@ -93,7 +93,7 @@ impl Error for NotARecord {}
 /// rounded up to a multiple of 8.
 #[inline]
 pub fn record_size(key_length: usize, value_length: usize) -> usize
-    requires { 24 + key_length + value_length + 7 < 2 ^ 64 }
+    requires { RECORD_HEADER + key_length + value_length + 7 < 2 ^ 64 }
     ensures { result ≡ size_for key_length value_length }
 {
     (RECORD_HEADER + key_length + value_length + 7) / 8 * 8
@@ -122,7 +122,11 @@ pub fn record_at(page: &Page, offset: usize) -> Result<Record<'_>, NotARecord>
     let value_length = fields::u16_at(bytes, offset + VALUE_LENGTH_AT) as usize;
     let capacity = fields::u16_at(bytes, offset + CAPACITY_AT) as usize;
     let size = RECORD_HEADER + key_length + capacity;
-    if key_length > MAX_KEY || value_length > capacity || size % 8 != 0 || size > end - offset {
+    if key_length > KEY_BYTES_MAX
+        || value_length > capacity
+        || size % 8 != 0
+        || size > end - offset
+    {
         return Err(NotARecord);
     }
     if bytes[offset + FORM_AT] != FORM {
@@ -157,7 +161,7 @@ pub fn put_record(
     value: Option<&[u8]>,
 ) -> Result<usize, NoRoom>
     requires laid_out { IsLaidOut page.old }
-    requires key { length key.now ≤ MAX_KEY }
+    requires key { length key.now ≤ KEY_BYTES_MAX }
     ensures refused { IsErr result ↔ (PAGE_SIZE < used_end page.old + size_for (length key.now) (length (value_bytes (option_copied value.entry)))) }
     ensures unchanged { OnErr result (page.new ≡ page.old) }
     ensures offset { IfOk result (λ offset. offset ≡ used_end page.old) }
@@ -242,11 +246,11 @@ fn kind_of(value: Option<&[u8]>) -> u8
 #[inline]
 #[tactic(auto, unfolding(crate::specs::Records::spelling, crate::specs::Records::head))]
 fn write_record(slot: &mut [u8], link: u64, hash: u64, key: &[u8], value: Option<&[u8]>)
-    requires key { length key.now ≤ MAX_KEY }
-    requires value { 24 + length key.now + length (value_bytes (option_copied value)) ≤ length slot.old }
-    requires size { length slot.old ≤ 16384 }
+    requires key { length key.now ≤ KEY_BYTES_MAX }
+    requires value { RECORD_HEADER + length key.now + length (value_bytes (option_copied value)) ≤ length slot.old }
+    requires size { length slot.old ≤ PAGE_SIZE }
     requires blank { slot.old ≡ replicate (length slot.old) 0 }
-    ensures { slot.new ≡ spelling (record { link = link; hash = hash; key = key.now; value = option_copied value.entry; capacity = length slot.old - 24 - length key.now }) }
+    ensures { slot.new ≡ spelling (record { link = link; hash = hash; key = key.now; value = option_copied value.entry; capacity = length slot.old - RECORD_HEADER - length key.now }) }
 {
     let capacity = slot.len() - RECORD_HEADER - key.len();
     let (head, rest) = slot.split_at_mut(RECORD_HEADER);
@@ -320,9 +324,9 @@ fn replace_value(room: &mut [u8], old_length: usize, value: Option<&[u8]>)
 // Writes another value into the bytes of a record.
 #[inline]
 fn rewrite_value(slot: &mut [u8], key_length: usize, old_length: usize, value: Option<&[u8]>)
-    requires size { length slot.old ≤ 16384 }
-    requires old { 24 + key_length + old_length ≤ length slot.old }
-    requires value { 24 + key_length + length (value_bytes (option_copied value)) ≤ length slot.old }
+    requires size { length slot.old ≤ PAGE_SIZE }
+    requires old { RECORD_HEADER + key_length + old_length ≤ length slot.old }
+    requires value { RECORD_HEADER + key_length + length (value_bytes (option_copied value)) ≤ length slot.old }
     ensures { (r : Stored) → slot.old ≡ spelling r → length slot.old ≡ size_of r → key_length ≡ length r.key → old_length ≡ length (value_bytes r.value) → slot.new ≡ spelling (record r { value = option_copied value.entry }) }
 {
     let (head, rest) = slot.split_at_mut(RECORD_HEADER);

@@ -21,7 +21,7 @@ mod pages;
 mod tests;
 
 pub use entries::{
-    MAX_KEY, NoRoom, NotARecord, RECORD_HEADER, Record, overwrite, put_record, record_at,
+    KEY_BYTES_MAX, NoRoom, NotARecord, RECORD_HEADER, Record, overwrite, put_record, record_at,
     record_size,
 };
 pub use pages::{HEADER_SIZE, PAGE_SIZE, Page};

@@ -6,13 +6,14 @@ use crate::closing::close;
 use crate::ending_list::Endings;
 use crate::fault::ServerFault;
 use crate::setting::Options;
-use connection::{Ended, Noted, serve};
+use connection::{Ended, serve};
 use engine::{Engine, Pass};
 use std::alloc::Global;
 use std::io::ErrorKind;
 use std::net::{Ipv4Addr, Net, SocketAddrV4, TcpListener, TcpStream};
 use std::rt::Clock;
 use std::sync::Wait;
+use streams::Noted;
 use words::limits::Limits;
 
 /// Listens on the port of the options, at 127.0.0.1.

@@ -1,10 +1,4 @@
-mod StripeRows
-mod CommandRows
-mod EncodingRows
-mod HistoryRows
-mod SessionRows
-pub mod FrameLemmas
-mod StreamRows
+pub mod Named
 pub mod Requests
 pub mod Places
 pub mod Spelled
@@ -13,3 +7,17 @@ pub mod Faults
 pub mod Apart
 pub mod Parts
 pub mod Streams
+mod Rows
+mod LineRows
+mod CommandRows
+mod NumberRows
+mod AnswerRows
+mod LimitRows
+mod HistoryRows
+mod WatchRows
+mod SessionRows
+mod TranscriptRows
+mod StripeRows
+mod EncodingRows
+mod StreamRows
+pub mod Decimals

@@ -2,11 +2,15 @@ pub mod Sizes
 pub mod Lines
 pub mod Store
 pub mod Commands
+pub mod Verbs
 pub mod Spelling
 pub mod Stream
 pub mod Encoding
+pub mod Numbers
+pub mod Answers
 pub mod History
+pub mod Watches
 pub mod Stripes
 pub mod Session
-pub mod Frames
+pub mod Locality
 pub mod StreamLaws

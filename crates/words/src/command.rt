@@ -1,23 +1,94 @@
 //! Commands, and which command the words of a request are.
 
-ghost use Rattle.std.specs.Prelude.{◌≡◌, ◌≤◌, ◌∷◌, IfOk, IsOk, IsTrue, length};
-ghost use Rattle.words.specs.Commands.{command_of, optional_text, one_key, key_and_value, is_name, KeepsNoWord, AreInline};
+ghost use Rattle.std.specs.Prelude.{◌≡◌, IfOk, IsOk};
+ghost use Rattle.words.specs.Commands.{command_of, command_in, AsksNoMemory, is_name, readers, counters, session_commands};
 
-use crate::limits::KEY_BYTES_MAX;
 use crate::reply::Refusal;
+use crate::sequence::Sequence;
+use crate::shapes::{
+    KeyVerb, KeysVerb, NumberVerb, SettingsVerb, ValueVerb, alone, key_and_number, key_and_value,
+    key_offset_value, key_start_end, key_value_options, one_key, one_text, optional_text,
+    some_keys, some_settings, watched_keys,
+};
 use crate::word::{OutOfMemory, Word, Words};
 use std::alloc::Global;
-use std::marker::Model;
 
-/// A command, with its arguments.
-#[derive(Debug, Drop, PartialEq, Eq)]
+/// A list of keys.
+pub type Keys = Sequence<Word>;
+
+/// Keys, each with the value that it is given, in order.
+pub type Settings = Sequence<(Word, Word)>;
+
+/// When a SET is done.
+#[derive(Clone, Copy, Debug, PartialEq, Eq)]
+pub enum When {
+    /// Whether the key is there or not.
+    Always,
+    /// Where the key is missing.
+    IfMissing,
+    /// Where the key is there.
+    IfPresent,
+}
+
+/// A command of the session itself: it opens, ends or guards a transaction, or ends the connection.
+#[derive(Debug, Drop)]
+pub enum SessionCommand {
+    /// `MULTI`
+    Multi,
+    /// `EXEC`
+    Exec,
+    /// `DISCARD`
+    Discard,
+    /// `WATCH key [key ..]`. A key may be too long: the session refuses it.
+    Watch(Keys),
+    /// `UNWATCH`
+    Unwatch,
+    /// `QUIT`
+    Quit,
+}
+
+/// A command, with its arguments. Keys have at most `KEY_BYTES_MAX` bytes but for those of WATCH, and
+/// lists have at least one item, where [`Command::of`] made it.
+#[derive(Debug, Drop)]
 pub enum Command {
     /// `PING [text]`
     Ping(Option<Word>),
+    /// `ECHO text`
+    Echo(Word),
     /// `GET key`
     Get(Word),
-    /// `SET key value`
-    Set(Word, Word),
+    /// `SET key value [NX | XX]`
+    Set(Word, Word, When),
+    /// `SETNX key value`
+    SetNx(Word, Word),
+    /// `GETSET key value`
+    GetSet(Word, Word),
+    /// `GETDEL key`
+    GetDel(Word),
+    /// `STRLEN key`
+    StrLen(Word),
+    /// `EXISTS key [key ..]`
+    Exists(Keys),
+    /// `DEL key [key ..]`
+    Del(Keys),
+    /// `APPEND key value`
+    Append(Word, Word),
+    /// `SETRANGE key offset value`
+    SetRange(Word, u64, Word),
+    /// `GETRANGE key start end`
+    GetRange(Word, i64, i64),
+    /// `INCRBY key number`; `INCR key` with 1
+    Add(Word, i64),
+    /// `DECRBY key number`; `DECR key` with 1
+    Subtract(Word, i64),
+    /// `MGET key [key ..]`
+    MGet(Keys),
+    /// `MSET key value [key value ..]`
+    MSet(Settings),
+    /// `MSETNX key value [key value ..]`
+    MSetNx(Settings),
+    /// A command of the session itself.
+    Session(SessionCommand),
     /// A command that its words show to be refused when it runs.
     Bad(Refusal),
 }
@@ -27,73 +98,116 @@ impl Command {
     /// (compared without regard to ASCII case), or it does not take this number of words. Whatever
     /// else the words show is kept, as [`Command::Bad`], and answered where the command runs.
     ///
-    /// It takes memory only for a key, a value or a text of more than `WORD_INLINE` bytes.
+    /// It takes memory only for a word of more than `WORD_INLINE` bytes that the command keeps, and
+    /// for a list of keys or settings.
     pub fn of(alloc: Global, words: &Words) -> Result<Result<Command, Refusal>, OutOfMemory>
         ensures exact { IfOk result (λ command. command ≡ command_of words.now) }
-        ensures inline { AreInline words.now → IsOk result }
-        ensures no_word { KeepsNoWord (command_of words.now) → IsOk result }
+        ensures memory { AsksNoMemory (command_of words.now) → IsOk result }
     {
         let Some((name, arguments)) = words.as_slice().split_first() else {
             return Ok(Err(Refusal::UnknownCommand));
         };
-        if is_named(name, b"PING") {
-            ping(alloc, arguments)
-        } else if is_named(name, b"GET") {
-            get(alloc, arguments)
-        } else if is_named(name, b"SET") {
-            set(alloc, arguments)
-        } else {
-            Ok(Err(Refusal::UnknownCommand))
-        }
+        string_command(alloc, name.as_slice(), arguments)
+    }
+}
+
+/// A command of one key, by its name, or else one of the others.
+fn string_command(
+    alloc: Global,
+    name: &[u8],
+    arguments: &[Word],
+) -> Result<Result<Command, Refusal>, OutOfMemory>
+    ensures exact { IfOk result (λ command. command ≡ command_in (readers counters) name.now arguments.now) }
+    ensures memory { AsksNoMemory (command_in (readers counters) name.now arguments.now) → IsOk result }
+{
+    if is_named(name, b"GET") {
+        one_key(alloc, KeyVerb::Get, arguments)
+    } else if is_named(name, b"SET") {
+        key_value_options(alloc, arguments)
+    } else if is_named(name, b"SETNX") {
+        key_and_value(alloc, ValueVerb::SetNx, arguments)
+    } else if is_named(name, b"GETSET") {
+        key_and_value(alloc, ValueVerb::GetSet, arguments)
+    } else if is_named(name, b"GETDEL") {
+        one_key(alloc, KeyVerb::GetDel, arguments)
+    } else if is_named(name, b"STRLEN") {
+        one_key(alloc, KeyVerb::StrLen, arguments)
+    } else if is_named(name, b"EXISTS") {
+        some_keys(alloc, KeysVerb::Exists, arguments)
+    } else if is_named(name, b"DEL") {
+        some_keys(alloc, KeysVerb::Del, arguments)
+    } else if is_named(name, b"APPEND") {
+        key_and_value(alloc, ValueVerb::Append, arguments)
+    } else if is_named(name, b"SETRANGE") {
+        key_offset_value(alloc, arguments)
+    } else if is_named(name, b"GETRANGE") {
+        key_start_end(alloc, arguments)
+    } else {
+        counting_command(alloc, name, arguments)
+    }
+}
+
+/// A command of numbers or of several keys, by its name, or else one that names no key.
+fn counting_command(
+    alloc: Global,
+    name: &[u8],
+    arguments: &[Word],
+) -> Result<Result<Command, Refusal>, OutOfMemory>
+    ensures exact { IfOk result (λ command. command ≡ command_in counters name.now arguments.now) }
+    ensures memory { AsksNoMemory (command_in counters name.now arguments.now) → IsOk result }
+{
+    if is_named(name, b"INCR") {
+        one_key(alloc, KeyVerb::Increment, arguments)
+    } else if is_named(name, b"DECR") {
+        one_key(alloc, KeyVerb::Decrement, arguments)
+    } else if is_named(name, b"INCRBY") {
+        key_and_number(alloc, NumberVerb::Add, arguments)
+    } else if is_named(name, b"DECRBY") {
+        key_and_number(alloc, NumberVerb::Subtract, arguments)
+    } else if is_named(name, b"MGET") {
+        some_keys(alloc, KeysVerb::MGet, arguments)
+    } else if is_named(name, b"MSET") {
+        some_settings(alloc, SettingsVerb::MSet, arguments)
+    } else if is_named(name, b"MSETNX") {
+        some_settings(alloc, SettingsVerb::MSetNx, arguments)
+    } else {
+        keyless_command(alloc, name, arguments)
+    }
+}
+
+/// A command that names no key, or one of the session, by its name.
+fn keyless_command(
+    alloc: Global,
+    name: &[u8],
+    arguments: &[Word],
+) -> Result<Result<Command, Refusal>, OutOfMemory>
+    ensures exact { IfOk result (λ command. command ≡ command_in session_commands name.now arguments.now) }
+    ensures memory { AsksNoMemory (command_in session_commands name.now arguments.now) → IsOk result }
+{
+    if is_named(name, b"PING") {
+        optional_text(alloc, arguments)
+    } else if is_named(name, b"ECHO") {
+        one_text(alloc, arguments)
+    } else if is_named(name, b"MULTI") {
+        Ok(alone(SessionCommand::Multi, arguments))
+    } else if is_named(name, b"EXEC") {
+        Ok(alone(SessionCommand::Exec, arguments))
+    } else if is_named(name, b"DISCARD") {
+        Ok(alone(SessionCommand::Discard, arguments))
+    } else if is_named(name, b"WATCH") {
+        watched_keys(alloc, arguments)
+    } else if is_named(name, b"UNWATCH") {
+        Ok(alone(SessionCommand::Unwatch, arguments))
+    } else if is_named(name, b"QUIT") {
+        Ok(alone(SessionCommand::Quit, arguments))
+    } else {
+        Ok(Err(Refusal::UnknownCommand))
     }
 }
 
 /// Whether a word is this command's name, without regard to ASCII case.
-fn is_named(word: &Word, name: &[u8]) -> bool
+fn is_named(word: &[u8], name: &[u8]) -> bool
     ensures { result ≡ is_name name.now word.now }
 {
-    name.eq_ignore_ascii_case(word.as_slice())
-}
-
-/// `PING [text]`
-fn ping(alloc: Global, arguments: &[Word]) -> Result<Result<Command, Refusal>, OutOfMemory>
-    ensures exact { IfOk result (λ command. command ≡ optional_text Command.Ping arguments.now) }
-    ensures inline { AreInline arguments.now → IsOk result }
-    ensures no_word { KeepsNoWord (optional_text Command.Ping arguments.now) → IsOk result }
-{
-    match arguments {
-        [] => Ok(Ok(Command::Ping(None))),
-        [text] => Ok(Ok(Command::Ping(Some(Word::from_slice(alloc, text.as_slice())?)))),
-        _ => Ok(Err(Refusal::WrongArity)),
-    }
-}
-
-/// `GET key`
-fn get(alloc: Global, arguments: &[Word]) -> Result<Result<Command, Refusal>, OutOfMemory>
-    ensures exact { IfOk result (λ command. command ≡ one_key Command.Get arguments.now) }
-    ensures inline { AreInline arguments.now → IsOk result }
-    ensures no_word { KeepsNoWord (one_key Command.Get arguments.now) → IsOk result }
-{
-    match arguments {
-        [key] if key.len() > KEY_BYTES_MAX => Ok(Ok(Command::Bad(Refusal::KeyTooLong))),
-        [key] => Ok(Ok(Command::Get(Word::from_slice(alloc, key.as_slice())?))),
-        _ => Ok(Err(Refusal::WrongArity)),
-    }
-}
-
-/// `SET key value`, where any option word is refused
-fn set(alloc: Global, arguments: &[Word]) -> Result<Result<Command, Refusal>, OutOfMemory>
-    ensures exact { IfOk result (λ command. command ≡ key_and_value Command.Set arguments.now) }
-    ensures inline { AreInline arguments.now → IsOk result }
-    ensures no_word { KeepsNoWord (key_and_value Command.Set arguments.now) → IsOk result }
-{
-    match arguments {
-        [] | [_] => Ok(Err(Refusal::WrongArity)),
-        [key, ..] if key.len() > KEY_BYTES_MAX => Ok(Ok(Command::Bad(Refusal::KeyTooLong))),
-        [key, value] => Ok(Ok(Command::Set(
-            Word::from_slice(alloc, key.as_slice())?,
-            Word::from_slice(alloc, value.as_slice())?,
-        ))),
-        _ => Ok(Ok(Command::Bad(Refusal::Syntax))),
-    }
+    name.eq_ignore_ascii_case(word)
 }

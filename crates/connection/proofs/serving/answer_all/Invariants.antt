@@ -1,8 +1,8 @@
 use Rattle.std.proofs.Common.{◌≡◌, ℕ, List, ◌++◌, length}
 use Rattle.std.specs.Io.KnownBytes.{Appends}
-use Rattle.words.specs.Store.{Store}
+use Rattle.words.specs.History.{History}
 use Rattle.engine.specs.Contents.{contents, pass_number}
-use Rattle.connection.specs.Streams.{stream_of, told_of}
+use Rattle.streams.specs.Streams.{stream_of, told_of}
 use Rattle.connection.specs.Clients.{IsReady}
 use Rattle.connection.specs.Conversations.{Conversation}
 use Rattle.connection.proofs.serving.answer_all.Given as goal
@@ -10,10 +10,10 @@ use Rattle.connection.proofs.serving.answer_all.Given as goal
 abbrev pub invariant-loop-reply : goal.invariant-loop-reply
 invariant-loop-reply g l = record {
   talk :
-      (old : Store) (fed before : List ℕ)
-      → Conversation (pass_number l.initial.pass) old (contents l.initial.engine) fed l.initial.client (before ++ l.initial.out.items)
+      (seen : History) (fed before : List ℕ)
+      → Conversation (pass_number l.initial.pass) seen (contents l.initial.engine) fed l.initial.client (before ++ l.initial.out.items)
       → (sent : List ℕ) × Appends (g.W.Write.contents (stream_of l.initial.writer)) (g.W.Write.contents (stream_of l.writer)) sent
-      × Conversation (pass_number l.initial.pass) old (contents l.engine) fed l.client ((before ++ sent) ++ l.out.items);
+      × Conversation (pass_number l.initial.pass) seen (contents l.engine) fed l.client ((before ++ sent) ++ l.out.items);
   ready : IsReady (l.client).stage;
   told : told_of l.writer ≡ told_of l.initial.writer;
   pass : l.pass ≡ l.initial.pass;

@@ -1,73 +1,89 @@
 use Rattle.std.proofs.Common.{◌≡◌, ℕ, List, [], ◌++◌, ◌∙◌, sym, ap, append_assoc, append-nil}
 use Rattle.words.specs.Store.{Store}
+use Rattle.words.specs.History.{History}
 use Rattle.connection.specs.Clients.{Standing}
 use Rattle.connection.specs.Conversations.{Conversation}
-use Rattle.connection.proofs.Known.{Appends-then, regroup, regroup_cut}
-use Rattle.connection.proofs.Conversing.{conversation_says, closed, served_cut, served_cut_fault, served_fault}
+use Rattle.streams.specs.Laws.{Appends-then}
+use Rattle.connection.proofs.Known.{regroup, regroup_cut}
+use Rattle.connection.proofs.Conversing.{conversation_says, closed, served_cut, served_cut_fault, served_fault, served_no_memory}
 use Rattle.connection.proofs.serving.answer_piece.Goals as goal
 
 -- a conversation with an empty buffer
-with_buffer : (session : ℕ) (old new : Store) (fed before held : List ℕ) (standing : Standing) → held ≡ []
+with_buffer : (session : ℕ) (old : History) (new : Store) (fed before held : List ℕ) (standing : Standing) → held ≡ []
     → Conversation session old new fed standing before → Conversation session old new fed standing (before ++ held)
 with_buffer session old new fed before held standing empty talk =
     conversation_says session old new fed standing talk (sym (append-nil before) ∙ ap (λ (t : List ℕ). before ++ t) (sym empty))
 
 pub returns-in_default-clause-answered : goal.returns-in_default-clause-answered
-returns-in_default-clause-answered g c = λ old fed before talk.
-    let so_far = c.in-Input.ensures.paused old fed before (with_buffer _ _ _ _ _ _ _ c.requires.empty talk) in (
+returns-in_default-clause-answered g c = λ seen fed before talk.
+    let so_far = c.in-Input.ensures.paused seen fed before (with_buffer _ _ _ _ _ _ _ c.requires.empty talk) in (
       so_far.0 ++ c.answer_all.new.out.items,
       Appends-then _ _ _ so_far.0 _ so_far.1 c.in_default.ensures.sent,
-      (so_far.2.0, conversation_says _ _ _ _ _ so_far.2.1 (append_assoc before so_far.0 _), c.in_default.ensures.empty),
+      conversation_says _ _ _ _ _ so_far.2.2 (append_assoc before so_far.0 _),
     )
 
 pub returns-in-Err-clause-answered : goal.returns-in-Err-clause-answered
-returns-in-Err-clause-answered g c = λ old fed before talk.
-    let so_far = c.in-Input.ensures.paused old fed before (with_buffer _ _ _ _ _ _ _ c.requires.empty talk) in
+returns-in-Err-clause-answered g c = λ seen fed before talk.
+    let so_far = c.in-Input.ensures.paused seen fed before (with_buffer _ _ _ _ _ _ _ c.requires.empty talk) in
     let cut = c.in-Err.ensures.sent in
-    (so_far.0 ++ cut.0, Appends-then _ _ _ so_far.0 cut.0 so_far.1 cut.3, served_cut _ cut.1 so_far.2.1 (regroup_cut before so_far.0 _ cut.0 cut.1 cut.2))
+    (so_far.0 ++ cut.0, Appends-then _ _ _ so_far.0 cut.0 so_far.1 cut.3, served_cut _ cut.1 so_far.2.2 (regroup_cut before so_far.0 _ cut.0 cut.1 cut.2))
 
 pub returns-in_default-flush-2-clause-answered : goal.returns-in_default-flush-2-clause-answered
-returns-in_default-flush-2-clause-answered g c = λ old fed before talk.
-    let so_far = c.in-NoMemory.ensures.paused old fed before (with_buffer _ _ _ _ _ _ _ c.requires.empty talk) in (
+returns-in_default-flush-2-clause-answered g c = λ seen fed before talk.
+    let so_far = c.in-NoMemory.ensures.paused seen fed before (with_buffer _ _ _ _ _ _ _ c.requires.empty talk) in (
       so_far.0 ++ c.answer_all.new.out.items,
       Appends-then _ _ _ so_far.0 _ so_far.1 c.in_default-flush-2.ensures.sent,
-      (closed so_far.2.1, sym (append_assoc before so_far.0 _) ∙ so_far.2.1.text),
+      served_no_memory _ so_far.2.3 so_far.2.1 so_far.2.2 (append_assoc before so_far.0 _),
     )
 
 pub returns-in-Err-flush-2-clause-answered : goal.returns-in-Err-flush-2-clause-answered
-returns-in-Err-flush-2-clause-answered g c = λ old fed before talk.
-    let so_far = c.in-NoMemory.ensures.paused old fed before (with_buffer _ _ _ _ _ _ _ c.requires.empty talk) in
+returns-in-Err-flush-2-clause-answered g c = λ seen fed before talk.
+    let so_far = c.in-NoMemory.ensures.paused seen fed before (with_buffer _ _ _ _ _ _ _ c.requires.empty talk) in
     let cut = c.in-Err-flush-2.ensures.sent in
-    (so_far.0 ++ cut.0, Appends-then _ _ _ so_far.0 cut.0 so_far.1 cut.3, served_cut _ cut.1 so_far.2.1 (regroup_cut before so_far.0 _ cut.0 cut.1 cut.2))
+    (so_far.0 ++ cut.0, Appends-then _ _ _ so_far.0 cut.0 so_far.1 cut.3, served_cut _ cut.1 so_far.2.3 (regroup_cut before so_far.0 _ cut.0 cut.1 cut.2))
 
 pub returns-in-WriteFailed-clause-answered : goal.returns-in-WriteFailed-clause-answered
-returns-in-WriteFailed-clause-answered g c = λ old fed before talk.
-    let so_far = c.in-WriteFailed.ensures.paused old fed before (with_buffer _ _ _ _ _ _ _ c.requires.empty talk) in
+returns-in-WriteFailed-clause-answered g c = λ seen fed before talk.
+    let so_far = c.in-WriteFailed.ensures.paused seen fed before (with_buffer _ _ _ _ _ _ _ c.requires.empty talk) in
     (so_far.0, so_far.1, served_cut _ so_far.2.2 so_far.2.3 so_far.2.4)
 
 pub returns-in-Err-said-clause-answered : goal.returns-in-Err-said-clause-answered
-returns-in-Err-said-clause-answered g c = λ old fed before talk.
-    let so_far = c.in-Malformed.ensures.paused old fed before (with_buffer _ _ _ _ _ _ _ c.requires.empty talk) in
-    let cut = rw c.line_as_reply-line.ensures at c.in-Err-said.ensures.put in
-    (so_far.0 ++ cut.0, Appends-then _ _ _ so_far.0 cut.0 so_far.1 cut.3, served_cut_fault c.in-Malformed.fault _ cut.1 so_far.2.1 so_far.2.0 (regroup before so_far.0 _ _ cut.0 cut.1 cut.2))
+returns-in-Err-said-clause-answered g c = λ seen fed before talk.
+    let so_far = c.in-Malformed.ensures.paused seen fed before (with_buffer _ _ _ _ _ _ _ c.requires.empty talk) in
+    let cut = rw c.line-line.ensures at c.in-Err-said.ensures.put in
+    (so_far.0 ++ cut.0, Appends-then _ _ _ so_far.0 cut.0 so_far.1 cut.3, served_cut_fault c.in-Malformed.fault _ cut.1 so_far.2.2 so_far.2.0 (regroup before so_far.0 _ _ cut.0 cut.1 cut.2))
 
 pub returns-in-Err-flush-clause-answered : goal.returns-in-Err-flush-clause-answered
-returns-in-Err-flush-clause-answered g c = λ old fed before talk.
-    let so_far = c.in-Malformed.ensures.paused old fed before (with_buffer _ _ _ _ _ _ _ c.requires.empty talk) in
-    let put = rw c.line_as_reply-line.ensures at c.in_default-said.ensures.put in
+returns-in-Err-flush-clause-answered g c = λ seen fed before talk.
+    let so_far = c.in-Malformed.ensures.paused seen fed before (with_buffer _ _ _ _ _ _ _ c.requires.empty talk) in
+    let put = rw c.line-line.ensures at c.in_default-said.ensures.put in
     let cut = c.in-Err-flush.ensures.sent in (
       (so_far.0 ++ put.0) ++ cut.0,
       Appends-then _ _ _ _ cut.0 (Appends-then _ _ _ so_far.0 put.0 so_far.1 put.1) cut.3,
-      served_cut_fault c.in-Malformed.fault _ cut.1 so_far.2.1 so_far.2.0
+      served_cut_fault c.in-Malformed.fault _ cut.1 so_far.2.2 so_far.2.0
           (regroup before so_far.0 _ _ put.0 _ put.2 ∙ regroup_cut before (so_far.0 ++ put.0) _ cut.0 cut.1 cut.2),
     )
 
 pub returns-in_default-flush-clause-answered : goal.returns-in_default-flush-clause-answered
-returns-in_default-flush-clause-answered g c = λ old fed before talk.
-    let so_far = c.in-Malformed.ensures.paused old fed before (with_buffer _ _ _ _ _ _ _ c.requires.empty talk) in
-    let put = rw c.line_as_reply-line.ensures at c.in_default-said.ensures.put in (
+returns-in_default-flush-clause-answered g c = λ seen fed before talk.
+    let so_far = c.in-Malformed.ensures.paused seen fed before (with_buffer _ _ _ _ _ _ _ c.requires.empty talk) in
+    let put = rw c.line-line.ensures at c.in_default-said.ensures.put in (
       (so_far.0 ++ put.0) ++ c.say-said.new.out.items,
       Appends-then _ _ _ _ _ (Appends-then _ _ _ so_far.0 put.0 so_far.1 put.1) c.in_default-flush.ensures.sent,
-      served_fault c.in-Malformed.fault _ so_far.2.1 so_far.2.0
+      served_fault c.in-Malformed.fault _ so_far.2.2 so_far.2.0 so_far.2.1
           (regroup before so_far.0 _ _ put.0 _ put.2 ∙ append_assoc before (so_far.0 ++ put.0) _),
     )
+
+pub returns-in_default-flush-3-clause-answered : goal.returns-in_default-flush-3-clause-answered
+returns-in_default-flush-3-clause-answered g c = λ seen fed before talk.
+    let so_far = c.in-Closed.ensures.paused seen fed before (with_buffer _ _ _ _ _ _ _ c.requires.empty talk) in (
+      so_far.0 ++ c.answer_all.new.out.items,
+      Appends-then _ _ _ so_far.0 _ so_far.1 c.in_default-flush-3.ensures.sent,
+      (closed so_far.2.1, so_far.2.0, sym (append_assoc before so_far.0 _) ∙ so_far.2.1.text),
+    )
+
+pub returns-in-Err-flush-3-clause-answered : goal.returns-in-Err-flush-3-clause-answered
+returns-in-Err-flush-3-clause-answered g c = λ seen fed before talk.
+    let so_far = c.in-Closed.ensures.paused seen fed before (with_buffer _ _ _ _ _ _ _ c.requires.empty talk) in
+    let cut = c.in-Err-flush-3.ensures.sent in
+    (so_far.0 ++ cut.0, Appends-then _ _ _ so_far.0 cut.0 so_far.1 cut.3, served_cut _ cut.1 so_far.2.1 (regroup_cut before so_far.0 _ cut.0 cut.1 cut.2))

@@ -1,5 +1,5 @@
 use Rattle.std.proofs.Common.{◌∙◌, refl}
-use Rattle.connection.proofs.Known.{IsPut-sent}
+use Rattle.streams.specs.Laws.{IsPut-sent}
 use Rattle.connection.proofs.serving.say.Goals as goal
 
 pub returns-clause-put : goal.returns-clause-put

@@ -29,4 +29,4 @@ commit-requires-clause-legal g c =
     let fits : IsPart n i (map_contents before) (after seen) = t.fit i before c.part.ensures.value in
     let reply : Reply = c.in-Ok.reply in
     subst (λ (o : Operation). Legal (record { session = (known start.pass.now).number; operation = o; reply = reply } ∷ seen)) (sym c.args.call.get)
-    (t.is_open.holding.seat.legal, refl, c.in-Ok.ensures ∙ get_due n i key (map_contents before) seen here fits)
+    (t.is_open.holding.seat.legal, record { place = refl; reply_due = c.in-Ok.ensures ∙ get_due n i key (map_contents before) seen here fits; watches = tt })

@@ -1,5 +1,6 @@
 use Rattle.std.proofs.Common.{◌≡◌, ◌≢◌, ◌∙◌, ◌∷◌, [], ◌<◌, Some, IsSome, sym, ap, subst, refl, ⊎_elim, ℕ, List}
 use Rattle.std.proofs.lemmas.Bool.{cases_eq}
+use Rattle.words.specs.declared.reply.Reply.{Reply}
 use Rattle.words.specs.Store.{Bytes}
 use Rattle.std.specs.Map.{update}
 use Rattle.std.specs.Str.{bytes_eq}
@@ -50,6 +51,7 @@ give-requires-in-Ok-clause-fit g c =
     (λ k. c.put.ensures k ∙ ap (λ (p : MapPart). update bytes_eq (map_contents p) key (Some value) k) same_lent) in
     let grown : (k : Bytes) → stripe_of n k ≡ i → after later k ≡ after (set_entry number key value ∷ seen) k =
     (λ k at. did.store k (subst (λ (j : ℕ). IsSome (part_at (held_parts (with_part start i reserved)) j)) (sym (ap (λ (m : ℕ). stripe_of m k) same_n ∙ at)) (subst IsSome (sym (c.part.ensures.written reserved)) refl))
+    ∙ ap (λ (r : Reply). after (record { session = number; operation = c.args.call.operation; reply = r } ∷ seen) k) c.line-reply.ensures
     ∙ ap (λ o. after (record { session = number; operation = o; reply = done } ∷ seen) k) c.args.call.set) in
     let fit : IsPart n i (map_contents last) (after later) = set_fits n i number key value seen later before reserved last here fits c.reserve.ensures.same put grown in
     let stripes : c.with.result ≡ i ∷ [] = c.with.ensures.set ∙ ap (inserted i) c.none.ensures in

@@ -10,8 +10,8 @@ returns-then-end-gt-PAGE_SIZE-clause-found c = unlisted c.args.page.now c.args.o
 pub returns-then-offset-end-clause-found : goal.returns-then-offset-end-clause-found
 returns-then-offset-end-clause-found c = unlisted c.args.page.now c.args.offset (search rules)
 
-pub returns-then-key_length-gt-MAX_KEY-clause-found : goal.returns-then-key_length-gt-MAX_KEY-clause-found
-returns-then-key_length-gt-MAX_KEY-clause-found c = unlisted c.args.page.now c.args.offset (search rules)
+pub returns-then-key_length-gt-KEY_BYTES_MAX-clause-found : goal.returns-then-key_length-gt-KEY_BYTES_MAX-clause-found
+returns-then-key_length-gt-KEY_BYTES_MAX-clause-found c = unlisted c.args.page.now c.args.offset (search rules)
 
 pub returns-then-bytes-offset-ne-FORM-clause-found : goal.returns-then-bytes-offset-ne-FORM-clause-found
 returns-then-bytes-offset-ne-FORM-clause-found c = unlisted c.args.page.now c.args.offset (search rules)

@@ -20,7 +20,7 @@ fetch_add-place-requires g c =
     let entry = g.E.Told.entry in (
       h.table,
       omega arith,
-      commits_step g.T.Part.contents c.args.self.now.table.shared.key n c.arm.new.pass.seat.id m entry h.seat.single (sym h.armed ∙ armed.ok.0)
+      commits_step c.laws.ensures g.T.Part.contents c.args.self.now.table.shared.key n c.arm.new.pass.seat.id m entry h.seat.single (sym h.armed ∙ armed.ok.0)
           (ap (λ (e : Entry). e.session) c.requires.told ∙ ap (λ (k : Knowledge). k.number) (sym armed.ok.1))
           (subst (λ (k : Knowledge). Legal (entry ∷ k.seen)) (sym armed.ok.1) c.requires.legal)
           (keys_held n m.1 m.0.held h.seat.same (keys_named entry.operation)
@@ -39,4 +39,4 @@ returns-clause-ok g c =
     let keys = subst (λ l. KeysHeld n l (keys_named entry.operation)) (sym armed.parts) c.requires.keys in
     subst (λ (k : Knowledge). Committed n c.args.pass.now.seat.me.1 entry place k (own w.0)) armed.ok.1
     (subst (λ l. Committed n l entry place (known pass) (own w.0)) armed.parts
-    (committed n pass.number place entry (step n 0 1 0 none) m w armed.holding.seat refl keys c.fetch_add-place.ensures.2))
+    (committed c.laws.ensures n pass.number place entry (step n 0 1 0 none) m w armed.holding.seat refl keys c.fetch_add-place.ensures.2))

@@ -26,7 +26,7 @@ store-requires g c =
     let below = first_below n number i first.0 m (giving m.0 i, rest m.1) h.seat first.1 refl in (
       h.table,
       omega (arith, c.word_index-word.ensures, sized),
-      gives_first g.T.Part.contents c.args.self.now.table.shared.key n c.args.pass.now.seat.id m i c.word_index-word.result first.0 c.word_index-word.ensures first.1 h.seat.single
+      gives_first c.laws.ensures g.T.Part.contents c.args.self.now.table.shared.key n c.args.pass.now.seat.id m i c.word_index-word.result first.0 c.word_index-word.ensures first.1 h.seat.single
           (first_held n number i first.0 m (giving m.0 i, rest m.1) h.seat first.1 refl)
           (first_reads n number i first.0 m (giving m.0 i, rest m.1) h.seat first.1 refl g.T.Part.contents c.requires.fit),
     )

@@ -15,7 +15,7 @@ compare_exchange-found-requires g c =
     let sized = c.args.self.now.sized in (
       h.table,
       omega (arith, c.word_index-word.ensures, c.requires.below, sized),
-      tries_at g.T.Part.contents c.args.self.now.table.shared.key c.args.self.now.table.shared.table_id.slots pass.seat.id pass.seat.me
+      tries_at c.laws.ensures g.T.Part.contents c.args.self.now.table.shared.key c.args.self.now.table.shared.table_id.slots pass.seat.id pass.seat.me
           c.args.stripe c.word_index-word.result (pass.number + 1) c.word_index-word.ensures (ap (λ (k : ℕ). k + 1) (sym h.seat.number_is)) h.seat.single c.requires.below
           (h.seat.same c.args.stripe ∙ c.requires.other) (omega arith),
     )
@@ -63,13 +63,13 @@ returns g c =
         table = c.turn.ensures.0 ∙ c.compare_exchange-found.ensures.0 ∙ h.table;
         small = h.small;
         armed = h.armed ∙ sym (ap (λ y. y.0.armed) turn ∙ ap (λ y. y.0.armed) took.seat);
-        seat = subst (IsSeatOf n pass.number) (sym turn) (took_seat contents n pass.number i m w h.seat c.requires.below none_held took);
+        seat = subst (IsSeatOf n pass.number) (sym turn) (took_seat c.laws.ensures contents n pass.number i m w h.seat c.requires.below none_held took);
       };
-      fit = subst (λ y. AllFit contents n (own y.0).seen y.1) (sym turn) (took_fit contents n pass.number i m w h.seat c.requires.below none_held took c.requires.fit);
+      fit = subst (λ y. AllFit contents n (own y.0).seen y.1) (sym turn) (took_fit c.laws.ensures contents n pass.number i m w h.seat c.requires.below none_held took c.requires.fit);
       taken = λ _. (
-        subst (λ y. Learned (own m.0) (own y.0)) (sym turn) (took_knows contents n pass.number i m w h.seat c.requires.below none_held took),
-        ap (λ y. (own y.0).notes) turn ∙ took_notes contents n pass.number i m w h.seat c.requires.below none_held took,
-        (took.part, ap (λ y. y.1) turn ∙ took_parts contents n pass.number i m w h.seat c.requires.below none_held took),
+        subst (λ y. Learned (own m.0) (own y.0)) (sym turn) (took_knows c.laws.ensures contents n pass.number i m w h.seat c.requires.below none_held took),
+        ap (λ y. (own y.0).notes) turn ∙ took_notes c.laws.ensures contents n pass.number i m w h.seat c.requires.below none_held took,
+        (took.part, ap (λ y. y.1) turn ∙ took_parts c.laws.ensures contents n pass.number i m w h.seat c.requires.below none_held took),
       );
       missed = λ e. absurd (true≢false e);
     }

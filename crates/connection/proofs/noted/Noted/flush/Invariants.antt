@@ -1,9 +1,0 @@
-use Rattle.std.proofs.Common.{◌≡◌}
-use Rattle.std.specs.Io.KnownBytes.{Keeps}
-use Rattle.connection.proofs.noted.Noted.flush.Given as goal
-
-abbrev pub invariant-loop : goal.invariant-loop
-invariant-loop g l =
-    Keeps (g.S.Write.contents l.initial.self.stream) (g.S.Write.contents l.self.stream)
-    × (l.self.told ≡ l.initial.self.told)
-    × (l.self.reads ≡ l.initial.self.reads)

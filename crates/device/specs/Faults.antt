@@ -1,0 +1,25 @@
+-- A device that fails on demand.
+use Rattle.std.specs.Prelude.{ℕ, List, Bool, nat_eq}
+use Rattle.std.specs.List.{list_any}
+use Rattle.device.specs.declared.faulty.Faulty.{Faulty}
+
+module _ {D : Type 0} where
+  -- the device that it asks
+  abbrev pub device_of : Faulty D → D
+  device_of faulty = faulty.device
+
+  -- the numbers of the calls that fail
+  abbrev pub failing_of : Faulty D → List ℕ
+  failing_of faulty = faulty.failing.items
+
+  -- how many calls there were
+  abbrev pub calls_of : Faulty D → ℕ
+  calls_of faulty = faulty.calls
+
+  -- how many calls failed in which the device was not asked
+  abbrev pub failed_of : Faulty D → ℕ
+  failed_of faulty = faulty.failed
+
+  -- the next call is one that fails
+  abbrev pub fails_next : Faulty D → Bool
+  fails_next faulty = list_any (λ (n : ℕ). nat_eq n faulty.calls) faulty.failing.items

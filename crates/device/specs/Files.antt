@@ -1,0 +1,22 @@
+-- Files of pages, as contracts name them.
+use Rattle.std.specs.Prelude.{ℕ, List}
+use Rattle.device.specs.declared.file.FileReceipt.{FileReceipt}
+use Rattle.device.specs.declared.file.FileDevice.{FileDevice}
+use Rattle.device.specs.Written.{page_of}
+
+-- the page for which a receipt was given
+abbrev pub page_shown : FileReceipt → List ℕ
+page_shown receipt = page_of receipt.written
+
+-- its number
+abbrev pub receipt_number : FileReceipt → ℕ
+receipt_number receipt = receipt.number
+
+-- a file serves no receipt: what lies in it may change at any time
+abbrev pub IsServed : Type 0
+IsServed = ⊥
+
+module _ {R : Type 0} where
+  -- how many calls of an opening have failed
+  abbrev pub failures_of : FileDevice R → ℕ
+  failures_of device = device.failures

@@ -1,0 +1,263 @@
+// A device that keeps its pages in a file.
+
+ghost use Rattle.std.specs.Prelude.{◌≡◌, ◌<◌, ◌+◌, ◌*◌, ℕ, IfOk, IfSome, OnOk, OnErr, All, vec_len, Some};
+ghost use Rattle.records.specs.Page.{number_of};
+ghost use Rattle.device.specs.Written.{page_of};
+ghost use Rattle.device.specs.declared.places.TheConstants.{MAX_PLACES};
+
+use crate::failures::FailureCount;
+use crate::places::{MAX_PLACES, Places};
+use crate::{Device, DeviceFault, Shows};
+use epoch::{Drained, Retired};
+use records::{PAGE_SIZE, Page};
+use std::alloc::{AllocError, Global};
+use std::error::Error;
+use std::fmt;
+use std::fs::{File, Files, OpenOptions};
+use std::os::unix::fs::FileExt;
+use std::snapshot::Snapshot;
+use std::sync::{Arc, Mutex, Wait};
+
+/// Why there are no openings of a file.
+#[derive(Clone, Copy, Debug, PartialEq, Eq)]
+pub enum OpenFault {
+    /// The file could not be made or emptied, or has no further handle.
+    CannotOpen,
+    /// No memory.
+    OutOfMemory,
+}
+
+impl fmt::Display for OpenFault {
+    ghost use Rattle.device.specs.OpenFaults.{fault_text};
+
+    ghost output = { λ f. Some (fault_text f) };
+
+    fn fmt<W: fmt::Write>(&self, f: &mut fmt::Formatter<W>) -> fmt::Result {
+        match self {
+            OpenFault::CannotOpen => write!(f, "cannot open device"),
+            OpenFault::OutOfMemory => write!(f, "out of memory"),
+        }
+    }
+}
+
+impl Error for OpenFault {}
+
+impl From<AllocError> for OpenFault {
+    fn from(_: AllocError) -> OpenFault {
+        OpenFault::OutOfMemory
+    }
+}
+
+/// A receipt of a `FileDevice`: the place of a page in the file, and the page's number.
+#[derive(Drop)]
+pub struct FileReceipt {
+    place: u32,
+    number: u64,
+    written: Written,
+    ghost placed: { place < MAX_PLACES },
+    ghost numbered: { number ≡ number_of (page_of written) },
+}
+
+// The page that was written. Contracts alone see it.
+#[derive(Drop)]
+pub(crate) enum Written {
+    Page(Snapshot<Page>),
+    Again(Snapshot<Written>),
+}
+
+impl Shows for FileReceipt {
+    ghost use Rattle.std.specs.Prelude.{◌∷◌, drop};
+    ghost use Rattle.std.proofs.Common.{ap};
+
+    ghost shown = { λ r. page_of r.written };
+
+    ghost identity = { λ r. r.place ∷ r.number ∷ page_of r.written };
+
+    ghost is_honest = { ⊥ };
+
+    ghost one_page = { λ r s e. ap (λ l. drop 2 l) e };
+
+    fn again(&self) -> Result<FileReceipt, AllocError> {
+        Ok(FileReceipt {
+            place: self.place,
+            number: self.number,
+            written: Written::Again(Snapshot::of(&self.written)),
+        })
+    }
+
+    /// Whether both have one place, and one page number.
+    fn same(&self, other: &FileReceipt) -> bool {
+        self.place == other.place && self.number == other.number
+    }
+}
+
+/// One opening of a device that keeps its pages in a file, the page of place p at byte p times 16,384.
+/// Each opening has a handle of its own; the openings of a file share the list of places that are taken.
+///
+/// A write takes a free place, one that was released before the file grows, and fails where the system
+/// does not take the whole page: the place is then free again. A read fails where the file is too short,
+/// or where the page that lies there has another number. Neither takes memory. What else is done to the
+/// file changes at most what reads give: the device promises nothing of the pages that they give.
+#[derive(Drop)]
+pub struct FileDevice<'a, R: Wait> {
+    rt: &'a R,
+    file: File,
+    places: Arc<Mutex<Places>>,
+    failures: FailureCount,
+}
+
+impl<'a, R: Wait> FileDevice<'a, R> {
+    ghost use Rattle.device.specs.Files.{failures_of};
+
+    /// Creates the file at a path, or empties it, and gives `n` openings of it, which have not failed.
+    ///
+    /// # Errors
+    ///
+    /// [`OpenFault::CannotOpen`] where the system refuses the file or a handle of it, and
+    /// [`OpenFault::OutOfMemory`].
+    pub fn openings(
+        rt: &'a R,
+        alloc: Global,
+        path: &str,
+        n: usize,
+    ) -> Result<Vec<FileDevice<'a, R>>, OpenFault>
+    where
+        R: Files<File = File>,
+        ensures count { IfOk result (λ v. vec_len v ≡ n) }
+        ensures new { IfOk result (λ v. All (λ d. failures_of d ≡ 0) v.items) }
+    {
+        let file = make_file(rt, path)?;
+        let places = Places::shared(alloc)?;
+        FileDevice::open_all(rt, alloc, &file, &places, n)
+    }
+
+    // So many openings of a file.
+    fn open_all(
+        rt: &'a R,
+        alloc: Global,
+        file: &File,
+        places: &Arc<Mutex<Places>>,
+        n: usize,
+    ) -> Result<Vec<FileDevice<'a, R>>, OpenFault>
+        ensures count { IfOk result (λ v. vec_len v ≡ n) }
+        ensures new { IfOk result (λ v. All (λ d. failures_of d ≡ 0) v.items) }
+    {
+        let mut openings = Vec::with_capacity(alloc, n)?;
+        for _ in 0..n {
+            openings.push_reserved(FileDevice::opening(rt, file, places)?);
+        }
+        Ok(openings)
+    }
+
+    // One more opening of a file.
+    fn opening(
+        rt: &'a R,
+        file: &File,
+        places: &Arc<Mutex<Places>>,
+    ) -> Result<FileDevice<'a, R>, OpenFault>
+        ensures { IfOk result (λ d. failures_of d ≡ 0) }
+    {
+        let places = Arc::try_clone(places)?;
+        match file.try_clone() {
+            Ok(file) => Ok(FileDevice {
+                rt,
+                file,
+                places,
+                failures: FailureCount::new(),
+            }),
+            Err(_) => Err(OpenFault::CannotOpen),
+        }
+    }
+
+    // Counts a failure.
+    fn fault(&mut self) -> DeviceFault
+        ensures { failures_of self.new ≡ failures_of self.old + 1 }
+    {
+        self.failures.note();
+        DeviceFault
+    }
+
+    // Writes a page to a free place.
+    fn put(&self, page: &Page) -> Option<u32>
+        ensures { IfSome result (λ place. place < MAX_PLACES) }
+    {
+        let place = self.places.lock(self.rt).take()?;
+        if self.file.write_all_at(page.bytes(), offset(place)).is_ok() {
+            return Some(place);
+        }
+        self.places.lock(self.rt).give_back(place);
+        None
+    }
+}
+
+// Creates a file, or empties it.
+fn make_file<R: Files<File = File>>(rt: &R, path: &str) -> Result<File, OpenFault> {
+    let mut options = OpenOptions::new();
+    options.read(true).write(true).create(true).truncate(true);
+    match options.open(rt, path) {
+        Ok(file) => Ok(file),
+        Err(_) => Err(OpenFault::CannotOpen),
+    }
+}
+
+// The byte of the file at which a place begins.
+fn offset(place: u32) -> u64
+    ensures { result ≡ place * PAGE_SIZE }
+{
+    place as u64 * PAGE_SIZE as u64
+}
+
+impl<'a, R: Wait> Device for FileDevice<'a, R> {
+    ghost use Rattle.device.specs.Files.{IsServed, failures_of, page_shown, receipt_number};
+    ghost use Rattle.epoch.specs.Seats.{drained_epoch, retired_epoch};
+
+    type Receipt = FileReceipt;
+
+    ghost failures = { λ d. d.failures };
+
+    ghost serves = { λ d r. IsServed };
+
+    ghost is_steady = { ⊥ };
+
+    ghost copies = { λ d r s same served. served };
+
+    ghost honest = { λ s. s };
+
+    ghost steady = { λ s d r. absurd s };
+
+    fn write(&mut self, page: &Page) -> Result<FileReceipt, DeviceFault> {
+        match self.put(page) {
+            Some(place) => Ok(FileReceipt {
+                place,
+                number: page.number(),
+                written: Written::Page(Snapshot::of(page)),
+            }),
+            None => Err(self.fault()),
+        }
+    }
+
+    /// Gives a page only where it has the number of the page that was written.
+    fn read(&mut self, receipt: &FileReceipt, page: &mut Page) -> Result<(), DeviceFault>
+        ensures number { OnOk result (number_of page.new ≡ receipt_number receipt.now) }
+        ensures page { IsServed → OnOk result (page.new ≡ page_shown receipt.now) }
+        ensures failure { OnErr result (failures_of self.new ≡ failures_of self.old + 1) }
+        ensures no_failure { OnOk result (failures_of self.new ≡ failures_of self.old) }
+    {
+        let read = self
+            .file
+            .read_exact_at(page.bytes_mut(), offset(receipt.place));
+        if read.is_ok() && page.number() == receipt.number {
+            return Ok(());
+        }
+        Err(self.fault())
+    }
+
+    /// Frees the place, for the next write.
+    fn release(&mut self, retired: Retired<FileReceipt>, drained: &Drained)
+        requires own_epoch { retired_epoch retired ≡ drained_epoch drained.now }
+        ensures no_failure { failures_of self.new ≡ failures_of self.old }
+    {
+        let receipt = retired.into_value(drained);
+        self.places.lock(self.rt).give_back(receipt.place);
+    }
+}

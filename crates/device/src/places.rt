@@ -1,0 +1,98 @@
+// The places of a file.
+
+ghost use Rattle.std.specs.Prelude.{◌≡◌, ◌≢◌, ◌<◌, ◌≤◌, ℕ, [], vec_len, vec_capacity, IfOk, IfSome, IfNone};
+ghost use Rattle.device.specs.declared.places.TheConstants.{MAX_PLACES};
+
+use std::alloc::{AllocError, Global};
+use std::sync::{Arc, Mutex};
+
+/// The most places of a file: as many as a store has at most, 65,536 in each of 64 stripes.
+pub const MAX_PLACES: usize = 64 * 65_536;
+
+/// What a place is used for.
+#[derive(Clone, Copy, PartialEq, Eq, Drop)]
+pub(crate) enum Place {
+    /// A page lies there, or is being written.
+    Taken,
+    /// Nothing. It comes with the place that was released before it and is free too.
+    Free(Option<u32>),
+}
+
+/// The places of a file, by number. Those released are used again, the last one first, before the file
+/// grows. Memory is reserved for all of them at once, and touched as the file grows.
+#[derive(Drop)]
+pub(crate) struct Places {
+    places: Vec<Place>,
+    /// The free place that was released last.
+    released: Option<u32>,
+    ghost room: { MAX_PLACES ≤ vec_capacity places },
+    ghost most: { vec_len places ≤ MAX_PLACES },
+}
+
+impl Places {
+    ghost use Rattle.device.specs.Places.{IsTaken, count_of, StaySame};
+
+    /// No place is taken.
+    pub(crate) fn new(alloc: Global) -> Result<Places, AllocError>
+        ensures { IfOk result (λ places. count_of places ≡ 0) }
+    {
+        Ok(Places {
+            places: Vec::with_capacity(alloc, MAX_PLACES)?,
+            released: None,
+        })
+    }
+
+    /// The same, for several threads.
+    pub(crate) fn shared(alloc: Global) -> Result<Arc<Mutex<Places>>, AllocError> {
+        let places = Mutex::new(Places::new(alloc)?);
+        match Arc::new(alloc, places) {
+            Ok(shared) => Ok(shared),
+            Err(_) => Err(AllocError),
+        }
+    }
+
+    /// Takes a place that is free.
+    pub(crate) fn take(&mut self) -> Option<u32>
+        ensures was_free { IfSome result (λ place. ¬ IsTaken self.old place) }
+        ensures taken { IfSome result (λ place. IsTaken self.new place) }
+        ensures others { IfSome result (λ place. StaySame place self.old self.new) }
+        ensures number { IfSome result (λ place. place < MAX_PLACES) }
+        ensures full { IfNone result (count_of self.old ≡ MAX_PLACES) }
+    {
+        if let Some(place) = self.released {
+            if let Some(&Place::Free(earlier)) = self.places.get(place as usize) {
+                self.places[place as usize] = Place::Taken;
+                self.released = earlier;
+                return Some(place);
+            }
+        }
+        self.grow()
+    }
+
+    // Takes a place behind all others.
+    fn grow(&mut self) -> Option<u32>
+        ensures was_free { IfSome result (λ place. ¬ IsTaken self.old place) }
+        ensures taken { IfSome result (λ place. IsTaken self.new place) }
+        ensures others { IfSome result (λ place. StaySame place self.old self.new) }
+        ensures number { IfSome result (λ place. place < MAX_PLACES) }
+        ensures full { IfNone result (count_of self.old ≡ MAX_PLACES) }
+    {
+        let place = self.places.len();
+        if place >= MAX_PLACES {
+            return None;
+        }
+        self.places.push_reserved(Place::Taken);
+        Some(place as u32)
+    }
+
+    /// Makes a place free. One that is free stays so.
+    pub(crate) fn give_back(&mut self, place: u32)
+        ensures free { ¬ IsTaken self.new place }
+        ensures others { StaySame place self.old self.new }
+    {
+        if self.places.get(place as usize) == Some(&Place::Taken) {
+            self.places[place as usize] = Place::Free(self.released);
+            self.released = Some(place);
+        }
+    }
+}

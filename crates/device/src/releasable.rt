@@ -1,0 +1,57 @@
+// A receipt with its epoch drained.
+
+ghost use Rattle.std.specs.Prelude.{◌≡◌, ◌≢◌, IfOk, IfErr, OnErr};
+ghost use Rattle.epoch.specs.Seats.{IsOutside, WasBlocked, HasScanned, known, drained_epoch, retired_epoch, retired_value};
+
+use crate::{Device, Shows};
+use epoch::{Drained, EpochSeat, Epochs, Retired};
+
+/// A retirement with its own epoch drained: what a device takes back.
+#[derive(Drop)]
+pub struct Releasable<R> {
+    retired: Retired<R>,
+    drained: Drained,
+    ghost own: { retired_epoch retired ≡ drained_epoch drained },
+}
+
+impl<R> Releasable<R> {
+    ghost use Rattle.device.specs.Releases.{released_value};
+
+    /// Drains the epoch of a retirement.
+    ///
+    /// # Errors
+    ///
+    /// The retirement, where a word that was read blocks its epoch.
+    pub fn drain(
+        epochs: &Epochs,
+        seat: &mut EpochSeat,
+        retired: Retired<R>,
+    ) -> Result<Releasable<R>, Retired<R>>
+        requires outside { IsOutside epochs.now seat.old }
+        ensures outside { IsOutside epochs.now seat.new }
+        ensures told { HasScanned (known seat.old) (known seat.new) }
+        ensures value { IfOk result (λ r. released_value r ≡ retired_value retired) }
+        ensures back { IfErr result (λ same. same ≡ retired) }
+        ensures blocked { OnErr result (WasBlocked (retired_epoch retired) (known seat.old) (known seat.new)) }
+    {
+        match epochs.drained(seat, retired.epoch()) {
+            Some(drained) => Ok(Releasable { retired, drained }),
+            None => Err(retired),
+        }
+    }
+}
+
+impl<R: Shows> Releasable<R> {
+    ghost use Rattle.device.specs.Releases.{released_value};
+
+    /// Gives the receipt back to its device.
+    pub fn release<D: Device<Receipt = R>>(self, device: &mut D)
+        ensures still_served { (r : R) → R.identity r ≢ R.identity (released_value self)
+            → D.serves device.old r → D.serves device.new r }
+
+        ensures no_failure { D.failures device.new ≡ D.failures device.old }
+    {
+        let Releasable { retired, drained } = self;
+        device.release(retired, &drained);
+    }
+}

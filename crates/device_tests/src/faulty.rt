@@ -1,0 +1,68 @@
+// Each call failing in turn, through a device that fails on demand.
+
+use crate::file::{length_of, opened};
+use device::{Device, DeviceFault, Faulty, MemoryDevice};
+use records::Page;
+use std::alloc::Global;
+use std::fs;
+use std::fs::{File, Files};
+use std::sync::Wait;
+
+// Writes a page and reads it, and says which of the two calls failed. A read without a receipt is not tried.
+fn failed_pair<D: Device>(device: &mut D, number: u64) -> (bool, bool) {
+    match device.write(&Page::new(number)) {
+        Ok(receipt) => {
+            let mut page = Page::new(99);
+            (false, device.read(&receipt, &mut page).is_err())
+        }
+        Err(DeviceFault) => (true, false),
+    }
+}
+
+// A device that fails at one call.
+fn failing_at<D: Device>(alloc: Global, device: D, call: u64) -> Option<Faulty<D>> {
+    let failing = [call].to_vec(alloc).ok()?;
+    Some(Faulty::new(device, failing))
+}
+
+// Whether of the calls of two pairs exactly this one fails.
+fn fails_at<D: Device>(alloc: Global, device: D, call: u64) -> Option<bool> {
+    let mut device = failing_at(alloc, device, call)?;
+    let first = failed_pair(&mut device, 5);
+    let second = failed_pair(&mut device, 6);
+    let is_counted = device.calls() == if first.0 || second.0 { 3 } else { 4 };
+    // A first write that fails has no read, so the second pair then has the calls 1 and 2.
+    Some(is_counted && first == (call == 0, call == 1) && second == (call == 2, call == 3))
+}
+
+// The same in memory.
+fn fails_in_memory(alloc: Global, call: u64) -> Option<bool> {
+    let device = MemoryDevice::openings(alloc, 1).ok()?.pop()?;
+    fails_at(alloc, device, call)
+}
+
+// The same in a file.
+fn fails_in_file<R: Wait + Files<File = File>>(
+    rt: &R,
+    alloc: Global,
+    path: &str,
+    call: u64,
+) -> Option<bool> {
+    let device = opened(rt, alloc, path)?;
+    fails_at(alloc, device, call)
+}
+
+#[test]
+fn each_call_fails_in_turn(rt: HostRuntime) {
+    for call in 0..5 {
+        assert!(rt; fails_in_memory(rt.alloc(), call) == Some(true));
+    }
+}
+
+#[test]
+fn a_failed_write_takes_no_place(rt: HostRuntime) {
+    let path = "faulty.pages";
+    assert!(rt; fails_in_file(&rt, rt.alloc(), path, 0) == Some(true));
+    assert!(rt; length_of(&rt, path) == Some(16_384));
+    assert!(rt; fs::remove_file(&rt, path).is_ok());
+}

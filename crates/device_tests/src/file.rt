@@ -1,0 +1,236 @@
+// Pages in files: places used again, files that were changed, and files that take nothing.
+
+ghost use Rattle.epoch.specs.Seats.{IsOutside};
+ghost use Rattle.std.specs.Prelude.{IfSome};
+
+use device::{Device, DeviceFault, FileDevice, OpenFault, Releasable, Shows};
+use epoch::{EpochSeat, Epochs};
+use records::Page;
+use std::alloc::Global;
+use std::fs;
+use std::fs::{File, Files, OpenFile};
+use std::os::unix::fs::FileExt;
+use std::sync::Wait;
+
+/// The bytes of a page.
+const SIZE: u64 = 16_384;
+
+// The only opening of a file.
+pub(crate) fn opened<'a, R: Wait + Files<File = File>>(
+    rt: &'a R,
+    alloc: Global,
+    path: &str,
+) -> Option<FileDevice<'a, R>> {
+    let mut openings = FileDevice::openings(rt, alloc, path, 1).ok()?;
+    openings.pop()
+}
+
+// How long a file is.
+pub(crate) fn length_of<R: Files<File = File>>(rt: &R, path: &str) -> Option<u64> {
+    match fs::metadata(rt, path) {
+        Ok(found) => Some(found.len()),
+        Err(_) => None,
+    }
+}
+
+// The number of the page that is read, if one is.
+fn number_read<D: Device>(device: &mut D, receipt: &D::Receipt) -> Option<u64> {
+    let mut page = Page::new(99);
+    match device.read(receipt, &mut page) {
+        Ok(()) => Some(page.number()),
+        Err(DeviceFault) => None,
+    }
+}
+
+// The number of the page that one opening reads of another's write.
+fn number_across<D: Device>(writer: &mut D, reader: &mut D, number: u64) -> Option<u64> {
+    let receipt = writer.write(&Page::new(number)).ok()?;
+    number_read(reader, &receipt)
+}
+
+// What the first two openings read of one another.
+fn numbers_of_two<D: Device>(openings: &mut [D]) -> Option<[Option<u64>; 2]> {
+    let (one, others) = openings.split_first_mut()?;
+    let two = others.first_mut()?;
+    Some([number_across(one, two, 5), number_across(two, one, 6)])
+}
+
+// What two openings of a file read of one another.
+fn numbers_across<R: Wait + Files<File = File>>(
+    rt: &R,
+    alloc: Global,
+    path: &str,
+) -> Option<[Option<u64>; 2]> {
+    let mut openings = FileDevice::openings(rt, alloc, path, 2).ok()?;
+    numbers_of_two(openings.as_mut_slice())
+}
+
+#[test]
+fn an_opening_reads_what_another_wrote(rt: HostRuntime) {
+    let path = "two_openings.pages";
+    assert!(rt; numbers_across(&rt, rt.alloc(), path) == Some([Some(5), Some(6)]));
+    assert!(rt; length_of(&rt, path) == Some(2 * SIZE));
+    assert!(rt; fs::remove_file(&rt, path).is_ok());
+}
+
+// Epochs with one seat.
+fn epochs(alloc: Global) -> Option<(Epochs, EpochSeat)>
+    ensures { IfSome result (λ made. IsOutside made.0 made.1) }
+{
+    let (epochs, mut seats) = Epochs::new(alloc, 1).ok()?;
+    let seat = seats.pop()?;
+    Some((epochs, seat))
+}
+
+// Retires a receipt, drains its epoch, and releases it.
+fn release<D: Device>(
+    epochs: &Epochs,
+    seat: &mut EpochSeat,
+    device: &mut D,
+    receipt: D::Receipt,
+) -> Option<()>
+    requires { IsOutside epochs.now seat.old }
+    ensures { IsOutside epochs.now seat.new }
+{
+    let retired = epochs.retire(seat, receipt).ok()?;
+    let releasable = Releasable::drain(epochs, seat, retired).ok()?;
+    releasable.release(device);
+    Some(())
+}
+
+// Writes two pages, and releases the first by its receipt and by a copy. Gives the second's receipt.
+fn release_twice<D: Device>(
+    device: &mut D,
+    epochs: &Epochs,
+    seat: &mut EpochSeat,
+) -> Option<D::Receipt>
+    requires { IsOutside epochs.now seat.old }
+{
+    let first = device.write(&Page::new(0)).ok()?;
+    let second = device.write(&Page::new(1)).ok()?;
+    let copy = first.again().ok()?;
+    release(epochs, seat, device, copy);
+    release(epochs, seat, device, first);
+    Some(second)
+}
+
+// The numbers of the pages that are read after two more writes: by a receipt from before, and by theirs.
+fn numbers_after<D: Device>(device: &mut D, before: &D::Receipt) -> Option<[Option<u64>; 3]> {
+    let one = device.write(&Page::new(2)).ok()?;
+    let two = device.write(&Page::new(3)).ok()?;
+    Some([
+        number_read(device, before),
+        number_read(device, &one),
+        number_read(device, &two),
+    ])
+}
+
+// The same, where a place was released twice.
+fn numbers_after_releases<D: Device>(alloc: Global, device: &mut D) -> Option<[Option<u64>; 3]> {
+    let (epochs, mut seat) = epochs(alloc)?;
+    let kept = release_twice(device, &epochs, &mut seat)?;
+    numbers_after(device, &kept)
+}
+
+// The same in a file.
+fn numbers_in_file<R: Wait + Files<File = File>>(
+    rt: &R,
+    alloc: Global,
+    path: &str,
+) -> Option<[Option<u64>; 3]> {
+    let mut device = opened(rt, alloc, path)?;
+    numbers_after_releases(alloc, &mut device)
+}
+
+#[test]
+fn a_released_place_is_used_again(rt: HostRuntime) {
+    let path = "released.pages";
+    let numbers = numbers_in_file(&rt, rt.alloc(), path);
+    assert!(rt; numbers == Some([Some(1), Some(2), Some(3)]));
+    assert!(rt; length_of(&rt, path) == Some(3 * SIZE));
+    assert!(rt; fs::remove_file(&rt, path).is_ok());
+}
+
+// Writes bytes over the front of a file, and cuts it.
+fn change<R: Files<File = File>>(rt: &R, path: &str, bytes: &[u8], len: u64) -> Option<()> {
+    let file = fs::OpenOptions::new().write(true).open(rt, path).ok()?;
+    file.write_all_at(bytes, 0).ok()?;
+    file.set_len(len).ok()
+}
+
+// The number of the page that is read after page 5 was written and a file was changed.
+fn number_after<D: Device, R: Files<File = File>>(
+    rt: &R,
+    device: &mut D,
+    path: &str,
+    bytes: &[u8],
+    len: u64,
+) -> Option<u64> {
+    let receipt = device.write(&Page::new(5)).ok()?;
+    change(rt, path, bytes, len)?;
+    number_read(device, &receipt)
+}
+
+// The same, where the device is in that file.
+fn number_after_change<R: Wait + Files<File = File>>(
+    rt: &R,
+    alloc: Global,
+    path: &str,
+    bytes: &[u8],
+    len: u64,
+) -> Option<u64> {
+    let mut device = opened(rt, alloc, path)?;
+    number_after(rt, &mut device, path, bytes, len)
+}
+
+#[test]
+fn a_file_cut_short_is_a_fault(rt: HostRuntime) {
+    let path = "cut.pages";
+    assert!(rt; number_after_change(&rt, rt.alloc(), path, &[], SIZE) == Some(5));
+    assert!(rt; number_after_change(&rt, rt.alloc(), path, &[], SIZE - 1).is_none());
+    assert!(rt; number_after_change(&rt, rt.alloc(), path, &[], 100).is_none());
+    assert!(rt; fs::remove_file(&rt, path).is_ok());
+}
+
+#[test]
+fn other_bytes_are_a_fault_or_another_page(rt: HostRuntime) {
+    let path = "other.pages";
+    let (ones, five) = ([255; 16_384], [5, 0, 0, 0, 0, 0, 0, 0, 255]);
+    assert!(rt; number_after_change(&rt, rt.alloc(), path, &five, SIZE) == Some(5));
+    assert!(rt; number_after_change(&rt, rt.alloc(), path, &ones, SIZE).is_none());
+    let other = Page::new(6);
+    assert!(rt; number_after_change(&rt, rt.alloc(), path, other.bytes(), SIZE).is_none());
+    assert!(rt; fs::remove_file(&rt, path).is_ok());
+}
+
+#[test]
+fn a_file_that_cannot_be_made(rt: HostRuntime) {
+    let openings = FileDevice::openings(&rt, rt.alloc(), "no/such/folder/pages", 1);
+    assert!(rt; openings.err() == Some(OpenFault::CannotOpen));
+}
+
+// Whether a page is written to a file.
+fn is_written<R: Wait + Files<File = File>>(rt: &R, alloc: Global, path: &str) -> Option<bool> {
+    let mut device = opened(rt, alloc, path)?;
+    Some(device.write(&Page::new(5)).is_ok())
+}
+
+// Whether a file can be opened.
+fn is_opened<R: Wait + Files<File = File>>(rt: &R, alloc: Global, path: &str) -> bool {
+    opened(rt, alloc, path).is_some()
+}
+
+#[test]
+fn a_full_disk_is_a_fault(rt: HostRuntime) {
+    assert!(rt; is_written(&rt, rt.alloc(), "/dev/full") == Some(false));
+}
+
+#[test]
+fn openings_empty_the_file(rt: HostRuntime) {
+    let path = "emptied.pages";
+    assert!(rt; is_written(&rt, rt.alloc(), path) == Some(true));
+    assert!(rt; length_of(&rt, path) == Some(SIZE));
+    assert!(rt; is_opened(&rt, rt.alloc(), path));
+    assert!(rt; length_of(&rt, path) == Some(0));
+    assert!(rt; fs::remove_file(&rt, path).is_ok());
+}

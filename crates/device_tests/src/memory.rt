@@ -1,0 +1,179 @@
+ghost use Rattle.std.specs.Prelude.{◌≡◌, ◌+◌, ◌<◌, IfOk, IfSome, IsErrOf, IsTrue, OnErr, OnOk};
+
+use device::{Device, DeviceFault, MemoryDevice, MemoryReceipt, Shows};
+use records::Page;
+use std::alloc::{AllocError, Global};
+use std::test::Fail;
+
+// Callers that know a device by its contract alone.
+
+#[derive(Debug, Drop)]
+enum Trouble {
+    Memory,
+    Device,
+}
+
+// Writes a page, reads it back by a copy of the receipt, and keeps the receipt.
+fn write_and_read<D: Device>(
+    device: &mut D,
+    page: &Page,
+    seen: &mut Page,
+) -> Result<D::Receipt, Trouble>
+    ensures receipt { IfOk result (λ r. D.Receipt.shown r ≡ page.now) }
+    ensures honest { D.Receipt.is_honest → OnOk result (seen.new ≡ page.now) }
+    ensures steady { D.is_steady → OnOk result (seen.new ≡ page.now) }
+    ensures fault { IsErrOf result Trouble.Device → D.failures device.old < D.failures device.new }
+{
+    let Ok(receipt) = device.write(page) else {
+        return Err(Trouble::Device);
+    };
+    let Ok(copy) = receipt.again() else {
+        return Err(Trouble::Memory);
+    };
+    match device.read(&copy, seen) {
+        Ok(()) => Ok(receipt),
+        Err(DeviceFault) => Err(Trouble::Device),
+    }
+}
+
+// Writes a page through one opening, and reads it through another.
+fn write_and_read_elsewhere<D: Device>(
+    writer: &mut D,
+    reader: &mut D,
+    page: &Page,
+    seen: &mut Page,
+) -> Result<D::Receipt, DeviceFault>
+    ensures receipt { IfOk result (λ r. D.Receipt.shown r ≡ page.now) }
+    ensures steady { D.is_steady → OnOk result (seen.new ≡ page.now) }
+    ensures fault { OnErr result (D.failures writer.old + D.failures reader.old < D.failures writer.new + D.failures reader.new) }
+{
+    let receipt = writer.write(page)?;
+    reader.read(&receipt, seen)?;
+    Ok(receipt)
+}
+
+// The page that was read by one receipt, if it is the one that another shows.
+fn page_for<'a, R: Shows>(read_by: &R, page: &'a Page, wanted: &R) -> Option<&'a Page>
+    requires { page.now ≡ R.shown read_by.now }
+    ensures { R.is_honest → IfSome result (λ p. p.now ≡ R.shown wanted.now) }
+{
+    if read_by.same(wanted) {
+        Some(page)
+    } else {
+        None
+    }
+}
+
+// The same at the device in memory.
+fn is_written_and_read(device: &mut MemoryDevice, page: &Page, seen: &mut Page) -> bool
+    ensures { IsTrue result → seen.new ≡ page.now }
+{
+    write_and_read(device, page, seen).is_ok()
+}
+
+fn moves_to_a_thread<T: Send>(_value: &T) {}
+
+// Two openings. Where one allocation is refused, the next call has it.
+fn two_openings(alloc: Global) -> Result<(MemoryDevice, MemoryDevice), Fail> {
+    let openings = MemoryDevice::openings(alloc, 2);
+    let mut openings = match openings {
+        Ok(openings) => openings,
+        Err(_) => MemoryDevice::openings(alloc, 2)?,
+    };
+    let second = openings.pop().ok_or("no second opening")?;
+    let first = openings.pop().ok_or("no first opening")?;
+    if openings.pop().is_some() {
+        return Err(Fail::from("a third opening"));
+    }
+    Ok((first, second))
+}
+
+// A receipt for the page. Where one allocation is refused, the next call has it.
+fn written(device: &mut MemoryDevice, page: &Page) -> Result<MemoryReceipt, DeviceFault> {
+    match device.write(page) {
+        Ok(receipt) => Ok(receipt),
+        Err(DeviceFault) => device.write(page),
+    }
+}
+
+#[test]
+fn an_opening_reads_what_another_wrote(rt: HostRuntime) -> Result<(), Fail> {
+    let (mut writer, mut reader) = two_openings(rt.alloc())?;
+    moves_to_a_thread(&writer);
+    let mut page = Page::new(5);
+    let receipt = written(&mut writer, &page)?;
+    moves_to_a_thread(&receipt);
+    page.reset(6);
+    drop(writer);
+    let mut seen = Page::new(7);
+    reader.read(&receipt, &mut seen)?;
+    assert_eq!(rt; seen.number(), 5);
+    Ok(())
+}
+
+// Whether a receipt is the same as itself, as a copy, and as another one, and that one as the copy.
+fn sames<R: Shows>(receipt: &R, other: &R) -> Result<[bool; 4], AllocError> {
+    let copy = receipt.again()?;
+    Ok([
+        receipt.same(receipt),
+        receipt.same(&copy),
+        receipt.same(other),
+        other.same(&copy),
+    ])
+}
+
+// The same for two receipts in memory.
+fn sames_in_memory(device: &mut MemoryDevice) -> Option<[bool; 4]> {
+    let receipt = written(device, &Page::new(5)).ok()?;
+    let other = written(device, &Page::new(6)).ok()?;
+    sames(&receipt, &other).ok()
+}
+
+#[test]
+fn a_copy_is_the_same_receipt(rt: HostRuntime) -> Result<(), Fail> {
+    let (mut device, _) = two_openings(rt.alloc())?;
+    assert!(rt; sames_in_memory(&mut device) == Some([true, true, false, false]));
+    Ok(())
+}
+
+// Reads a page by a copy, once the receipt that it was copied from is gone.
+fn is_read_by_copy(device: &mut MemoryDevice, seen: &mut Page) -> Option<bool> {
+    let receipt = written(device, &Page::new(5)).ok()?;
+    let copy = receipt.again().ok()?;
+    drop(receipt);
+    device.read(&copy, seen).ok()?;
+    Some(page_for(&copy, seen, &copy).is_some())
+}
+
+#[test]
+fn a_copy_keeps_the_page(rt: HostRuntime) -> Result<(), Fail> {
+    let (mut device, _) = two_openings(rt.alloc())?;
+    let mut seen = Page::new(7);
+    assert!(rt; is_read_by_copy(&mut device, &mut seen) == Some(true));
+    assert!(rt; seen.number() == 5);
+    Ok(())
+}
+
+#[test]
+fn a_generic_caller_gets_its_page(rt: HostRuntime) -> Result<(), Fail> {
+    let (mut device, _) = two_openings(rt.alloc())?;
+    let page = Page::new(5);
+    let mut seen = Page::new(7);
+    let first = is_written_and_read(&mut device, &page, &mut seen);
+    assert!(rt; first || is_written_and_read(&mut device, &page, &mut seen));
+    assert!(rt; seen == page);
+    Ok(())
+}
+
+#[test]
+fn a_generic_caller_reads_through_another_opening(rt: HostRuntime) -> Result<(), Fail> {
+    let (mut device, mut other) = two_openings(rt.alloc())?;
+    let page = Page::new(5);
+    let mut seen = Page::new(7);
+    let first = write_and_read_elsewhere(&mut device, &mut other, &page, &mut seen).is_ok();
+    assert!(rt;
+        first || write_and_read_elsewhere(&mut device, &mut other, &page, &mut seen).is_ok()
+    );
+    assert!(rt; seen == page);
+    Ok(())
+}

@@ -1,0 +1,52 @@
+use Rattle.std.proofs.Common.{◌≡◌, ◌∙◌, ◌+◌, ◌-◌, ℕ, [], All, false, sym, ap, subst, arith}
+use Rattle.atomic_table.specs.Table.{Me}
+use Rattle.epoch.specs.declared.view.View.{View}
+use Rattle.epoch.specs.Plays.{standing}
+use Rattle.epoch.specs.Seats.{IsOutside}
+use Rattle.epoch.specs.declared.epochs.EpochSeat.{EpochSeat}
+use Rattle.std.proofs.lemmas.List.Elements.{All-push}
+use Rattle.epoch.proofs.Steps.{deals}
+use Rattle.epoch.proofs.epochs.Epochs.deal.Goals as goal
+
+pub split_seat-others-requires : goal.split_seat-others-requires
+split_seat-others-requires c =
+    let i = c.loop-number.invariant in
+    let sized = c.args.self.now.sized in
+    let shared = c.args.self.now.table.shared in (
+      i.0,
+      omega arith,
+      deals shared.key c.loop-number.others.id c.loop-number.others.me.0 c.loop-number.number (c.args.self.now.seats - c.loop-number.number)
+          (omega (arith, c.loop-number-test.true)) (ap (λ m. m.0) i.1),
+    )
+
+pub loop-number-preserved : goal.loop-number-preserved
+loop-number-preserved c =
+    let i = c.loop-number.invariant in
+    let number = c.loop-number.number in
+    let seats = c.args.self.now.seats in
+    let more = c.loop-number-test.true in
+    let s = c.split_seat-others.ensures in
+    let me : c.split_seat-others.new.seat.me ≡ (standing number 1, []) = s.2 ∙ ap (λ (m : Me ℕ View). (standing m.0.first 1, m.1)) i.1 in
+    let left : (seats - number) - 1 ≡ seats - (number + 1) = omega arith in
+    let others : c.split_seat-others.result.me ≡ (standing (number + 1) (seats - (number + 1)), []) =
+    s.4 ∙ ap (λ (m : Me ℕ View). (standing (m.0.first + 1) (m.0.count - 1), [])) i.1 ∙ ap (λ (k : ℕ). (standing (number + 1) k, [])) left in
+    let seat : EpochSeat = record { number = number; last = 1; armed = false; seat = c.split_seat-others.new.seat } in (
+      s.3 ∙ i.0,
+      others,
+      omega (arith, c.push_reserved.ensures.len, i.2),
+      omega (arith, c.push_reserved.ensures.capacity, i.3),
+      subst (All (IsOutside c.args.self.now)) (sym c.push_reserved.ensures.items)
+          (All-push (IsOutside c.args.self.now) c.loop-number.dealt.items seat i.4
+          record {
+            is = record {
+              table = s.0 ∙ i.0;
+              below = more;
+              first = ap (λ (m : Me ℕ View). m.0.first) me;
+              single = ap (λ (m : Me ℕ View). m.0.count) me;
+              armed = sym (ap (λ (m : Me ℕ View). m.0.armed) me);
+              last = omega arith;
+            };
+            cleared = ap (λ (m : Me ℕ View). m.0.own) me;
+            none = ap (λ (m : Me ℕ View). m.0.valid) me;
+          }),
+    )

@@ -1,0 +1,4 @@
+pub mod Clear
+pub mod Rule
+pub mod Plays
+pub mod Seats

@@ -1,0 +1,265 @@
+-- How the live records of the oldest page are copied.
+use Rattle.std.proofs.Common.{◌≡◌, ℕ, ◌+◌, ◌*◌, ◌<◌, ◌≤◌, ◌⊎◌, inl, inr, ◌-◌, ◌/◌, ◌%◌, length, take, drop, slice_index, List, [], ◌∷◌, ◌++◌, Some, refl, sym, ap, ◌∙◌, subst, arith}
+use Rattle.std.specs.List.{Contains}
+use Rattle.std.proofs.lemmas.List.Elements.{Contains-append_cases}
+use Rattle.std.proofs.lemmas.Bool.{cases_Bool}
+use Rattle.std.specs.Prelude.{slice_index_or}
+use Rattle.records.specs.Fields.{u16_at}
+use Rattle.records.specs.Page.{used_end}
+use Rattle.records.specs.Records.{Stored, size_of, placed, end_from, records_of, IsLaidOut, value_bytes, value_of_kind, fields_at, IsRecordAt}
+use Rattle.hybrid.proofs.Placed.{Split, split_at, placed-append, end_from-append, end_from-le}
+use Rattle.hybrid.specs.Log.{newest, IsAppended, begin_of}
+use Rattle.std.proofs.Common.{true, false, ◌==◌, Bool, zero-add}
+use Rattle.std.proofs.lemmas.List.{length-take}
+use Rattle.hybrid.specs.HybridLog.{IsGrown, HasRoom, HybridLog, log_of, SameContents}
+use Rattle.hybrid.specs.Staging.{IsLive, IsDead, IsCopied, AreShort, AreMarked}
+use Rattle.hybrid.proofs.Tail.{grown-none, grown-more}
+use Rattle.hybrid.proofs.Logs.{some_is, cons_cases, here, there, newest-put, newest-put_same, contents-newest, contents-alike}
+
+-- ---- going over the records of a page
+
+-- a record begins here, or the used part ends
+abbrev pub IsPlace : List (ℕ × Stored) → ℕ → ℕ → Type 0
+IsPlace records end at = (at ≡ end) ⊎ ((r : Stored) × Contains records (at, r))
+
+placed-from : (start : ℕ) (rs : List Stored) (o : ℕ) (r : Stored) → Contains (placed start rs) (o, r) → (start ≤ o) × (o + size_of r ≤ end_from start rs)
+placed-from start [] o r c = absurd (omega (arith, c.1))
+placed-from start (x ∷ rs) o r c =
+    elim (cons_cases (start, x) (placed (start + size_of x) rs) (o, r) c) [
+      | inl e ↦ let at : start ≡ o = ap (λ (p : ℕ × Stored). p.0) e in let it : x ≡ r = ap (λ (p : ℕ × Stored). p.1) e in
+          let size : size_of x ≡ size_of r = ap (λ (s : Stored). size_of s) it in
+          (omega arith, omega (arith, at, size, end_from-le (start + size_of x) rs))
+      | inr d ↦ let more = placed-from (start + size_of x) rs o r d in (omega (arith, more.0), more.1)
+    ]
+
+pub record IsStep (page : List ℕ) (at : ℕ) (r : Stored) : Type 0 where
+  pub place : IsPlace (records_of page) (used_end page) (at + size_of r)
+  pub before : (o : ℕ) (s : Stored) → Contains (records_of page) (o, s) → o < at + size_of r → (o < at) ⊎ ((o ≡ at) × (s ≡ r))
+  pub within : at + size_of r ≤ used_end page
+
+pub step : (page : List ℕ) (at : ℕ) (r : Stored) → IsLaidOut page → Contains (records_of page) (at, r) → IsStep page at r
+step page at r laid c = go split split.after refl
+  where
+    listed : Contains (placed 16 laid.stored) (at, r)
+    listed = subst (λ (ps : List (ℕ × Stored)). Contains ps (at, r)) laid.records c
+
+    split : Split 16 laid.stored at r
+    split = split_at 16 laid.stored at r listed.0 listed.1 listed.2
+
+    go : (s : Split 16 laid.stored at r) (after : List Stored) → s.after ≡ after → IsStep page at r
+    go s after is =
+        let whole : laid.stored ≡ s.before ++ r ∷ after = s.whole ∙ ap (λ (rs : List Stored). s.before ++ r ∷ rs) is in
+        let records : records_of page ≡ placed 16 s.before ++ (at, r) ∷ placed (at + size_of r) after =
+        laid.records ∙ ap (placed 16) whole ∙ placed-append 16 s.before (r ∷ after) ∙ ap (λ (n : ℕ). placed 16 s.before ++ (n, r) ∷ placed (n + size_of r) after) (sym s.at) in
+        let end : used_end page ≡ end_from (at + size_of r) after = laid.used ∙ ap (end_from 16) whole ∙ end_from-append 16 s.before (r ∷ after) ∙ ap (λ (n : ℕ). end_from (n + size_of r) after) (sym s.at) in
+        record {
+          place = next after s.before records end;
+          before = λ o t d lt. elim (Contains-append_cases (placed 16 s.before) ((at, r) ∷ placed (at + size_of r) after) (o, t) (subst (λ (ps : List (ℕ × Stored)). Contains ps (o, t)) records d)) [
+            | inl low ↦ inl (omega (arith, placed-from 16 s.before o t low, s.at))
+            | inr high ↦ elim (cons_cases (at, r) (placed (at + size_of r) after) (o, t) high) [
+              | inl e ↦ inr (sym (ap (λ (p : ℕ × Stored). p.0) e), sym (ap (λ (p : ℕ × Stored). p.1) e))
+              | inr past ↦ absurd (omega (arith, placed-from (at + size_of r) after o t past))
+            ]
+          ];
+          within = omega (arith, end, end_from-le (at + size_of r) after);
+        }
+      where
+        right : (xs ys : List (ℕ × Stored)) (y : ℕ × Stored) → Contains ys y → Contains (xs ++ ys) y
+        right [] ys y d = d
+        right (x ∷ xs) ys y d = there x (xs ++ ys) y (right xs ys y d)
+
+        next : (after before : List Stored) → records_of page ≡ placed 16 before ++ (at, r) ∷ placed (at + size_of r) after → used_end page ≡ end_from (at + size_of r) after → IsPlace (records_of page) (used_end page) (at + size_of r)
+        next [] before records end = inl (sym end)
+        next (x ∷ after) before records end = inr (
+          x,
+          subst (λ (ps : List (ℕ × Stored)). Contains ps (at + size_of r, x)) (sym records)
+              (right (placed 16 before) ((at, r) ∷ placed (at + size_of r) (x ∷ after)) (at + size_of r, x) (there (at, r) (placed (at + size_of r) (x ∷ after)) (at + size_of r, x) (here (at + size_of r, x) (placed (at + size_of r + size_of x) after)))),
+        )
+
+-- ---- what is done when the records before `at` have been gone over
+
+pub record IsDone (old now : HybridLog) (page : List ℕ) (at : ℕ) : Type 0 where
+  pub same : SameContents old now
+  pub first : (key : List ℕ) (a : ℕ) (r : Stored) → newest (log_of now) key ≡ Some (a, r) → a < begin_of (old.oldest + 1) → newest (log_of old) key ≡ Some (a, r)
+  pub dead : (o : ℕ) (r : Stored) → Contains (records_of page) (o, r) → o < at → IsDead (log_of now) (old.oldest * 16384 + o) r
+  pub place : IsPlace (records_of page) (used_end page) at
+
+pub done-start : (old : HybridLog) (page : List ℕ) → IsLaidOut page → IsDone old old page 16
+done-start old page laid = record {
+  same = λ key. refl;
+  first = λ key a r e lt. e;
+  dead = λ o r c lt. absurd (omega (arith, placed-from 16 laid.stored o r (subst (λ (ps : List (ℕ × Stored)). Contains ps (o, r)) laid.records c)));
+  place = begins laid.stored laid.records laid.used;
+}
+  where
+    begins : (rs : List Stored) → records_of page ≡ placed 16 rs → used_end page ≡ end_from 16 rs → IsPlace (records_of page) (used_end page) 16
+    begins [] records end = inl (sym end)
+    begins (r ∷ rs) records end = inr (r, subst (λ (ps : List (ℕ × Stored)). Contains ps (16, r)) (sym records) (here (16, r) (placed (16 + size_of r) rs)))
+
+pub done-skip : (old now : HybridLog) (page : List ℕ) (at : ℕ) (r : Stored) → IsLaidOut page → Contains (records_of page) (at, r) → used_end page ≤ 16384 → IsDead (log_of old) (old.oldest * 16384 + at) r
+    → IsDone old now page at → IsDone old now page (at + size_of r)
+done-skip old now page at r laid c short gone done =
+    let s = step page at r laid c in
+    record {
+      same = done.same;
+      first = done.first;
+      dead = λ o t d lt. elim (s.before o t d lt) [
+        | inl low ↦ done.dead o t d low
+        | inr e ↦ λ h.
+            let h_here : newest (log_of now) r.key ≡ Some (old.oldest * 16384 + at, r) = rw (← e.0, ← e.1) h in
+            let small : old.oldest * 16384 + at < begin_of (old.oldest + 1) = omega (arith, s.within) in
+            ap (λ (x : Stored). x.value) e.1 ∙ gone (done.first r.key (old.oldest * 16384 + at) r h_here small)
+      ];
+      place = s.place;
+    }
+
+pub done-copy : (old now next : HybridLog) (page : List ℕ) (at t : ℕ) (r : Stored) → IsLaidOut page → Contains (records_of page) (at, r) → used_end page ≤ 16384 → IsLive (log_of old) (old.oldest * 16384 + at) r
+    → IsAppended (log_of now) (log_of next) t r.key r.value → begin_of (old.oldest + 1) ≤ t
+    → IsDone old now page at → IsDone old next page (at + size_of r)
+done-copy old now next page at t r laid c short live put far done =
+    let s = step page at r laid c in
+    record {
+      same = same;
+      first = λ key a x e lt. elim (cases key) [
+        | inl y ↦ absurd (let it : (t, put.put) ≡ (a, x) = some_is (t, put.put) (a, x) (sym y.1 ∙ e) in omega (arith, ap (λ (p : ℕ × Stored). p.0) it))
+        | inr n ↦ done.first key a x (sym n ∙ e) lt
+      ];
+      dead = λ o x d lt h. elim (cases x.key) [
+        | inl y ↦ absurd (let it : (t, put.put) ≡ (old.oldest * 16384 + o, x) = some_is (t, put.put) (old.oldest * 16384 + o, x) (sym y.1 ∙ h) in
+            omega (arith, ap (λ (p : ℕ × Stored). p.0) it, s.within, lt))
+        | inr n ↦ elim (s.before o x d lt) [
+          | inl low ↦ done.dead o x d low (sym n ∙ h)
+          | inr e ↦ absurd (let h_here : newest (log_of next) r.key ≡ Some (old.oldest * 16384 + at, r) = rw (← e.0, ← e.1) h in
+              let it : (t, put.put) ≡ (old.oldest * 16384 + at, r) = some_is (t, put.put) (old.oldest * 16384 + at, r) (sym newest_here ∙ h_here) in
+              omega (arith, ap (λ (p : ℕ × Stored). p.0) it, s.within))
+        ]
+      ];
+      place = s.place;
+    }
+  where
+    cases : (q : List ℕ) → ((put.put.key ≡ q) × (newest (log_of next) q ≡ Some (t, put.put))) ⊎ (newest (log_of next) q ≡ newest (log_of now) q)
+    cases q = rw put.log (newest-put (log_of now) t put.put q)
+
+    newest_here : newest (log_of next) r.key ≡ Some (t, put.put)
+    newest_here = rw put.log (newest-put_same (log_of now) t put.put r.key put.key_is)
+
+    same : SameContents old next
+    same q = elim (cases q) [
+      | inl y ↦
+          let old_is : newest (log_of old) q ≡ Some (old.oldest * 16384 + at, r) = subst (λ (k : List ℕ). newest (log_of old) k ≡ Some (old.oldest * 16384 + at, r)) (sym put.key_is ∙ y.0) live.newest in
+          contents-newest (log_of next) q (Some (t, put.put)) y.1 ∙ put.value_is ∙ sym (contents-newest (log_of old) q (Some (old.oldest * 16384 + at, r)) old_is)
+      | inr n ↦ contents-alike (log_of next) (log_of now) q n ∙ done.same q
+    ]
+
+pub done-all : (old now : HybridLog) (page : List ℕ) (at : ℕ) → IsLaidOut page → IsDone old now page at → ((r : Stored) → Contains (records_of page) (at, r) → ⊥) → IsCopied old now page
+done-all old now page at laid done no_more = elim done.place [
+  | inl end ↦ record {
+    same = done.same;
+    dead = λ o r c. done.dead o r c (omega (arith, end, laid.used, placed-from 16 laid.stored o r (subst (λ (ps : List (ℕ × Stored)). Contains ps (o, r)) laid.records c)));
+  }
+  | inr more ↦ absurd (no_more more.0 more.1)
+]
+
+-- ---- what the copying loop keeps
+
+pub record IsCopying (old now : HybridLog) (page : List ℕ) (live : List Bool) (at weight whole : ℕ) : Type 0 where
+  pub used : ℕ
+  pub parts : used + weight ≡ whole
+  pub grown : IsGrown old now used
+  pub room : HasRoom now weight
+  pub left : 32768 ≤ weight + 2 * at
+  pub low : 16 ≤ at
+  pub high : at ≤ 16384
+  pub done : IsLaidOut page → AreShort (records_of page) → AreMarked (log_of old) old.oldest (records_of page) live → IsDone old now page at
+
+-- a record that was read lies in the page
+pub record IsRead (at : ℕ) (s : Stored) : Type 0 where
+  pub low : 16 ≤ at
+  pub within : at + size_of s ≤ 16384
+  pub aligned : at % 8 ≡ 0
+  pub key : length s.key ≤ 512
+  pub value : length (value_bytes s.value) ≤ s.capacity
+
+value-of-kind : (kind : ℕ) (bytes : List ℕ) → length (value_bytes (value_of_kind kind bytes)) ≤ length bytes
+value-of-kind kind bytes = elim (cases_Bool (kind == 2)) [ inl y ↦ rw y (omega arith) | inr n ↦ rw n (omega arith) ]
+
+take-short : (n : ℕ) (xs : List ℕ) → length (take n xs) ≤ n
+take-short n xs = omega (arith, length-take n xs)
+
+pub read-fits : (page : List ℕ) (at : ℕ) (s : Stored) → IsRecordAt page at → s ≡ fields_at page at → IsRead at s
+unfolding fields_at
+read-fits page at s is e = subst (λ (x : Stored). IsRead at x) (sym e) (record {
+  low = is.past_header;
+  within = omega (arith, is.within, is.ends_in_page, take-short (u16_at page (at + 16)) (drop (at + 24) page));
+  aligned = is.aligned;
+  key = omega (arith, is.key_length, take-short (u16_at page (at + 16)) (drop (at + 24) page));
+  value = omega (arith, is.value_length, value-of-kind (slice_index page (at + 22)) (take (u16_at page (at + 18)) (drop (at + 24 + u16_at page (at + 16)) page)), take-short (u16_at page (at + 18)) (drop (at + 24 + u16_at page (at + 16)) page));
+})
+
+-- the three steps of the loop
+
+pub copying-start : (p : HybridLog) (page : List ℕ) (live : List Bool) (weight : ℕ) → HasRoom p weight → 32736 ≤ weight → IsCopying p p page live 16 weight weight
+copying-start p page live weight room enough = record {
+  used = 0;
+  parts = zero-add weight;
+  grown = grown-none p;
+  room = room;
+  left = omega arith;
+  low = omega arith;
+  high = omega arith;
+  done = λ laid short marked. done-start p page laid;
+}
+
+-- what stands at the offset of a page that is laid out
+abbrev pub IsFound : List ℕ → ℕ → Stored → Type 0
+IsFound page at s = IsLaidOut page → (r : Stored) → Contains (records_of page) (at, r) → s ≡ r
+
+no-more : (page : List ℕ) (at : ℕ) → IsLaidOut page → at ≡ used_end page → at < used_end page → ⊥
+no-more page at laid e lt = omega arith
+
+-- the record at a place that was read
+pub listed : (page : List ℕ) (at : ℕ) (s : Stored) → IsPlace (records_of page) (used_end page) at → at < used_end page → ((r : Stored) → Contains (records_of page) (at, r) → s ≡ r) → Contains (records_of page) (at, s)
+listed page at s (inl e) lt found = absurd (omega arith)
+listed page at s (inr more) lt found = subst (λ (x : Stored). Contains (records_of page) (at, x)) (sym (found more.0 more.1)) more.1
+
+pub copying-skip : (old now : HybridLog) (page : List ℕ) (live : List Bool) (at weight whole : ℕ) (s : Stored) → IsRecordAt page at → s ≡ fields_at page at
+    → (IsLaidOut page → (r : Stored) → Contains (records_of page) (at, r) → s ≡ r)
+    → (IsLaidOut page → AreShort (records_of page) → AreMarked (log_of old) old.oldest (records_of page) live → Contains (records_of page) (at, s) → IsDead (log_of old) (old.oldest * 16384 + at) s)
+    → IsCopying old now page live at weight whole → IsCopying old now page live (at + size_of s) weight whole
+copying-skip old now page live at weight whole s is e found dead h =
+    let read = read-fits page at s is e in
+    record {
+      used = h.used;
+      parts = h.parts;
+      grown = h.grown;
+      room = h.room;
+      left = omega (arith, h.left);
+      low = omega (arith, h.low);
+      high = omega (arith, read.within);
+      done = λ laid short marked.
+          let before = h.done laid short marked in
+          let c : Contains (records_of page) (at, s) = listed page at s before.place is.used (found laid) in
+          done-skip old now page at s laid c is.ends_in_page (dead laid short marked c) before;
+    }
+
+pub copying-copy : (old now next : HybridLog) (page : List ℕ) (live : List Bool) (at weight whole t : ℕ) (s : Stored) → IsRecordAt page at → s ≡ fields_at page at
+    → (IsLaidOut page → (r : Stored) → Contains (records_of page) (at, r) → s ≡ r)
+    → slice_index_or live (at / 8) false ≡ true
+    → 48 + length s.key + length (value_bytes s.value) ≤ weight
+    → HasRoom next (weight - (48 + length s.key + length (value_bytes s.value))) → IsGrown now next (48 + length s.key + length (value_bytes s.value)) → IsAppended (log_of now) (log_of next) t s.key s.value → begin_of now.resident.oldest ≤ t → old.oldest < old.resident.oldest
+    → IsCopying old now page live at weight whole → IsCopying old next page live (at + size_of s) (weight - (48 + length s.key + length (value_bytes s.value))) whole
+copying-copy old now next page live at weight whole t s is e found mark enough room grown put far cold h =
+    let read = read-fits page at s is e in
+    record {
+      used = h.used + (48 + length s.key + length (value_bytes s.value));
+      parts = omega (arith, h.parts, enough);
+      grown = grown-more old now next h.used (48 + length s.key + length (value_bytes s.value)) h.grown grown;
+      room = room;
+      left = omega (arith, h.left, read.value);
+      low = omega (arith, h.low);
+      high = omega (arith, read.within);
+      done = λ laid short marked.
+          let before = h.done laid short marked in
+          let c : Contains (records_of page) (at, s) = listed page at s before.place is.used (found laid) in
+          done-copy old now next page at t s laid c is.ends_in_page ((marked at s c).0 mark) put (omega (arith, far, h.grown.first)) before;
+    }

@@ -1,0 +1,113 @@
+-- The loop of a lookup.
+use Rattle.std.proofs.Common.{◌≡◌, ℕ, ◌-◌, ◌*◌, ◌/◌, ◌%◌, ◌<◌, ◌≤◌, inl, inr, List, [], ◌∷◌, length, slice_index, Option, Some, None, refl, sym, ap, ◌∙◌, subst, arith, mod-lt}
+use Rattle.std.specs.List.{Contains}
+use Rattle.records.specs.Records.{Stored, records_of, IsLaidOut}
+use Rattle.frames.specs.Resident.{next_number}
+use Rattle.hybrid.specs.Hash.{hash_of}
+use Rattle.hybrid.specs.Log.{Log, begin_of, top}
+use Rattle.hybrid.specs.HybridLog.{HybridLog, Kept, IsHybridLog, bucket_of, log_of, page_at, shown_page, cold, receipt_at, receipt_of}
+use Rattle.hybrid.specs.Lookups.{Leads}
+use Rattle.std.proofs.lemmas.List.{get_or_append_left, get_or-take}
+use Rattle.hybrid.proofs.Logs.{here}
+use Rattle.hybrid.proofs.Chains.{joins_low}
+use Rattle.hybrid.proofs.Walk.{IsWalk, IsHere, walk-here, walk-start, here-visited}
+use Rattle.hybrid.proofs.Overwriting.{at-page}
+use Rattle.hybrid.proofs.Replacing.{cold-size}
+use Rattle.hybrid.proofs.Parts.{shown-at}
+use Rattle.std.proofs.Common.{map, take}
+use Rattle.std.specs.Prelude.{IsSome, IfSome, IfNone, nat_lt}
+use Rattle.std.proofs.Common.{false}
+use Rattle.std.proofs.lemmas.Bool.{le-ltb}
+
+-- what the loop keeps
+pub record IsFinding (honest right : Type 0) (p : HybridLog) (key : List ℕ) (address : ℕ) : Type 0 where
+  pub below : address < next_number p.resident * 16384
+  pub walk : honest → right → IsWalk (bucket_of p) (begin_of p.oldest) (log_of p) key address
+
+pub record IsStart (p : HybridLog) (key : List ℕ) (address : ℕ) : Type 0 where
+  pub is : IsHybridLog p
+  pub below : address < next_number p.resident * 16384
+  pub walk : IsWalk (bucket_of p) (begin_of p.oldest) (log_of p) key address
+
+top-in : (p : HybridLog) (log : Log) → IsHybridLog p → ((e : ℕ × Stored) → Contains log e → Contains (log_of p) e) → top log < next_number p.resident * 16384
+top-in p [] is within = omega (arith, is.tail)
+top-in p (e ∷ log) is within = omega (arith, (at-page p e is (within e (here e log))).high)
+
+start : (p : HybridLog) (key : List ℕ) → IsHybridLog p → IsStart p key (slice_index p.heads (bucket_of p key))
+start p key is =
+    let w = walk-start p key is in
+    record {
+      is = is;
+      below = elim (joins_low (bucket_of p) (begin_of p.oldest) (log_of p) (slice_index p.heads (bucket_of p key)) (bucket_of p key) is.linked (is.joined (bucket_of p key) (mod-lt _ is.buckets))) [
+        | inl l ↦ omega (arith, l, is.live, is.tail)
+        | inr l ↦ omega (arith, l, top-in p (log_of p) is (λ e c. c))
+      ];
+      walk = w;
+    }
+
+-- the walk starts at the head of the bucket
+pub start-from : (v now : HybridLog) (key : List ℕ) (hash a : ℕ) → v ≡ now → IsHybridLog v → hash ≡ hash_of key → a ≡ slice_index v.heads (hash / v.stripes % length v.heads) → IsStart now key a
+start-from v now key hash a same is hashed at =
+    let at_head : a ≡ slice_index v.heads (bucket_of v key) = at ∙ ap (λ (h : ℕ). slice_index v.heads (h / v.stripes % length v.heads)) hashed in
+    subst (λ (q : HybridLog). IsStart q key a) same (subst (λ (n : ℕ). IsStart v key n) (sym at_head) (start v key is))
+
+-- the record that the walk has come to stands in the page of its address
+pub record IsSeen (p : HybridLog) (key : List ℕ) (address : ℕ) (page : List ℕ) : Type 0 where
+  pub found : IsHere (bucket_of p) (begin_of p.oldest) (log_of p) key address
+  pub laid : IsLaidOut page
+  pub listed : Contains (records_of page) (address % 16384, found.stored)
+
+pub seen : (p : HybridLog) (key : List ℕ) (address number : ℕ) (page : List ℕ) → IsHybridLog p → begin_of p.oldest ≤ address → IsWalk (bucket_of p) (begin_of p.oldest) (log_of p) key address → number ≡ address / 16384 → page ≡ page_at p number → IsSeen p key address page
+seen p key address number page is low walk at same =
+    let h = walk-here (bucket_of p) (begin_of p.oldest) (log_of p) key address low walk in
+    let f = at-page p (address, h.stored) is h.listed in
+    let there : page_at p (address / 16384) ≡ page = sym (same ∙ ap (page_at p) at) in
+    record {
+      found = h;
+      laid = subst IsLaidOut there f.laid;
+      listed = subst (λ (q : List ℕ). Contains (records_of q) (address % 16384, h.stored)) there f.listed;
+    }
+
+-- it leads there
+pub leads-here : (p : HybridLog) (key : List ℕ) (address number : ℕ) → begin_of p.oldest ≤ address → IsWalk (bucket_of p) (begin_of p.oldest) (log_of p) key address → number ≡ address / 16384 → Leads p key number
+leads-here p key address number low walk at =
+    let h = walk-here (bucket_of p) (begin_of p.oldest) (log_of p) key address low walk in
+    record { entry = (address, h.stored); listed = here-visited (bucket_of p) (begin_of p.oldest) (log_of p) key address h; there = sym at }
+
+-- ---- a page that is not resident
+
+-- a page of the log that is not resident is the one that its receipt shows
+pub page-cold : (p : HybridLog) (number : ℕ) (k : Kept) → IsHybridLog p → p.oldest ≤ number → number < p.resident.oldest → receipt_of p number ≡ Some k → page_at p number ≡ k.shown
+page-cold p number k is low high has =
+    let i : ℕ = number - p.oldest in
+    let lt : i < cold p = omega (arith, low, high) in
+    let fits : cold p ≤ length p.kept = omega (arith, is.numbered, is.live) in
+    get_or_append_left (map shown_page (take (cold p) p.kept)) p.resident.pages [] i (omega (arith, lt, cold-size p is)) ∙ (shown-at (take (cold p) p.kept) i k (get_or-take (cold p) p.kept i None lt ∙ has)).1
+
+-- there is a receipt of it
+pub receipt-there : (p : HybridLog) (number : ℕ) → p.oldest ≤ number → receipt_at p number ≡ receipt_of p number
+receipt-there p number low = let f : nat_lt number p.oldest ≡ false = le-ltb number p.oldest low in rw f refl
+
+pub cold-none : (p : HybridLog) (number : ℕ) → IsHybridLog p → p.oldest ≤ number → number < p.resident.oldest → None ≡ receipt_at p number → ⊥
+cold-none p number is low high e =
+    let some : IsSome (receipt_of p number) = is.cold_kept (number - p.oldest) (omega (arith, low, high)) in
+    let none : receipt_of p number ≡ None = sym (e ∙ receipt-there p number low) in
+    absurd (let bad : IsSome {T = Kept} None = subst (λ (o : Option Kept). IsSome o) none some in cc)
+
+pub cold-has : (p : HybridLog) (number : ℕ) (k : Kept) → p.oldest ≤ number → Some k ≡ receipt_at p number → receipt_of p number ≡ Some k
+cold-has p number k low e = sym (e ∙ receipt-there p number low)
+
+pub now-is : (v now : HybridLog) → v ≡ now → IsHybridLog v → IsHybridLog now
+now-is v now same is = subst (λ (q : HybridLog). IsHybridLog q) same is
+
+pub some-so : {X : Type 0} (o : Option X) (P Q : X → Type 0) → ((x : X) → P x → Q x) → IfSome o P → IfSome o Q
+some-so None P Q f h = tt
+some-so (Some x) P Q f h = f x h
+
+pub none-so : {X : Type 0} (o : Option X) (P Q : Type 0) → (P → Q) → IfNone o P → IfNone o Q
+none-so None P Q f h = f h
+none-so (Some x) P Q f h = tt
+
+pub never-none : {X : Type 0} (o : Option X) (P : Type 0) → IsSome o → IfNone o P
+never-none None P h = absurd cc
+never-none (Some x) P h = tt

@@ -1,0 +1,142 @@
+-- What the loop of flushes and drops keeps.
+use Rattle.std.proofs.Common.{◌≡◌, ℕ, zero, suc, ◌+◌, ◌-◌, ◌/◌, ◌<◌, ◌≤◌, ◌^◌, inl, inr, List, [], ◌∷◌, length, drop, set, Option, Some, None, refl, sym, ap, ◌∙◌, subst, arith, length-set, true, false}
+use Rattle.std.specs.Prelude.{slice_index_or, IsSome, nat_lt}
+use Rattle.std.proofs.lemmas.List.{get_or-set_other, length-drop, drop-drop}
+use Rattle.std.proofs.lemmas.Bool.{cases_eq, cases_lt, lt-ltb, le-ltb}
+use Rattle.frames.specs.Resident.{Resident, next_number, without_oldest}
+use Rattle.hybrid.specs.HybridLog.{HybridLog, Kept, HasRoom, count_kept, free, log_of, pages_for, receipt_of, tail_bytes, with_dropped, with_receipt}
+use Rattle.hybrid.specs.Reserving.{IsFlushed, IsReserved}
+
+pub record IsReserving (old now : HybridLog) (before failures needed : ℕ) : Type 0 where
+  pub count : ℕ
+  pub reserved : IsReserved old now count
+  pub log : log_of now ≡ log_of old
+  pub same : failures ≡ before
+  pub few : count ≤ needed - free old
+  pub frames : free now ≡ free old + count
+  pub still : needed ≤ free old → now ≡ old
+  pub numbers : 0 < needed → next_number now.resident ≤ 2 ^ 46
+
+pub reserving-start : (p : HybridLog) (failures needed : ℕ) → (0 < needed → next_number p.resident ≤ 2 ^ 46) → IsReserving p p failures failures needed
+reserving-start p failures needed numbers = record {
+  count = 0;
+  reserved = record {
+    oldest = refl;
+    resident = ap (λ (n : ℕ). record { oldest = n; pages = p.resident.pages; frames = p.resident.frames }) (omega arith);
+    heads = refl;
+    stripes = refl;
+    places = refl;
+    size = refl;
+    still = λ number k e. e;
+    others = λ number low. refl;
+    counted = refl;
+  };
+  log = refl;
+  same = refl;
+  few = omega arith;
+  frames = omega arith;
+  still = λ enough. refl;
+  numbers = numbers;
+}
+
+-- one receipt more
+count-more : (l : List (Option Kept)) (i : ℕ) (k : Kept) → i < length l → slice_index_or l i None ≡ None → count_kept (set l i (Some k)) ≡ count_kept l + 1
+count-more [] i k lt e = absurd (omega (arith, lt))
+count-more (None ∷ l) zero k lt e = omega arith
+count-more (Some x ∷ l) zero k lt e = absurd cc
+count-more (None ∷ l) (suc i) k lt e = count-more l i k (omega (arith, lt)) e
+count-more (Some x ∷ l) (suc i) k lt e = omega (arith, count-more l i k (omega (arith, lt)) e)
+
+not-some : (o : Option Kept) (x : Kept) → o ≡ None → o ≡ Some x → ⊥
+not-some None x a b = absurd cc
+not-some (Some y) x a b = absurd cc
+
+pub none-of : {X : Type 0} (o : Option X) → (IsSome o → ⊥) → o ≡ None
+none-of None h = refl
+none-of (Some x) h = absurd (h refl)
+
+-- what a flush leaves of the receipts
+record IsMore (now mid : HybridLog) : Type 0 where
+  pub oldest : mid.oldest ≡ now.oldest
+  pub resident : mid.resident ≡ now.resident
+  pub heads : mid.heads ≡ now.heads
+  pub stripes : mid.stripes ≡ now.stripes
+  pub places : mid.places ≡ now.places
+  pub size : length mid.kept ≡ length now.kept
+  pub still : (number : ℕ) (k : Kept) → receipt_of now number ≡ Some k → receipt_of mid number ≡ Some k
+  pub others : (number : ℕ) → now.resident.oldest < number → receipt_of mid number ≡ receipt_of now number
+  pub counted : mid.unreleased + count_kept now.kept ≡ now.unreleased + count_kept mid.kept
+
+more-none : (p : HybridLog) → IsMore p p
+more-none p = record { oldest = refl; resident = refl; heads = refl; stripes = refl; places = refl; size = refl; still = λ number k e. e; others = λ number low. refl; counted = refl }
+
+more-one : (p : HybridLog) (k : Kept) → p.oldest ≤ p.resident.oldest → p.resident.oldest - p.oldest < length p.kept → receipt_of p p.resident.oldest ≡ None → IsMore p (record (with_receipt p p.resident.oldest k) { unreleased = p.unreleased + 1 })
+more-one p k live inside none = record {
+  oldest = refl;
+  resident = refl;
+  heads = refl;
+  stripes = refl;
+  places = refl;
+  size = length-set p.kept (p.resident.oldest - p.oldest) (Some k);
+  still = λ number x e. elim (cases_eq (number - p.oldest) (p.resident.oldest - p.oldest)) [
+    | inl at ↦ absurd (not-some (receipt_of p p.resident.oldest) x none (ap (λ (i : ℕ). slice_index_or p.kept i None) (sym at) ∙ e))
+    | inr apart ↦ get_or-set_other p.kept (p.resident.oldest - p.oldest) (number - p.oldest) (Some k) None apart ∙ e
+  ];
+  others = λ number low. get_or-set_other p.kept (p.resident.oldest - p.oldest) (number - p.oldest) (Some k) None (omega (arith, low, live));
+  counted = omega (arith, count-more p.kept (p.resident.oldest - p.oldest) k inside none);
+}
+
+flushed-more : (now mid : HybridLog) → now.oldest ≤ now.resident.oldest → now.resident.oldest - now.oldest < length now.kept → IsFlushed now mid → IsMore now mid
+flushed-more now mid live inside flushed = elim flushed.how [
+  | inl same ↦ subst (λ (q : HybridLog). IsMore now q) (sym same) (more-none now)
+  | inr k ↦ subst (λ (q : HybridLog). IsMore now q) (sym k.2) (more-one now k.0 live inside k.1)
+]
+
+pub reserving-step : (old now mid next : HybridLog) (before failures failures_now needed : ℕ) → IsReserving old now before failures needed → free now < needed → failures_now ≡ failures → now.oldest ≤ now.resident.oldest → now.oldest + length now.kept ≡ next_number now.resident → 0 < length now.resident.pages → length now.resident.pages ≤ now.resident.frames
+    → IsFlushed now mid → next ≡ with_dropped mid → log_of mid ≡ log_of now → log_of next ≡ log_of mid → IsReserving old next before failures_now needed
+reserving-step old now mid next before failures failures_now needed h lacks fail live numbered some fits flushed dropped log_mid log_next =
+    let m = flushed-more now mid live (omega (arith, numbered, live, some)) flushed in
+    let r = h.reserved in
+    let resident_is : next.resident ≡ without_oldest now.resident = ap (λ (q : HybridLog). q.resident) dropped ∙ ap without_oldest m.resident in
+    let count : length next.resident.pages ≡ length now.resident.pages - 1 = ap (λ (q : Resident). length q.pages) resident_is ∙ length-drop 1 now.resident.pages in
+    let first : next.resident.oldest ≡ now.resident.oldest + 1 = ap (λ (q : Resident). q.oldest) resident_is in
+    let frames : next.resident.frames ≡ now.resident.frames = ap (λ (q : Resident). q.frames) resident_is in
+    record {
+      count = h.count + 1;
+      reserved = record {
+        oldest = ap (λ (q : HybridLog). q.oldest) dropped ∙ m.oldest ∙ r.oldest;
+        resident = resident_is ∙ ap without_oldest r.resident
+            ∙ ap (λ (n : ℕ). record { oldest = n; pages = drop 1 (drop h.count old.resident.pages); frames = old.resident.frames }) (omega arith)
+            ∙ ap (λ (l : List (List ℕ)). record { oldest = old.resident.oldest + (h.count + 1); pages = l; frames = old.resident.frames }) (drop-drop 1 h.count old.resident.pages);
+        heads = ap (λ (q : HybridLog). q.heads) dropped ∙ m.heads ∙ r.heads;
+        stripes = ap (λ (q : HybridLog). q.stripes) dropped ∙ m.stripes ∙ r.stripes;
+        places = ap (λ (q : HybridLog). q.places) dropped ∙ m.places ∙ r.places;
+        size = ap (λ (q : HybridLog). length q.kept) dropped ∙ m.size ∙ r.size;
+        still = λ number k e. ap (λ (q : HybridLog). receipt_of q number) dropped ∙ m.still number k (r.still number k e);
+        others = λ number low. ap (λ (q : HybridLog). receipt_of q number) dropped ∙ m.others number (omega (arith, low, first)) ∙ r.others number (omega (arith, low, first));
+        counted = omega (arith, r.counted, m.counted, ap (λ (q : HybridLog). q.unreleased) dropped, ap (λ (q : HybridLog). count_kept q.kept) dropped);
+      };
+      log = log_next ∙ log_mid ∙ h.log;
+      same = fail ∙ h.same;
+      few = omega (arith, h.few, h.frames, lacks);
+      frames = omega (arith, h.frames, count, frames, some, fits);
+      still = λ enough. absurd (omega (arith, lacks, ap (λ (q : HybridLog). free q) (h.still enough), enough));
+      numbers = λ any. omega (arith, h.numbers any, first, count, some);
+    }
+
+pub pages-some : (p : HybridLog) (weight : ℕ) → 16368 < weight + tail_bytes p → weight / 7640 + 1 ≡ pages_for p weight
+pages-some p weight lt = let t : nat_lt 16368 (weight + tail_bytes p) ≡ true = lt-ltb 16368 (weight + tail_bytes p) lt in rw t refl
+
+pub pages-none : (p : HybridLog) (weight : ℕ) → weight + tail_bytes p ≤ 16368 → 0 ≡ pages_for p weight
+pages-none p weight le = let t : nat_lt 16368 (weight + tail_bytes p) ≡ false = le-ltb 16368 (weight + tail_bytes p) le in rw t refl
+
+pub room-reserved : (old now : HybridLog) (weight before failures : ℕ) → weight ≤ 49152 → IsReserving old now before failures (pages_for old weight) → pages_for old weight ≤ free now → HasRoom now weight
+room-reserved old now weight before failures light h enough = elim (cases_lt 16368 (weight + tail_bytes old)) [
+  | inl lt ↦
+      let pages = pages-some old weight lt in
+      record { room = inr (record { frames = inr (omega (arith, pages, enough)); numbers = omega (arith, h.numbers (omega (arith, pages)), light) }) }
+  | inr le ↦
+      let pages = pages-none old weight (omega (arith, le)) in
+      let same : now ≡ old = h.still (omega (arith, pages)) in
+      subst (λ (q : HybridLog). HasRoom q weight) (sym same) (record { room = inl (omega (arith, le)) })
+]

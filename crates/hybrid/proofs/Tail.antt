@@ -1,0 +1,165 @@
+-- The tail page.
+use Rattle.std.proofs.Common.{◌≡◌, ℕ, zero, suc, ◌+◌, ◌-◌, ◌*◌, ◌<◌, ◌≤◌, ◌⊎◌, inl, inr, List, [], ◌∷◌, ◌++◌, length, take, map, replicate, ◌/◌, Option, None, refl, sym, ap, ◌∙◌, subst, arith, length-append, append_assoc, add-zero}
+use Rattle.std.specs.Prelude.{slice_index_or}
+use Rattle.std.proofs.lemmas.List.{length-map, length-take-le, get_or-append_right, append-nil, replicate-append-replicate}
+use Rattle.records.specs.Page.{empty_page, used_end}
+use Rattle.records.specs.Records.{size_for, IsLaidOut}
+use Rattle.hybrid.proofs.Placed.{end_from-le}
+use Rattle.frames.specs.Resident.{Resident, next_number, IsEmptyPage, with_opened}
+use Rattle.hybrid.specs.Log.{AllLaid}
+use Rattle.hybrid.specs.HybridLog.{HybridLog, Kept, IsHybridLog, IsPut, IsGrown, HasFrames, HasRoom, pages_of, shown_page, cold, free, tail_bytes, with_page_opened}
+
+pub laid-at : (n : ℕ) (ps : List (List ℕ)) (i : ℕ) → AllLaid n ps → i < length ps → IsLaidOut (slice_index_or ps i [])
+laid-at n [] i laid lt = absurd (omega arith)
+laid-at n (p ∷ ps) zero laid lt = laid.0
+laid-at n (p ∷ ps) (suc i) laid lt = laid-at (n + 1) ps i laid.2 (omega arith)
+
+pub tail-laid : (p : HybridLog) → IsHybridLog p → IsLaidOut (slice_index_or p.resident.pages (length p.resident.pages - 1) [])
+tail-laid p is =
+    let cold_pages : List (List ℕ) = map shown_page (take (cold p) p.kept) in
+    let last : ℕ = length p.resident.pages - 1 in
+    let size : length cold_pages ≡ cold p = length-map (take (cold p) p.kept) shown_page ∙ length-take-le (cold p) p.kept (omega (arith, is.numbered, is.live)) in
+    let all : length (pages_of p) ≡ cold p + length p.resident.pages = length-append cold_pages p.resident.pages ∙ ap (λ (n : ℕ). n + length p.resident.pages) size in
+    let page : slice_index_or (pages_of p) (cold p + (length p.resident.pages - 1)) [] ≡ slice_index_or p.resident.pages (length p.resident.pages - 1) [] =
+    get_or-append_right cold_pages p.resident.pages (cold p) (cold p + (length p.resident.pages - 1)) [] size (omega arith) ∙ ap (λ (n : ℕ). slice_index_or p.resident.pages n []) (let e : cold p + (length p.resident.pages - 1) - cold p ≡ length p.resident.pages - 1 = omega arith in e) in
+    subst (λ (b : List ℕ). IsLaidOut b) page (laid-at p.oldest (pages_of p) (cold p + (length p.resident.pages - 1)) is.laid (omega (arith, all, is.tail)))
+
+pub used-fits : (page : List ℕ) → IsLaidOut page → (16 ≤ used_end page) × (used_end page ≤ 16384)
+used-fits page laid = (omega (arith, laid.used, end_from-le 16 laid.stored), laid.in_page)
+
+-- ---- the room of a call: the weight that is left, the bytes of records in the tail page, the free frames
+
+-- a put into the tail page
+pub grown-put : (a b : HybridLog) (x s : ℕ) → s ≤ x → tail_bytes b ≡ tail_bytes a + s → IsPut a b → IsGrown a b x
+grown-put a b x s small bytes p = record {
+  opened = 0;
+  few = omega arith;
+  oldest = p.oldest;
+  kept = p.kept ∙ sym (append-nil a.kept);
+  first = p.first;
+  next = omega (arith, p.first, p.count);
+  frames = p.frames;
+  stripes = p.stripes;
+  unreleased = p.unreleased;
+  places = p.places;
+  bytes = omega (arith, bytes, small);
+  closed = inl refl;
+}
+
+-- a put into a page that was opened for it
+pub grown-opened : (a b : HybridLog) (x s : ℕ) → s ≤ x → s ≤ 8728 → 16368 < tail_bytes a + s → tail_bytes b ≡ s → IsPut (with_page_opened a) b → IsGrown a b x
+grown-opened a b x s small short full bytes p = record {
+  opened = 1;
+  few = omega arith;
+  oldest = p.oldest;
+  kept = p.kept;
+  first = p.first;
+  next = omega (arith, p.first, p.count, length-append a.resident.pages (empty_page (next_number a.resident) ∷ []));
+  frames = p.frames;
+  stripes = p.stripes;
+  unreleased = p.unreleased;
+  places = p.places;
+  bytes = omega (arith, bytes, small, short, full);
+  closed = inr (omega (arith, bytes, small));
+}
+
+pub grown-none : (p : HybridLog) → IsGrown p p 0
+grown-none p = record { opened = 0; few = omega arith; oldest = refl; kept = sym (append-nil p.kept); first = refl; next = sym (add-zero (next_number p.resident)); frames = refl; stripes = refl; unreleased = refl; places = refl; bytes = omega arith; closed = inl refl }
+
+few-so : (opened tail weight : ℕ) → (opened ≡ 0) ⊎ (7640 * (opened - 1) + tail ≤ weight) → opened ≤ weight / 7640 + 1
+few-so opened tail weight (inl e) = omega (arith, e)
+few-so opened tail weight (inr l) = omega (arith, l)
+
+closed-more : (n m t1 t2 u v : ℕ) → 7640 * m + t2 ≤ t1 + v → (n ≡ 0) ⊎ (7640 * (n - 1) + t1 ≤ u) → (m ≡ 0) ⊎ (7640 * (m - 1) + t2 ≤ v) → ((n + m) ≡ 0) ⊎ (7640 * (n + m - 1) + t2 ≤ u + v)
+closed-more zero m t1 t2 u v b f (inl g) = inl (omega (arith, g))
+closed-more zero m t1 t2 u v b f (inr g) = inr (let e : zero + m ≡ m = omega arith in omega (arith, g, e))
+closed-more (suc n) m t1 t2 u v b (inl bad) g = absurd (omega (arith, bad))
+closed-more (suc n) m t1 t2 u v b (inr f) g = inr (omega (arith, f, b))
+
+pub grown-more : (a b c : HybridLog) (u v : ℕ) → IsGrown a b u → IsGrown b c v → IsGrown a c (u + v)
+grown-more a b c u v f g =
+    let closed : ((f.opened + g.opened) ≡ 0) ⊎ (7640 * (f.opened + g.opened - 1) + tail_bytes c ≤ u + v) = closed-more f.opened g.opened (tail_bytes b) (tail_bytes c) u v g.bytes f.closed g.closed in
+    record {
+      opened = f.opened + g.opened;
+      few = few-so (f.opened + g.opened) (tail_bytes c) (u + v) closed;
+      oldest = g.oldest ∙ f.oldest;
+      kept = g.kept ∙ ap (λ (l : List (Option Kept)). l ++ replicate g.opened None) f.kept ∙ append_assoc a.kept (replicate f.opened None) (replicate g.opened None) ∙ ap (λ (l : List (Option Kept)). a.kept ++ l) (replicate-append-replicate f.opened g.opened None);
+      first = g.first ∙ f.first;
+      next = omega (arith, f.next, g.next);
+      frames = g.frames ∙ f.frames;
+      stripes = g.stripes ∙ f.stripes;
+      unreleased = g.unreleased ∙ f.unreleased;
+      places = g.places ∙ f.places;
+      bytes = omega (arith, f.bytes, g.bytes);
+      closed = closed;
+    }
+
+pub grown-less : (a b : HybridLog) (u w : ℕ) → u ≤ w → IsGrown a b u → IsGrown a b w
+grown-less a b u w le f =
+    let closed : (f.opened ≡ 0) ⊎ (7640 * (f.opened - 1) + tail_bytes b ≤ w) = elim f.closed [ inl e ↦ inl e | inr l ↦ inr (omega (arith, l, le)) ] in
+    record {
+      opened = f.opened;
+      few = few-so f.opened (tail_bytes b) w closed;
+      oldest = f.oldest;
+      kept = f.kept;
+      first = f.first;
+      next = f.next;
+      frames = f.frames;
+      stripes = f.stripes;
+      unreleased = f.unreleased;
+      places = f.places;
+      bytes = omega (arith, f.bytes, le);
+      closed = closed;
+    }
+
+pub opened-tail : (a : HybridLog) → IsEmptyPage (next_number a.resident) (empty_page (next_number a.resident)) → tail_bytes (with_page_opened a) ≡ 0
+opened-tail a empty =
+    let more : length (a.resident.pages ++ empty_page (next_number a.resident) ∷ []) ≡ length a.resident.pages + 1 = length-append a.resident.pages (empty_page (next_number a.resident) ∷ []) in
+    let last : slice_index_or (a.resident.pages ++ empty_page (next_number a.resident) ∷ []) (length (a.resident.pages ++ empty_page (next_number a.resident) ∷ []) - 1) [] ≡ empty_page (next_number a.resident) =
+    ap (λ (n : ℕ). slice_index_or (a.resident.pages ++ empty_page (next_number a.resident) ∷ []) n []) (let e : length (a.resident.pages ++ empty_page (next_number a.resident) ∷ []) - 1 ≡ length a.resident.pages = omega (arith, more) in e)
+    ∙ get_or-append_right a.resident.pages (empty_page (next_number a.resident) ∷ []) (length a.resident.pages) (length a.resident.pages) [] refl (omega arith) ∙ ap (λ (n : ℕ). slice_index_or (empty_page (next_number a.resident) ∷ []) n []) (let e : length a.resident.pages - length a.resident.pages ≡ 0 = omega arith in e) in
+    let end : used_end (slice_index_or (a.resident.pages ++ empty_page (next_number a.resident) ∷ []) (length (a.resident.pages ++ empty_page (next_number a.resident) ∷ []) - 1) []) ≡ 16 = ap used_end last ∙ empty.end in
+    omega (arith, end)
+
+-- the room that is left after a put into the tail page
+pub room-put : (a b : HybridLog) (w x s : ℕ) → s ≤ x → x ≤ w → IsPut a b → tail_bytes b ≡ tail_bytes a + s → HasRoom a w → HasRoom b (w - x)
+room-put a b w x s small fits put bytes has = record {
+  room = elim has.room [
+    | inl l ↦ inl (omega (arith, l, bytes, small, fits))
+    | inr h ↦ inr (record {
+      frames = elim h.frames [ inl l ↦ inl (omega (arith, l, bytes, put.frames, put.count)) | inr l ↦ inr (omega (arith, l, put.frames, put.count)) ];
+      numbers = omega (arith, h.numbers, put.first, put.count);
+    })
+  ];
+}
+
+-- where the tail page is full a frame is free, and the page that is opened there has room
+pub room-frames : (a : HybridLog) (w x s : ℕ) → s ≤ x → x ≤ w → 16368 < tail_bytes a + s → HasRoom a w → HasFrames a w
+room-frames a w x s small fits full has = elim has.room [
+  | inl l ↦ absurd (omega (arith, l, small, fits, full))
+  | inr h ↦ h
+]
+
+pub room-opened : (a : HybridLog) (w x s : ℕ) → s ≤ x → x ≤ w → 1 ≤ x → s ≤ 8728 → 16368 < tail_bytes a + s → HasFrames a w → 0 < free a
+room-opened a w x s small fits some short full h = elim h.frames [ inl l ↦ omega (arith, l) | inr l ↦ omega (arith, l) ]
+
+pub room-put-opened : (a b : HybridLog) (w x s : ℕ) → s ≤ x → x ≤ w → 1 ≤ x → s ≤ 8728 → 16368 < tail_bytes a + s → IsPut (with_page_opened a) b → tail_bytes b ≡ s → HasFrames a w → HasRoom b (w - x)
+room-put-opened a b w x s small fits some short full put bytes h =
+    let more : length (a.resident.pages ++ empty_page (next_number a.resident) ∷ []) ≡ length a.resident.pages + 1 = length-append a.resident.pages (empty_page (next_number a.resident) ∷ []) in
+    record {
+      room = inr (record {
+        frames = inl (elim h.frames [ inl l ↦ omega (arith, l, bytes, put.frames, put.count, more) | inr l ↦ omega (arith, l, bytes, put.frames, put.count, more) ]);
+        numbers = omega (arith, h.numbers, put.first, put.count, more);
+      });
+    }
+
+-- a record is no larger than what its write weighs
+pub size-small : (k v : ℕ) → size_for k v ≤ 48 + k + v
+size-small k v = omega arith
+
+-- a record of a key and a value that fit is no larger than the largest
+pub size-short : (k v : ℕ) → k ≤ 512 → v ≤ 8192 → size_for k v ≤ 8728
+size-short k v a b = omega arith
+
+pub opened-tail-from : (v now : HybridLog) (frames : Resident) → v ≡ now → frames ≡ with_opened v.resident → IsEmptyPage (next_number v.resident) (empty_page (next_number v.resident)) → used_end (slice_index_or frames.pages (length frames.pages - 1) []) - 16 ≡ 0
+opened-tail-from v now frames same fr empty = ap (λ (r : Resident). used_end (slice_index_or r.pages (length r.pages - 1) []) - 16) fr ∙ opened-tail v empty

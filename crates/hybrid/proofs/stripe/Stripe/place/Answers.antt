@@ -1,0 +1,59 @@
+use Rattle.std.proofs.Common.{◌≡◌, ◌≤◌, ◌∙◌, ap, sym, refl, arith}
+use Rattle.records.specs.Read.{shown}
+use Rattle.frames.specs.Resident.{first_mutable}
+use Rattle.hybrid.specs.Log.{begin_of}
+use Rattle.hybrid.specs.HybridLog.{HybridLog, bucket_of, log_of}
+use Rattle.hybrid.proofs.Walk.{here-link}
+use Rattle.hybrid.proofs.Finding.{start-from, now-is}
+use Rattle.hybrid.proofs.Placing.{reached, place-here, place-small, place-below}
+use Rattle.hybrid.proofs.stripe.Stripe.place.Goals as goal
+
+pub loop-address-init : goal.loop-address-init
+loop-address-init g c =
+    (start-from _ _ c.args.key.now c.args.hash c.head-address.result c.self.view_is c.self.invariant.0 c.requires c.head-address.ensures.head).walk
+
+pub unreachable-requires : goal.unreachable-requires
+unreachable-requires g c =
+    let first : c.first_mutable.result ≡ first_mutable c.args.self.now.resident = c.first_mutable.ensures ∙ ap (λ (q : HybridLog). first_mutable q.resident) c.self.view_is in
+    let low : begin_of (first_mutable c.args.self.now.resident) ≤ c.loop-address.address = omega (arith, c.loop-address-test.true, first) in
+    let r = reached c.args.self.now c.args.key.now c.loop-address.address (now-is _ _ c.self.view_is c.self.invariant.0) low c.loop-address.invariant in
+    c.in_default.ensures r.found.stored r.there
+
+pub returns-then-size-record : goal.returns-then-size-record
+returns-then-size-record g c =
+    let first : c.first_mutable.result ≡ first_mutable c.args.self.now.resident = c.first_mutable.ensures ∙ ap (λ (q : HybridLog). first_mutable q.resident) c.self.view_is in
+    let low : begin_of (first_mutable c.args.self.now.resident) ≤ c.loop-address.address = omega (arith, c.loop-address-test.true, first) in
+    let r = reached c.args.self.now c.args.key.now c.loop-address.address (now-is _ _ c.self.view_is c.self.invariant.0) low c.loop-address.invariant in
+    let same : shown c.in-Some.record ≡ r.found.stored = c.in-Some.ensures r.found.stored r.there in
+    place-here c.args.self.now c.args.key.now c.args.size c.loop-address.address low r.found (ap (λ x. x.key) (sym same) ∙ c.if-has_key.ensures.0 refl) (omega (arith, c.if-size-record.true, ap (λ x. x.capacity) same))
+
+pub returns-else-size-record : goal.returns-else-size-record
+returns-else-size-record g c =
+    let first : c.first_mutable.result ≡ first_mutable c.args.self.now.resident = c.first_mutable.ensures ∙ ap (λ (q : HybridLog). first_mutable q.resident) c.self.view_is in
+    let low : begin_of (first_mutable c.args.self.now.resident) ≤ c.loop-address.address = omega (arith, c.loop-address-test.true, first) in
+    let r = reached c.args.self.now c.args.key.now c.loop-address.address (now-is _ _ c.self.view_is c.self.invariant.0) low c.loop-address.invariant in
+    let same : shown c.in-Some.record ≡ r.found.stored = c.in-Some.ensures r.found.stored r.there in
+    place-small c.args.self.now c.args.key.now c.args.size c.loop-address.address r.found (ap (λ x. x.key) (sym same) ∙ c.if-has_key.ensures.0 refl) (omega (arith, c.if-size-record.false, ap (λ x. x.capacity) same))
+
+pub loop-address-smaller : goal.loop-address-smaller
+loop-address-smaller g c =
+    let first : c.first_mutable.result ≡ first_mutable c.args.self.now.resident = c.first_mutable.ensures ∙ ap (λ (q : HybridLog). first_mutable q.resident) c.self.view_is in
+    let low : begin_of (first_mutable c.args.self.now.resident) ≤ c.loop-address.address = omega (arith, c.loop-address-test.true, first) in
+    let r = reached c.args.self.now c.args.key.now c.loop-address.address (now-is _ _ c.self.view_is c.self.invariant.0) low c.loop-address.invariant in
+    let same : shown c.in-Some.record ≡ r.found.stored = c.in-Some.ensures r.found.stored r.there in
+    omega (arith, r.falls, ap (λ x. x.link) same)
+
+pub loop-address-preserved : goal.loop-address-preserved
+loop-address-preserved g c =
+    let first : c.first_mutable.result ≡ first_mutable c.args.self.now.resident = c.first_mutable.ensures ∙ ap (λ (q : HybridLog). first_mutable q.resident) c.self.view_is in
+    let low : begin_of (first_mutable c.args.self.now.resident) ≤ c.loop-address.address = omega (arith, c.loop-address-test.true, first) in
+    let r = reached c.args.self.now c.args.key.now c.loop-address.address (now-is _ _ c.self.view_is c.self.invariant.0) low c.loop-address.invariant in
+    let same : shown c.in-Some.record ≡ r.found.stored = c.in-Some.ensures r.found.stored r.there in
+    let linked = here-link (bucket_of c.args.self.now) (begin_of c.args.self.now.oldest) (log_of c.args.self.now) c.args.key.now c.loop-address.address r.found
+    (λ key. let bad = c.if-has_key.ensures.1 (ap (λ x. x.key) same ∙ key) in absurd cc) in
+    rw (sym (ap (λ x. x.link) same)) at linked
+
+pub returns : goal.returns
+returns g c =
+    let first : c.first_mutable.result ≡ first_mutable c.args.self.now.resident = c.first_mutable.ensures ∙ ap (λ (q : HybridLog). first_mutable q.resident) c.self.view_is in
+    place-below c.args.self.now c.args.key.now c.args.size c.loop-address.address (omega (arith, c.loop-address-test.false, first)) c.loop-address.invariant

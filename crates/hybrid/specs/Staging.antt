@@ -1,0 +1,77 @@
+-- Pages that were read outside, and the records that a cleaner copies.
+use Rattle.std.specs.Prelude.{◌≡◌, ℕ, ◌+◌, ◌*◌, ◌/◌, List, Bool, true, false, Some, None, IsSome, slice_index_or, replicate, drop, ◌++◌, ◌≤◌}
+use Rattle.std.specs.List.{All, Contains}
+use Rattle.records.specs.Records.{Stored, records_of, size_of}
+use Rattle.frames.specs.Resident.{IsResident}
+use Rattle.hybrid.specs.Log.{Log, newest}
+use Rattle.frames.specs.Resident.{next_number}
+use Rattle.records.specs.declared.pages.TheConstants.{PAGE_SIZE}
+use Rattle.hybrid.specs.declared.stripe.TheConstants.{RECORD_MAX}
+use Rattle.hybrid.specs.declared.stripe.clean.Cleaned.{Cleaned}
+use Rattle.hybrid.specs.declared.stripe.clean.Cleaned.TheVariants as answer
+use Rattle.hybrid.specs.declared.stripe.room.Room.{Room}
+use Rattle.hybrid.specs.HybridLog.{HybridLog, Kept, page_at, receipt_of, SameContents, log_of}
+use Rattle.hybrid.specs.Lookups.{Leads}
+
+-- a page, and the receipt that it was read by
+pub record StagedPage : Type 0 where
+  pub kept : Kept
+  pub page : List ℕ
+
+-- each page is the one that its receipt shows
+abbrev pub AreRight : List StagedPage → Type 0
+AreRight staged = All (λ (s : StagedPage). s.page ≡ s.kept.shown) staged
+
+abbrev pub IsStaged : List StagedPage → List ℕ → Type 0
+IsStaged staged identity = (s : StagedPage) × Contains staged s × (s.kept.identity ≡ identity)
+
+-- a page of the log that is neither resident nor staged
+pub record IsMissing (p : HybridLog) (staged : List StagedPage) (number : ℕ) : Type 0 where
+  pub kept : Kept
+  pub has : receipt_of p number ≡ Some kept
+  pub away : IsResident p.resident number → ⊥
+  pub unread : IsStaged staged kept.identity → ⊥
+
+-- the lookup of the key of one of the oldest page's records comes to the page of this number
+pub record IsNeeded (p : HybridLog) (number : ℕ) : Type 0 where
+  pub entry : ℕ × Stored
+  pub listed : Contains (records_of (page_at p p.oldest)) entry
+  pub leads : Leads p entry.1.key number
+
+-- no record is longer than a write makes one
+abbrev pub AreShort : List (ℕ × Stored) → Type 0
+AreShort records = (offset : ℕ) (r : Stored) → Contains records (offset, r) → size_of r ≤ RECORD_MAX
+
+-- the record is the newest of its key and has a value
+pub record IsLive (log : Log) (address : ℕ) (r : Stored) : Type 0 where
+  pub newest : newest log r.key ≡ Some (address, r)
+  pub value : IsSome r.value
+
+-- the record may be forgotten
+abbrev pub IsDead : Log → ℕ → Stored → Type 0
+IsDead log address r = newest log r.key ≡ Some (address, r) → r.value ≡ None
+
+-- which of a page's records are live, each by an eighth of its offset
+abbrev pub AreMarked : Log → ℕ → List (ℕ × Stored) → List Bool → Type 0
+AreMarked log number records live =
+    (offset : ℕ) (r : Stored) → Contains records (offset, r) → (slice_index_or live (offset / 8) false ≡ true → IsLive log (number * PAGE_SIZE + offset) r) × (slice_index_or live (offset / 8) false ≡ false → IsDead log (number * PAGE_SIZE + offset) r)
+
+-- the page of this number has no record left that counts, and all keys have what they had
+pub record IsCopied (old new : HybridLog) (page : List ℕ) : Type 0 where
+  pub same : SameContents old new
+  pub dead : (offset : ℕ) (r : Stored) → Contains (records_of page) (offset, r) → IsDead (log_of new) (old.oldest * PAGE_SIZE + offset) r
+
+-- the oldest page has left the log: `opened` pages have come at the tail
+pub record IsUnlinked (old new : HybridLog) : Type 0 where
+  pub opened : ℕ
+  pub oldest : new.oldest ≡ old.oldest + 1
+  pub kept : new.kept ≡ drop 1 (old.kept ++ replicate opened None)
+  pub first : new.resident.oldest ≡ old.resident.oldest
+  pub next : next_number new.resident ≡ next_number old.resident + opened
+  pub unreleased : new.unreleased ≡ old.unreleased
+  pub places : new.places ≡ old.places
+
+abbrev pub MatchCleaned : {R : Type 0} → Cleaned R → (R → Type 0) → (ℕ → Room → Type 0) → Type 0 → Type 0
+MatchCleaned (answer.Unlinked receipt) P Q S = P receipt
+MatchCleaned (answer.Cold number room) P Q S = Q number room
+MatchCleaned answer.Nothing P Q S = S

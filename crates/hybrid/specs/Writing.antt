@@ -1,0 +1,43 @@
+-- What writes leave.
+use Rattle.std.specs.Prelude.{◌≡◌, ℕ, ◌+◌, ◌≤◌, List, [], ◌∷◌, length, map, Option}
+use Rattle.std.specs.Map.{update}
+use Rattle.std.specs.Str.{bytes_eq}
+use Rattle.records.specs.declared.entries.TheConstants.{KEY_BYTES_MAX}
+use Rattle.records.specs.Records.{value_bytes, with_value}
+use Rattle.hybrid.specs.declared.stripe.TheConstants.{VALUE_MAX, WRITE_WEIGHT}
+use Rattle.hybrid.specs.Log.{IsAppended}
+use Rattle.hybrid.specs.HybridLog.{HybridLog, log_of}
+use Rattle.hybrid.specs.Lookups.{IsInPlace}
+
+-- a write: a key, and its new value, or none where it is deleted
+abbrev pub OneWrite : Type 0
+OneWrite = List ℕ × Option (List ℕ)
+
+-- what keys have after these writes, made in order
+abbrev pub written : (List ℕ → Option (List ℕ)) → List OneWrite → List ℕ → Option (List ℕ)
+written contents [] key = contents key
+written contents (w ∷ writes) key = written (update bytes_eq contents w.0 w.1) writes key
+
+-- what the writes weigh: for each the lengths of its key and of its value (0 where it is deleted), and WRITE_WEIGHT more
+abbrev pub load : List OneWrite → ℕ
+load [] = 0
+load (w ∷ writes) = WRITE_WEIGHT + length w.0 + length (value_bytes w.1) + load writes
+
+-- a key and a value that a record may have
+pub record Fits (key : List ℕ) (value : Option (List ℕ)) : Type 0 where
+  pub key_fits : length key ≤ KEY_BYTES_MAX
+  pub value_fits : length (value_bytes value) ≤ VALUE_MAX
+
+abbrev pub AreFit : List OneWrite → Type 0
+AreFit [] = Unit {0}
+AreFit (w ∷ writes) = Fits w.0 w.1 × AreFit writes
+
+-- one write: in place, exactly where the newest record of the key lies in the mutable part and has room, else at the tail
+pub record IsWritten (old : HybridLog) (key : List ℕ) (value : Option (List ℕ)) (new : HybridLog) : Type 0 where
+  pub in_place : (address : ℕ) → IsInPlace old key (length (value_bytes value)) address → log_of new ≡ map (with_value address value) (log_of old)
+  pub at_tail : ((address : ℕ) → IsInPlace old key (length (value_bytes value)) address → ⊥) → (address : ℕ) × IsAppended (log_of old) (log_of new) address key value
+
+-- the writes, one after the other
+abbrev pub AreInstalled : HybridLog → List OneWrite → HybridLog → Type 0
+AreInstalled old [] new = old ≡ new
+AreInstalled old (w ∷ writes) new = (mid : HybridLog) × IsWritten old w.0 w.1 mid × AreInstalled mid writes new

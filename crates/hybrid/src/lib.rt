@@ -1,0 +1,27 @@
+//! One stripe's store as a hybrid log, for one owner.
+//!
+//! The log is a list of records, each at an address that grows from the oldest to the newest, in pages
+//! of 16,384 bytes (FASTER, SIGMOD 2018). An index points to the newest record of each bucket, and a
+//! record links to the next older one of its bucket. The newest pages are resident: the tail page and a
+//! few before it are mutable, the others read-only. A read-only page is written to a device, which gives
+//! a receipt for it, and may then leave its frame. The oldest page leaves the log once the records that
+//! still count have been copied to the tail.
+//!
+//! Only `install` changes what keys have. Only `Stripe::new`, `Staged` and the device of `reserve` take
+//! memory.
+#![tactic(auto)]
+
+mod hash;
+mod staged;
+mod stripe;
+mod write;
+
+pub use staged::Staged;
+pub use stripe::clean::Cleaned;
+pub use stripe::find::Lookup;
+pub use stripe::room::{Fault, Room};
+pub use stripe::{
+    CALL_PAGES, CLEAN_WEIGHT, CLOSED_MIN, LAST_PAGE, RECORD_MAX, Stripe, VALUE_MAX, WEIGHT_MAX,
+    WRITE_WEIGHT,
+};
+pub use write::Write;

@@ -1,0 +1,203 @@
+// A stripe's log: its pages, receipts and index.
+
+ghost use Rattle.std.specs.Prelude.{◌≡◌, ◌+◌, ◌-◌, ◌<◌, ◌≤◌, ◌^◌, ◌↔◌, [], length, slice_index_or, IsTrue, IsSome, IfOk, IfSome, MatchOption, OnErr, OnOk, ◌⊎◌, ℕ, option_map};
+ghost use Rattle.std.specs.Bool.{OnTrue, OnFalse};
+ghost use Rattle.records.specs.Page.{used_end};
+ghost use Rattle.frames.specs.Resident.{IsResident, next_number, page_of};
+ghost use Rattle.hybrid.specs.HybridLog.{HybridLog, IsHybridLog, IsSealed, count_kept, empty_log, free, receipt_at, receipt_of};
+
+use device::Shows;
+use frames::Frames;
+use index::Index;
+use records::{HEADER_SIZE, PAGE_SIZE, Page};
+use std::alloc::{AllocError, Global};
+use std::collections::VecDeque;
+use std::marker::Model;
+use words::limits::{FRAMES_MIN, Limits};
+
+pub mod clean;
+pub mod find;
+mod flush;
+mod install;
+pub mod room;
+
+/// The most bytes of a value.
+pub const VALUE_MAX: usize = 8192;
+
+/// The most bytes that a record takes, whose key and value are the longest.
+pub const RECORD_MAX: usize = 8728;
+
+/// The most that the writes of one call may weigh, in bytes: for each its key, its value and 48 more.
+pub const WEIGHT_MAX: usize = 49152;
+
+/// What each write weighs beside its key and its value: no less than a record's header and what
+/// rounds its size up.
+pub const WRITE_WEIGHT: usize = 48;
+
+/// The most that the records of one page weigh as writes: the room that the cleaner asks for.
+pub const CLEAN_WEIGHT: usize = 32736;
+
+/// A page is closed only when more than this many of its bytes hold records: else the longest record
+/// would still fit.
+pub const CLOSED_MIN: usize = 7640;
+
+/// The most pages that the writes of one call open.
+pub const CALL_PAGES: usize = 7;
+
+/// Where the tail page has this number or a greater one, no page is opened.
+pub const LAST_PAGE: u64 = 1 << 46;
+
+/// The log of one stripe. Receipts are those of a device.
+#[derive(Drop)]
+pub struct Stripe<R: Shows> {
+    frames: Frames,
+    index: Index,
+    /// The receipts that are kept, one entry a page from the oldest to the tail page.
+    receipts: VecDeque<Option<R>>,
+    /// The number of the oldest page.
+    oldest: u64,
+    /// The stripes of the store: a key's bucket goes by its hash divided by this.
+    stripes: u64,
+    /// The places on the device that were taken and not released.
+    unreleased: usize,
+    /// The most of those.
+    places: usize,
+}
+
+impl<R: Shows> Model for Stripe<R> {
+    ghost use Rattle.std.specs.Prelude.{map, option_map, ◌+◌, ◌≤◌};
+    ghost use Rattle.std.specs.VecDeque.{deque_capacity};
+    ghost use Rattle.hybrid.specs.HybridLog.{HybridLog, IsHybridLog};
+
+    ghost Value = { HybridLog };
+
+    ghost view = { λ s. record { oldest = s.oldest; kept = map (option_map (λ r. record { identity = R.identity r; shown = R.shown r })) s.receipts.items; resident = s.frames; heads = s.index; stripes = s.stripes; unreleased = s.unreleased; places = s.places } };
+
+    ghost invariant = { λ s. IsHybridLog (record { oldest = s.oldest; kept = map (option_map (λ r. record { identity = R.identity r; shown = R.shown r })) s.receipts.items; resident = s.frames; heads = s.index; stripes = s.stripes; unreleased = s.unreleased; places = s.places }) × (s.places + s.frames.frames ≤ deque_capacity s.receipts) };
+}
+
+impl<R: Shows> Stripe<R> {
+    /// An empty log, whose page 0 is open. Takes 16,384 bytes a frame, 8 a bucket, and the size of a
+    /// receipt for each place and frame.
+    pub fn new(alloc: Global, limits: &Limits) -> Result<Self, AllocError>
+        ensures { IfOk result (λ made. made ≡ empty_log limits.now.stripes limits.now.buckets limits.now.frames limits.now.places) }
+    {
+        let mut frames = Frames::new(alloc, limits.frames)?;
+        let index = Index::new(alloc, limits.buckets)?;
+        let mut receipts = VecDeque::with_capacity(alloc, limits.places + limits.frames)?;
+        let Ok(_first) = frames.open_next() else {
+            unreachable!()
+        };
+        receipts.push_back_reserved(None);
+        Ok(Stripe {
+            frames,
+            index,
+            receipts,
+            oldest: 0,
+            stripes: limits.stripes as u64,
+            unreleased: 0,
+            places: limits.places,
+        })
+    }
+
+    /// The page of this number, if it is resident.
+    pub fn page(&self, number: u64) -> Option<&Page>
+        ensures resident { IsSome result ↔ IsResident self.now.resident number }
+        ensures bytes { IfSome result (λ page. page.now ≡ page_of self.now.resident number) }
+    {
+        self.frames.page(number)
+    }
+
+    /// The receipt that is kept of a page.
+    pub fn receipt(&self, number: u64) -> Option<&R>
+        ensures { option_map (λ r. record { identity = R.identity r.now; shown = R.shown r.now }) result ≡ receipt_at self.now number }
+    {
+        if number < self.oldest {
+            return None;
+        }
+        match self.receipts.get((number - self.oldest) as usize) {
+            Some(Some(receipt)) => Some(receipt),
+            _ => None,
+        }
+    }
+
+    /// Counts one more unreleased place, and says whether it could: not at the limit.
+    pub fn take_place(&mut self) -> bool
+        ensures limit { IsTrue result ↔ (self.old.unreleased < self.old.places) }
+        ensures taken { OnTrue result (self.new ≡ record self.old { unreleased = self.old.unreleased + 1 }) }
+        ensures full { OnFalse result (self.new ≡ self.old) }
+        ensures counted { OnTrue result (count_kept self.new.kept < self.new.unreleased) }
+    {
+        if self.unreleased >= self.places {
+            return false;
+        }
+        self.unreleased += 1;
+        true
+    }
+
+    /// Counts one unreleased place off, none at zero. It is not the place of a receipt that is kept.
+    pub fn free_place(&mut self)
+        requires { (self.old.unreleased ≡ 0) ⊎ (count_kept self.old.kept < self.old.unreleased) }
+        ensures { self.new ≡ record self.old { unreleased = self.old.unreleased - 1 } }
+    {
+        let _ = &self.oldest;
+        self.unreleased = self.unreleased.saturating_sub(1);
+    }
+
+    /// How many places on the device are taken and not released.
+    pub fn unreleased(&self) -> usize
+        ensures places { result ≡ self.now.unreleased }
+        ensures limit { result ≤ self.now.places }
+    {
+        self.unreleased
+    }
+
+    /// The number of the oldest page.
+    pub fn oldest(&self) -> u64
+        ensures number { result ≡ self.now.oldest }
+        ensures log { IsHybridLog self.now }
+    {
+        self.oldest
+    }
+
+    // The number of the page that is opened next.
+    fn next_number(&self) -> u64
+        ensures number { result ≡ next_number self.now.resident }
+        ensures in_range { result < 2 ^ 48 }
+    {
+        self.frames.next_number()
+    }
+
+    // How many frames have no page.
+    fn free(&self) -> usize
+        ensures free { result ≡ free self.now }
+        ensures frames { result + length self.now.resident.pages ≡ self.now.resident.frames }
+        ensures enough { (FRAMES_MIN ≤ self.now.resident.frames) × (0 < length self.now.resident.pages) }
+        ensures live { self.now.oldest ≤ self.now.resident.oldest }
+        ensures numbered { self.now.oldest + length self.now.kept ≡ next_number self.now.resident }
+    {
+        self.frames.free()
+    }
+
+    // The end of the used part of the tail page.
+    fn tail_end(&self) -> usize
+        ensures end { result ≡ used_end (slice_index_or self.now.resident.pages (length self.now.resident.pages - 1) []) }
+        ensures laid_out { (HEADER_SIZE ≤ result) × (result ≤ PAGE_SIZE) }
+    {
+        match self.frames.page(self.frames.next_number() - 1) {
+            Some(page) => page.used_end() as usize,
+            None => unreachable!(),
+        }
+    }
+
+    // Whether the receipt of the oldest resident page is kept.
+    fn has_receipt(&self) -> bool
+        ensures { IsTrue result ↔ IsSome (receipt_of self.now self.now.resident.oldest) }
+    {
+        let first = (self.frames.oldest() - self.oldest) as usize;
+        match self.receipts.get(first) {
+            Some(receipt) => receipt.is_some(),
+            None => false,
+        }
+    }
+}

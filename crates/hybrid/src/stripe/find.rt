@@ -1,0 +1,146 @@
+// Lookups: a walk down the chain of a key's bucket.
+
+ghost use Rattle.std.specs.Prelude.{MatchOption, IsSomeAnd, ◌≡◌, ◌+◌, ◌*◌, ◌<◌, ◌≤◌, Some, None, IfOk, IfErr, IfSome, IfNone, option_map, slice_index_or, [], ◌-◌, length, ℕ, ⊤};
+ghost use Rattle.std.specs.Option.{option_copied};
+ghost use Rattle.records.specs.Records.{Stored, value_bytes};
+ghost use Rattle.records.specs.Read.{shown};
+ghost use Rattle.frames.specs.Resident.{first_mutable, next_number};
+ghost use Rattle.hybrid.specs.Log.{begin_of, newest, contents};
+ghost use Rattle.hybrid.specs.HybridLog.{log_of, page_at};
+ghost use Rattle.hybrid.specs.Hash.{hash_of};
+ghost use Rattle.hybrid.specs.Lookups.{Leads, MatchLookup, IsInPlace, IsResidentAt};
+ghost use Rattle.hybrid.specs.Staging.{AreRight, IsMissing};
+
+use crate::hash::hash_of;
+use crate::staged::Staged;
+use crate::stripe::Stripe;
+use device::Shows;
+use records::{HEADER_SIZE, PAGE_SIZE, Page, Record, record_at};
+
+/// What a lookup of a key gives.
+#[derive(Clone, Copy, Debug)]
+pub enum Lookup<'a> {
+    /// The key's value.
+    Found(&'a [u8]),
+    /// The key has no value.
+    Absent,
+    /// The chain leads to the page of this number, which is neither resident nor staged.
+    Cold(u64),
+}
+
+impl<R: Shows> Stripe<R> {
+    /// What a key has.
+    ///
+    /// The answer is right over an honest device, where each staged page is the one that its receipt
+    /// shows.
+    pub fn find<'a>(&'a self, key: &[u8], staged: &'a Staged<R>) -> Lookup<'a>
+        ensures contents { R.is_honest → AreRight staged.now → MatchLookup result (λ value. contents (log_of self.now) key.now ≡ Some value) (contents (log_of self.now) key.now ≡ None) (λ number. Leads self.now key.now number) }
+        ensures cold { MatchLookup result (λ _. ⊤) ⊤ (λ number. IsMissing self.now staged.now number) }
+    {
+        match self.newest(key, staged) {
+            Err(number) => Lookup::Cold(number),
+            Ok(None) => Lookup::Absent,
+            Ok(Some((_, record))) => match record.value {
+                Some(value) => Lookup::Found(value),
+                None => Lookup::Absent,
+            },
+        }
+    }
+
+    // The newest record of a key, with its address.
+    #[inline]
+    fn newest<'a>(
+        &'a self,
+        key: &[u8],
+        staged: &'a Staged<R>,
+    ) -> Result<Option<(u64, Record<'a>)>, u64>
+        ensures found { R.is_honest → AreRight staged.now → IfOk result (λ o. option_map (λ x. (x.0, shown x.1)) o ≡ newest (log_of self.now) key.now) }
+        ensures leads { R.is_honest → AreRight staged.now → IfErr result (λ number. Leads self.now key.now number) }
+        ensures cold { IfErr result (λ number. IsMissing self.now staged.now number) }
+    {
+        let begin = self.oldest * PAGE_SIZE as u64 + HEADER_SIZE as u64;
+        let mut address = self.index.head(hash_of(key) / self.stripes);
+        while begin <= address {
+            let number = address / PAGE_SIZE as u64;
+            let Some(page) = self.live_page(number, staged) else {
+                return Err(number);
+            };
+            let Ok(record) = record_at(page, (address % PAGE_SIZE as u64) as usize) else {
+                return Ok(None);
+            };
+            if record.has_key(key) {
+                return Ok(Some((address, record)));
+            }
+            if address <= record.link {
+                return Ok(None);
+            }
+            address = record.link;
+        }
+        Ok(None)
+    }
+
+    // The address of the newest record of a key.
+    pub(crate) fn newest_address(&self, key: &[u8], staged: &Staged<R>) -> Result<Option<u64>, u64>
+        ensures found { R.is_honest → AreRight staged.now → IfOk result (λ o. o ≡ option_map (λ e. e.0) (newest (log_of self.now) key.now)) }
+        ensures leads { R.is_honest → AreRight staged.now → IfErr result (λ number. Leads self.now key.now number) }
+        ensures cold { IfErr result (λ number. IsMissing self.now staged.now number) }
+    {
+        match self.newest(key, staged)? {
+            Some((address, _)) => Ok(Some(address)),
+            None => Ok(None),
+        }
+    }
+
+    // The page of this number, resident or staged.
+    #[inline]
+    fn live_page<'a>(&'a self, number: u64, staged: &'a Staged<R>) -> Option<&'a Page>
+        requires live { self.now.oldest ≤ number }
+        requires below { number < next_number self.now.resident }
+        ensures page { R.is_honest → AreRight staged.now → IfSome result (λ page. page.now ≡ page_at self.now number) }
+        ensures missing { IfNone result (IsMissing self.now staged.now number) }
+    {
+        if self.frames.oldest() <= number {
+            return self.frames.page(number);
+        }
+        match self.receipt(number) {
+            Some(receipt) => staged.page(receipt),
+            None => unreachable!(),
+        }
+    }
+
+    // The address of the newest record of a key with this hash, if it lies in the mutable part and has
+    // room for a value of this length.
+    #[inline]
+    pub(crate) fn place(&self, hash: u64, key: &[u8], size: usize) -> Option<u64>
+        requires { hash ≡ hash_of key.now }
+        ensures { MatchOption result ((address : ℕ) → IsInPlace self.now key.now size address → ⊥) (λ address. IsInPlace self.now key.now size address) }
+    {
+        let begin = self.frames.first_mutable() * PAGE_SIZE as u64 + HEADER_SIZE as u64;
+        let mut address = self.index.head(hash / self.stripes);
+        while begin <= address {
+            let Some(record) = self.resident_record(address) else {
+                unreachable!()
+            };
+            if record.has_key(key) {
+                return if size <= record.capacity {
+                    Some(address)
+                } else {
+                    None
+                };
+            }
+            address = record.link;
+        }
+        None
+    }
+
+    // The record at an address of a resident page.
+    #[inline]
+    fn resident_record(&self, address: u64) -> Option<Record<'_>>
+        ensures { (r : Stored) → IsResidentAt self.now address r → IsSomeAnd result (λ x. shown x ≡ r) }
+    {
+        match self.frames.page(address / PAGE_SIZE as u64) {
+            Some(page) => record_at(page, (address % PAGE_SIZE as u64) as usize).ok(),
+            None => None,
+        }
+    }
+}

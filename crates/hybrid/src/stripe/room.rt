@@ -1,0 +1,123 @@
+// Room for a call's writes: flushes and drops of the oldest read-only pages.
+
+ghost use Rattle.std.specs.Prelude.{◌≡◌, ◌↔◌, ◌+◌, ◌-◌, ◌<◌, ◌≤◌, ◌^◌, ◌⊎◌, ℕ, IsTrue, IsSome, IfOk, IfErr, OnOk, OnErr};
+ghost use Rattle.std.specs.Bool.{OnTrue, OnFalse};
+ghost use Rattle.frames.specs.Resident.{first_mutable, next_number};
+ghost use Rattle.hybrid.specs.HybridLog.{log_of, HasRoom, free, pages_for, with_dropped, receipt_of};
+ghost use Rattle.hybrid.specs.Reserving.{IsFlushed, IsReserved, MatchFault, IsFull};
+
+use crate::stripe::{CALL_PAGES, CLOSED_MIN, LAST_PAGE, Stripe, WEIGHT_MAX};
+use device::{Device, Shows};
+use records::PAGE_SIZE;
+
+/// Room for writes of this weight in all.
+#[derive(Debug, Drop)]
+pub struct Room {
+    /// The weight in bytes: for each write the lengths of its key and value, and [`crate::WRITE_WEIGHT`] more.
+    pub weight: usize,
+}
+
+/// Why no room was found.
+#[derive(Clone, Copy, Debug, PartialEq, Eq)]
+pub enum Fault {
+    /// A call of the device failed.
+    DeviceFault,
+    /// The stripe's unreleased places have reached their limit, or its tail page is the last.
+    StoreFull,
+}
+
+impl<R: Shows> Stripe<R> {
+    /// Room for writes of this weight in all. Where fewer frames are free than pages that these writes
+    /// can open, the oldest read-only pages are written to the device and dropped, no more than needed.
+    /// After an `Err` some of that may have been done.
+    pub fn reserve<D: Device<Receipt = R>>(
+        &mut self,
+        weight: usize,
+        device: &mut D,
+    ) -> Result<Room, Fault>
+        requires { weight ≤ WEIGHT_MAX }
+        ensures room { IfOk result (λ room. (room.weight ≡ weight) × HasRoom self.new weight) }
+        ensures log { log_of self.new ≡ log_of self.old }
+        ensures reserved { (count : ℕ) × IsReserved self.old self.new count × (count ≤ pages_for self.old weight - free self.old) }
+        ensures needless { pages_for self.old weight ≤ free self.old → self.new ≡ self.old }
+        ensures fault { IfErr result (λ fault. MatchFault fault (D.failures device.new ≡ D.failures device.old + 1) (IsFull self.new × (D.failures device.new ≡ D.failures device.old))) }
+        ensures no_fault { OnOk result (D.failures device.new ≡ D.failures device.old) }
+        ensures needed { OnErr result (0 < pages_for self.old weight) }
+    {
+        let needed = self.pages_for(weight);
+        if needed > 0 && self.next_number() > LAST_PAGE {
+            return Err(Fault::StoreFull);
+        }
+        while self.free() < needed {
+            self.flush_oldest(device)?;
+            self.drop_oldest();
+        }
+        Ok(Room { weight })
+    }
+
+    /// Drops the oldest resident page from its frame, where its receipt is kept, and says whether
+    /// it did.
+    pub fn drop_oldest(&mut self) -> bool
+        ensures exact { IsTrue result ↔ IsSome (receipt_of self.old self.old.resident.oldest) }
+        ensures dropped { OnTrue result (self.new ≡ with_dropped self.old) }
+        ensures kept { OnFalse result (self.new ≡ self.old) }
+        ensures log { log_of self.new ≡ log_of self.old }
+    {
+        if !self.has_receipt() {
+            return false;
+        }
+        self.drop_frame();
+        true
+    }
+
+    // The most pages that writes of this weight can open.
+    fn pages_for(&self, weight: usize) -> usize
+        requires { weight ≤ WEIGHT_MAX }
+        ensures pages { result ≡ pages_for self.now weight }
+        ensures few { result ≤ CALL_PAGES }
+    {
+        if weight <= PAGE_SIZE - self.tail_end() {
+            0
+        } else {
+            weight / CLOSED_MIN + 1
+        }
+    }
+
+    // Drops the oldest resident page, whose receipt is kept.
+    fn drop_frame(&mut self)
+        requires { IsSome (receipt_of self.old self.old.resident.oldest) }
+        ensures dropped { self.new ≡ with_dropped self.old }
+        ensures log { log_of self.new ≡ log_of self.old }
+    {
+        let _dropped = self.frames.drop_oldest();
+    }
+
+    // Sees to it that the oldest resident page, which is read-only, has a receipt.
+    fn flush_oldest<D: Device<Receipt = R>>(&mut self, device: &mut D) -> Result<(), Fault>
+        requires { self.old.resident.oldest < first_mutable self.old.resident }
+        ensures flushed { OnOk result (IsFlushed self.old self.new) }
+        ensures unchanged { OnErr result (self.new ≡ self.old) }
+        ensures receipt { OnOk result (IsSome (receipt_of self.new self.new.resident.oldest)) }
+        ensures log { log_of self.new ≡ log_of self.old }
+        ensures fault { IfErr result (λ fault. MatchFault fault (D.failures device.new ≡ D.failures device.old + 1) ((self.new.unreleased ≡ self.new.places) × (D.failures device.new ≡ D.failures device.old))) }
+        ensures no_fault { OnOk result (D.failures device.new ≡ D.failures device.old) }
+    {
+        if self.has_receipt() {
+            return Ok(());
+        }
+        if self.unreleased == self.places {
+            return Err(Fault::StoreFull);
+        }
+        let number = self.frames.oldest();
+        let Some(page) = self.frames.page(number) else {
+            unreachable!()
+        };
+        let Ok(receipt) = device.write(page) else {
+            return Err(Fault::DeviceFault);
+        };
+        let first = (number - self.oldest) as usize;
+        self.receipts[first] = Some(receipt);
+        self.unreleased += 1;
+        Ok(())
+    }
+}

@@ -1,0 +1,88 @@
+//! The bytes of replies: appended to a buffer, or written to a stream.
+
+ghost use Rattle.std.specs.Prelude.{◌≡◌, ◌+◌, ◌≤◌, ◌^◌, ◌++◌, ◌↔◌, length, IsOk, IsTrue, IfSome, IfNone, OnOk, OnErr, vec_len, vec_capacity, not, is_ok};
+ghost use Rattle.words.specs.Encoding.{encoding};
+ghost use Rattle.streams.specs.Streams.{IsSent, stream_of, told_of, told_when};
+ghost use Rattle.resp_write.specs.Lines.{IsLine};
+
+use crate::sink::Length;
+use crate::walk::put_reply;
+use std::alloc::AllocError;
+use std::io::Write;
+use streams::{Noted, WriteFault};
+use words::reply::Reply;
+
+/// Appends the bytes of a reply. It takes memory only where the room is too small; after an `Err`
+/// the buffer is as it was.
+#[tactic(auto, using(crate::proofs::LineLengths::line_len))]
+pub fn encode(reply: &Reply, out: &mut Vec<u8>) -> Result<(), AllocError>
+    ensures ok { OnOk result (out.new.items ≡ out.old.items ++ encoding reply.now) }
+    ensures err { OnErr result (out.new.items ≡ out.old.items) }
+    ensures capacity { vec_capacity out.old ≤ vec_capacity out.new }
+    ensures succeeds { vec_len out.old + length (encoding reply.now)
+        ≤ vec_capacity out.old → IsOk result }
+
+    // A line and its end are at most 66 bytes.
+    ensures line { IsLine reply.now → vec_len out.old + 66 ≤ vec_capacity out.old → IsOk result }
+{
+    let Some(len) = encoded_len(reply) else {
+        return Err(AllocError);
+    };
+    out.reserve(len)?;
+    append(reply, out);
+    Ok(())
+}
+
+/// Appends the bytes of a reply where there is room for them, and says whether there was. It takes
+/// no memory.
+#[inline]
+pub fn encode_within(reply: &Reply, out: &mut Vec<u8>) -> bool
+    ensures fits { IsTrue result ↔ (vec_len out.old + length (encoding reply.now)
+        ≤ vec_capacity out.old) }
+    ensures done { IsTrue result → out.new.items ≡ out.old.items ++ encoding reply.now }
+    ensures full { IsTrue (not result) → out.new.items ≡ out.old.items }
+    ensures capacity { vec_capacity out.old ≤ vec_capacity out.new }
+{
+    match encoded_len(reply) {
+        Some(len) if len <= out.capacity() - out.len() => {
+            append(reply, out);
+            true
+        }
+        _ => false,
+    }
+}
+
+/// Writes the bytes of a reply, without taking memory. After an `Err` a beginning of them is written.
+pub fn send<W: Write>(reply: &Reply, writer: &mut Noted<W>) -> Result<(), WriteFault>
+    ensures sent { IsSent (W.contents (stream_of writer.old)) (W.contents (stream_of writer.new))
+        result (encoding reply.now) }
+    ensures told { told_of writer.new ≡ told_when (is_ok result) (told_of writer.old) }
+{
+    match put_reply(reply, writer) {
+        Ok(()) => Ok(()),
+        Err(_) => Err(WriteFault),
+    }
+}
+
+/// How many bytes a reply takes, or `None` where they are 2^64 or more.
+#[inline]
+fn encoded_len(reply: &Reply) -> Option<usize>
+    ensures some { IfSome result (λ len. len ≡ length (encoding reply.now)) }
+    ensures none { IfNone result (2 ^ 64 ≤ length (encoding reply.now)) }
+{
+    let mut length = Length { bytes: 0 };
+    match put_reply(reply, &mut length) {
+        Ok(()) => Some(length.bytes),
+        Err(_) => None,
+    }
+}
+
+/// Appends the bytes of a reply, for which there is room.
+#[inline]
+fn append(reply: &Reply, out: &mut Vec<u8>)
+    requires { vec_len out.old + length (encoding reply.now) ≤ vec_capacity out.old }
+    ensures items { out.new.items ≡ out.old.items ++ encoding reply.now }
+    ensures capacity { vec_capacity out.old ≤ vec_capacity out.new }
+{
+    let _ = put_reply(reply, out);
+}

@@ -1,0 +1,14 @@
+//! The bytes of replies, in the Redis serialization protocol, version 2: [`encode`] and
+//! [`encode_within`] append them to a buffer, [`send`] writes them to a stream.
+//!
+//! One walk over a reply's tree gives its bytes, part by part, to a sink: a count of them, a buffer,
+//! or a stream. So a buffer is given room for all of them at once, and a stream needs no memory.
+#![tactic(auto)]
+
+mod encoder;
+mod sink;
+#[cfg(test)]
+mod tests;
+mod walk;
+
+pub use encoder::{encode, encode_within, send};

@@ -1,0 +1,13 @@
+use Rattle.std.proofs.Common.{◌≡◌}
+use Rattle.std.specs.Io.KnownBytes.{Keeps}
+use Rattle.streams.specs.Streams.{stream_of, told_of, reads_of}
+use Rattle.streams.proofs.noted.Noted.flush.Given as goal
+
+abbrev pub invariant-loop-flushed : goal.invariant-loop-flushed
+invariant-loop-flushed g l =
+    Keeps (g.S.Write.contents (stream_of l.initial.self)) (g.S.Write.contents (stream_of l.self))
+    × (told_of l.self ≡ told_of l.initial.self)
+    × (reads_of l.self ≡ reads_of l.initial.self)
+
+abbrev pub decreases-loop-flushed : goal.decreases-loop-flushed
+decreases-loop-flushed g l = l.self.observed.interruptions

@@ -1,0 +1,11 @@
+//! Streams that note what they have told: [`Noted`] reads from a stream or writes to it, tries again
+//! what was interrupted, and keeps whether the stream told its end or failed.
+#![tactic(auto)]
+
+mod noted;
+mod observed;
+#[cfg(test)]
+mod tests;
+
+pub use noted::Noted;
+pub use observed::{Input, Told, WriteFault};

@@ -1,0 +1,50 @@
+-- Which command a verb makes of its arguments.
+use Rattle.std.specs.Prelude.{ℤ, ◌≡◌, Bool, List, ◌++◌, Option, None, Some, option_map}
+use Rattle.words.specs.declared.command.Command.{Command}
+use Rattle.words.specs.declared.command.Command.TheVariants.{Get, SetNx, GetSet, GetDel, StrLen, Exists, Del, Append, Add, Subtract, MGet, MSet, MSetNx}
+use Rattle.words.specs.declared.shapes.KeyVerb.{KeyVerb}
+use Rattle.words.specs.declared.shapes.KeyVerb.TheVariants as key
+use Rattle.words.specs.declared.shapes.ValueVerb.{ValueVerb}
+use Rattle.words.specs.declared.shapes.ValueVerb.TheVariants as value
+use Rattle.words.specs.declared.shapes.NumberVerb.{NumberVerb}
+use Rattle.words.specs.declared.shapes.NumberVerb.TheVariants as number
+use Rattle.words.specs.declared.shapes.KeysVerb.{KeysVerb}
+use Rattle.words.specs.declared.shapes.KeysVerb.TheVariants as keys
+use Rattle.words.specs.declared.shapes.SettingsVerb.{SettingsVerb}
+use Rattle.words.specs.declared.shapes.SettingsVerb.TheVariants as settings
+use Rattle.words.specs.Store.{Bytes}
+use Rattle.words.specs.Commands.{by_one, any_long, keys_set}
+
+abbrev pub of_key_verb : KeyVerb → Bytes → Command
+of_key_verb key.Get = Get
+of_key_verb key.GetDel = GetDel
+of_key_verb key.StrLen = StrLen
+of_key_verb key.Increment = by_one Add
+of_key_verb key.Decrement = by_one Subtract
+
+abbrev pub of_value_verb : ValueVerb → Bytes → Bytes → Command
+of_value_verb value.SetNx = SetNx
+of_value_verb value.GetSet = GetSet
+of_value_verb value.Append = Append
+
+abbrev pub of_number_verb : NumberVerb → Bytes → ℤ → Command
+of_number_verb number.Add = Add
+of_number_verb number.Subtract = Subtract
+
+abbrev pub of_keys_verb : KeysVerb → List Bytes → Command
+of_keys_verb keys.Exists = Exists
+of_keys_verb keys.Del = Del
+of_keys_verb keys.MGet = MGet
+
+abbrev pub of_settings_verb : SettingsVerb → List (Bytes × Bytes) → Command
+of_settings_verb settings.MSet = MSet
+of_settings_verb settings.MSetNx = MSetNx
+
+-- whether one of the keys of settings is too long
+abbrev pub any_long_set : Option (List (Bytes × Bytes)) → Option Bool
+any_long_set settings = option_map (λ all. any_long (keys_set all)) settings
+
+-- the new list is the old one and these settings, if they are some
+abbrev pub Adds : List (Bytes × Bytes) → Option (List (Bytes × Bytes)) → List (Bytes × Bytes) → Type 0
+Adds old None new = Unit {0}
+Adds old (Some settings) new = new ≡ old ++ settings

@@ -1,0 +1,403 @@
+//! The shapes of the words after a command's name. A request with another number of words is refused
+//! at once. What else the words show is kept as a refused command, in this order: a key that is too
+//! long, option words, a number that is none, an offset below 0.
+
+ghost use Rattle.std.specs.Prelude.{◌≡◌, ◌++◌, List, ℕ, IfOk, IsOk, OnOk, length};
+ghost use Rattle.words.specs.Commands as commands;
+ghost use Rattle.words.specs.Commands.{AsksNoMemory, IsInline, when_of, in_pairs};
+ghost use Rattle.words.specs.Verbs.{any_long_set, Adds, of_key_verb, of_value_verb, of_number_verb, of_keys_verb, of_settings_verb};
+
+use crate::command::{Command, Keys, SessionCommand, Settings, When};
+use crate::limits::KEY_BYTES_MAX;
+use crate::number;
+use crate::reply::Refusal;
+use crate::sequence::Sequence;
+use crate::word::{OutOfMemory, Word};
+use std::alloc::Global;
+
+/// A command of one key.
+#[derive(Clone, Copy, Debug, PartialEq, Eq)]
+pub(crate) enum KeyVerb {
+    Get,
+    GetDel,
+    StrLen,
+    Increment,
+    Decrement,
+}
+
+/// A command of a key and a value.
+#[derive(Clone, Copy, Debug, PartialEq, Eq)]
+pub(crate) enum ValueVerb {
+    SetNx,
+    GetSet,
+    Append,
+}
+
+/// A command of a key and a number.
+#[derive(Clone, Copy, Debug, PartialEq, Eq)]
+pub(crate) enum NumberVerb {
+    Add,
+    Subtract,
+}
+
+/// A command of one key or more.
+#[derive(Clone, Copy, Debug, PartialEq, Eq)]
+pub(crate) enum KeysVerb {
+    Exists,
+    Del,
+    MGet,
+}
+
+/// A command of one setting or more.
+#[derive(Clone, Copy, Debug, PartialEq, Eq)]
+pub(crate) enum SettingsVerb {
+    MSet,
+    MSetNx,
+}
+
+impl KeyVerb {
+    fn with(self, key: Word) -> Command
+        ensures { result ≡ of_key_verb self key }
+    {
+        match self {
+            KeyVerb::Get => Command::Get(key),
+            KeyVerb::GetDel => Command::GetDel(key),
+            KeyVerb::StrLen => Command::StrLen(key),
+            KeyVerb::Increment => Command::Add(key, 1),
+            KeyVerb::Decrement => Command::Subtract(key, 1),
+        }
+    }
+}
+
+impl ValueVerb {
+    fn with(self, key: Word, value: Word) -> Command
+        ensures { result ≡ of_value_verb self key value }
+    {
+        match self {
+            ValueVerb::SetNx => Command::SetNx(key, value),
+            ValueVerb::GetSet => Command::GetSet(key, value),
+            ValueVerb::Append => Command::Append(key, value),
+        }
+    }
+}
+
+impl NumberVerb {
+    fn with(self, key: Word, number: i64) -> Command
+        ensures { result ≡ of_number_verb self key number }
+    {
+        match self {
+            NumberVerb::Add => Command::Add(key, number),
+            NumberVerb::Subtract => Command::Subtract(key, number),
+        }
+    }
+}
+
+impl KeysVerb {
+    fn with(self, keys: Keys) -> Command
+        ensures { result ≡ of_keys_verb self keys }
+    {
+        match self {
+            KeysVerb::Exists => Command::Exists(keys),
+            KeysVerb::Del => Command::Del(keys),
+            KeysVerb::MGet => Command::MGet(keys),
+        }
+    }
+}
+
+impl SettingsVerb {
+    fn with(self, settings: Settings) -> Command
+        ensures { result ≡ of_settings_verb self settings }
+    {
+        match self {
+            SettingsVerb::MSet => Command::MSet(settings),
+            SettingsVerb::MSetNx => Command::MSetNx(settings),
+        }
+    }
+}
+
+/// Whether a key has more bytes than a key may have.
+fn is_long(key: &Word) -> bool
+    ensures { result ≡ commands.is_long key.now }
+{
+    key.len() > KEY_BYTES_MAX
+}
+
+/// A copy of a word. It takes memory only where the word has more than `WORD_INLINE` bytes.
+fn copy(alloc: Global, word: &Word) -> Result<Word, OutOfMemory>
+    ensures same { IfOk result (λ copy. copy ≡ word.now) }
+    ensures memory { IsInline word.now → IsOk result }
+{
+    Word::from_slice(alloc, word.as_slice())
+}
+
+/// Nothing.
+pub(crate) fn alone(command: SessionCommand, arguments: &[Word]) -> Result<Command, Refusal>
+    ensures { result ≡ commands.alone command arguments.now }
+{
+    match arguments {
+        [] => Ok(Command::Session(command)),
+        _ => Err(Refusal::WrongArity),
+    }
+}
+
+/// `[text]`
+pub(crate) fn optional_text(
+    alloc: Global,
+    arguments: &[Word],
+) -> Result<Result<Command, Refusal>, OutOfMemory>
+    ensures exact { IfOk result (λ command. command ≡ commands.optional_text Command.Ping arguments.now) }
+    ensures memory { AsksNoMemory (commands.optional_text Command.Ping arguments.now) → IsOk result }
+{
+    match arguments {
+        [] => Ok(Ok(Command::Ping(None))),
+        [text] => Ok(Ok(Command::Ping(Some(copy(alloc, text)?)))),
+        _ => Ok(Err(Refusal::WrongArity)),
+    }
+}
+
+/// `text`
+pub(crate) fn one_text(
+    alloc: Global,
+    arguments: &[Word],
+) -> Result<Result<Command, Refusal>, OutOfMemory>
+    ensures exact { IfOk result (λ command. command ≡ commands.one_text Command.Echo arguments.now) }
+    ensures memory { AsksNoMemory (commands.one_text Command.Echo arguments.now) → IsOk result }
+{
+    match arguments {
+        [text] => Ok(Ok(Command::Echo(copy(alloc, text)?))),
+        _ => Ok(Err(Refusal::WrongArity)),
+    }
+}
+
+/// `key`
+pub(crate) fn one_key(
+    alloc: Global,
+    verb: KeyVerb,
+    arguments: &[Word],
+) -> Result<Result<Command, Refusal>, OutOfMemory>
+    ensures exact { IfOk result (λ command. command ≡ commands.one_key (of_key_verb verb) arguments.now) }
+    ensures memory { AsksNoMemory (commands.one_key (of_key_verb verb) arguments.now) → IsOk result }
+{
+    match arguments {
+        [key] if is_long(key) => Ok(Ok(Command::Bad(Refusal::KeyTooLong))),
+        [key] => Ok(Ok(verb.with(copy(alloc, key)?))),
+        _ => Ok(Err(Refusal::WrongArity)),
+    }
+}
+
+/// `key value`
+pub(crate) fn key_and_value(
+    alloc: Global,
+    verb: ValueVerb,
+    arguments: &[Word],
+) -> Result<Result<Command, Refusal>, OutOfMemory>
+    ensures exact { IfOk result (λ command. command ≡ commands.key_and_value (of_value_verb verb) arguments.now) }
+    ensures memory { AsksNoMemory (commands.key_and_value (of_value_verb verb) arguments.now) → IsOk result }
+{
+    match arguments {
+        [key, _] if is_long(key) => Ok(Ok(Command::Bad(Refusal::KeyTooLong))),
+        [key, value] => Ok(Ok(verb.with(copy(alloc, key)?, copy(alloc, value)?))),
+        _ => Ok(Err(Refusal::WrongArity)),
+    }
+}
+
+/// When a SET with these option words is done, if they are ones that it takes.
+fn when_of_options(options: &[Word]) -> Option<When>
+    ensures { result ≡ when_of options.now }
+{
+    match options {
+        [] => Some(When::Always),
+        [option] if b"NX".eq_ignore_ascii_case(option.as_slice()) => Some(When::IfMissing),
+        [option] if b"XX".eq_ignore_ascii_case(option.as_slice()) => Some(When::IfPresent),
+        _ => None,
+    }
+}
+
+/// `key value [option ..]`
+pub(crate) fn key_value_options(
+    alloc: Global,
+    arguments: &[Word],
+) -> Result<Result<Command, Refusal>, OutOfMemory>
+    ensures exact { IfOk result (λ command. command ≡ commands.key_value_options arguments.now) }
+    ensures memory { AsksNoMemory (commands.key_value_options arguments.now) → IsOk result }
+{
+    match arguments {
+        [] | [_] => Ok(Err(Refusal::WrongArity)),
+        [key, _, ..] if is_long(key) => Ok(Ok(Command::Bad(Refusal::KeyTooLong))),
+        [key, value, options @ ..] => match when_of_options(options) {
+            Some(when) => Ok(Ok(Command::Set(copy(alloc, key)?, copy(alloc, value)?, when))),
+            None => Ok(Ok(Command::Bad(Refusal::Syntax))),
+        },
+    }
+}
+
+/// `key number`
+pub(crate) fn key_and_number(
+    alloc: Global,
+    verb: NumberVerb,
+    arguments: &[Word],
+) -> Result<Result<Command, Refusal>, OutOfMemory>
+    ensures exact { IfOk result (λ command. command ≡ commands.key_and_number (of_number_verb verb) arguments.now) }
+    ensures memory { AsksNoMemory (commands.key_and_number (of_number_verb verb) arguments.now) → IsOk result }
+{
+    match arguments {
+        [key, _] if is_long(key) => Ok(Ok(Command::Bad(Refusal::KeyTooLong))),
+        [key, text] => match number::parse(text.as_slice()) {
+            Some(number) => Ok(Ok(verb.with(copy(alloc, key)?, number))),
+            None => Ok(Ok(Command::Bad(Refusal::NotAnInteger))),
+        },
+        _ => Ok(Err(Refusal::WrongArity)),
+    }
+}
+
+/// `key offset value`
+pub(crate) fn key_offset_value(
+    alloc: Global,
+    arguments: &[Word],
+) -> Result<Result<Command, Refusal>, OutOfMemory>
+    ensures exact { IfOk result (λ command. command ≡ commands.key_offset_value arguments.now) }
+    ensures memory { AsksNoMemory (commands.key_offset_value arguments.now) → IsOk result }
+{
+    match arguments {
+        [key, _, _] if is_long(key) => Ok(Ok(Command::Bad(Refusal::KeyTooLong))),
+        [key, text, value] => match number::parse(text.as_slice()) {
+            Some(offset) if offset < 0 => Ok(Ok(Command::Bad(Refusal::OffsetOutOfRange))),
+            Some(offset) => {
+                let key = copy(alloc, key)?;
+                Ok(Ok(Command::SetRange(key, offset as u64, copy(alloc, value)?)))
+            }
+            None => Ok(Ok(Command::Bad(Refusal::NotAnInteger))),
+        },
+        _ => Ok(Err(Refusal::WrongArity)),
+    }
+}
+
+/// `key start end`
+pub(crate) fn key_start_end(
+    alloc: Global,
+    arguments: &[Word],
+) -> Result<Result<Command, Refusal>, OutOfMemory>
+    ensures exact { IfOk result (λ command. command ≡ commands.key_start_end arguments.now) }
+    ensures memory { AsksNoMemory (commands.key_start_end arguments.now) → IsOk result }
+{
+    match arguments {
+        [key, _, _] if is_long(key) => Ok(Ok(Command::Bad(Refusal::KeyTooLong))),
+        [key, start, end] => {
+            let Some(start) = number::parse(start.as_slice()) else {
+                return Ok(Ok(Command::Bad(Refusal::NotAnInteger)));
+            };
+            let Some(end) = number::parse(end.as_slice()) else {
+                return Ok(Ok(Command::Bad(Refusal::NotAnInteger)));
+            };
+            Ok(Ok(Command::GetRange(copy(alloc, key)?, start, end)))
+        }
+        _ => Ok(Err(Refusal::WrongArity)),
+    }
+}
+
+/// Whether one of these keys has more bytes than a key may have.
+fn any_long(keys: &[Word]) -> bool
+    ensures { result ≡ commands.any_long keys.now }
+{
+    match keys {
+        [] => false,
+        [key, others @ ..] => is_long(key) || any_long(others),
+    }
+}
+
+/// Copies of these words.
+fn copies(alloc: Global, words: &[Word]) -> Result<Keys, OutOfMemory>
+    ensures { IfOk result (λ copies. copies ≡ words.now) }
+{
+    let mut copies = Vec::with_capacity(alloc, words.len())?;
+    for word in words {
+        copies.push(copy(alloc, word)?)?;
+    }
+    Ok(Sequence::from_vec(copies))
+}
+
+/// `key [key ..]`
+pub(crate) fn some_keys(
+    alloc: Global,
+    verb: KeysVerb,
+    arguments: &[Word],
+) -> Result<Result<Command, Refusal>, OutOfMemory>
+    ensures exact { IfOk result (λ command. command ≡ commands.some_keys (of_keys_verb verb) arguments.now) }
+    ensures memory { AsksNoMemory (commands.some_keys (of_keys_verb verb) arguments.now) → IsOk result }
+{
+    if arguments.is_empty() {
+        return Ok(Err(Refusal::WrongArity));
+    }
+    if any_long(arguments) {
+        return Ok(Ok(Command::Bad(Refusal::KeyTooLong)));
+    }
+    Ok(Ok(verb.with(copies(alloc, arguments)?)))
+}
+
+/// `key [key ..]` of WATCH
+pub(crate) fn watched_keys(
+    alloc: Global,
+    arguments: &[Word],
+) -> Result<Result<Command, Refusal>, OutOfMemory>
+    ensures exact { IfOk result (λ command. command ≡ commands.watched_keys arguments.now) }
+    ensures memory { AsksNoMemory (commands.watched_keys arguments.now) → IsOk result }
+{
+    if arguments.is_empty() {
+        return Ok(Err(Refusal::WrongArity));
+    }
+    let keys = copies(alloc, arguments)?;
+    Ok(Ok(Command::Session(SessionCommand::Watch(keys))))
+}
+
+/// Whether one of the keys of these settings has more bytes than a key may have; `None` where the words
+/// are no settings, since their number is odd.
+fn any_key_long(words: &[Word]) -> Option<bool>
+    ensures { result ≡ any_long_set (in_pairs words.now) }
+{
+    match words {
+        [] => Some(false),
+        [_] => None,
+        [key, _, others @ ..] => {
+            let long = any_key_long(others)?;
+            Some(is_long(key) || long)
+        }
+    }
+}
+
+/// Adds copies of these words, each with the one after it.
+fn add_settings(
+    alloc: Global,
+    settings: &mut Vec<(Word, Word)>,
+    words: &[Word],
+) -> Result<(), OutOfMemory>
+    ensures { OnOk result (Adds settings.old.items (in_pairs words.now) settings.new.items) }
+{
+    if let [key, value, others @ ..] = words {
+        settings.push((copy(alloc, key)?, copy(alloc, value)?))?;
+        add_settings(alloc, settings, others)?;
+    }
+    Ok(())
+}
+
+/// `key value [key value ..]`
+pub(crate) fn some_settings(
+    alloc: Global,
+    verb: SettingsVerb,
+    arguments: &[Word],
+) -> Result<Result<Command, Refusal>, OutOfMemory>
+    ensures exact { IfOk result (λ command. command ≡ commands.some_settings (of_settings_verb verb) arguments.now) }
+    ensures memory { AsksNoMemory (commands.some_settings (of_settings_verb verb) arguments.now) → IsOk result }
+{
+    if arguments.is_empty() {
+        return Ok(Err(Refusal::WrongArity));
+    }
+    match any_key_long(arguments) {
+        None => Ok(Err(Refusal::WrongArity)),
+        Some(true) => Ok(Ok(Command::Bad(Refusal::KeyTooLong))),
+        Some(false) => {
+            let mut settings = Vec::with_capacity(alloc, arguments.len() / 2)?;
+            add_settings(alloc, &mut settings, arguments)?;
+            Ok(Ok(verb.with(Sequence::from_vec(settings))))
+        }
+    }
+}
