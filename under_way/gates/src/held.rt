@@ -1,0 +1,297 @@
+//! Stripes that a pass holds.
+
+ghost use Rattle.std.specs.Prelude.{◌≡◌, ◌+◌, ◌<◌, ◌≤◌, ◌++◌, ◌∷◌, ◌↔◌, [], ℕ, true, false, length, IsTrue, IsFalse, IfOk, IfErr, OnErr, OnOk, IsSome, Some, MatchResult};
+
+use crate::asks::Asks;
+use crate::gates::{CommitsWornOut, Gates, Pass};
+use crate::order::Order;
+use crate::part::{Part, Parts};
+use crate::rule::{Forget, Stay};
+use crate::sorted::Sorted;
+use crossbeam_utils::Backoff;
+use std::marker::Brand;
+use std::sync::Wait;
+use words::reply::Reply;
+
+/// Stripes that a pass holds. It has to be given back, and until then the pass can take nothing else.
+pub struct Held<'a, T: Part> {
+    pub(crate) gates: &'a Gates<T>,
+    pub(crate) pass: &'a mut Pass<T>,
+    pub(crate) order: Order,
+    pub(crate) committed: bool,
+}
+
+/// A stripe that another pass held when it was tried, and the pass that tried it, which holds nothing.
+#[derive(Drop)]
+pub struct Busy<'a, T> {
+    /// The stripe.
+    pub stripe: usize,
+    /// The pass.
+    pub pass: &'a mut Pass<T>,
+}
+
+impl<T: Part> Gates<T> {
+    ghost use Rattle.gates.specs.declared.view.Note.TheVariants as note;
+    ghost use Rattle.gates.specs.Sets.{times, AreBelow, part_at};
+    ghost use Rattle.gates.specs.Passes.{stripes_of, known, parts_in, taken_in, stripes_in, AllFit, IsHolding, IsResting, Learned, ToldBusy, WasTold, WasBusy, Committed, KeysHeld};
+    ghost use Rattle.gates.specs.Helds.{IsOpen, held_parts, HasTaken};
+
+    /// Takes a stripe that the pass does not have, and waits where another has it.
+    #[inline]
+    fn take_stripe<R: Wait>(&self, rt: &R, pass: &mut Pass<T>, stripe: usize)
+        requires holding { IsHolding self.now pass.old }
+        requires below { stripe < stripes_of self.now }
+        requires other { times stripe (stripes_in pass.old) ≡ 0 }
+        requires fit { AllFit T.meaning (stripes_of self.now) (known pass.old) (taken_in pass.old) (parts_in pass.old) }
+        ensures holding { IsHolding self.now pass.new }
+        ensures fit { AllFit T.meaning (stripes_of self.now) (known pass.new) (taken_in pass.new) (parts_in pass.new) }
+        ensures learned { Learned (known pass.old) (known pass.new) }
+        ensures told { ToldBusy (stripe ∷ []) (known pass.old) (known pass.new) }
+        ensures parts { (part : T) × (parts_in pass.new ≡ parts_in pass.old ++ (stripe, part) ∷ []) }
+    {
+        let taken = self.try_stripe(pass, stripe);
+        if !taken {
+            self.wait_stripe(rt, pass, stripe);
+        }
+    }
+
+    /// The same, of a stripe that another has had.
+    #[cold]
+    fn wait_stripe<R: Wait>(&self, rt: &R, pass: &mut Pass<T>, stripe: usize)
+        requires holding { IsHolding self.now pass.old }
+        requires below { stripe < stripes_of self.now }
+        requires other { times stripe (stripes_in pass.old) ≡ 0 }
+        requires fit { AllFit T.meaning (stripes_of self.now) (known pass.old) (taken_in pass.old) (parts_in pass.old) }
+        ensures holding { IsHolding self.now pass.new }
+        ensures fit { AllFit T.meaning (stripes_of self.now) (known pass.new) (taken_in pass.new) (parts_in pass.new) }
+        ensures learned { Learned (known pass.old) (known pass.new) }
+        ensures told { ToldBusy (stripe ∷ []) (known pass.old) (known pass.new) }
+        ensures parts { (part : T) × (parts_in pass.new ≡ parts_in pass.old ++ (stripe, part) ∷ []) }
+    {
+        let backoff = Backoff::new();
+        for _ in rt.forever() {
+            backoff.snooze();
+            if self.try_stripe(pass, stripe) {
+                return;
+            }
+        }
+        unreachable!()
+    }
+
+    /// Gives back all parts, in this order.
+    #[inline]
+    fn give_all(&self, pass: &mut Pass<T>, mut order: Order)
+        requires holding { IsHolding self.now pass.old }
+        requires order { stripes_in pass.old ≡ order }
+        requires fit { AllFit T.meaning (stripes_of self.now) (known pass.old) (taken_in pass.old) (parts_in pass.old) }
+        ensures resting { IsResting self.now pass.new }
+        ensures known { known pass.new ≡ known pass.old }
+    {
+        while let Some(stripe) = order.first() {
+            self.give_first::<Stay>(pass, stripe);
+            order.pop();
+        }
+    }
+
+    /// Takes stripes, in rising order, with one try each.
+    ///
+    /// # Errors
+    ///
+    /// [`Busy`] with the first stripe whose word was read as another pass's. Nothing is held then.
+    pub fn try_take<'a>(
+        &'a self,
+        pass: &'a mut Pass<T>,
+        stripes: &Sorted,
+    ) -> Result<Held<'a, T>, Busy<'a, T>>
+        requires own { IsResting self.now pass.old }
+        requires known { AreBelow (stripes_of self.now) stripes.now }
+        ensures ok { IfOk result (λ held. HasTaken T.meaning self.now stripes.now pass.entry held × ((known held.pass.now).notes ≡ (known pass.old).notes)) }
+        ensures busy { IfErr result (λ busy. (busy.pass.ghost_name ≡ pass.entry.ghost_name) × IsResting self.now busy.pass.now × (0 < times busy.stripe stripes.now) × WasBusy busy.stripe (known pass.old) (known busy.pass.now)) }
+    {
+        stripes.rises();
+        let mut left = stripes.again();
+        let mut taken = Sorted::none();
+        while let Some((stripe, others)) = left.split_first() {
+            if !self.try_stripe(pass, stripe) {
+                self.give_all(pass, Order::of(taken));
+                return Err(Busy { stripe, pass });
+            }
+            taken = taken.with(stripe);
+            left = others;
+        }
+        Ok(Held {
+            gates: self,
+            pass,
+            order: Order::of(taken),
+            committed: false,
+        })
+    }
+
+    /// Takes stripes, in rising order, and waits where others hold them.
+    #[inline]
+    pub fn take<'a, R: Wait>(
+        &'a self,
+        rt: &R,
+        pass: &'a mut Pass<T>,
+        stripes: &Sorted,
+    ) -> Held<'a, T>
+        requires own { IsResting self.now pass.old }
+        requires known { AreBelow (stripes_of self.now) stripes.now }
+        ensures { HasTaken T.meaning self.now stripes.now pass.entry result }
+    {
+        stripes.rises();
+        let mut left = stripes.again();
+        while let Some((stripe, others)) = left.split_first() {
+            self.take_stripe(rt, pass, stripe);
+            left = others;
+        }
+        Held {
+            gates: self,
+            pass,
+            order: Order::of(stripes.again()),
+            committed: false,
+        }
+    }
+}
+
+impl<'a, T: Part> Held<'a, T> {
+    ghost use Rattle.words.specs.History.{HasPlace, due, keys_named, keys_of_pairs};
+    ghost use Rattle.gates.specs.Plays.{kept};
+    ghost use Rattle.gates.specs.Passes.{stripes_of, known, AllFit, IsResting, KeysHeld};
+    ghost use Rattle.gates.specs.Helds.{IsOpen, held_parts, held_taken, gates_of, known_to, number_of, operation_asked, has_committed, HasCommitted};
+
+    /// Commits one entry of the pass, what a call asks and what it is answered, and says its position in
+    /// the history. A transaction goes by all that the pass watches. The reply has to be the one that is
+    /// due behind all that the pass has seen, and the keys to be of held stripes. The call and the reply
+    /// are for the proof alone.
+    ///
+    /// # Errors
+    ///
+    /// [`CommitsWornOut`] where the commit word was read at 2^62 or more. Nothing was committed.
+    #[inline]
+    pub fn commit<C: Asks>(&mut self, call: &C, reply: &Reply) -> Result<u64, CommitsWornOut>
+        requires open { IsOpen self.old }
+        requires once { has_committed self.old ≡ false }
+        requires place { HasPlace (operation_asked self.old (C.asked call.now)) }
+        requires due { reply.now ≡ due (known_to self.old).seen (operation_asked self.old (C.asked call.now)) }
+        requires keys { KeysHeld (stripes_of (gates_of self.old)) (held_parts self.old) (keys_named (operation_asked self.old (C.asked call.now))) }
+        ensures { HasCommitted self.old (operation_asked self.old (C.asked call.now)) reply.now self.new result }
+    {
+        let place = self
+            .gates
+            .commit_as::<Brand, C>(&mut *self.pass, call, reply)?;
+        self.committed = true;
+        Ok(place)
+    }
+
+    /// The number of the pass.
+    pub fn number(&self) -> u64
+        ensures { result ≡ number_of self.now }
+    {
+        self.pass.number
+    }
+
+    /// Gives all stripes back. Each part has to fit: it reads as its part of what the history leaves
+    /// that the pass has seen, its marks say which of the pass's watched keys were written in it, and for
+    /// others they are as they were taken, touched at the keys that were written since.
+    #[inline]
+    pub fn give(self)
+        requires open { IsOpen self }
+        requires fit { AllFit T.meaning (stripes_of (gates_of self)) (known_to self) (held_taken self) (held_parts self) }
+        ensures pass { IsResting (gates_of self.entry) self.exit.1.0.now }
+        ensures known { known self.exit.1.0.now ≡ known_to self.entry }
+    {
+        let Held {
+            gates,
+            pass,
+            order,
+            committed: _,
+        } = self;
+        gates.give_all(pass, order);
+    }
+
+    /// Gives all stripes back, as [`Held::give`] does, and the pass watches nothing more. The stripes of
+    /// all watched keys have to be held, and no part to have marks of the pass.
+    #[inline]
+    pub fn forget(self)
+        requires open { IsOpen self }
+        requires keys { KeysHeld (stripes_of (gates_of self)) (held_parts self) (keys_of_pairs (known_to self).watched) }
+        requires fit { AllFit T.meaning (stripes_of (gates_of self)) (kept true (known_to self)) (held_taken self) (held_parts self) }
+        ensures pass { IsResting (gates_of self.entry) self.exit.1.0.now }
+        ensures known { known self.exit.1.0.now ≡ kept true (known_to self.entry) }
+    {
+        let Held {
+            gates,
+            pass,
+            mut order,
+            committed: _,
+        } = self;
+        let Some(stripe) = order.first() else {
+            gates.give_all(pass, order);
+            return;
+        };
+        gates.give_first::<Forget>(pass, stripe);
+        order.pop();
+        gates.give_all(pass, order);
+    }
+}
+
+impl<'a, T: Part> Held<'a, T> {
+    ghost use Rattle.std.specs.Borrow.{sem, Lends};
+    ghost use mir.Syntax.{named};
+    ghost use Rattle.gates.specs.contracts.held.Held.{the_row};
+    ghost use Rattle.gates.specs.Sets.{part_at};
+    ghost use Rattle.gates.specs.Helds.{IsOpen, held_parts};
+    ghost use Rattle.gates.specs.Lending.{brought, held_with, with_part};
+
+    /// Turns the seat round until this stripe's part is in front.
+    fn bring(&mut self, stripe: usize)
+        requires open { IsOpen self.old }
+        requires there { IsSome (part_at (held_parts self.old) stripe) }
+        ensures { self.new ≡ held_with self.old (brought stripe (held_parts self.old)) }
+    {
+        while let Some(first) = self.order.first() {
+            if first == stripe {
+                break;
+            }
+            self.order.turn();
+            self.pass.seat.turn();
+        }
+    }
+
+    /// Lends the part of a stripe.
+    fn lend(&mut self, stripe: usize) -> &mut T
+        requires open { IsOpen self.old }
+        requires there { IsSome (part_at (held_parts self.old) stripe) }
+        ensures* writes_back { sem 𝓛 (Lends (the_row (record { mir = named 1; lft = [] }) T.row T.Part) T.row self.entry result (with_part self.old stripe)) }
+        ensures value { part_at (held_parts self.old) stripe ≡ Some result.now }
+    {
+        self.bring(stripe);
+        let shared = &self.gates.table.shared;
+        let pass = &mut *self.pass;
+        let seat = &mut pass.seat;
+        seat.slot_mut(shared, stripe)
+    }
+}
+
+impl<'a, T: Part> Parts<T> for Held<'a, T> {
+    ghost use Rattle.gates.specs.Sets.{part_at};
+    ghost use Rattle.gates.specs.Helds.{IsOpen, held_parts, SameHold, same_as_it, same_by_both};
+    ghost use Rattle.gates.specs.Lending as lending;
+
+    ghost part_of = { λ held stripe. part_at (held_parts held) stripe };
+
+    ghost with_part = { lending.with_part };
+
+    ghost is_open = { IsOpen };
+
+    ghost keeps = { SameHold };
+
+    ghost keeps_same = { same_as_it };
+
+    ghost keeps_both = { same_by_both };
+
+    fn part(&mut self, stripe: usize) -> &mut T {
+        self.lend(stripe)
+    }
+}
