@@ -1,9 +1,0 @@
-pub mod Lists
-pub mod Frames
-pub mod Watched
-pub mod Marks
-pub mod Asked
-pub mod Steps
-pub mod Bits
-pub mod Holding
-pub mod Turning

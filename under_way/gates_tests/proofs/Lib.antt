@@ -1,6 +1,0 @@
-pub mod Common
-pub mod MapMarks
-pub mod Fits
-pub mod OneStripe
-pub mod MapCalls
-pub mod Lasts

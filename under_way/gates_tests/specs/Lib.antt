@@ -1,3 +1,0 @@
-pub mod Watchers
-pub mod Maps
-pub mod Calls

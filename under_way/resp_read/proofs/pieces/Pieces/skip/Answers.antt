@@ -1,8 +1,0 @@
-use Rattle.std.proofs.Common.{◌∙◌, ◌++◌, ◌∷◌, [], drop, ap, arith, List, ℕ}
-use Rattle.resp_read.specs.Pieces.{as_piece, ArePieces}
-use Rattle.resp_read.proofs.PieceLemmas.{left_at_first, left_next, left_none, left_here}
-use Rattle.resp_read.proofs.pieces.Pieces.skip.Goals as goal
-
-pub returns : goal.returns
-returns c =
-    rw c.advance.ensures (left_here c.args.self.now c.args.count c.loop-left.self-inside.oldest c.loop-left.self-inside.later.items c.loop-left.self-inside.held c.loop-left.left c.loop-left.invariant (omega arith)).0
