@@ -5,7 +5,7 @@ use Rattle.std.specs.Map.{update}
 use Rattle.std.specs.Str.{bytes_eq}
 use Rattle.words.specs.Store.{Bytes, Store, Write, empty, written}
 use Rattle.words.specs.Answers.{is_some, deletions}
-use Rattle.words.proofs.Named.{written-append}
+use Rattle.strings.proofs.Shows.{written-append}
 use Rattle.strings.specs.declared.overlay.Overlay.{Overlay}
 use Rattle.strings.specs.Overlays.{shown}
 

@@ -1,10 +1,14 @@
 -- What a list of writes shows at a key: its last write of the key.
 use Rattle.std.proofs.Common.{◌∙◌, ap, Bor}
-use Rattle.std.specs.Prelude.{◌≡◌, Bool, true, false, cond, List, [], ◌∷◌, ◌++◌, Option, Some, None, MatchOption}
+use Rattle.std.specs.Prelude.{◌≡◌, refl, Bool, true, false, cond, List, [], ◌∷◌, ◌++◌, Option, Some, None, MatchOption}
 use Rattle.std.specs.Str.{bytes_eq}
 use Rattle.std.specs.Map.{update}
 use Rattle.words.specs.Store.{Bytes, Store, Write, written}
-use Rattle.words.proofs.Named.{written-append}
+
+-- writes made after others
+pub written-append : (writes more : List Write) (store : Store) → written store (writes ++ more) ≡ written (written store writes) more
+written-append [] more store = refl
+written-append (write ∷ writes) more store = written-append writes more (update bytes_eq store write.0 write.1)
 
 -- the last write to the key is the value
 pub last_here : (all rest : List Write) (write : Write) (key : Bytes) (store : Store) → all ≡ rest ++ write ∷ []
