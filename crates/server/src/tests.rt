@@ -12,6 +12,8 @@ const GET: &[u8] = b"*2\r\n$3\r\nGET\r\n$1\r\nk\r\n";
 
 const PING: &[u8] = b"*1\r\n$4\r\nPING\r\n";
 
+const QUIT: &[u8] = b"*1\r\n$4\r\nQUIT\r\n";
+
 const BAD_LENGTH: &[u8] = b"*1\r\n$04\r\nPING\r\n";
 
 const BAD_LENGTH_LINE: &[u8] = b"-ERR Protocol error: bad length\r\n";
@@ -67,6 +69,33 @@ fn replies_before_input_ends(rt: HostRuntime) -> Result<(), Fail> {
     assert!(rt; talked?);
     assert_eq!(rt; endings.count(), 1);
     assert_eq!(rt; endings.get(0), Some(1));
+    Ok(())
+}
+
+/// The store outlives a connection: a later one reads what an earlier one set. The server listens on the
+/// loopback address alone.
+#[test]
+fn a_later_connection_reads_what_an_earlier_one_set(rt: HostRuntime) -> Result<(), Fail> {
+    let options = Options::new(0, 2).ok_or("options")?;
+    let endings = Endings::new(rt.alloc())?;
+    let listener = listen(&rt, &options)?;
+    let address = listener.local_addr()?;
+    assert!(rt; address.ip().is_loopback());
+    let port = address.port();
+    let (served, talked) = thread::join(
+        &rt,
+        || run_workers(&rt, listener, &options, &endings),
+        || -> io::Result<bool> {
+            let first = connect(&rt, port)?;
+            let set = answers(&first, SET, b"+OK\r\n")? && answers(&first, QUIT, b"+OK\r\n")?;
+            let second = connect(&rt, port)?;
+            Ok(set && answers(&second, GET, b"$5\r\na\r\n*1\r\n")?)
+        },
+    );
+    assert_eq!(rt; served, Ok(()));
+    assert!(rt; talked?);
+    assert_eq!(rt; endings.get(0), Some(2));
+    assert_eq!(rt; endings.get(1), Some(1));
     Ok(())
 }
 
