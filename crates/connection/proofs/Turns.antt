@@ -1,6 +1,7 @@
 -- One turn of a session, as a step of its transcript.
-use Rattle.std.proofs.Common.{◌≡◌, ℕ, Bool, true, false, List, [], ◌∷◌, ◌++◌, length, map, Option, Some, None, IsSome, Result, Ok, Err, refl, sym, ap, ◌∙◌, subst, inl, inr, if◌then◌else◌, ◌⊎◌}
+use Rattle.std.proofs.Common.{◌≡◌, ℕ, true, false, List, [], ◌∷◌, ◌++◌, length, Option, Some, None, Err, refl, sym, ap, ◌∙◌, inl, inr, if◌then◌else◌, ◌⊎◌}
 use Rattle.words.specs.declared.reply.Reply.{Reply}
+use Rattle.words.specs.declared.reply.Fault.{Fault}
 use Rattle.words.specs.declared.history.Operation.{Operation}
 use Rattle.words.specs.declared.history.Entry.{Entry}
 use Rattle.words.specs.Store.{Bytes, Store}
@@ -9,8 +10,8 @@ use Rattle.words.specs.declared.reply.Refusal.TheVariants.{UnknownCommand}
 use Rattle.words.specs.Commands.{command_of}
 use Rattle.words.specs.Commands as commands
 use Rattle.resp_read.specs.Taken.{FitInline}
-use Rattle.words.specs.History.{History, Pair, Placed, Legal, Extends, HasPlace, AreWatches, pairs_of, due}
-use Rattle.words.specs.Session.{Mode, Turn, Says, Forgets, Tries, Calls, Never, Asked, operation_of, turn, Rest, Follows, Transcript}
+use Rattle.words.specs.History.{History, Placed, HasPlace, AreWatches, pairs_of, due}
+use Rattle.words.specs.Session.{Mode, Turn, Says, Forgets, Tries, Calls, Never, Asked, Rest, Follows}
 use Rattle.engine.specs.declared.Call.{Call}
 use Rattle.engine.specs.declared.Call.TheVariants.{One}
 use Rattle.engine.specs.declared.Answer.{Answer}
@@ -18,7 +19,7 @@ use Rattle.engine.specs.declared.Answer.TheVariants as answer
 use Rattle.engine.specs.Calls.{asked_of, operation_asked, Reads, IfReply, IfFault, IsReply, AsksNoMemory}
 use Rattle.connection.specs.Supported.{is_supported, as_supported, read_as}
 use Rattle.connection.specs.Clients.{Standing, Stage, Ready, Called, IsReady, IsCalled, mode_of, turn_at, TakesOff, WantsMemory, IsSaid, IsAsked, Resumes}
-use Rattle.connection.specs.Conversations.{Answers, AreSame, MakesEntry, MayFollow, at_place, with_entry}
+use Rattle.connection.specs.Conversations.{Answers, AreSame, MakesEntry, IsDone, IsUndone, entry_of, at_place}
 
 -- a request is read as the command that the server has
 pub read_command : (words : List Bytes) → command_of (read_as words) ≡ as_supported (command_of words)
@@ -70,9 +71,9 @@ answers_said session before was store old new reply words taken is reads same = 
 }
 
 -- the entry that an answer makes, if any
-abbrev entry_of : ℕ → Operation → Answer → Option Entry
-entry_of session operation (answer.Reply given) = Some (record { session = session; operation = operation; reply = given })
-entry_of session operation (answer.Fault fault) = None
+abbrev entry_made : ℕ → Operation → Answer → Option Entry
+entry_made session operation (answer.Reply given) = Some (record { session = session; operation = operation; reply = given })
+entry_made session operation (answer.Fault fault) = None
 
 -- a session that was answered is ready
 pub ready_called : (stage new : Stage) (a : Answer) (reply : Reply) → Resumes stage a reply new → IsReady new
@@ -91,7 +92,7 @@ called_faulty is = cc
 follows_called : (session : ℕ) (t : Turn) (call : Call) (stage new : Stage) (a : Answer) (reply : Reply) (place : ℕ)
     (entries : List Placed) (more : List Reply) (rest : Rest)
     → IsAsked t (asked_of call) stage → Resumes stage a reply new → rest (mode_of new) [] entries more
-    → Follows session [] t (at_place (entry_of session (operation_asked call) a) place ++ entries) (reply ∷ more) rest
+    → Follows session [] t (at_place (entry_made session (operation_asked call) a) place ++ entries) (reply ∷ more) rest
 follows_called session (Says said after) call stage new a reply place entries more rest is resumes goes = absurd is
 follows_called session (Forgets said after) call stage new a reply place entries more rest is resumes goes = absurd is
 follows_called session (Tries said done faulty) call stage new a reply place entries more rest is resumes goes = absurd is
@@ -106,7 +107,7 @@ follows_called session (Calls asked done faulty) (One command) (Called d f) new 
 
 -- a request that asks for what needs no memory makes its entry
 makes_entry_called : (session : ℕ) (t : Turn) (call : Call) (stage : Stage) (store : Store) (a : Answer)
-    → IsAsked t (asked_of call) stage → (AsksNoMemory store (asked_of call) → IsReply a) → MakesEntry t store (entry_of session (operation_asked call) a)
+    → IsAsked t (asked_of call) stage → (AsksNoMemory store (asked_of call) → IsReply a) → MakesEntry t store (entry_made session (operation_asked call) a)
 makes_entry_called session (Says said after) call stage store a is memory = absurd is
 makes_entry_called session (Forgets said after) call stage store a is memory = absurd is
 makes_entry_called session (Tries said done faulty) call stage store a is memory = absurd is
@@ -119,37 +120,60 @@ makes_entry_called session (Calls asked done faulty) call stage store (answer.Fa
 no_watches : (call : Call) (before : History) (session : ℕ) → AreWatches before session (pairs_of (operation_asked call))
 no_watches (One command) before session = tt
 
--- a request that asks the store, once it is answered
+-- a request is taken off still where as much is unread
+pub taken_after : (unread : Bytes) (words : List Bytes) (mid new : Bytes) → TakesOff unread words mid → new ≡ mid → TakesOff unread words new
+taken_after unread words mid new taken same = record { request = taken.request; taken = taken.taken ∙ ap (λ bytes. spelling words ++ bytes) (sym same) }
+
+-- a request that asks the store, once its call was done
+pub answers_done : (session : ℕ) (before : History) (was store : Store) (old mid new : Standing) (call : Call) (given reply : Reply) (words : List Bytes)
+    → TakesOff old.unread words mid.unread → IsAsked (turn_at old.stage words) (asked_of call) mid.stage
+    → Reads was before → IsDone session was store call given
+    → new.unread ≡ mid.unread → Resumes mid.stage (answer.Reply given) reply new.stage
+    → Answers session before was store old new reply
+answers_done session before was store old mid new call given reply words taken is reads done unread resumes = record {
+  words = words;
+  taken = taken_after old.unread words mid.unread new.unread taken unread;
+  entry = entry_made session (operation_asked call) (answer.Reply given);
+  follows = (refl, record { place = done.place; reply_due = done.reply_due before reads; watches = no_watches call before session });
+  reads = done.leaves before reads;
+  ready = ready_called _ _ (answer.Reply given) reply resumes;
+  makes_entry = makes_entry_called session (turn_at old.stage words) call mid.stage was (answer.Reply given) is (λ spares. tt);
+  goes_on = λ others entries more goes. follows_called session (turn_at old.stage words) call mid.stage new.stage (answer.Reply given) reply (length before) entries more _ is resumes goes;
+}
+
+-- a request that asks the store, once its call was not done
+pub answers_undone : (session : ℕ) (before : History) (was store : Store) (old mid new : Standing) (call : Call) (f : Fault) (reply : Reply) (words : List Bytes)
+    → TakesOff old.unread words mid.unread → IsAsked (turn_at old.stage words) (asked_of call) mid.stage
+    → Reads was before → IsUndone was store call
+    → new.unread ≡ mid.unread → Resumes mid.stage (answer.Fault f) reply new.stage
+    → Answers session before was store old new reply
+answers_undone session before was store old mid new call f reply words taken is reads undone unread resumes = record {
+  words = words;
+  taken = taken_after old.unread words mid.unread new.unread taken unread;
+  entry = None;
+  follows = tt;
+  reads = λ key. undone.same key ∙ reads key;
+  ready = ready_called _ _ (answer.Fault f) reply resumes;
+  makes_entry = makes_entry_called session (turn_at old.stage words) call mid.stage was (answer.Fault f) is undone.wants_memory;
+  goes_on = λ others entries more goes. follows_called session (turn_at old.stage words) call mid.stage new.stage (answer.Fault f) reply (length before) entries more _ is resumes goes;
+}
+
+-- what an answer says of a call, as one of the two
 pub answers_called : (session : ℕ) (before : History) (was store : Store) (old mid new : Standing) (call : Call) (a : Answer) (reply : Reply) (words : List Bytes)
     → TakesOff old.unread words mid.unread → IsAsked (turn_at old.stage words) (asked_of call) mid.stage
     → HasPlace (operation_asked call) → Reads was before
     → IfReply a (λ given. (seen : History) → Reads was seen → given ≡ due seen (operation_asked call))
-    → IfReply a (λ given. (seen : History) → Reads was seen
-    → let entry : Entry = record { session = session; operation = operation_asked call; reply = given } in Reads store (entry ∷ seen))
+    → IfReply a (λ given. (seen : History) → Reads was seen → Reads store (entry_of session call given ∷ seen))
     → IfFault a (λ fault. AreSame was store)
     → (AsksNoMemory was (asked_of call) → IsReply a)
     → new.unread ≡ mid.unread → Resumes mid.stage a reply new.stage
     → Answers session before was store old new reply
-answers_called session before was store old mid new call (answer.Reply given) reply words taken is place reads is_due leaves fault memory unread resumes = record {
-  words = words;
-  taken = record { request = taken.request; taken = taken.taken ∙ ap (λ bytes. spelling words ++ bytes) (sym unread) };
-  entry = entry_of session (operation_asked call) (answer.Reply given);
-  follows = (refl, record { place = place; reply_due = is_due before reads; watches = no_watches call before session });
-  reads = leaves before reads;
-  ready = ready_called _ _ (answer.Reply given) reply resumes;
-  makes_entry = makes_entry_called session (turn_at old.stage words) call mid.stage was (answer.Reply given) is memory;
-  goes_on = λ others entries more goes. follows_called session (turn_at old.stage words) call mid.stage new.stage (answer.Reply given) reply (length before) entries more _ is resumes goes;
-}
-answers_called session before was store old mid new call (answer.Fault f) reply words taken is place reads is_due leaves fault memory unread resumes = record {
-  words = words;
-  taken = record { request = taken.request; taken = taken.taken ∙ ap (λ bytes. spelling words ++ bytes) (sym unread) };
-  entry = None;
-  follows = tt;
-  reads = λ key. fault key ∙ reads key;
-  ready = ready_called _ _ (answer.Fault f) reply resumes;
-  makes_entry = makes_entry_called session (turn_at old.stage words) call mid.stage was (answer.Fault f) is memory;
-  goes_on = λ others entries more goes. follows_called session (turn_at old.stage words) call mid.stage new.stage (answer.Fault f) reply (length before) entries more _ is resumes goes;
-}
+answers_called session before was store old mid new call (answer.Reply given) reply words taken is place reads is_due leaves fault memory unread resumes =
+    answers_done session before was store old mid new call given reply words taken is reads
+    (record { place = place; reply_due = is_due; leaves = leaves }) unread resumes
+answers_called session before was store old mid new call (answer.Fault f) reply words taken is place reads is_due leaves fault memory unread resumes =
+    answers_undone session before was store old mid new call f reply words taken is reads
+    (record { same = fault; wants_memory = memory }) unread resumes
 
 -- a client that asked is at a stage that waits for an answer
 pub called_stage : (t : Turn) (asked : Asked) (stage : Stage) → IsAsked t asked stage → IsCalled stage
@@ -158,10 +182,6 @@ called_stage (Forgets said after) asked stage is = absurd is
 called_stage (Tries said done faulty) asked stage is = absurd is
 called_stage (Calls asks done faulty) asked stage is = rw is.1 tt
 called_stage Never asked stage is = absurd is
-
--- a request is taken off still where as much is unread
-pub taken_after : (unread : Bytes) (words : List Bytes) (mid new : Bytes) → TakesOff unread words mid → new ≡ mid → TakesOff unread words new
-taken_after unread words mid new taken same = record { request = taken.request; taken = taken.taken ∙ ap (λ bytes. spelling words ++ bytes) (sym same) }
 
 -- a client that found no memory asked for some
 pub wants_memory : (old new : Standing) (words : List Bytes) (rest : Bytes) → TakesOff old.unread words rest

@@ -4,15 +4,13 @@ use Rattle.words.specs.declared.reply.Reply.{Reply}
 use Rattle.words.specs.declared.history.Entry.{Entry}
 use Rattle.words.specs.Store.{Bytes, Store}
 use Rattle.words.specs.Spelling.{spellings, AreRequests}
-use Rattle.words.specs.Stream as stream
 use Rattle.words.specs.Encoding.{encodings}
-use Rattle.words.specs.History.{History, Placed, Legal, Extends, after, subhistory}
-use Rattle.words.specs.Session.{Mode, Idle, Turn, Calls, Closed, Transcript}
-use Rattle.engine.specs.Calls.{Reads, AsksNoMemory}
-use Rattle.connection.specs.declared.serving.Due.{Due}
-use Rattle.connection.specs.declared.serving.Due.TheVariants as due
+use Rattle.words.specs.History.{History, Placed, Legal, Extends, HasPlace, subhistory, due}
+use Rattle.words.specs.Session.{Mode, Idle, Turn, Calls, Transcript}
+use Rattle.engine.specs.declared.Call.{Call}
+use Rattle.engine.specs.Calls.{asked_of, operation_asked, Reads, AsksNoMemory}
 use Rattle.connection.specs.Supported.{read_as}
-use Rattle.connection.specs.Clients.{Standing, IsReady, IsOpen, mode_of, turn_at, TakesOff, WantsMemory}
+use Rattle.connection.specs.Clients.{Standing, IsReady, mode_of, turn_at, TakesOff}
 
 -- A talk: a session was asked these requests, made these entries of its own, each with its position, and said these replies, and is in
 -- this mode. Whatever transcript goes on from here, this stands before it. The session watches nothing.
@@ -81,16 +79,18 @@ pub record Answers (session : ℕ) (before : History) (old_store store : Store) 
 abbrev pub AreSame : Store → Store → Type 0
 AreSame before after = (key : Bytes) → after key ≡ before key
 
--- How a client stands after its next turn: it took a request off the front, or no whole request is left, or a fault stands at the front,
--- or memory was asked for, or its session has ended.
-abbrev pub HasTurned : Standing → Due → Standing → Type 0
-HasTurned old (due.Reply reply) new = (words : List Bytes) × TakesOff old.unread words new.unread × IsReady new.stage
-HasTurned old due.Input new = (stream.front old.unread ≡ stream.Part) × IsOpen (mode_of old.stage) × (new ≡ old)
-HasTurned old (due.Malformed fault) new = (stream.front old.unread ≡ stream.Faulty fault) × IsOpen (mode_of old.stage) × (new ≡ old)
-HasTurned old due.Closed new = (mode_of old.stage ≡ Closed) × (new ≡ old)
-HasTurned old due.NoMemory new = WantsMemory old.unread × IsOpen (mode_of old.stage)
+-- the entry that a session makes where its call is answered with this reply
+abbrev pub entry_of : ℕ → Call → Reply → Entry
+entry_of session call reply = record { session = session; operation = operation_asked call; reply = reply }
 
--- What the turn did to the store, where a history stood: it answered the request along it, or left the store.
-abbrev pub IsDue : ℕ → History → Store → Standing → Due → Store → Standing → Type 0
-IsDue session before was old (due.Reply reply) store new = Answers session before was store old new reply
-IsDue session before was old _ store new = AreSame was store
+-- A session's call was done on a store, and answered with this reply: whichever history the store was the result of, the reply is the one
+-- that is due after it, and the store is now the result of that history with the call's entry.
+pub record IsDone (session : ℕ) (was store : Store) (call : Call) (reply : Reply) : Type 0 where
+  pub place : HasPlace (operation_asked call)
+  pub reply_due : (seen : History) → Reads was seen → reply ≡ due seen (operation_asked call)
+  pub leaves : (seen : History) → Reads was seen → Reads store (entry_of session call reply ∷ seen)
+
+-- A call was not done: nothing has changed, and it is one that may want memory.
+pub record IsUndone (was store : Store) (call : Call) : Type 0 where
+  pub same : AreSame was store
+  pub wants_memory : AsksNoMemory was (asked_of call) → ⊥

@@ -6,18 +6,21 @@ use Rattle.words.specs.declared.reply.Line.TheVariants as line
 use Rattle.words.specs.Store.{Bytes, Store}
 use Rattle.words.specs.Spelling.{spellings, AreRequests}
 use Rattle.words.specs.Stream.{front, Part, Faulty}
+use Rattle.words.specs.Stream as stream
 use Rattle.words.specs.Encoding.{encoding, encodings}
 use Rattle.words.specs.History.{History, Placed}
 use Rattle.words.specs.Session.{Mode, Idle, Closed, Transcript, line_reply}
 use Rattle.streams.specs.declared.observed.Told.{Told}
 use Rattle.streams.specs.declared.observed.Told.TheVariants as told
+use Rattle.connection.specs.declared.serving.Due.{Due}
+use Rattle.connection.specs.declared.serving.Due.TheVariants as due
 use Rattle.connection.specs.declared.serving.Ended.{Ended}
 use Rattle.connection.specs.declared.serving.Ended.TheVariants as ended
 use Rattle.connection.specs.declared.serving.Paused.{Paused}
 use Rattle.connection.specs.declared.serving.Paused.TheVariants as paused
 use Rattle.connection.specs.Supported.{read_as}
-use Rattle.connection.specs.Clients.{Standing, IsReady, IsOpen, mode_of, WantsMemory}
-use Rattle.connection.specs.Conversations.{Went, Talk, Conversation}
+use Rattle.connection.specs.Clients.{Standing, IsReady, IsOpen, mode_of, TakesOff, WantsMemory}
+use Rattle.connection.specs.Conversations.{Went, Talk, Conversation, Answers, AreSame}
 
 -- A connection that read these bytes, of a session that began where a history stood: the bytes are the spellings of requests, in order,
 -- and a rest. The history has gone on, is legal, and leaves the store; the requests, the entries that the session made and the replies
@@ -156,3 +159,17 @@ HasTaken (Some ended.NoMemory) old piece new = (0 < length piece) × (new ≡ ol
 abbrev pub taken_told : Option Ended → Told → Told
 taken_told None old = old
 taken_told (Some ended) old = reader_told ended old
+
+-- How a client stands after its next turn: it took a request off the front, or no whole request is left, or a fault stands at the front,
+-- or memory was asked for, or its session has ended.
+abbrev pub HasTurned : Standing → Due → Standing → Type 0
+HasTurned old (due.Reply reply) new = (words : List Bytes) × TakesOff old.unread words new.unread × IsReady new.stage
+HasTurned old due.Input new = (stream.front old.unread ≡ stream.Part) × IsOpen (mode_of old.stage) × (new ≡ old)
+HasTurned old (due.Malformed fault) new = (stream.front old.unread ≡ stream.Faulty fault) × IsOpen (mode_of old.stage) × (new ≡ old)
+HasTurned old due.Closed new = (mode_of old.stage ≡ Closed) × (new ≡ old)
+HasTurned old due.NoMemory new = WantsMemory old.unread × IsOpen (mode_of old.stage)
+
+-- What the turn did to the store, where a history stood: it answered the request along it, or left the store.
+abbrev pub IsDue : ℕ → History → Store → Standing → Due → Store → Standing → Type 0
+IsDue session before was old (due.Reply reply) store new = Answers session before was store old new reply
+IsDue session before was old _ store new = AreSame was store

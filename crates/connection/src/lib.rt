@@ -3,6 +3,7 @@
 #![tactic(auto)]
 
 pub mod client;
+pub mod conversation;
 pub mod serving;
 mod session;
 #[cfg(test)]

@@ -8,8 +8,8 @@ ghost use Rattle.engine.specs.Calls.{Reads};
 ghost use Rattle.engine.specs.Contents.{contents, pass_number};
 ghost use Rattle.streams.specs.Streams.{IsSent, IsPut, stream_of, told_of, reads_of, told_when};
 ghost use Rattle.connection.specs.Clients.{IsReady, start};
-ghost use Rattle.connection.specs.Conversations.{HasTurned, IsDue, Conversation};
-ghost use Rattle.connection.specs.Served.{HasPaused, StandsAt, paused_told, HasAnswered, GoesOn, EndsAnswering, answered_told, HasTaken, taken_told, Served, reader_told, writer_told};
+ghost use Rattle.connection.specs.Conversations.{Conversation};
+ghost use Rattle.connection.specs.Served.{HasTurned, IsDue, HasPaused, StandsAt, paused_told, HasAnswered, GoesOn, EndsAnswering, answered_told, HasTaken, taken_told, Served, reader_told, writer_told};
 ghost use Rattle.std.specs.Io.KnownBytes.{Appends, Consumes, IsAtEnd};
 
 use crate::client::{Client, Next};

@@ -1,4 +1,4 @@
-use Rattle.std.proofs.Common.{◌≡◌, ◌++◌, [], inl, inr, ap, refl, sym}
+use Rattle.std.proofs.Common.{◌≡◌, ◌++◌, [], inl, inr, ap, refl}
 use Rattle.words.specs.Spelling.{IsRequest, spelling}
 use Rattle.words.specs.Session.{Idle, turn_idle}
 use Rattle.words.specs.Commands.{command_of}
@@ -6,7 +6,7 @@ use Rattle.resp_read.specs.Taken.{NeedsMemory}
 use Rattle.connection.specs.declared.session.Turned.TheVariants as turned
 use Rattle.connection.specs.Supported.{as_supported}
 use Rattle.connection.specs.Sessions.{Makes}
-use Rattle.connection.specs.Clients.{IsReady, Ready, stage_of, turn_at, IsOpen, mode_of}
+use Rattle.connection.specs.Clients.{IsReady, Ready, stage_of, IsOpen, mode_of}
 use Rattle.connection.proofs.Stages.{idle, turn_ready, said, ended, called}
 use Rattle.connection.proofs.client.Client.next.Goals as goal
 
