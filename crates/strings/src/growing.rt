@@ -1,6 +1,6 @@
 //! Commands that make a longer value of the old one.
 
-ghost use Rattle.std.specs.Prelude.{◌≡◌, ◌+◌, ◌≤◌, [], ◌∷◌, ◌++◌, length, IfOk, OnOk, IsOk, Some};
+ghost use Rattle.std.specs.Prelude.{◌≡◌, ◌+◌, ◌≤◌, [], ◌∷◌, ◌++◌, ◌-◌, length, replicate, IfOk, OnOk, IsOk, Some};
 ghost use Rattle.words.specs.declared.limits.TheConstants.{VALUE_BYTES_MAX};
 ghost use Rattle.words.specs.Commands.{IsInline};
 ghost use Rattle.words.specs.Answers as answers;
@@ -40,7 +40,7 @@ fn put(
     Ok(CommandReply::integer(size))
 }
 
-/// Two texts, one after the other.
+/// Two texts, one after the other, in one allocation of their size at most.
 fn joined(alloc: Global, front: &[u8], back: &[u8]) -> Result<Word, OutOfMemory>
     ensures bytes { IfOk result (λ word. word ≡ front.now ++ back.now) }
     ensures inline { IsInline (front.now ++ back.now) → IsOk result }
@@ -48,7 +48,7 @@ fn joined(alloc: Global, front: &[u8], back: &[u8]) -> Result<Word, OutOfMemory>
     let mut bytes: SmallVec<u8, 22> = SmallVec::with_capacity(alloc, front.len() + back.len())?;
     bytes.extend_from_slice(front)?;
     bytes.extend_from_slice(back)?;
-    Word::from_slice(alloc, bytes.as_slice())
+    Ok(Word::from_small_vec(bytes))
 }
 
 /// `APPEND`
@@ -72,20 +72,29 @@ pub(crate) fn append(
     put(alloc, overlay, key, grown)
 }
 
-/// A value with these bytes from an offset on, zero bytes between its end and the offset.
+/// Fills bytes up to a length with zero bytes.
+fn pad(bytes: &mut SmallVec<u8, 22>, len: usize) -> Result<(), OutOfMemory>
+    requires { length bytes.old.items ≤ len }
+    ensures { OnOk result (bytes.new.items ≡ bytes.old.items ++ replicate (len - length bytes.old.items) 0) }
+{
+    bytes.resize(len, 0)
+}
+
+/// A value with these bytes from an offset on, zero bytes between its end and the offset. It is made in one
+/// allocation of its size at most.
 fn overlaid(alloc: Global, old: &[u8], offset: usize, more: &[u8]) -> Result<Word, OutOfMemory>
     requires { offset + length more.now ≤ VALUE_BYTES_MAX }
     ensures { IfOk result (λ word. word ≡ answers.overlaid old.now offset more.now) }
 {
     let past = offset + more.len();
-    let mut bytes = Vec::with_capacity(alloc, past.max(old.len()))?;
+    let mut bytes: SmallVec<u8, 22> = SmallVec::with_capacity(alloc, past.max(old.len()))?;
     bytes.extend_from_slice(&old[..offset.min(old.len())])?;
-    bytes.resize(offset, 0)?;
+    pad(&mut bytes, offset)?;
     bytes.extend_from_slice(more)?;
     if past < old.len() {
         bytes.extend_from_slice(&old[past..])?;
     }
-    Word::from_slice(alloc, bytes.as_slice())
+    Ok(Word::from_small_vec(bytes))
 }
 
 /// `SETRANGE`
