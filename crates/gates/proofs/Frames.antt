@@ -1,11 +1,12 @@
 -- What entries that leave a stripe leave, by the laws of histories.
-use Rattle.std.proofs.Common.{◌≡◌, ◌<◌, ℕ, Bool, true, false, List, [], ◌∷◌, ◌++◌, Option, None, cond, refl, ap, ◌∙◌}
+use Rattle.std.proofs.Common.{◌≡◌, ◌<◌, ◌+◌, ℕ, Some, Bool, true, false, List, [], ◌∷◌, ◌++◌, Option, None, cond, refl, ap, ◌∙◌}
 use Rattle.std.specs.Prelude.{if◌then◌else◌}
 use Rattle.std.specs.Map.{update}
 use Rattle.std.specs.Str.{bytes_eq}
 use Rattle.words.specs.declared.history.Entry.{Entry}
 use Rattle.words.specs.Store.{Bytes, Store, Write, written}
-use Rattle.words.specs.History.{History, after, writes_of, outcome, was_not_done, keys_named}
+use Rattle.words.specs.History.{History, Pair, after, is_written, writes_of, was_not_done, keys_named}
+use Rattle.words.specs.Watches.{mark_of, mark_at, watched_at}
 use Rattle.words.specs.Stripes.{stripe_of, IsPart, AreElsewhere}
 use Rattle.words.specs.Locality.{AreSameAt, IsNoneOf, NoEntryNames, NamesNone}
 use Rattle.gates.specs.Laws.{Laws}
@@ -68,6 +69,22 @@ module _ (laws : Laws) where
   entry_left entry more seen key none same =
       ap (λ writes. written (after (more ++ seen)) writes key) (writes_left entry more seen none)
       ∙ written_same (writes_of (after seen) entry) (after (more ++ seen)) (after seen) key same
+
+  -- which keys of the stripe were written stays as it was, and so do marks
+  pub written_left : (stripes stripe : ℕ) (more seen : History) (start : ℕ) (key : Bytes) → AllLeave stripes stripe more → stripe_of stripes key ≡ stripe
+      → is_written (more ++ seen) start key ≡ is_written seen start key
+  written_left stripes stripe [] seen start key all here = refl
+  written_left stripes stripe (entry ∷ more) seen start key all here =
+      laws.written stripes stripe entry (more ++ seen) start key all.0 here ∙ written_left stripes stripe more seen start key all.1 here
+
+  mark_of_left : (stripes stripe : ℕ) (more seen : History) (key : Bytes) (old : Option ℕ) → AllLeave stripes stripe more → stripe_of stripes key ≡ stripe
+      → mark_of (more ++ seen) key old ≡ mark_of seen key old
+  mark_of_left stripes stripe more seen key None all here = refl
+  mark_of_left stripes stripe more seen key (Some position) all here = ap Some (written_left stripes stripe more seen (position + 1) key all here)
+
+  pub mark_left : (stripes stripe : ℕ) (more seen : History) (pairs : List Pair) (key : Bytes) → AllLeave stripes stripe more → stripe_of stripes key ≡ stripe
+      → mark_at (more ++ seen) pairs key ≡ mark_at seen pairs key
+  mark_left stripes stripe more seen pairs key all here = mark_of_left stripes stripe more seen key (watched_at pairs key) all here
 
 -- what the empty store has, whether a key is asked for or not
 pub none_both : (b : Bool) (value : Option Bytes) → value ≡ None → cond b value None ≡ None

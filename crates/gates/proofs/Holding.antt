@@ -1,24 +1,29 @@
 -- What a pass has after each of its steps.
-use Rattle.std.proofs.Common.{◌≡◌, ◌≢◌, ◌⊎◌, ℕ, zero, suc, ◌+◌, ◌<◌, ◌≤◌, Bool, true, false, List, [], ◌∷◌, ◌++◌, Some, None, cond, nat_eq, length, sym, refl, ap, subst, ◌∙◌, arith, eq-eqb, ne_eqb, inl, inr, ⊎_elim, append_assoc, append-nil, IsSome, ◌↔◌, ◌-◌, replicate, slice_index}
+use Rattle.std.proofs.Common.{◌≡◌, ◌≢◌, ◌⊎◌, ◌||◌, ℕ, zero, suc, ◌+◌, ◌<◌, ◌≤◌, Bool, true, false, List, [], ◌∷◌, ◌++◌, Some, None, cond, nat_eq, length, sym, refl, ap, subst, ◌∙◌, arith, eq-eqb, ne_eqb, inl, inr, ⊎_elim, append_assoc, append-nil, length-append, IsSome, ◌↔◌, ◌-◌, replicate, slice_index}
 use Rattle.std.proofs.lemmas.Bool.{cases_eq}
 use Rattle.atomic_table.specs.Table.{Me, Step, rest, turned}
 use Rattle.words.specs.declared.history.Entry.{Entry}
-use Rattle.words.specs.Store.{Bytes, Store}
-use Rattle.words.specs.History.{History, after, keys_named}
+use Rattle.words.specs.Store.{Bytes, writes_key}
+use Rattle.words.specs.History.{History, after, writes_of, keys_named, is_written, AreWatches}
+use Rattle.words.specs.Locality.{NamesNone}
+use Rattle.words.specs.Watches.{touched, mark_at, mark_after, watched_after}
 use Rattle.words.specs.Stripes.{IsPart, stripe_of}
 use Rattle.gates.specs.declared.view.Note.{Note}
-use Rattle.gates.specs.declared.view.Note.TheVariants.{Busy}
+use Rattle.gates.specs.declared.view.Note.TheVariants.{Busy, Worn}
 use Rattle.gates.specs.declared.view.Knowledge.{Knowledge}
 use Rattle.gates.specs.declared.view.View.{View}
-use Rattle.gates.specs.Sets.{times, without}
-use Rattle.gates.specs.Rule.{AllLeave, AreHeld}
-use Rattle.gates.specs.Plays.{first_of, own, IsSingle, sees, commits, taking, giving, GoesOn, EachGoesOn, Took, Missed, Commits, Meets, resting, joined, all_see, newcomer, newcomers, others_of}
-use Rattle.gates.specs.Passes.{stripes_among, part_at, AllFit, IsSeatOf, Learned, WasTold, WasBusy, Committed, KeysHeld, AreNew, IsResting, known}
+use Rattle.gates.specs.Sets.{part_at, times, without}
+use Rattle.gates.specs.Rule.{writes, Meaning, IsMarked, touched_marks, AllLeave, AreHeld}
+use Rattle.gates.specs.Plays.{first_of, own, IsSingle, kept, knowing, sees, commits, taking, giving, GoesOn, EachGoesOn, Took, Missed, Commits, Meets, resting, joined, all_see, newcomer, newcomers, others_of}
+use Rattle.gates.specs.Passes.{stripes_among, FitsPart, AllFit, IsSeatOf, Learned, WasTold, WasBusy, ToldBusy, AreBusy, Committed, KeysHeld, AreNew, IsResting, known}
 use Rattle.gates.specs.declared.gates.Gates.{Gates}
 use Rattle.gates.specs.declared.gates.Pass.{Pass}
 use Rattle.gates.proofs.Lists.{times_here, times_else, times-append, without_here, without_else}
 use Rattle.gates.specs.Laws.{Laws}
-use Rattle.gates.proofs.Frames.{names_none, part_left, after_left, entry_left}
+use Rattle.gates.proofs.Watched.{watches_more, written_entry, written_none, touched_false, mark_commits, watches_after, watched_once, kept_once}
+use Rattle.gates.proofs.Frames.{names_none, part_left, after_left, writes_left, entry_left, written_left, mark_left}
+use Rattle.gates.proofs.Marks.{marked_left, touched_left}
+use Rattle.gates.proofs.Steps.{part_without, watches_kept}
 
 module _ {T : Type 0} where
   first_is : (b : Bool) (part q : T) → b ≡ true → cond b (Some part) None ≡ Some q → part ≡ q
@@ -56,7 +61,7 @@ module _ {T : Type 0} where
       (cases_eq x.0 j)
 
   -- the seat after a stripe was taken, and turned
-  module _ (laws : Laws) (contents : T → Store) (n number i : ℕ) (m w : Me T (View T)) (seat : IsSeatOf n number m) (below : i < n) (other : times i (stripes_among m.1) ≡ 0) (took : Took contents n i m w) where
+  module _ (laws : Laws) (contents : Meaning T) (n number i : ℕ) (m w : Me T (View T)) (seat : IsSeatOf n number m) (below : i < n) (other : times i (stripes_among m.1) ≡ 0) (took : Took contents n i m w) where
     after_take : Me T (View T)
     after_take = (taking m.0 i took.part took.log, m.1 ++ (i, took.part) ∷ [])
 
@@ -84,6 +89,9 @@ module _ {T : Type 0} where
               (cases_eq i j);
           legal = took.goes_on.legal;
           mine = took.goes_on.mine;
+          watches = subst (λ (l : History). AreWatches l (own m.0).number (own m.0).watched) (sym took.goes_on.begins)
+              (watches_more laws took.goes_on.more (own m.0).seen (own m.0).number (own m.0).watched seat.watches);
+          each_once = seat.each_once;
         }
 
     pub took_seat : IsSeatOf n number (w.0, turned w.1)
@@ -95,23 +103,51 @@ module _ {T : Type 0} where
 
     pub took_knows : Learned (own m.0) (own w.0)
     took_knows = subst (λ (v : View T). Learned (own m.0) (own v)) (sym (ap (λ (x : Me T (View T)). x.0) took.seat))
-        record { number = refl; mine = refl; seen = (took.goes_on.more, took.goes_on.begins); notes = ([], refl) }
+        record { number = refl; mine = refl; seen = (took.goes_on.more, took.goes_on.begins); notes = ([], refl); watched = refl }
 
     pub took_notes : (own w.0).notes ≡ (own m.0).notes
     took_notes = ap (λ (x : Me T (View T)). (own x.0).notes) took.seat
 
-    pub took_fit : AllFit contents n (own m.0).seen m.1 → AllFit contents n (own w.0).seen (turned w.1)
+    -- a part fits still
+    fit_still : (j : ℕ) (q : T) → i ≢ j → 0 < times j m.0.held → FitsPart contents n (own m.0) m.0.taken j q
+        → FitsPart contents n (sees (own m.0) took.log) (taking m.0 i took.part took.log).taken j q
+    fit_still j q ne held f =
+        let goes = took.goes_on in
+        let leave = goes.leave j held in
+        record {
+          reads = subst (λ (h : History). IsPart n j (contents.store q) (after h)) (sym goes.begins) (part_left laws n j (contents.store q) goes.more (own m.0).seen leave f.reads);
+          marks = subst (λ (h : History). IsMarked n j (contents.marks q) h (own m.0)) (sym goes.begins) (marked_left laws n j (contents.marks q) goes.more (own m.0).seen (own m.0) leave f.marks);
+          was = f.was;
+          taken = ap (λ b. cond b (Some (length took.log, took.part)) (part_at m.0.taken j)) (ne_eqb i j ne) ∙ f.taken;
+          early = omega (arith, f.early, ap (λ (h : History). length h) goes.begins, length-append goes.more (own m.0).seen);
+          others = λ key number here apart. f.others key number here apart
+              ∙ sym (ap (λ (h : History). touched_marks h f.was.0 (contents.marks f.was.1) key number) goes.begins
+              ∙ touched_left laws n j (contents.marks f.was.1) goes.more (own m.0).seen f.was.0 leave key number here);
+        }
+
+    fit_new : FitsPart contents n (sees (own m.0) took.log) (taking m.0 i took.part took.log).taken i took.part
+    fit_new = record {
+      reads = took.reads;
+      marks = took.marked;
+      was = (length took.log, took.part);
+      taken = ap (λ b. cond b (Some (length took.log, took.part)) (part_at m.0.taken i)) (eq-eqb i i refl);
+      early = omega arith;
+      others = λ key number here apart.
+          sym (ap (λ w. touched w (contents.marks took.part key number)) (written_none took.log (length took.log) key (omega arith)) ∙ touched_false (contents.marks took.part key number));
+    }
+
+    pub took_fit : AllFit contents n (own m.0) m.0.taken m.1 → AllFit contents n (own w.0) w.0.taken (turned w.1)
     took_fit fit =
-        let log = took.log in
-        let seen : (own w.0).seen ≡ log = ap (λ (x : Me T (View T)). (own x.0).seen) took.seat in
-        subst (λ (l : List (ℕ × T)). AllFit contents n (own w.0).seen l) (sym took_parts)
-        (subst (λ (h : History). AllFit contents n h (m.1 ++ (i, took.part) ∷ [])) (sym seen)
+        let v : View T = taking m.0 i took.part took.log in
+        let view : w.0 ≡ v = ap (λ (x : Me T (View T)). x.0) took.seat in
+        subst (λ (l : List (ℕ × T)). AllFit contents n (own w.0) w.0.taken l) (sym took_parts)
+        (subst (λ (x : View T). AllFit contents n (own x) x.taken (m.1 ++ (i, took.part) ∷ [])) (sym view)
         (λ j q e. ⊎_elim
         (λ old.
-        let held : 0 < times j m.0.held = omega (arith, seat.same j, part_stands m.1 j q old) in
-        subst (λ (h : History). IsPart n j (contents q) (after h)) (sym took.goes_on.begins)
-        (part_left laws n j (contents q) took.goes_on.more (own m.0).seen (took.goes_on.leave j held) (fit j q old)))
-        (λ new. subst (λ (k : ℕ). IsPart n k (contents q) (after log)) new.0 (subst (λ (p : T). IsPart n i (contents p) (after log)) new.1 took.reads))
+        let stands = part_stands m.1 j q old in
+        let ne : i ≢ j = (λ same. let none_there : times j (stripes_among m.1) ≡ 0 = subst (λ (k : ℕ). times k (stripes_among m.1) ≡ 0) same other in omega arith) in
+        fit_still j q ne (omega (arith, seat.same j)) (fit j q old))
+        (λ new. subst (λ (k : ℕ). FitsPart contents n (own v) v.taken k q) new.0 (subst (λ (p : T). FitsPart contents n (own v) v.taken i p) new.1 fit_new))
         (at_snoc m.1 i j took.part q e)))
 
   -- the seat after a stripe was found busy
@@ -126,17 +162,20 @@ module _ {T : Type 0} where
           below = seat.below;
           legal = seat.legal;
           mine = seat.mine;
+          watches = seat.watches;
+          each_once = seat.each_once;
         }
 
     pub missed_knows : WasTold (Busy i) (own m.0) (own w.0)
     missed_knows = subst (λ (v : View T). WasTold (Busy i) (own m.0) (own v)) (sym (ap (λ (x : Me T (View T)). x.0) missed.seat))
-        record { number = refl; mine = refl; seen = refl; notes = refl }
+        record { number = refl; mine = refl; seen = refl; notes = refl; watched = refl }
 
     pub missed_parts : w.1 ≡ m.1
     missed_parts = ap (λ (x : Me T (View T)). x.1) missed.seat
 
-    pub missed_fit : (contents : T → Store) → AllFit contents n (own m.0).seen m.1 → AllFit contents n (own w.0).seen w.1
-    missed_fit contents fit = subst (λ (x : Me T (View T)). AllFit contents n (own x.0).seen x.1) (sym missed.seat) fit
+    pub missed_fit : (contents : Meaning T) → AllFit contents n (own m.0) m.0.taken m.1 → AllFit contents n (own w.0) w.0.taken w.1
+    missed_fit contents fit = subst (λ (x : Me T (View T)). AllFit contents n (own x.0) x.0.taken x.1) (sym missed.seat)
+        (λ j q e. let f = fit j q e in record { reads = f.reads; marks = f.marks; was = f.was; taken = f.taken; early = f.early; others = f.others })
 
 -- parts by stripe
 module _ {T : Type 0} where
@@ -153,7 +192,8 @@ module _ {T : Type 0} where
   keys_held n parts held same (key ∷ keys) all = (omega (arith, same (stripe_of n key), part_some parts (stripe_of n key) all.0), keys_held n parts held same keys all.1)
 
   -- the seat after its first part was given back
-  module _ (n number i : ℕ) (part : T) (m w : Me T (View T)) (seat : IsSeatOf n number m) (first : m.1 ≡ (i, part) ∷ rest m.1) (gave : w ≡ (giving m.0 i, rest m.1)) where
+  module _ (n number i : ℕ) (part : T) (m w : Me T (View T)) (seat : IsSeatOf n number m) (first : m.1 ≡ (i, part) ∷ rest m.1)
+      (ends : Bool) (gave : w ≡ (giving (knowing m.0 (kept ends (own m.0))) i, rest m.1)) where
     among_first : (j : ℕ) → times j (stripes_among m.1) ≡ times j (i ∷ stripes_among (rest m.1))
     among_first j = ap (λ (l : List (ℕ × T)). times j (stripes_among l)) first
 
@@ -166,7 +206,7 @@ module _ {T : Type 0} where
     pub gave_seat : IsSeatOf n number w
     gave_seat = subst (λ (x : Me T (View T)). IsSeatOf n number x) (sym gave)
         record {
-          single = seat.single;
+          single = refl;
           number_is = seat.number_is;
           once = λ j. omega (arith, seat.once j, among_first j);
           same = λ j. ⊎_elim
@@ -176,21 +216,33 @@ module _ {T : Type 0} where
           below = λ j h. seat.below j (omega (arith, among_first j));
           legal = seat.legal;
           mine = seat.mine;
+          watches = watches_kept ends (own m.0) seat.watches;
+          each_once = kept_once ends (own m.0) seat.each_once;
         }
 
-    pub gave_knows : own w.0 ≡ own m.0
+    pub gave_knows : own w.0 ≡ kept ends (own m.0)
     gave_knows = ap (λ (x : Me T (View T)). own x.0) gave
 
     pub gave_parts : w.1 ≡ rest m.1
     gave_parts = ap (λ (x : Me T (View T)). x.1) gave
 
+    rest_else : (j : ℕ) (q : T) → part_at (rest m.1) j ≡ Some q → i ≢ j
+    rest_else j q e same = let here = part_stands (rest m.1) j q e in let none_here : times j (stripes_among (rest m.1)) ≡ 0 = subst (λ (k : ℕ). times k (stripes_among (rest m.1)) ≡ 0) same gone in omega arith
+
     rest_at : (j : ℕ) (q : T) → part_at (rest m.1) j ≡ Some q → part_at m.1 j ≡ Some q
     rest_at j q e =
-        let ne : i ≢ j = (λ same. let here = part_stands (rest m.1) j q e in let none_here : times j (stripes_among (rest m.1)) ≡ 0 = subst (λ (k : ℕ). times k (stripes_among (rest m.1)) ≡ 0) same gone in omega arith) in
-        ap (λ (l : List (ℕ × T)). part_at l j) first ∙ ap (λ b. cond b (Some part) (part_at (rest m.1) j)) (ne_eqb i j ne) ∙ e
+        ap (λ (l : List (ℕ × T)). part_at l j) first ∙ ap (λ b. cond b (Some part) (part_at (rest m.1) j)) (ne_eqb i j (rest_else j q e)) ∙ e
 
-    pub gave_fit : (contents : T → Store) → AllFit contents n (own m.0).seen m.1 → AllFit contents n (own w.0).seen w.1
-    gave_fit contents fit = subst (λ (x : Me T (View T)). AllFit contents n (own x.0).seen x.1) (sym gave) (λ j q e. fit j q (rest_at j q e))
+    pub gave_fit : (contents : Meaning T) → AllFit contents n (kept ends (own m.0)) m.0.taken m.1 → AllFit contents n (own w.0) w.0.taken w.1
+    gave_fit contents fit = subst (λ (x : Me T (View T)). AllFit contents n (own x.0) x.0.taken x.1) (sym gave)
+        (λ j q e. let f = fit j q (rest_at j q e) in record {
+          reads = f.reads;
+          marks = f.marks;
+          was = f.was;
+          taken = part_without i j m.0.taken (λ x. rest_else j q e (sym x)) ∙ f.taken;
+          early = f.early;
+          others = f.others;
+        })
 
     pub first_held : 0 < times i m.0.held
     first_held = omega (arith, seat.same i, among_first i, times_here i (stripes_among (rest m.1)))
@@ -198,12 +250,44 @@ module _ {T : Type 0} where
     pub first_below : i < n
     first_below = seat.below i (omega (arith, among_first i, times_here i (stripes_among (rest m.1))))
 
-    pub first_reads : (contents : T → Store) → AllFit contents n (own m.0).seen m.1 → IsPart n i (contents part) (after (own m.0).seen)
-    first_reads contents fit = fit i part (ap (λ (l : List (ℕ × T)). part_at l i) first ∙ ap (λ b. cond b (Some part) (part_at (rest m.1) i)) (eq-eqb i i refl))
+    pub first_fits : (contents : Meaning T) → AllFit contents n (kept ends (own m.0)) m.0.taken m.1 → FitsPart contents n (kept ends (own m.0)) m.0.taken i part
+    first_fits contents fit = fit i part (ap (λ (l : List (ℕ × T)). part_at l i) first ∙ ap (λ b. cond b (Some part) (part_at (rest m.1) i)) (eq-eqb i i refl))
 
   -- a commit
   module _ (laws : Laws) (n number found : ℕ) (entry : Entry) (st : Step T) (m w : Me T (View T)) (seat : IsSeatOf n number m) (slots : st.slots ≡ n)
       (keys : KeysHeld n m.1 (keys_named entry.operation)) (d : Commits entry st m found w) where
+    leave : (stripe : ℕ) → 0 < times stripe m.0.held → AllLeave n stripe d.goes_on.more
+    leave = subst (λ (k : ℕ). (stripe : ℕ) → 0 < times stripe m.0.held → AllLeave k stripe d.goes_on.more) slots d.goes_on.leave
+
+    named : NamesNone d.goes_on.more (keys_named entry.operation)
+    named = names_none n m.0.held d.goes_on.more leave (keys_named entry.operation) (keys_held n m.1 m.0.held seat.same (keys_named entry.operation) keys)
+
+    writes_same : writes_of (after d.before) entry ≡ writes_of (after (own m.0).seen) entry
+    writes_same = ap (λ (l : History). writes_of (after l) entry) d.goes_on.begins ∙ writes_left laws entry d.goes_on.more (own m.0).seen named
+
+    written_same : (key : Bytes) (start : ℕ) → 0 < times (stripe_of n key) m.0.held → is_written d.before start key ≡ is_written (own m.0).seen start key
+    written_same key start h = ap (λ (l : History). is_written l start key) d.goes_on.begins ∙ written_left laws n (stripe_of n key) d.goes_on.more (own m.0).seen start key (leave (stripe_of n key) h) refl
+
+    pub commit_seat : entry.session ≡ (own m.0).number → IsSeatOf n number w
+    commit_seat session =
+        let before_are : AreWatches d.before (own m.0).number (own m.0).watched =
+        subst (λ (l : History). AreWatches l (own m.0).number (own m.0).watched) (sym d.goes_on.begins) (watches_more laws d.goes_on.more (own m.0).seen (own m.0).number (own m.0).watched seat.watches) in
+        let are : AreWatches (entry ∷ d.before) (own m.0).number (commits (own m.0) d.before entry).watched =
+        subst (λ (k : ℕ). AreWatches (entry ∷ d.before) k (commits (own m.0) d.before entry).watched) session
+        (watches_after laws entry d.before (own m.0).watched (subst (λ (k : ℕ). AreWatches d.before k (own m.0).watched) (sym session) before_are)) in
+        subst (λ (x : Me T (View T)). IsSeatOf n number x) (sym d.seat)
+        record {
+          single = refl;
+          number_is = seat.number_is;
+          once = seat.once;
+          same = seat.same;
+          below = seat.below;
+          legal = d.legal;
+          mine = d.mine;
+          watches = are;
+          each_once = watched_once entry.operation (own m.0).watched (length d.before) seat.each_once;
+        }
+
     pub committed : Committed n m.1 entry found (own m.0) (own w.0)
     committed =
         let knows : own w.0 ≡ commits (own m.0) d.before entry = ap (λ (x : Me T (View T)). own x.0) d.seat in
@@ -216,16 +300,24 @@ module _ {T : Type 0} where
           seen = refl;
           mine = ap (λ (k : ℕ). (k, entry) ∷ (own m.0).mine) (sym d.place);
           notes = refl;
+          watched = ap (λ (k : ℕ). watched_after (own m.0).watched entry.operation k) (sym d.place);
+          touches = λ key start some early.
+              let size : length d.before ≡ length d.goes_on.more + length (own m.0).seen = ap (λ (l : History). length l) d.goes_on.begins ∙ length-append d.goes_on.more (own m.0).seen in
+              written_entry entry d.before start key (omega arith)
+              ∙ ap (λ l. writes_key l key || is_written d.before start key) writes_same
+              ∙ ap (λ w. writes (after (own m.0).seen) entry key || w) (written_same key start (omega (arith, seat.same (stripe_of n key), part_some m.1 (stripe_of n key) some)));
+          marks = λ key some.
+              let here : 0 < times (stripe_of n key) m.0.held = omega (arith, seat.same (stripe_of n key), part_some m.1 (stripe_of n key) some) in
+              mark_commits entry d.before (own m.0).number (own m.0).watched key
+              (subst (λ (l : History). AreWatches l (own m.0).number (own m.0).watched) (sym d.goes_on.begins) (watches_more laws d.goes_on.more (own m.0).seen (own m.0).number (own m.0).watched seat.watches))
+              ∙ ap (λ l. mark_after entry.operation (writes_key l key) key (mark_at d.before (own m.0).watched key)) writes_same
+              ∙ ap (mark_after entry.operation (writes (after (own m.0).seen) entry key) key)
+              (ap (λ (l : History). mark_at l (own m.0).watched key) d.goes_on.begins ∙ mark_left laws n (stripe_of n key) d.goes_on.more (own m.0).seen (own m.0).watched key (leave (stripe_of n key) here) refl);
           store = λ key some.
-              let held : AreHeld n m.0.held (keys_named entry.operation) = keys_held n m.1 m.0.held seat.same (keys_named entry.operation) keys in
-              let more : History = d.goes_on.more in
-              let seen : History = (own m.0).seen in
-              let leave : (stripe : ℕ) → 0 < times stripe m.0.held → AllLeave n stripe more =
-              subst (λ (k : ℕ). (stripe : ℕ) → 0 < times stripe m.0.held → AllLeave k stripe more) slots d.goes_on.leave in
               let here : 0 < times (stripe_of n key) m.0.held = omega (arith, seat.same (stripe_of n key), part_some m.1 (stripe_of n key) some) in
               ap (λ (l : History). after (entry ∷ l) key) d.goes_on.begins
-              ∙ entry_left laws entry more seen key (names_none n m.0.held more leave (keys_named entry.operation) held)
-              (after_left laws n (stripe_of n key) more seen key (leave (stripe_of n key) here) refl);
+              ∙ entry_left laws entry d.goes_on.more (own m.0).seen key named
+              (after_left laws n (stripe_of n key) d.goes_on.more (own m.0).seen key (leave (stripe_of n key) here) refl);
         }
 
 pub Learned-trans : (a b c : Knowledge) → Learned a b → Learned b c → Learned a c
@@ -233,11 +325,42 @@ Learned-trans a b c one two = record {
   number = two.number ∙ one.number;
   mine = two.mine ∙ one.mine;
   seen = (two.seen.0 ++ one.seen.0, two.seen.1 ∙ ap (λ (l : History). two.seen.0 ++ l) one.seen.1 ∙ sym (append_assoc two.seen.0 one.seen.0 a.seen));
+  watched = two.watched ∙ one.watched;
   notes = (two.notes.0 ++ one.notes.0, two.notes.1 ∙ ap (λ (l : List Note). two.notes.0 ++ l) one.notes.1 ∙ sym (append_assoc two.notes.0 one.notes.0 a.notes));
 }
 
+-- what a pass was told
+busy_both : (stripes : List ℕ) (one two : List Note) → AreBusy stripes one → AreBusy stripes two → AreBusy stripes (one ++ two)
+busy_both stripes [] two first second = second
+busy_both stripes (Busy stripe ∷ one) two first second = (first.0, busy_both stripes one two first.1 second)
+busy_both stripes (Worn ∷ one) two first second = absurd first
+
+busy_among : (stripe : ℕ) (stripes : List ℕ) (notes : List Note) → 0 < times stripe stripes → AreBusy (stripe ∷ []) notes → AreBusy stripes notes
+busy_among stripe stripes [] among all = tt
+busy_among stripe stripes (Busy other ∷ notes) among all = (
+  ⊎_elim (λ same. subst (λ (k : ℕ). 0 < times k stripes) same among) (λ ne. absurd (omega (arith, all.0, times_else other stripe [] (λ e. ne e)))) (cases_eq stripe other),
+  busy_among stripe stripes notes among all.1,
+)
+busy_among stripe stripes (Worn ∷ notes) among all = absurd all
+
+pub told_nothing : (stripes : List ℕ) (a b : Knowledge) → b.notes ≡ a.notes → ToldBusy stripes a b
+told_nothing stripes a b same = ([], same, tt)
+
+pub told_busy : (stripe : ℕ) (a b : Knowledge) → WasTold (Busy stripe) a b → ToldBusy (stripe ∷ []) a b
+told_busy stripe a b told = (Busy stripe ∷ [], told.notes, (omega (arith, times_here stripe []), tt))
+
+pub told_both : (stripes : List ℕ) (a b c : Knowledge) → ToldBusy stripes a b → ToldBusy stripes b c → ToldBusy stripes a c
+told_both stripes a b c one two = (
+  two.0 ++ one.0,
+  two.1 ∙ ap (λ (l : List Note). two.0 ++ l) one.1 ∙ sym (append_assoc two.0 one.0 a.notes),
+  busy_both stripes two.0 one.0 two.2 one.2,
+)
+
+pub told_among : (stripe : ℕ) (stripes : List ℕ) (a b : Knowledge) → 0 < times stripe stripes → ToldBusy (stripe ∷ []) a b → ToldBusy stripes a b
+told_among stripe stripes a b among told = (told.0, told.1, busy_among stripe stripes told.0 among told.2)
+
 pub Learned-told : (note : Note) (a b : Knowledge) → WasTold note a b → Learned a b
-Learned-told note a b told = record { number = told.number; mine = told.mine; seen = ([], told.seen); notes = (note ∷ [], told.notes) }
+Learned-told note a b told = record { number = told.number; mine = told.mine; seen = ([], told.seen); notes = (note ∷ [], told.notes); watched = told.watched }
 
 module _ {T : Type 0} where
   -- a stripe among the stripes has a part
@@ -304,7 +427,7 @@ module _ {T : Type 0} where
     loaded_held = ap (λ (x : Me T (View T)). x.0.held) met.seat ∙ ap (λ (x : Me T (View T)). x.0.held) together
 
   -- a pass that has seen a history, and holds nothing
-  module _ (n number : ℕ) (log : History) (m w : Me T (View T)) (seat : IsSeatOf n number m) (goes : GoesOn n [] (own m.0) log)
+  module _ (laws : Laws) (n number : ℕ) (log : History) (m w : Me T (View T)) (seat : IsSeatOf n number m) (goes : GoesOn n [] (own m.0) log)
       (later : w ≡ (resting (sees (own m.0) log ∷ []), [])) where
     pub seen_seat : IsSeatOf n number w
     seen_seat = subst (λ (x : Me T (View T)). IsSeatOf n number x) (sym later)
@@ -316,6 +439,9 @@ module _ {T : Type 0} where
           below = λ j h. absurd (omega arith);
           legal = goes.legal;
           mine = goes.mine;
+          watches = subst (λ (l : History). AreWatches l (own m.0).number (own m.0).watched) (sym goes.begins)
+              (watches_more laws goes.more (own m.0).seen (own m.0).number (own m.0).watched seat.watches);
+          each_once = seat.each_once;
         }
 
     pub seen_log : (own w.0).seen ≡ log
@@ -326,7 +452,7 @@ module _ {T : Type 0} where
 
     pub seen_learned : Learned (own m.0) (own w.0)
     seen_learned = subst (λ (x : Me T (View T)). Learned (own m.0) (own x.0)) (sym later)
-        record { number = refl; mine = refl; seen = (goes.more, goes.begins); notes = ([], refl) }
+        record { number = refl; mine = refl; seen = (goes.more, goes.begins); notes = ([], refl); watched = refl }
 
   -- a pass that was dealt
   pub new_seat : (n number : ℕ) (w : Me T (View T)) → w ≡ (resting (newcomer number ∷ []), []) → IsSeatOf n number w
@@ -339,6 +465,8 @@ module _ {T : Type 0} where
         below = λ j h. absurd (omega arith);
         legal = tt;
         mine = refl;
+        watches = tt;
+        each_once = tt;
       }
 
 -- the passes that are left to deal out
@@ -395,5 +523,6 @@ was_busy stripe a b c d learned told busy same =
       number = busy.number ∙ learned.number;
       mine = busy.mine ∙ learned.mine;
       seen = (learned.seen.0, busy.seen ∙ learned.seen.1);
+      watched = busy.watched ∙ learned.watched;
       notes = busy.notes ∙ ap (λ (l : List Note). Busy stripe ∷ l) told;
     }

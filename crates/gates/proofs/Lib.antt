@@ -1,9 +1,9 @@
 pub mod Lists
 pub mod Frames
+pub mod Watched
+pub mod Marks
+pub mod Asked
 pub mod Steps
 pub mod Bits
 pub mod Holding
 pub mod Turning
-pub mod SetCalls
-pub mod Lasts
-pub mod GetCalls

@@ -1,6 +1,6 @@
 -- Each step keeps the rule.
-use Rattle.std.proofs.Common.{◌≡◌, ◌≢◌, ℕ, zero, suc, ◌+◌, ◌%◌, ◌^◌, ◌<◌, ◌≤◌, Bool, true, false, List, [], ◌∷◌, ◌++◌, cond, nat_eq, nat_lt, eqb, length, map, get_or, set, slice_index, slice_set, MatchBool, sym, refl, ap, subst, ◌∙◌, arith, eq-eqb, ne_eqb, inl, inr, ⊎_elim, length-set, get_or-set_other, get_or-set_same, length-append, None, lt-ltb, le-ltb, mod-eq_of_lt}
-use Rattle.std.proofs.lemmas.Bool.{cases_lt}
+use Rattle.std.proofs.Common.{◌≡◌, ◌≢◌, ℕ, zero, suc, ◌+◌, ◌%◌, ◌^◌, ◌<◌, ◌≤◌, Bool, true, false, List, [], ◌∷◌, ◌++◌, cond, nat_eq, nat_lt, eqb, length, map, get_or, set, slice_index, slice_set, MatchBool, sym, refl, ap, subst, ◌∙◌, arith, eq-eqb, ne_eqb, inl, inr, ⊎_elim, length-set, get_or-set_other, get_or-set_same, length-append, None, Some, lt-ltb, le-ltb, mod-eq_of_lt}
+use Rattle.std.proofs.lemmas.Bool.{cases_lt, cases_eq}
 use mathlib.Core.Logic.{dite}
 use mathlib.Core.Option.{Option, none, some, some-injective, some-ne-none}
 use native.Mathlib.Decide.{ℕ_discrete}
@@ -8,18 +8,22 @@ use lib.ListN.{get_elem?}
 use prog.Atomic.{either}
 use Rattle.atomic_table.specs.Table.{State, Me, step, Act, keeps, takes, gives, Valid, Allows, Splits, Joins, stepped, carried_after, opening, rest}
 use Rattle.words.specs.declared.history.Entry.{Entry}
-use Rattle.words.specs.Store.{Bytes, Store}
-use Rattle.words.specs.History.{History, Legal, Extends, after, subhistory, keys_named}
+use Rattle.words.specs.Store.{Bytes}
+use Rattle.words.specs.History.{History, Pair, Legal, Extends, after, subhistory, keys_named, keys_of_pairs, AreWatches}
+use Rattle.words.specs.Watches.{Marks, GoesBy}
 use Rattle.gates.specs.Laws.{Laws}
 use Rattle.words.specs.Stripes.{stripe_of, IsPart, AreElsewhere, LeavesStripe}
 use Rattle.gates.specs.declared.view.Note.TheVariants.{Busy, Worn}
 use Rattle.gates.specs.declared.view.Knowledge.{Knowledge}
 use Rattle.gates.specs.declared.view.View.{View}
-use Rattle.gates.specs.Sets.{times, without}
-use Rattle.gates.specs.Rule.{word_of, AllLeave, total, Fits, EachFits, Names, weight, stands_for, armed_by, FitsView, IsHeld, Ruled, AreHeld, commit_word}
-use Rattle.gates.specs.Plays.{first_of, own, IsSingle, sees, notes, commits, all_see, knowing, taking, giving, EachGoesOn, Took, Missed, Tries, Arms, BecomesArmed, FindsWorn, Commits, Gives, Meets, newcomers, others_of, resting, unmet, joined, AreEmpty}
+use Rattle.gates.specs.Sets.{times, without, part_at, without_part}
+use Rattle.gates.specs.Rule.{Meaning, IsMarked, EachMarked, touched_marks, word_of, AllLeave, total, Fits, EachFits, Names, passes_at, stands_for, armed_by, FitsView, IsHeld, Ruled, AreHeld, commit_word}
+use Rattle.gates.specs.Plays.{first_of, own, IsSingle, kept, sees, notes, commits, all_see, knowing, taking, giving, EachGoesOn, Took, Missed, Tries, Arms, BecomesArmed, FindsWorn, Commits, Gives, Meets, newcomers, others_of, resting, unmet, joined, AreEmpty}
 use Rattle.gates.proofs.Lists.{at_snoc, at_longer, total-append, each_set, set_here, set_else, total-set, terms_le, total-below, total-less, times_here, times_else, without_here, without_else}
 use Rattle.gates.proofs.Frames.{none_both, names_none, part_left}
+use Rattle.gates.proofs.Watched.{watches_more, watches_after}
+use Rattle.gates.proofs.Marks.{each_fresh, each_both, each_seen, each_stays, own_stays, each_touched, touched_stays, marked_left, touched_left, each_given, mark_kept}
+use Rattle.gates.specs.Passes.{FitsPart}
 
 -- a word that is set to what it is
 set_same : (l : List ℕ) (i : ℕ) → set l i (get_or l i 0) ≡ l
@@ -45,7 +49,7 @@ module _ {T : Type 0} (v : View T) (single : IsSingle v) where
       ap (λ (ks : List Knowledge). times (own v).number (map (λ (k : Knowledge). k.number) ks)) single
       ∙ times_here (own v).number []
 
-  own_weight : weight v ≡ 1
+  own_weight : passes_at v ≡ 1
   own_weight = ap (λ (ks : List Knowledge). length ks) single
 
 -- a pass that a stripe's word names
@@ -84,16 +88,17 @@ each_later stripes log entry held (k ∷ ks) other leaves all =
         leave = λ stripe h. (leaves stripe h, f.leave stripe h);
         mine = f.mine ∙ sym (ap (λ b. cond b ((length log, entry) ∷ subhistory log k.number) (subhistory log k.number)) (ne_eqb entry.session k.number ne));
         mine_seen = f.mine_seen;
+        watches = f.watches;
       },
       each_later stripes log entry held ks (sym (times_else entry.session k.number (map (λ (k : Knowledge). k.number) ks) ne') ∙ other) leaves all.1,
     )
 
-module _ {T : Type 0} (contents : T → Store) (passes : ℕ) (s : State T (View T)) (ruled : Ruled contents passes s) (id : ℕ) (v : View T) (at : get_elem? s.views id ≡ some v) where
+module _ {T : Type 0} (contents : Meaning T) (passes : ℕ) (s : State T (View T)) (ruled : Ruled contents passes s) (id : ℕ) (v : View T) (at : get_elem? s.views id ≡ some v) where
   mine_fits : FitsView (length s.homes) s.words ruled.log v
   mine_fits = ruled.views id v at
 
-  dealt_set : (w : View T) → weight w ≡ weight v → total weight (set s.views id w) ≡ passes
-  dealt_set w same = omega (arith, total-set weight s.views id v w at, ruled.dealt)
+  dealt_set : (w : View T) → passes_at w ≡ passes_at v → total passes_at (set s.views id w) ≡ passes
+  dealt_set w same = omega (arith, total-set passes_at s.views id v w at, ruled.dealt)
 
   once_set : (w : View T) → ((number : ℕ) → stands_for number w ≡ stands_for number v) → (number : ℕ) → total (stands_for number) (set s.views id w) ≤ 1
   once_set w same number = omega (arith, total-set (stands_for number) s.views id v w at, ruled.once number, same number)
@@ -115,10 +120,31 @@ module _ {T : Type 0} (contents : T → Store) (passes : ℕ) (s : State T (View
         let a_word = named_word s.words stripe v a in let b_word = named_word s.words stripe u b in
         number_apart j u ne there (named_single s.words stripe u b) (omega arith)
 
+  -- what the marks of a stripe say of all passes, where they say it of those of the view that is new
+  all_marked : (n stripe : ℕ) (marks : Marks) (log later : History) (w : View T)
+      → ((j : ℕ) (u : View T) → j ≢ id → get_elem? s.views j ≡ some u → EachMarked n stripe marks log u.passes → EachMarked n stripe marks later u.passes)
+      → (EachMarked n stripe marks log v.passes → EachMarked n stripe marks later w.passes)
+      → ((j : ℕ) (u : View T) → get_elem? s.views j ≡ some u → EachMarked n stripe marks log u.passes)
+      → (j : ℕ) (u : View T) → get_elem? (set s.views id w) j ≡ some u → EachMarked n stripe marks later u.passes
+  all_marked n stripe marks log later w others mine all =
+      each_set (λ j u. EachMarked n stripe marks later u.passes) s.views id w (mine (all id v at)) (λ j u ne there. others j u ne there (all j u there))
+
   -- a stripe that is held stays held
-  stays_held : (words : List ℕ) (homes : List (Option T)) (w : View T) (stripe : ℕ) → (0 < times stripe v.held → 0 < times stripe w.held)
-      → get_elem? homes stripe ≡ get_elem? s.homes stripe → IsHeld s stripe → IsHeld {T = T} record { words = words; homes = homes; views = set s.views id w } stripe
-  stays_held words homes w stripe keep same h = dite (ℕ_discrete h.seat id)
+  stays_held : (later : History) (words : List ℕ) (homes : List (Option T)) (w : View T) (stripe : ℕ)
+      → length homes ≡ length s.homes → length ruled.log ≤ length later
+      → (0 < times stripe v.held → 0 < times stripe w.held) → part_at w.taken stripe ≡ part_at v.taken stripe
+      → get_elem? homes stripe ≡ get_elem? s.homes stripe
+      → ((marks : Marks) (moment : ℕ) → moment ≤ length ruled.log → (j : ℕ) (u : View T) → j ≢ id → get_elem? s.views j ≡ some u
+      → EachMarked (length s.homes) stripe (touched_marks ruled.log moment marks) ruled.log u.passes
+      → EachMarked (length s.homes) stripe (touched_marks later moment marks) later u.passes)
+      → ((marks : Marks) (moment : ℕ) → moment ≤ length ruled.log → (j : ℕ) (u : View T) → j ≢ id → get_elem? s.views j ≡ some u → 0 < times stripe u.held
+      → EachMarked (length s.homes) stripe (touched_marks ruled.log moment marks) ruled.log v.passes
+      → EachMarked (length s.homes) stripe (touched_marks later moment marks) later w.passes)
+      → IsHeld contents s ruled.log stripe → IsHeld {T = T} contents record { words = words; homes = homes; views = set s.views id w } later stripe
+  stays_held later words homes w stripe size longer keep keep_taken same others mine h =
+      let n = length s.homes in
+      let marks = contents.marks h.was.1 in
+      dite (ℕ_discrete h.seat id)
       (λ e.
       let is : h.view ≡ v = some-injective h.view v (sym h.there ∙ ap (get_elem? s.views) e ∙ at) in
       record {
@@ -127,8 +153,41 @@ module _ {T : Type 0} (contents : T → Store) (passes : ℕ) (s : State T (View
         there = set_here s.views id w v at;
         holds = keep (subst (λ (x : View T). 0 < times stripe x.held) is h.holds);
         away = same ∙ h.away;
+        was = h.was;
+        taken = keep_taken ∙ sym (ap (λ (x : View T). part_at x.taken stripe) is) ∙ h.taken;
+        early = omega (arith, h.early);
+        marks = λ j u ne there. let there' = sym (set_else s.views id j w ne) ∙ there in
+            subst (λ (k : ℕ). EachMarked k stripe (touched_marks later h.was.0 marks) later u.passes) (sym size)
+            (others marks h.was.0 h.early j u ne there' (h.marks j u (λ x. ne (x ∙ e)) there'));
       })
-      (λ ne. record { seat = h.seat; view = h.view; there = set_else s.views id h.seat w ne ∙ h.there; holds = h.holds; away = same ∙ h.away })
+      (λ ne. record {
+        seat = h.seat;
+        view = h.view;
+        there = set_else s.views id h.seat w ne ∙ h.there;
+        holds = h.holds;
+        away = same ∙ h.away;
+        was = h.was;
+        taken = h.taken;
+        early = omega (arith, h.early);
+        marks = λ j u apart there.
+            subst (λ (k : ℕ). EachMarked k stripe (touched_marks later h.was.0 marks) later u.passes) (sym size)
+            (dite (ℕ_discrete j id)
+            (λ e. let is : w ≡ u = some-injective w u (sym (set_here s.views id w v at) ∙ sym (ap (get_elem? (set s.views id w)) e) ∙ there) in
+            subst (λ (x : View T). EachMarked n stripe (touched_marks later h.was.0 marks) later x.passes) is
+            (mine marks h.was.0 h.early h.seat h.view ne h.there h.holds (h.marks id v (λ x. ne (sym x)) at)))
+            (λ other. let there' = sym (set_else s.views id j w other) ∙ there in
+            others marks h.was.0 h.early j u other there' (h.marks j u apart there')));
+      })
+
+  -- the same where the log stays
+  still_held : (words : List ℕ) (homes : List (Option T)) (w : View T) (stripe : ℕ) → length homes ≡ length s.homes
+      → (0 < times stripe v.held → 0 < times stripe w.held) → part_at w.taken stripe ≡ part_at v.taken stripe
+      → get_elem? homes stripe ≡ get_elem? s.homes stripe
+      → ((marks : Marks) → EachMarked (length s.homes) stripe marks ruled.log v.passes → EachMarked (length s.homes) stripe marks ruled.log w.passes)
+      → IsHeld contents s ruled.log stripe → IsHeld {T = T} contents record { words = words; homes = homes; views = set s.views id w } ruled.log stripe
+  still_held words homes w stripe size keep keep_taken same mine h =
+      stays_held ruled.log words homes w stripe size (omega arith) keep keep_taken same
+      (λ marks moment early j u ne there is. is) (λ marks moment early j u ne there holds is. mine (touched_marks ruled.log moment marks) is) h
 
   -- another view, where the words of its stripes stay
   fits_still : (words : List ℕ) (j : ℕ) (u : View T) → get_elem? s.views j ≡ some u
@@ -142,11 +201,13 @@ module _ {T : Type 0} (contents : T → Store) (passes : ℕ) (s : State T (View
       }
 
   -- a step that changes no word and no slot
-  looks : (w : View T) → weight w ≡ weight v → ((number : ℕ) → stands_for number w ≡ stands_for number v)
+  looks : (w : View T) → passes_at w ≡ passes_at v → ((number : ℕ) → stands_for number w ≡ stands_for number v)
       → length ruled.log + total armed_by (set s.views id w) ≤ 2 ^ 62 + passes → FitsView (length s.homes) s.words ruled.log w
       → ((stripe : ℕ) → 0 < times stripe v.held → 0 < times stripe w.held)
+      → ((stripe : ℕ) → part_at w.taken stripe ≡ part_at v.taken stripe)
+      → ((stripe : ℕ) (marks : Marks) → EachMarked (length s.homes) stripe marks ruled.log v.passes → EachMarked (length s.homes) stripe marks ruled.log w.passes)
       → Ruled contents passes record { words = s.words; homes = s.homes; views = set s.views id w }
-  looks w heavy stands room fits keep =
+  looks w heavy stands room fits keep keep_taken marked =
       record {
         log = ruled.log;
         legal = ruled.legal;
@@ -158,9 +219,19 @@ module _ {T : Type 0} (contents : T → Store) (passes : ℕ) (s : State T (View
         once = once_set w stands;
         views = each_set (λ j u. FitsView (length s.homes) s.words ruled.log u) s.views id w fits (λ j u ne there. ruled.views j u there);
         stripes = λ stripe h. ⊎_elim
-            (λ free. inl record { word = free.word; part = free.part; home = free.home; reads = free.reads })
-            (λ held. inr (stays_held s.words s.homes w stripe (keep stripe) refl held)) (ruled.stripes stripe h);
+            (λ free. inl record {
+              word = free.word;
+              part = free.part;
+              home = free.home;
+              reads = free.reads;
+              marks = all_marked (length s.homes) stripe (contents.marks free.part) ruled.log ruled.log w (λ j u ne there is. is) (marked stripe (contents.marks free.part)) free.marks;
+            })
+            (λ held. inr (still_held s.words s.homes w stripe refl (keep stripe) (keep_taken stripe) refl (marked stripe) held)) (ruled.stripes stripe h);
       }
+
+-- the marks of a single pass
+one_marked : {T : Type 0} (n stripe : ℕ) (marks : Marks) (log : History) (v : View T) → IsSingle v → EachMarked n stripe marks log v.passes → IsMarked n stripe marks log (own v)
+one_marked n stripe marks log v single all = let e : EachMarked n stripe marks log (own v ∷ []) = subst (EachMarked n stripe marks log) single all in e.0
 
 -- a load leaves the words
 loaded : {T V : Type 0} (holds : State T V → Type 0) (s : State T V) (i id : ℕ) (w : V) → holds record { words = s.words; homes = s.homes; views = set s.views id w }
@@ -182,14 +253,18 @@ same_fits n words log v single knows number fits f =
     }
 
 noted : (n : ℕ) (log : History) (held : List ℕ) (knows later : Knowledge) → later.number ≡ knows.number → later.seen ≡ knows.seen → later.mine ≡ knows.mine
+    → later.watched ≡ knows.watched
     → Fits n log held knows → Fits n log held later
-noted n log held knows later number seen mine f =
+noted n log held knows later number seen mine watched f =
     record {
       more = f.more;
       begins = f.begins ∙ ap (λ (l : History). f.more ++ l) (sym seen);
       leave = f.leave;
       mine = mine ∙ f.mine ∙ ap (λ (k : ℕ). subhistory log k) (sym number);
       mine_seen = mine ∙ f.mine_seen ∙ ap (λ (k : ℕ). subhistory knows.seen k) (sym number) ∙ ap (λ (l : History). subhistory l later.number) (sym seen);
+      watches = subst (λ (l : History). AreWatches l later.number later.watched) (sym seen)
+          (subst (λ (k : ℕ). AreWatches knows.seen k later.watched) (sym number)
+          (subst (λ (w : List Pair). AreWatches knows.seen knows.number w) (sym watched) f.watches));
     }
 
 set_there : {A : Type 0} (l : List A) (i : ℕ) (a : A) → i < length l → get_elem? (set l i a) i ≡ some a
@@ -210,11 +285,28 @@ fewer_held n log i held (k ∷ ks) all =
             (λ ne. f.leave stripe (omega (arith, without_else i stripe held ne)));
         mine = f.mine;
         mine_seen = f.mine_seen;
+        watches = f.watches;
       },
       fewer_held n log i held ks all.1,
     )
 
-module _ {T : Type 0} (laws : Laws) (contents : T → Store) (passes slots id : ℕ) where
+pub part_without : {A : Type 0} (i j : ℕ) (parts : List (ℕ × A)) → j ≢ i → part_at (without_part i parts) j ≡ part_at parts j
+part_without i j [] ne = refl
+part_without i j (x ∷ xs) ne = ⊎_elim
+    (λ same. ap (λ b. part_at (cond b (without_part i xs) (x ∷ without_part i xs)) j) (eq-eqb x.0 i same) ∙ part_without i j xs ne
+    ∙ sym (ap (λ b. cond b (Some x.1) (part_at xs j)) (ne_eqb x.0 j (λ e. ne (sym e ∙ same)))))
+    (λ other. ap (λ b. part_at (cond b (without_part i xs) (x ∷ without_part i xs)) j) (ne_eqb x.0 i other)
+    ∙ ap (λ o. cond (nat_eq x.0 j) (Some x.1) o) (part_without i j xs ne))
+    (cases_eq x.0 i)
+
+pub same_some : {A : Type 0} (a b : A) (o : Rattle.std.specs.Prelude.Option A) → o ≡ Some a → o ≡ Some b → a ≡ b
+same_some a b o one two = cc
+
+pub watches_kept : (ends : Bool) (k : Knowledge) → AreWatches k.seen k.number k.watched → AreWatches k.seen k.number (kept ends k).watched
+watches_kept true k are = tt
+watches_kept false k are = are
+
+module _ {T : Type 0} (laws : Laws) (contents : Meaning T) (passes slots id : ℕ) where
   -- A look at the commit word
   pub arms : (m : Me T (View T)) → IsSingle m.0 → m.0.armed ≡ false
       → Allows (Ruled contents passes) slots id m commit_word (λ n. n) (Arms (step slots commit_word 0 0 none) m)
@@ -226,14 +318,14 @@ module _ {T : Type 0} (laws : Laws) (contents : T → Store) (passes slots id : 
       ⊎_elim
       (λ below.
       let w : View T = record v { armed = true } in
-      let less = total-less armed_by weight s.views id v at (omega arith) (λ j u there. (ruled.views j u there).ready) in
+      let less = total-less armed_by passes_at s.views id v at (omega arith) (λ j u there. (ruled.views j u there).ready) in
       let f = mine_fits contents passes s ruled id v at in (
         w,
         keeps,
         tt,
         loaded (Ruled contents passes) s commit_word id w (looks contents passes s ruled id v at w refl (λ q. refl)
             (omega (arith, total-set armed_by s.views id v w at, ruled.counts, ruled.dealt))
-            record { fits = f.fits; ready = omega arith; names = f.names } (λ stripe h. h)),
+            record { fits = f.fits; ready = omega arith; names = f.names } (λ stripe h. h) (λ stripe. refl) (λ stripe marks is. is)),
         subst (λ b. MatchBool b (BecomesArmed m (w, m.1)) (FindsWorn m (w, m.1))) (sym (lt-ltb found (2 ^ 62) below)) refl,
       ))
       (λ above.
@@ -246,17 +338,17 @@ module _ {T : Type 0} (laws : Laws) (contents : T → Store) (passes slots id : 
             (λ q. ap (λ (ks : List Knowledge). times q (map (λ (k : Knowledge). k.number) ks)) (sym single))
             (omega (arith, total-set armed_by s.views id v w at, ruled.room))
             (same_fits (length s.homes) s.words ruled.log v single (notes (own v) Worn) refl
-            (noted (length s.homes) ruled.log v.held (own v) (notes (own v) Worn) refl refl refl (own_fits v single (length s.homes) ruled.log f.fits)) f)
-            (λ stripe h. h)),
+            (noted (length s.homes) ruled.log v.held (own v) (notes (own v) Worn) refl refl refl refl (own_fits v single (length s.homes) ruled.log f.fits)) f)
+            (λ stripe h. h) (λ stripe. refl) (λ stripe marks is. (one_marked (length s.homes) stripe marks ruled.log v single is, tt))),
         subst (λ b. MatchBool b (BecomesArmed m (w, m.1)) (FindsWorn m (w, m.1))) (sym (le-ltb found (2 ^ 62) above)) refl,
       ))
       (cases_lt found (2 ^ 62))
 
   -- A commit
   pub commits_step : (m : Me T (View T)) (entry : Entry) → IsSingle m.0 → m.0.armed ≡ true → entry.session ≡ (own m.0).number
-      → Legal (entry ∷ (own m.0).seen) → AreHeld slots m.0.held (keys_named entry.operation)
+      → Legal (entry ∷ (own m.0).seen) → GoesBy (own m.0).watched entry.operation → AreHeld slots m.0.held (keys_named entry.operation)
       → Allows (Ruled contents passes) slots id m commit_word (λ n. (n + 1) % 2 ^ 64) (Commits entry (step slots commit_word 1 0 none) m)
-  commits_step m entry single armed session due_here keys s ruled wide at small =
+  commits_step m entry single armed session due_here goes keys s ruled wide at small =
       let v = m.0 in
       let log = ruled.log in
       let n = length s.homes in
@@ -278,6 +370,13 @@ module _ {T : Type 0} (laws : Laws) (contents : T → Store) (passes slots id : 
         subst (λ (l : History). Extends l entry) (sym g.begins)
             (laws.extends entry g.more (own v).seen (names_none n v.held g.more g.leave (keys_named entry.operation) held_keys) due_here.1),
       ) in
+      let watches_log : AreWatches log (own v).number (own v).watched =
+      subst (λ (l : History). AreWatches l (own v).number (own v).watched) (sym g.begins) (watches_more laws g.more (own v).seen (own v).number (own v).watched g.watches) in
+      let watches : AreWatches (entry ∷ log) (own v).number (commits (own v) log entry).watched =
+      subst (λ (k : ℕ). AreWatches (entry ∷ log) k (commits (own v) log entry).watched) session
+      (watches_after laws entry log (own v).watched (subst (λ (k : ℕ). AreWatches log k (own v).watched) (sym session) watches_log)) in
+      let own_still : (stripe : ℕ) (marks : Marks) → times stripe v.held ≡ 0 → EachMarked n stripe marks log v.passes → EachMarked n stripe marks (entry ∷ log) w.passes =
+      (λ stripe marks none is. (own_stays laws n stripe marks log entry v.held (own v) (entry_leaves n stripe v.held (keys_named entry.operation) held_keys none) goes g (one_marked n stripe marks log v single is), tt)) in
       let leaves : (stripe : ℕ) → times stripe v.held ≡ 0 → LeavesStripe n stripe entry.operation = (λ stripe h. entry_leaves n stripe v.held (keys_named entry.operation) held_keys h) in
       let mine : (length log, entry) ∷ (own v).mine ≡ subhistory (entry ∷ log) (own v).number =
       ap (λ (l : List (ℕ × Entry)). (length log, entry) ∷ l) g.mine
@@ -294,7 +393,7 @@ module _ {T : Type 0} (laws : Laws) (contents : T → Store) (passes slots id : 
           room = ⊎_elim
               (λ below.
               let stays : armed_by w ≡ 1 = ap (λ b. cond b 1 0) (lt-ltb found (2 ^ 62) below) in
-              omega (arith, sum, stays, counts, ruled.dealt, total-below armed_by weight s.views (λ j u there. (ruled.views j u there).ready)))
+              omega (arith, sum, stays, counts, ruled.dealt, total-below armed_by passes_at s.views (λ j u there. (ruled.views j u there).ready)))
               (λ above. let none : armed_by w ≡ 0 = ap (λ b. cond b 1 0) (le-ltb found (2 ^ 62) above) in omega (arith, sum, none))
               (cases_lt found (2 ^ 62));
           dealt = dealt_set contents passes s ruled id v at w (sym (own_weight v single));
@@ -302,7 +401,7 @@ module _ {T : Type 0} (laws : Laws) (contents : T → Store) (passes slots id : 
           views = each_set (λ j u. FitsView n (set s.words commit_word ((found + 1) % 2 ^ 64)) (entry ∷ log) u) s.views id w
               record {
                 fits = (
-                  record { more = []; begins = refl; leave = λ _ _. tt; mine = mine; mine_seen = mine },
+                  record { more = []; begins = refl; leave = λ _ _. tt; mine = mine; mine_seen = mine; watches = watches },
                   tt,
                 );
                 ready = one_at_most may;
@@ -334,10 +433,21 @@ module _ {T : Type 0} (laws : Laws) (contents : T → Store) (passes slots id : 
                 word = get_or-set_other s.words commit_word (word_of stripe) ((found + 1) % 2 ^ 64) 0 (λ e. omega arith) ∙ free.word;
                 part = free.part;
                 home = free.home;
-                reads = part_left laws n stripe (contents free.part) (entry ∷ []) log
+                reads = part_left laws n stripe (contents.store free.part) (entry ∷ []) log
                     (leaves stripe (omega (arith, λ (mine_too : 0 < times stripe v.held). word_not_zero s.words stripe v ((f.names stripe mine_too).1) free.word)), tt) free.reads;
+                marks = let not_mine : times stripe v.held ≡ 0 = omega (arith, λ (mine_too : 0 < times stripe v.held). word_not_zero s.words stripe v ((f.names stripe mine_too).1) free.word) in
+                    let marks = contents.marks free.part in
+                    all_marked contents passes s ruled id v at n stripe marks log (entry ∷ log) w
+                    (λ j u ne there is. each_stays laws n stripe marks log entry u.held u.passes (leaves stripe not_mine) (ruled.views j u there).fits is)
+                    (own_still stripe marks not_mine) free.marks;
               })
-              (λ held. inr (stays_held contents passes s ruled id v at (set s.words commit_word ((found + 1) % 2 ^ 64)) s.homes w stripe (λ x. x) refl held)) (ruled.stripes stripe h);
+              (λ held. inr (stays_held contents passes s ruled id v at (entry ∷ log) (set s.words commit_word ((found + 1) % 2 ^ 64)) s.homes w stripe refl (omega arith) (λ x. x) refl refl
+              (λ marks moment early j u ne there is. each_touched laws n stripe marks log entry u.held moment u.passes early (ruled.views j u there).fits is)
+              (λ marks moment early j u ne there theirs is.
+              let not_mine : times stripe v.held ≡ 0 = omega (arith, λ (mine_too : 0 < times stripe v.held). not_both contents passes s ruled id v at single stripe j u ne there mine_too theirs) in
+              let own_is = own_still stripe (touched_marks log moment marks) not_mine is in
+              ((λ key here. touched_stays laws n stripe marks log entry moment early (leaves stripe not_mine) key (own v).number here ∙ own_is.0 key here), tt))
+              held)) (ruled.stripes stripe h);
         },
         record {
           before = log;
@@ -366,6 +476,8 @@ module _ {T : Type 0} (laws : Laws) (contents : T → Store) (passes slots id : 
       let found = slice_index words (word_of i) in
       let f = mine_fits contents passes s ruled id v at in
       let g : Fits n ruled.log v.held (own v) = own_fits v single n ruled.log f.fits in
+      let watches_log : AreWatches ruled.log (own v).number (own v).watched =
+      subst (λ (l : History). AreWatches l (own v).number (own v).watched) (sym g.begins) (watches_more laws g.more (own v).seen (own v).number (own v).watched g.watches) in
       let then : ℕ → Me T (View T) → Type 0 = Tries contents (step slots (word_of i) 0 ((own v).number + 1) none) m in
       let Goal : ℕ → Type 0 = λ x. (w : View T) × (a : Act T) × Valid s.homes m.1 a × Ruled contents passes (stepped s (word_of i) x id m.1 w a) × then found (w, carried_after m.1 a) in
       let at_stripe : (w : Me T (View T)) (b : Bool) → nat_eq found 0 ≡ b → MatchBool b (Took contents slots i m w) (Missed i found m w) → then found w =
@@ -396,7 +508,7 @@ module _ {T : Type 0} (laws : Laws) (contents : T → Store) (passes slots id : 
               subst (λ (k : ℕ). (j : ℕ) (u : View T) → get_elem? (set s.views id w) j ≡ some u → FitsView k later ruled.log u) (sym same_size)
               (each_set (λ j u. FitsView n later ruled.log u) s.views id w
               record {
-                fits = (record { more = []; begins = refl; leave = λ _ _. tt; mine = g.mine; mine_seen = g.mine }, tt);
+                fits = (record { more = []; begins = refl; leave = λ _ _. tt; mine = g.mine; mine_seen = g.mine; watches = watches_log }, tt);
                 ready = omega (arith, own_weight v single, f.ready);
                 names = λ stripe h. dite (ℕ_discrete stripe i)
                     (λ e. (
@@ -428,16 +540,31 @@ module _ {T : Type 0} (laws : Laws) (contents : T → Store) (passes slots id : 
                 there = set_here s.views id w v at;
                 holds = subst (λ (k : ℕ). 0 < times k (i ∷ v.held)) (sym e) (omega (arith, times_here i v.held));
                 away = ap (get_elem? (set s.homes i none)) e ∙ set_here s.homes i none (some free.part) free.home;
+                was = (length ruled.log, free.part);
+                taken = ap (λ b. cond b (Some (length ruled.log, free.part)) (part_at v.taken stripe)) (eq-eqb i stripe (sym e));
+                early = omega arith;
+                marks = λ j u apart there.
+                    let marks = contents.marks free.part in
+                    let there' = sym (set_else s.views id j w apart) ∙ there in
+                    subst (λ (k : ℕ). EachMarked k stripe (touched_marks ruled.log (length ruled.log) marks) ruled.log u.passes) (sym same_size)
+                    (subst (λ (k : ℕ). EachMarked n k (touched_marks ruled.log (length ruled.log) marks) ruled.log u.passes) (sym e)
+                    (each_fresh n i marks ruled.log u.passes (free.marks j u there')));
               })
               (λ ne. ⊎_elim
               (λ other. inl record {
                 word = other_word words i stripe ((own v).number + 1) ne ∙ other.word;
                 part = other.part;
                 home = set_else s.homes i stripe none ne ∙ other.home;
-                reads = subst (λ (k : ℕ). IsPart k stripe (contents other.part) (after ruled.log)) (sym same_size) other.reads;
+                reads = subst (λ (k : ℕ). IsPart k stripe (contents.store other.part) (after ruled.log)) (sym same_size) other.reads;
+                marks = subst (λ (k : ℕ). (j : ℕ) (u : View T) → get_elem? (set s.views id w) j ≡ some u → EachMarked k stripe (contents.marks other.part) ruled.log u.passes) (sym same_size)
+                    (all_marked contents passes s ruled id v at n stripe (contents.marks other.part) ruled.log ruled.log w (λ j u ne there is. is)
+                    (λ is. (one_marked n stripe (contents.marks other.part) ruled.log v single is, tt)) other.marks);
               })
-              (λ held. inr (stays_held contents passes s ruled id v at later (set s.homes i none) w stripe
-              (λ x. omega (arith, times_else stripe i v.held (λ e. ne (sym e)))) (set_else s.homes i stripe none ne) held))
+              (λ held. inr (still_held contents passes s ruled id v at later (set s.homes i none) w stripe same_size
+              (λ x. omega (arith, times_else stripe i v.held (λ e. ne (sym e))))
+              (ap (λ b. cond b (Some (length ruled.log, free.part)) (part_at v.taken stripe)) (ne_eqb i stripe (λ e. ne (sym e))))
+              (set_else s.homes i stripe none ne)
+              (λ marks is. (one_marked n stripe marks ruled.log v single is, tt)) held))
               (ruled.stripes stripe (omega (arith, same_size))));
         },
         at_stripe (w, (i, free.part) ∷ m.1) true (eq-eqb found 0 zero_word)
@@ -451,7 +578,8 @@ module _ {T : Type 0} (laws : Laws) (contents : T → Store) (passes slots id : 
                 legal = ruled.legal;
                 mine = g.mine;
               };
-              reads = subst (λ (k : ℕ). IsPart k i (contents free.part) (after ruled.log)) wide free.reads;
+              reads = subst (λ (k : ℕ). IsPart k i (contents.store free.part) (after ruled.log)) wide free.reads;
+              marked = subst (λ (k : ℕ). IsMarked k i (contents.marks free.part) ruled.log (own v)) wide (one_marked n i (contents.marks free.part) ruled.log v single (free.marks id v at));
               seat = refl;
             },
       ))
@@ -479,8 +607,8 @@ module _ {T : Type 0} (laws : Laws) (contents : T → Store) (passes slots id : 
             (λ q. ap (λ (ks : List Knowledge). times q (map (λ (k : Knowledge). k.number) ks)) (sym single))
             (omega (arith, total-set armed_by s.views id v w at, ruled.room))
             (same_fits n words ruled.log v single (notes (own v) (Busy i)) refl
-            (noted n ruled.log v.held (own v) (notes (own v) (Busy i)) refl refl refl g) f)
-            (λ stripe h. h)),
+            (noted n ruled.log v.held (own v) (notes (own v) (Busy i)) refl refl refl refl g) f)
+            (λ stripe h. h) (λ stripe. refl) (λ stripe marks is. (one_marked n stripe marks ruled.log v single is, tt))),
         at_stripe (w, m.1) false (ne_eqb found 0 other_word') record { others = others; seat = refl },
       )
       ))
@@ -494,22 +622,51 @@ module _ {T : Type 0} (laws : Laws) (contents : T → Store) (passes slots id : 
       (tries m i single below none_held (subst (λ (y : ℕ). y < 2 ^ 64) mine_is small)))
 
   -- The stripe in front is given back
-  pub gives_back : (v : View T) (i : ℕ) (part : T) (more : List (ℕ × T)) → IsSingle v → 0 < times i v.held → IsPart slots i (contents part) (after (own v).seen)
+  pub gives_back : (ends : Bool) (v : View T) (i : ℕ) (part : T) (more : List (ℕ × T)) → IsSingle v → 0 < times i v.held
+      → (ends ≡ true → AreHeld slots v.held (keys_of_pairs (own v).watched)) → FitsPart contents slots (kept ends (own v)) v.taken i part
       → Allows (Ruled contents passes) slots id (v, (i, part) ∷ more) (word_of i) (λ _. 0)
-      (λ _. Gives (step slots (word_of i) 0 0 none) (v, (i, part) ∷ more) 0)
-  gives_back v i part more single mine_held reads s ruled wide at small =
+      (λ _. Gives ends (step slots (word_of i) 0 0 none) (v, (i, part) ∷ more) 0)
+  gives_back ends v i part more single mine_held may fit s ruled wide at small =
       let n = length s.homes in
       let words = s.words in
       let f = mine_fits contents passes s ruled id v at in
       let g : Fits n ruled.log v.held (own v) = own_fits v single n ruled.log f.fits in
-      let w : View T = giving v i in
+      let k : Knowledge = kept ends (own v) in
+      let w : View T = giving (knowing v k) i in
       let later = set words (word_of i) 0 in
       let homes = set s.homes i (some part) in
       let same_size : length homes ≡ n = length-set s.homes i (some part) in
       let below : i < n = (f.names i mine_held).0 in
-      let reads_now : IsPart n i (contents part) (after ruled.log) =
-      subst (λ (l : History). IsPart n i (contents part) (after l)) (sym g.begins)
-      (part_left laws n i (contents part) g.more (own v).seen (g.leave i mine_held) (subst (λ (k : ℕ). IsPart k i (contents part) (after (own v).seen)) (sym wide) reads)) in (
+      let fits_n : FitsPart contents n k v.taken i part = subst (λ (j : ℕ). FitsPart contents j k v.taken i part) (sym wide) fit in
+      let marks : Marks = contents.marks part in
+      let reads_now : IsPart n i (contents.store part) (after ruled.log) =
+      subst (λ (l : History). IsPart n i (contents.store part) (after l)) (sym g.begins)
+      (part_left laws n i (contents.store part) g.more (own v).seen (g.leave i mine_held) fits_n.reads) in
+      let own_now : IsMarked n i marks ruled.log k =
+      subst (λ (l : History). IsMarked n i marks l k) (sym g.begins) (marked_left laws n i marks g.more (own v).seen k (g.leave i mine_held) fits_n.marks) in
+      let was_marks : Marks = contents.marks fits_n.was.1 in
+      let same_marks : (key : Bytes) (other : ℕ) → stripe_of n key ≡ i → other ≢ (own v).number → marks key other ≡ touched_marks ruled.log fits_n.was.0 was_marks key other =
+      (λ key other here ne. fits_n.others key other here ne
+      ∙ sym (ap (λ (l : History). touched_marks l fits_n.was.0 was_marks key other) g.begins ∙ touched_left laws n i was_marks g.more (own v).seen fits_n.was.0 (g.leave i mine_held) key other here)) in
+      let others_now : (j : ℕ) (u : View T) → j ≢ id → get_elem? s.views j ≡ some u → EachMarked n i marks ruled.log u.passes =
+      (λ j u ne there. ⊎_elim
+      (λ free. absurd (word_not_zero words i v ((f.names i mine_held).1) free.word))
+      (λ held. dite (ℕ_discrete held.seat id)
+      (λ e.
+      let is : held.view ≡ v = some-injective held.view v (sym held.there ∙ ap (get_elem? s.views) e ∙ at) in
+      let same_was : held.was ≡ fits_n.was = same_some held.was fits_n.was (part_at v.taken i) (sym (ap (λ (x : View T). part_at x.taken i) is) ∙ held.taken) fits_n.taken in
+      each_given n i (touched_marks ruled.log fits_n.was.0 was_marks) marks ruled.log (own v).number u.passes same_marks
+      (others_stand contents passes s ruled id v at single j u ne there)
+      (subst (λ (x : ℕ × T). EachMarked n i (touched_marks ruled.log x.0 (contents.marks x.1)) ruled.log u.passes) same_was (held.marks j u (λ x. ne (x ∙ e)) there)))
+      (λ ne'. absurd (not_both contents passes s ruled id v at single i held.seat held.view ne' held.there mine_held held.holds)))
+      (ruled.stripes i below)) in
+      let own_kept : (stripe : ℕ) (marks : Marks) → times stripe v.held ≡ 0 → EachMarked n stripe marks ruled.log v.passes → EachMarked n stripe marks ruled.log w.passes =
+      (λ stripe marks none is. (
+        mark_kept n stripe marks ruled.log ends (own v)
+            (λ e. entry_leaves n stripe v.held (keys_of_pairs (own v).watched) (subst (λ (k : ℕ). AreHeld k v.held (keys_of_pairs (own v).watched)) (sym wide) (may e)) none)
+            (one_marked n stripe marks ruled.log v single is),
+        tt,
+      )) in (
         w,
         gives,
         tt,
@@ -520,17 +677,17 @@ module _ {T : Type 0} (laws : Laws) (contents : T → Store) (passes slots id : 
           few = ruled.few;
           counts = get_or-set_other words (word_of i) commit_word 0 0 (λ e. omega arith) ∙ ruled.counts;
           room = omega (arith, total-set armed_by s.views id v w at, ruled.room);
-          dealt = dealt_set contents passes s ruled id v at w refl;
-          once = once_set contents passes s ruled id v at w (λ q. refl);
+          dealt = dealt_set contents passes s ruled id v at w (sym (own_weight v single));
+          once = once_set contents passes s ruled id v at w (λ q. ap (λ (ks : List Knowledge). times q (map (λ (k : Knowledge). k.number) ks)) (sym single));
           views = subst (λ (k : ℕ). (j : ℕ) (u : View T) → get_elem? (set s.views id w) j ≡ some u → FitsView k later ruled.log u) (sym same_size)
               (each_set (λ j u. FitsView n later ruled.log u) s.views id w
               record {
-                fits = fewer_held n ruled.log i v.held v.passes f.fits;
-                ready = f.ready;
+                fits = fewer_held n ruled.log i v.held (k ∷ []) (record { more = g.more; begins = g.begins; leave = g.leave; mine = g.mine; mine_seen = g.mine_seen; watches = watches_kept ends (own v) g.watches }, tt);
+                ready = omega (arith, f.ready, own_weight v single);
                 names = λ stripe h.
                     let ne : stripe ≢ i = (λ e. let none_left : times stripe (without i v.held) ≡ 0 = ap (λ (k : ℕ). times k (without i v.held)) e ∙ without_here i v.held in omega arith) in
                     let t = f.names stripe (omega (arith, without_else i stripe v.held ne)) in
-                    (t.0, names_at words later stripe v.passes (other_word words i stripe 0 ne) t.1);
+                    (t.0, names_at words later stripe (k ∷ []) (other_word words i stripe 0 ne) record { knows = k; single = refl; word = named_word words stripe v t.1 });
               }
               (λ j u ne there. fits_still contents passes s ruled id v at later j u there
               (λ stripe h. other_word words i stripe 0
@@ -540,37 +697,55 @@ module _ {T : Type 0} (laws : Laws) (contents : T → Store) (passes slots id : 
                 word = ap (λ (k : ℕ). slice_index later (word_of k)) e ∙ get_or-set_same words (word_of i) 0 0 (omega (arith, ruled.wide));
                 part = part;
                 home = ap (get_elem? homes) e ∙ set_there s.homes i (some part) below;
-                reads = subst (λ (k : ℕ). IsPart k stripe (contents part) (after ruled.log)) (sym same_size)
-                    (subst (λ (k : ℕ). IsPart n k (contents part) (after ruled.log)) (sym e) reads_now);
+                reads = subst (λ (k : ℕ). IsPart k stripe (contents.store part) (after ruled.log)) (sym same_size)
+                    (subst (λ (k : ℕ). IsPart n k (contents.store part) (after ruled.log)) (sym e) reads_now);
+                marks = subst (λ (k : ℕ). (j : ℕ) (u : View T) → get_elem? (set s.views id w) j ≡ some u → EachMarked k stripe marks ruled.log u.passes) (sym same_size)
+                    (subst (λ (k : ℕ). (j : ℕ) (u : View T) → get_elem? (set s.views id w) j ≡ some u → EachMarked n k marks ruled.log u.passes) (sym e)
+                    (each_set (λ j u. EachMarked n i marks ruled.log u.passes) s.views id w (own_now, tt) others_now));
               })
               (λ ne. ⊎_elim
               (λ other. inl record {
                 word = other_word words i stripe 0 ne ∙ other.word;
                 part = other.part;
                 home = set_else s.homes i stripe (some part) ne ∙ other.home;
-                reads = subst (λ (k : ℕ). IsPart k stripe (contents other.part) (after ruled.log)) (sym same_size) other.reads;
+                reads = subst (λ (k : ℕ). IsPart k stripe (contents.store other.part) (after ruled.log)) (sym same_size) other.reads;
+                marks = subst (λ (k : ℕ). (j : ℕ) (u : View T) → get_elem? (set s.views id w) j ≡ some u → EachMarked k stripe (contents.marks other.part) ruled.log u.passes) (sym same_size)
+                    (all_marked contents passes s ruled id v at n stripe (contents.marks other.part) ruled.log ruled.log w (λ j u ne there is. is)
+                    (own_kept stripe (contents.marks other.part) (omega (arith, λ (mine_too : 0 < times stripe v.held). word_not_zero words stripe v ((f.names stripe mine_too).1) other.word))) other.marks);
               })
-              (λ held. inr (stays_held contents passes s ruled id v at later homes w stripe
-              (λ x. omega (arith, without_else i stripe v.held ne)) (set_else s.homes i stripe (some part) ne) held))
+              (λ held. inr (stays_held contents passes s ruled id v at ruled.log later homes w stripe same_size (omega arith)
+              (λ x. omega (arith, without_else i stripe v.held ne)) (part_without i stripe v.taken ne) (set_else s.homes i stripe (some part) ne)
+              (λ marks moment early j u ne there is. is)
+              (λ marks moment early j u ne there theirs is. own_kept stripe (touched_marks ruled.log moment marks)
+              (omega (arith, λ (mine_too : 0 < times stripe v.held). not_both contents passes s ruled id v at single stripe j u ne there mine_too theirs)) is) held))
               (ruled.stripes stripe (omega (arith, same_size))));
         },
-        λ stripe e. let same : i ≡ stripe = omega arith in ap (λ (k : ℕ). (giving v k, more)) same,
+        λ stripe e. let same : i ≡ stripe = omega arith in ap (λ (j : ℕ). (giving (knowing v k) j, more)) same,
       )
 
   -- the same of a seat whose first part this is
-  pub gives_first : (m : Me T (View T)) (i word : ℕ) (part : T) → word ≡ word_of i → m.1 ≡ (i, part) ∷ rest m.1 → IsSingle m.0 → 0 < times i m.0.held
-      → IsPart slots i (contents part) (after (own m.0).seen)
-      → Allows (Ruled contents passes) slots id m word (λ _. 0) (λ _. Gives (step slots word 0 0 none) m 0)
-  gives_first m i word part word_is first single held reads =
-      subst (λ (x : ℕ). Allows (Ruled contents passes) slots id m x (λ _. 0) (λ _. Gives (step slots x 0 0 none) m 0)) (sym word_is)
-      (subst (λ (l : List (ℕ × T)). Allows (Ruled contents passes) slots id (m.0, l) (word_of i) (λ _. 0) (λ _. Gives (step slots (word_of i) 0 0 none) (m.0, l) 0)) (sym first)
-      (gives_back m.0 i part (rest m.1) single held reads))
+  pub gives_first : (ends : Bool) (m : Me T (View T)) (i word : ℕ) (part : T) → word ≡ word_of i → m.1 ≡ (i, part) ∷ rest m.1 → IsSingle m.0 → 0 < times i m.0.held
+      → (ends ≡ true → AreHeld slots m.0.held (keys_of_pairs (own m.0).watched)) → FitsPart contents slots (kept ends (own m.0)) m.0.taken i part
+      → Allows (Ruled contents passes) slots id m word (λ _. 0) (λ _. Gives ends (step slots word 0 0 none) m 0)
+  gives_first ends m i word part word_is first single held may fit =
+      subst (λ (x : ℕ). Allows (Ruled contents passes) slots id m x (λ _. 0) (λ _. Gives ends (step slots x 0 0 none) m 0)) (sym word_is)
+      (subst (λ (l : List (ℕ × T)). Allows (Ruled contents passes) slots id (m.0, l) (word_of i) (λ _. 0) (λ _. Gives ends (step slots (word_of i) 0 0 none) (m.0, l) 0)) (sym first)
+      (gives_back ends m.0 i part (rest m.1) single held may fit))
 
 -- passes that have all seen the log
-each_sees : (n : ℕ) (log : History) (held : List ℕ) (ps : List Knowledge) → EachFits n log held ps → EachFits n log held (all_see ps log)
-each_sees n log held [] all = tt
-each_sees n log held (k ∷ ks) all =
-    (record { more = []; begins = refl; leave = λ _ _. tt; mine = all.0.mine; mine_seen = all.0.mine }, each_sees n log held ks all.1)
+each_sees : (laws : Laws) (n : ℕ) (log : History) (held : List ℕ) (ps : List Knowledge) → EachFits n log held ps → EachFits n log held (all_see ps log)
+each_sees laws n log held [] all = tt
+each_sees laws n log held (k ∷ ks) all = (
+  record {
+    more = [];
+    begins = refl;
+    leave = λ _ _. tt;
+    mine = all.0.mine;
+    mine_seen = all.0.mine;
+    watches = subst (λ (l : History). AreWatches l k.number k.watched) (sym all.0.begins) (watches_more laws all.0.more k.seen k.number k.watched all.0.watches);
+  },
+  each_sees laws n log held ks all.1,
+)
 
 numbers_see : (log : History) (ps : List Knowledge) → map (λ (k : Knowledge). k.number) (all_see ps log) ≡ map (λ (k : Knowledge). k.number) ps
 numbers_see log [] = refl
@@ -598,7 +773,7 @@ numbers_append q (p ∷ ps) rs = omega (arith, numbers_append q ps rs)
 
 each_new : (n number count : ℕ) → EachFits n [] [] (newcomers number count)
 each_new n number zero = tt
-each_new n number (suc count) = (record { more = []; begins = refl; leave = λ _ _. tt; mine = refl; mine_seen = refl }, each_new n (number + 1) count)
+each_new n number (suc count) = (record { more = []; begins = refl; leave = λ _ _. tt; mine = refl; mine_seen = refl; watches = tt }, each_new n (number + 1) count)
 
 length_new : (number count : ℕ) → length (newcomers number count) ≡ count
 length_new number zero = refl
@@ -621,11 +796,21 @@ length_somes : {T : Type 0} (parts : List T) → length (map some parts) ≡ len
 length_somes [] = refl
 length_somes (x ∷ xs) = omega (arith, length_somes xs)
 
-empty_there : {T : Type 0} (contents : T → Store) (parts : List T) (i : ℕ) → AreEmpty contents parts → i < length parts
-    → (part : T) × (get_elem? (map some parts) i ≡ some (some part)) × ((key : Bytes) → contents part key ≡ None)
+empty_there : {T : Type 0} (contents : Meaning T) (parts : List T) (i : ℕ) → AreEmpty contents parts → i < length parts
+    → (part : T) × (get_elem? (map some parts) i ≡ some (some part)) × ((key : Bytes) → contents.store part key ≡ None) × ((key : Bytes) (number : ℕ) → contents.marks part key number ≡ None)
 empty_there contents [] i all h = absurd (omega arith)
-empty_there contents (x ∷ xs) zero all h = (x, refl, all.0)
-empty_there contents (x ∷ xs) (suc i) all h = empty_there contents xs i all.1 (omega arith)
+empty_there contents (x ∷ xs) zero all h = (x, refl, all.0, all.1)
+empty_there contents (x ∷ xs) (suc i) all h = empty_there contents xs i all.2 (omega arith)
+
+new_marked : (n stripe : ℕ) (marks : Marks) (number count : ℕ) → ((key : Bytes) (other : ℕ) → marks key other ≡ None) → EachMarked n stripe marks [] (newcomers number count)
+new_marked n stripe marks number zero blank = tt
+new_marked n stripe marks number (suc count) blank = ((λ key here. blank key number), new_marked n stripe marks (number + 1) count blank)
+
+opening_marked : {T : Type 0} (n stripe : ℕ) (marks : Marks) (passes seat : ℕ) (u : View T) → ((key : Bytes) (other : ℕ) → marks key other ≡ None)
+    → get_elem? (unmet passes ∷ []) seat ≡ some u → EachMarked n stripe marks [] u.passes
+opening_marked {T} n stripe marks passes zero u blank there =
+    subst (λ (x : View T). EachMarked n stripe marks [] x.passes) (some-injective (unmet passes) u there) (new_marked n stripe marks 0 passes blank)
+opening_marked n stripe marks passes (suc seat) u blank there = absurd (some-ne-none u (sym there))
 
 idle_holds : {T : Type 0} (v : View T) → v.held ≡ [] → (stripe : ℕ) → 0 < times stripe v.held → ⊥
 idle_holds v none_held stripe h = let zero_times : times stripe v.held ≡ 0 = ap (times stripe) none_held in omega arith
@@ -646,7 +831,7 @@ opening_view {T} n words passes zero u there =
     record { fits = each_new n 0 passes; ready = omega arith; names = λ stripe h. absurd (omega arith) }
 opening_view n words passes (suc seat) u there = absurd (some-ne-none u (sym there))
 
-module _ {T : Type 0} (contents : T → Store) (passes : ℕ) where
+module _ {T : Type 0} (contents : Meaning T) (passes : ℕ) where
   -- The table as it opens
   pub opens : (words : List ℕ) (parts : List T) → length words ≡ word_of (length parts) → ((k : ℕ) → slice_index words k ≡ 0) → AreEmpty contents parts → passes < 2 ^ 62
       → Ruled contents passes (opening words parts (unmet passes))
@@ -669,20 +854,29 @@ module _ {T : Type 0} (contents : T → Store) (passes : ℕ) where
               part = t.0;
               home = t.1;
               reads = λ key. t.2 key ∙ sym (none_both (nat_eq (stripe_of (length (map some parts)) key) stripe) (after [] key) refl);
+              marks = λ seat u there. opening_marked (length (map some parts)) stripe (contents.marks t.0) passes seat u t.3 there;
             };
       }
 
   -- A view is cut in two, where it holds nothing
   pub splits : (id : ℕ) (v left right : View T) → v.held ≡ [] → left.held ≡ [] → right.held ≡ [] → left.armed ≡ false → right.armed ≡ false
-      → weight left + weight right ≡ weight v → ((q : ℕ) → stands_for q left + stands_for q right ≡ stands_for q v)
+      → passes_at left + passes_at right ≡ passes_at v → ((q : ℕ) → stands_for q left + stands_for q right ≡ stands_for q v)
       → ((n : ℕ) (log : History) → EachFits n log v.held v.passes → EachFits n log left.held left.passes × EachFits n log right.held right.passes)
+      → ((n stripe : ℕ) (marks : Marks) (log : History) → EachMarked n stripe marks log v.passes → EachMarked n stripe marks log left.passes × EachMarked n stripe marks log right.passes)
       → Splits (Ruled contents passes) id v left right
-  splits id v left right none_held left_held right_held left_unarmed right_unarmed heavy stands cut s ruled at =
+  splits id v left right none_held left_held right_held left_unarmed right_unarmed heavy stands cut cut_marks s ruled at =
       let n = length s.homes in
       let f = mine_fits contents passes s ruled id v at in
       let halves = cut n ruled.log f.fits in
       let zero_left : armed_by left ≡ 0 = ap (λ b. cond b 1 0) left_unarmed in
       let zero_right : armed_by right ≡ 0 = ap (λ b. cond b 1 0) right_unarmed in
+      let each : (stripe : ℕ) (marks : Marks) → EachMarked n stripe marks ruled.log v.passes
+      → ((j : ℕ) (u : View T) → j ≢ id → get_elem? s.views j ≡ some u → EachMarked n stripe marks ruled.log u.passes)
+      → (j : ℕ) (u : View T) → get_elem? (set s.views id left ++ right ∷ []) j ≡ some u → EachMarked n stripe marks ruled.log u.passes =
+      (λ stripe marks here others j u there. ⊎_elim
+      (λ old. each_set (λ j u. EachMarked n stripe marks ruled.log u.passes) s.views id left (cut_marks n stripe marks ruled.log here).0 others j u old)
+      (λ new. subst (λ (x : View T). EachMarked n stripe marks ruled.log x.passes) new (cut_marks n stripe marks ruled.log here).1)
+      (at_snoc (set s.views id left) right u j there)) in
       record {
         log = ruled.log;
         legal = ruled.legal;
@@ -690,7 +884,7 @@ module _ {T : Type 0} (contents : T → Store) (passes : ℕ) where
         few = ruled.few;
         counts = ruled.counts;
         room = omega (arith, ruled.room, total-append armed_by (set s.views id left) (right ∷ []), total-set armed_by s.views id v left at);
-        dealt = omega (arith, ruled.dealt, total-append weight (set s.views id left) (right ∷ []), total-set weight s.views id v left at);
+        dealt = omega (arith, ruled.dealt, total-append passes_at (set s.views id left) (right ∷ []), total-set passes_at s.views id v left at);
         once = λ q. omega (arith, ruled.once q, stands q, total-append (stands_for q) (set s.views id left) (right ∷ []), total-set (stands_for q) s.views id v left at);
         views = λ j u there. ⊎_elim
             (λ old. each_set (λ j u. FitsView n s.words ruled.log u) s.views id left (resting_fits n s.words ruled.log left left_held zero_left halves.0)
@@ -698,7 +892,13 @@ module _ {T : Type 0} (contents : T → Store) (passes : ℕ) where
             (λ new. subst (λ (x : View T). FitsView n s.words ruled.log x) new (resting_fits n s.words ruled.log right right_held zero_right halves.1))
             (at_snoc (set s.views id left) right u j there);
         stripes = λ stripe h. ⊎_elim
-            (λ free. inl record { word = free.word; part = free.part; home = free.home; reads = free.reads })
+            (λ free. inl record {
+              word = free.word;
+              part = free.part;
+              home = free.home;
+              reads = free.reads;
+              marks = each stripe (contents.marks free.part) (free.marks id v at) (λ j u ne there. free.marks j u there);
+            })
             (λ held. inr record {
               seat = held.seat;
               view = held.view;
@@ -706,6 +906,18 @@ module _ {T : Type 0} (contents : T → Store) (passes : ℕ) where
                   (set_else s.views id held.seat left (not_idle id v s.views at none_held held.seat held.view held.there stripe held.holds) ∙ held.there);
               holds = held.holds;
               away = held.away;
+              was = held.was;
+              taken = held.taken;
+              early = held.early;
+              marks = let not_this = not_idle id v s.views at none_held held.seat held.view held.there stripe held.holds in
+                  let marks = touched_marks ruled.log held.was.0 (contents.marks held.was.1) in
+                  λ j u ne there. ⊎_elim
+                  (λ old. dite (ℕ_discrete j id)
+                  (λ e. let is : left ≡ u = some-injective left u (sym (set_here s.views id left v at) ∙ sym (ap (get_elem? (set s.views id left)) e) ∙ old) in
+                  subst (λ (x : View T). EachMarked n stripe marks ruled.log x.passes) is (cut_marks n stripe marks ruled.log (held.marks id v (λ x. not_this (sym x)) at)).0)
+                  (λ other. held.marks j u ne (sym (set_else s.views id j left other) ∙ old)))
+                  (λ new. subst (λ (x : View T). EachMarked n stripe marks ruled.log x.passes) new (cut_marks n stripe marks ruled.log (held.marks id v (λ x. not_this (sym x)) at)).1)
+                  (at_snoc (set s.views id left) right u j there);
             })
             (ruled.stripes stripe h);
       }
@@ -719,8 +931,8 @@ module _ {T : Type 0} (contents : T → Store) (passes : ℕ) where
       let g = mine_fits contents passes s ruled other w at' in
       let one = total-set armed_by s.views id v (joined v w) at in
       let two = total-set armed_by (set s.views id (joined v w)) other w (resting []) at_both in
-      let heavy_one = total-set weight s.views id v (joined v w) at in
-      let heavy_two = total-set weight (set s.views id (joined v w)) other w (resting []) at_both in
+      let heavy_one = total-set passes_at s.views id v (joined v w) at in
+      let heavy_two = total-set passes_at (set s.views id (joined v w)) other w (resting []) at_both in
       let f_fits : EachFits n ruled.log [] v.passes = subst (λ (l : List ℕ). EachFits n ruled.log l v.passes) none_held f.fits in
       let g_fits : EachFits n ruled.log [] w.passes = subst (λ (l : List ℕ). EachFits n ruled.log l w.passes) none_held' g.fits in
       record {
@@ -744,7 +956,17 @@ module _ {T : Type 0} (contents : T → Store) (passes : ℕ) where
             record { fits = each_append n ruled.log [] v.passes w.passes f_fits g_fits; ready = omega arith; names = λ stripe h. absurd (omega arith) }
             (λ k x ne' was. ruled.views k x was) j u there);
         stripes = λ stripe h. ⊎_elim
-            (λ free. inl record { word = free.word; part = free.part; home = free.home; reads = free.reads })
+            (λ free. inl record {
+              word = free.word;
+              part = free.part;
+              home = free.home;
+              reads = free.reads;
+              marks = let marks = contents.marks free.part in
+                  each_set (λ j u. EachMarked n stripe marks ruled.log u.passes) (set s.views id (joined v w)) other (resting []) tt
+                  (λ j u apart there. each_set (λ j u. EachMarked n stripe marks ruled.log u.passes) s.views id (joined v w)
+                  (each_both n stripe marks ruled.log v.passes w.passes (free.marks id v at) (free.marks other w at'))
+                  (λ k x ne' was. free.marks k x was) j u there);
+            })
             (λ held. inr record {
               seat = held.seat;
               view = held.view;
@@ -752,13 +974,23 @@ module _ {T : Type 0} (contents : T → Store) (passes : ℕ) where
                   ∙ set_else s.views id held.seat (joined v w) (not_idle id v s.views at none_held held.seat held.view held.there stripe held.holds) ∙ held.there;
               holds = held.holds;
               away = held.away;
+              was = held.was;
+              taken = held.taken;
+              early = held.early;
+              marks = let not_one = not_idle id v s.views at none_held held.seat held.view held.there stripe held.holds in
+                  let not_two = not_idle other w s.views at' none_held' held.seat held.view held.there stripe held.holds in
+                  let marks = touched_marks ruled.log held.was.0 (contents.marks held.was.1) in
+                  λ j u ne there. each_set (λ j u. j ≢ held.seat → EachMarked n stripe marks ruled.log u.passes) (set s.views id (joined v w)) other (resting []) (λ _. tt)
+                  (λ j u apart there'. each_set (λ j u. j ≢ held.seat → EachMarked n stripe marks ruled.log u.passes) s.views id (joined v w)
+                  (λ _. each_both n stripe marks ruled.log v.passes w.passes (held.marks id v (λ x. not_one (sym x)) at) (held.marks other w (λ x. not_two (sym x)) at'))
+                  (λ k x ne' was not_holder. held.marks k x not_holder was) j u there') j u there ne;
             })
             (ruled.stripes stripe h);
       }
 
   -- A look by a seat that holds nothing
-  pub meets : (slots id i : ℕ) (m : Me T (View T)) → m.0.held ≡ [] → Allows (Ruled contents passes) slots id m i (λ n. n) (Meets (step slots i 0 0 none) m)
-  meets slots id i m none_held s ruled wide at small =
+  pub meets : (laws : Laws) (slots id i : ℕ) (m : Me T (View T)) → m.0.held ≡ [] → Allows (Ruled contents passes) slots id m i (λ n. n) (Meets (step slots i 0 0 none) m)
+  meets laws slots id i m none_held s ruled wide at small =
       let v = m.0 in
       let n = length s.homes in
       let f = mine_fits contents passes s ruled id v at in
@@ -770,15 +1002,15 @@ module _ {T : Type 0} (contents : T → Store) (passes : ℕ) where
             (λ q. ap (times q) (numbers_see ruled.log v.passes))
             (omega (arith, total-set armed_by s.views id v w at, ruled.room))
             record {
-              fits = each_sees n ruled.log v.held v.passes f.fits;
+              fits = each_sees laws n ruled.log v.held v.passes f.fits;
               ready = omega (arith, f.ready, length_see ruled.log v.passes);
               names = λ stripe h. absurd (idle_holds v none_held stripe h);
             }
-            (λ stripe h. h)),
+            (λ stripe h. h) (λ stripe. refl) (λ stripe marks is. each_seen n stripe marks ruled.log ruled.log v.passes is)),
         record { log = ruled.log; go_on = each_goes_on n slots ruled.log v.held v.passes ruled.legal f.fits; seat = refl },
       )
 
-module _ {T : Type 0} (contents : T → Store) (passes : ℕ) where
+module _ {T : Type 0} (contents : Meaning T) (passes : ℕ) where
   -- the first pass stays, and a new seat stands for the others
   pub keep_splits : (id : ℕ) (v : View T) → v.held ≡ [] → v.passes ≡ first_of v.passes ∷ others_of v.passes
       → Splits (Ruled contents passes) id v (resting (first_of v.passes ∷ [])) (resting (others_of v.passes))
@@ -790,9 +1022,13 @@ module _ {T : Type 0} (contents : T → Store) (passes : ℕ) where
       let none : EachFits n log [] v.passes = subst (λ (l : List ℕ). EachFits n log l v.passes) none_held fits in
       let all : EachFits n log [] (first_of v.passes ∷ others_of v.passes) = subst (EachFits n log []) first_is none in
       ((all.0, tt), all.1))
+      (λ n stripe marks log is.
+      let all : EachMarked n stripe marks log (first_of v.passes ∷ others_of v.passes) = subst (EachMarked n stripe marks log) first_is is in
+      ((all.0, tt), all.1))
 
   -- a new seat stands for all
   pub leave_splits : (id : ℕ) (v : View T) → v.held ≡ [] → Splits (Ruled contents passes) id v (resting []) (resting v.passes)
   leave_splits id v none_held =
       splits contents passes id v (resting []) (resting v.passes) none_held refl refl refl refl (omega arith) (λ q. omega arith)
       (λ n log fits. (tt, subst (λ (l : List ℕ). EachFits n log l v.passes) none_held fits))
+      (λ n stripe marks log is. (tt, is))

@@ -3,8 +3,8 @@ use Rattle.std.proofs.Common.{◌≡◌, ◌≢◌, ℕ, ◌+◌, ◌<◌, ◌�
 use Rattle.std.proofs.lemmas.Bool.{cases_eq}
 use Rattle.atomic_table.specs.Table.{Me, rest, turned}
 use Rattle.gates.specs.declared.held.Held.{Held}
-use Rattle.gates.specs.Sets.{times, turned_list}
-use Rattle.gates.specs.Passes.{stripes_among, part_at}
+use Rattle.gates.specs.Sets.{part_at, times, turned_list}
+use Rattle.gates.specs.Passes.{stripes_among}
 use Rattle.gates.specs.Helds.{held_parts, IsOpen}
 use Rattle.gates.specs.Lending.{from_part, before_part, brought, held_with, with_part}
 use Rattle.gates.proofs.Lists.{times_here, times_else, times-append}
@@ -266,6 +266,8 @@ module _ {T : Type 0} where
             below = λ j at. s.below j (omega (arith, same j));
             legal = s.legal;
             mine = s.mine;
+            watches = s.watches;
+            each_once = s.each_once;
           };
         };
         order = refl;

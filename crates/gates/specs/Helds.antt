@@ -1,9 +1,9 @@
 -- Held stripes: what there is of them.
-use Rattle.std.specs.Prelude.{◌≡◌, ◌↔◌, ◌<◌, ℕ, IsSome, Bool, false, List, refl}
+use Rattle.std.specs.Prelude.{◌≡◌, ◌↔◌, ◌<◌, ℕ, IsSome, Bool, true, false, List, refl, Result, IfOk, OnOk, OnErr}
 use Rattle.std.proofs.Common.{◌∙◌}
 use Rattle.std.specs.Borrow.{MutBor}
-use Rattle.words.specs.Store.{Store}
-use Rattle.gates.specs.Sets.{times}
+use Rattle.gates.specs.Sets.{times, part_at}
+use Rattle.gates.specs.Rule.{Meaning}
 use Rattle.gates.specs.declared.view.Knowledge.{Knowledge}
 use Rattle.gates.specs.declared.gates.Gates.{Gates}
 use Rattle.gates.specs.declared.gates.Pass.{Pass}
@@ -11,7 +11,10 @@ use Rattle.gates.specs.declared.held.Held.{Held}
 use Rattle.words.specs.declared.history.Entry.{Entry}
 use Rattle.words.specs.declared.history.Operation.{Operation}
 use Rattle.words.specs.declared.reply.Reply.{Reply}
-use Rattle.gates.specs.Passes.{known, parts_in, stripes_in, part_at, stripes_of, IsHolding, AllFit, Learned}
+use Rattle.words.specs.Session.{Asked, operation_of}
+use Rattle.gates.specs.Passes.{known, parts_in, taken_in, stripes_in, stripes_of, IsHolding, AllFit, Learned, ToldBusy, WasTold, Committed}
+use Rattle.gates.specs.declared.gates.CommitsWornOut.{CommitsWornOut}
+use Rattle.gates.specs.declared.view.Note.TheVariants.{Worn}
 
 module _ {T : Type 0} where
   -- the gates whose stripes are held
@@ -30,6 +33,14 @@ module _ {T : Type 0} where
   abbrev pub has_committed : Held T → Bool
   has_committed held = held.committed
 
+  -- the number of the pass that holds
+  abbrev pub number_of : Held T → ℕ
+  number_of held = held.pass.now.number
+
+  -- the operation that is asked of the pass that holds: a transaction goes by all that it watches
+  abbrev pub operation_asked : Held T → Asked → Operation
+  operation_asked held asked = operation_of (known held.pass.now).watched asked
+
   -- an entry of the pass that holds
   abbrev pub entry_of : Held T → Operation → Reply → Entry
   entry_of held operation reply = record { session = (known held.pass.now).number; operation = operation; reply = reply }
@@ -37,6 +48,10 @@ module _ {T : Type 0} where
   -- the parts that are held, each with its stripe
   abbrev pub held_parts : Held T → List (ℕ × T)
   held_parts held = parts_in held.pass.now
+
+  -- what was taken, each with its stripe: the moment, and the part as it was then
+  abbrev pub held_taken : Held T → List (ℕ × (ℕ × T))
+  held_taken held = taken_in held.pass.now
 
   -- the pass has the stripes of these gates that are held
   pub record IsOpen (held : Held T) : Type 0 where
@@ -50,10 +65,11 @@ module _ {T : Type 0} where
     pub number : later.pass.now.number ≡ before.pass.now.number
     pub known : known later.pass.now ≡ known before.pass.now
     pub committed : later.committed ≡ before.committed
+    pub taken : taken_in later.pass.now ≡ taken_in before.pass.now
 
   -- nothing differs from itself
   pub same_as_it : (held : Held T) → SameHold held held
-  same_as_it held = record { gates = refl; pass = refl; number = refl; known = refl; committed = refl }
+  same_as_it held = record { gates = refl; pass = refl; number = refl; known = refl; committed = refl; taken = refl }
 
   -- what two changes keep
   pub same_by_both : (one two three : Held T) → SameHold one two → SameHold two three → SameHold one three
@@ -63,15 +79,31 @@ module _ {T : Type 0} where
     number = second.number ∙ first.number;
     known = second.known ∙ first.known;
     committed = second.committed ∙ first.committed;
+    taken = second.taken ∙ first.taken;
   }
 
+  -- A commit of an operation, with the answer whether it was made: the pass has what it held, and its entry is the newest of what it has
+  -- seen, or it was told that commits are worn out.
+  pub record HasCommitted (before : Held T) (operation : Operation) (reply : Reply) (later : Held T) (result : Result ℕ CommitsWornOut) : Type 0 where
+    pub open_still : IsOpen later
+    pub gates : gates_of later ≡ gates_of before
+    pub pass : borrow_of later ≡ borrow_of before
+    pub parts : held_parts later ≡ held_parts before
+    pub taken : held_taken later ≡ held_taken before
+    pub ok : IfOk result (λ place. Committed (stripes_of (gates_of before)) (held_parts before) (entry_of before operation reply) place (known_to before) (known_to later))
+    pub once : OnOk result (has_committed later ≡ true)
+    pub worn : OnErr result (WasTold Worn (known_to before) (known_to later))
+    pub none : OnErr result (has_committed later ≡ false)
+
   -- The pass behind a reference has taken these stripes of the gates, and nothing else. What it knows only grew, its own entries are the
-  -- same, and each part reads as its part of what the history leaves that it has seen.
-  pub record HasTaken (contents : T → Store) (gates : Gates T) (stripes : List ℕ) (pass : MutBor (Pass T)) (held : Held T) : Type 0 where
+  -- same, it was told of stripes of these alone that others had them, and each part fits: it reads as its part of what the history leaves that it has seen, and its marks say which of the pass's
+  -- watched keys were written in it.
+  pub record HasTaken (contents : Meaning T) (gates : Gates T) (stripes : List ℕ) (pass : MutBor (Pass T)) (held : Held T) : Type 0 where
     pub gates_are : held.gates.now ≡ gates
     pub pass_is : held.pass.ghost_name ≡ pass.ghost_name
     pub is_open : IsOpen held
     pub has : (stripe : ℕ) → IsSome (part_at (held_parts held) stripe) ↔ (0 < times stripe stripes)
     pub learned : Learned (known pass.now) (known held.pass.now)
-    pub fit : AllFit contents (stripes_of gates) (known held.pass.now).seen (held_parts held)
+    pub told : ToldBusy stripes (known pass.now) (known held.pass.now)
+    pub fit : AllFit contents (stripes_of gates) (known held.pass.now) (held_taken held) (held_parts held)
     pub fresh : held.committed ≡ false

@@ -5,5 +5,3 @@ pub mod Plays
 pub mod Passes
 pub mod Helds
 pub mod Lending
-pub mod Maps
-pub mod Calls

@@ -1,18 +1,19 @@
 -- What each step tells the pass that makes it.
-use Rattle.std.specs.Prelude.{◌≡◌, ◌≢◌, ℕ, zero, suc, ◌+◌, ◌^◌, ◌<◌, List, [], ◌∷◌, ◌++◌, length, true, false, MatchBool, nat_lt, nat_eq, None, if◌then◌else◌}
+use Rattle.std.specs.Prelude.{◌≡◌, ◌≢◌, ℕ, zero, suc, ◌+◌, ◌^◌, ◌<◌, List, [], ◌∷◌, ◌++◌, length, Bool, true, false, cond, MatchBool, nat_lt, nat_eq, None}
 use Rattle.atomic_table.specs.Table.{Me, Step, rest}
 use Rattle.words.specs.declared.history.Entry.{Entry}
 use Rattle.words.specs.declared.history.Operation.TheVariants.{Exec}
 use Rattle.words.specs.declared.reply.Reply.TheVariants.{NullArray}
-use Rattle.words.specs.Store.{Bytes, Store}
+use Rattle.words.specs.Store.{Bytes}
 use Rattle.words.specs.History.{History, Legal, after, subhistory}
+use Rattle.words.specs.Watches.{watched_after}
 use Rattle.words.specs.Stripes.{IsPart}
 use Rattle.gates.specs.declared.view.Note.{Note}
 use Rattle.gates.specs.declared.view.Note.TheVariants.{Busy, Worn}
 use Rattle.gates.specs.declared.view.Knowledge.{Knowledge}
 use Rattle.gates.specs.declared.view.View.{View}
-use Rattle.gates.specs.Sets.{times, without}
-use Rattle.gates.specs.Rule.{AllLeave, word_of}
+use Rattle.gates.specs.Sets.{times, without, without_part}
+use Rattle.gates.specs.Rule.{AllLeave, word_of, Meaning, IsMarked}
 
 -- An entry that is never committed: where no call picks one.
 abbrev pub an_entry : Entry
@@ -20,7 +21,7 @@ an_entry = record { session = 0; operation = Exec [] []; reply = NullArray }
 
 -- a pass that has seen nothing
 abbrev pub newcomer : ℕ → Knowledge
-newcomer number = record { number = number; seen = []; mine = []; notes = [] }
+newcomer number = record { number = number; seen = []; mine = []; notes = []; watched = [] }
 
 -- so many passes that have seen nothing, of the numbers from this one on
 abbrev pub newcomers : (number count : ℕ) → List Knowledge
@@ -46,7 +47,16 @@ notes knows note = record knows { notes = note ∷ knows.notes }
 
 -- the pass has committed an entry after this history
 abbrev pub commits : Knowledge → History → Entry → Knowledge
-commits knows before entry = record knows { seen = entry ∷ before; mine = (length before, entry) ∷ knows.mine }
+commits knows before entry =
+    record knows {
+      seen = entry ∷ before;
+      mine = (length before, entry) ∷ knows.mine;
+      watched = watched_after knows.watched entry.operation (length before);
+    }
+
+-- the pass watches what it did, or nothing, if its watches end
+abbrev pub kept : (ends : Bool) → Knowledge → Knowledge
+kept ends knows = record knows { watched = cond ends [] knows.watched }
 
 -- all passes have seen this history
 abbrev pub all_see : List Knowledge → History → List Knowledge
@@ -69,16 +79,11 @@ EachGoesOn stripes (knows ∷ others) log = GoesOn stripes [] knows log × EachG
 module _ {T : Type 0} where
   -- a seat that stands for these passes and holds nothing
   abbrev pub resting : List Knowledge → View T
-  resting passes = record { passes = passes; held = []; armed = false; base = []; taken = [] }
+  resting passes = record { passes = passes; held = []; armed = false; taken = [] }
 
   -- the first seat's view, before the passes are dealt out
   abbrev pub unmet : ℕ → View T
   unmet passes = resting (newcomers 0 passes)
-
-  -- the list without what it has of a stripe
-  abbrev pub without_part : ℕ → List (ℕ × T) → List (ℕ × T)
-  without_part stripe [] = []
-  without_part stripe (part ∷ parts) = if nat_eq part.0 stripe then without_part stripe parts else part ∷ without_part stripe parts
 
   -- what the one pass of a view knows
   abbrev pub own : View T → Knowledge
@@ -92,21 +97,23 @@ module _ {T : Type 0} where
   abbrev pub knowing : View T → Knowledge → View T
   knowing v knows = record v { passes = knows ∷ [] }
 
-  -- the view once a stripe was taken, with this part and at this history
+  -- the view once a stripe was taken, with this part and at this history: its length is the moment
   abbrev pub taking : View T → ℕ → T → History → View T
   taking v stripe part log =
-      record v { passes = sees (own v) log ∷ []; held = stripe ∷ v.held; base = log; taken = (stripe, part) ∷ v.taken }
+      record v { passes = sees (own v) log ∷ []; held = stripe ∷ v.held; taken = (stripe, (length log, part)) ∷ v.taken }
 
   -- the view once a stripe was given back
   abbrev pub giving : View T → ℕ → View T
   giving v stripe = record v { held = without stripe v.held; taken = without_part stripe v.taken }
 
-  -- A stripe was taken: the pass has seen the whole history, and has the stripe's part, which reads as its part of what that leaves.
-  pub record Took (contents : T → Store) (stripes stripe : ℕ) (m w : Me T (View T)) : Type 0 where
+  -- A stripe was taken: the pass has seen the whole history, and has the stripe's part, which reads as its part of what that leaves, and
+  -- whose marks say which of the pass's watched keys were written in it.
+  pub record Took (contents : Meaning T) (stripes stripe : ℕ) (m w : Me T (View T)) : Type 0 where
     pub part : T
     pub log : History
     pub goes_on : GoesOn stripes m.0.held (own m.0) log
-    pub reads : IsPart stripes stripe (contents part) (after log)
+    pub reads : IsPart stripes stripe (contents.store part) (after log)
+    pub marked : IsMarked stripes stripe (contents.marks part) log (own m.0)
     pub seat : w ≡ (taking m.0 stripe part log, (stripe, part) ∷ m.1)
 
   -- a stripe's word was read as another's
@@ -115,7 +122,7 @@ module _ {T : Type 0} where
     pub seat : w ≡ (knowing m.0 (notes (own m.0) (Busy stripe)), m.1)
 
   -- one try of a stripe
-  abbrev pub Tries : (T → Store) → Step T → Me T (View T) → ℕ → Me T (View T) → Type 0
+  abbrev pub Tries : Meaning T → Step T → Me T (View T) → ℕ → Me T (View T) → Type 0
   Tries contents st m found w =
       (stripe : ℕ) → st.word ≡ word_of stripe → MatchBool (nat_eq found 0) (Took contents st.slots stripe m w) (Missed stripe found m w)
 
@@ -141,9 +148,10 @@ module _ {T : Type 0} where
     pub mine : (length before, entry) ∷ (own m.0).mine ≡ subhistory (entry ∷ before) (own m.0).number
     pub seat : w ≡ (record (m.0) { passes = commits (own m.0) before entry ∷ []; armed = nat_lt found (2 ^ 62) }, m.1)
 
-  -- the stripe whose part the seat has in front was given back
-  abbrev pub Gives : Step T → Me T (View T) → ℕ → Me T (View T) → Type 0
-  Gives st m found w = (stripe : ℕ) → st.word ≡ word_of stripe → w ≡ (giving m.0 stripe, rest m.1)
+  -- the stripe whose part the seat has in front was given back, and the pass watches nothing more if its watches end
+  abbrev pub Gives : (ends : Bool) → Step T → Me T (View T) → ℕ → Me T (View T) → Type 0
+  Gives ends st m found w =
+      (stripe : ℕ) → st.word ≡ word_of stripe → w ≡ (giving (knowing m.0 (kept ends (own m.0))) stripe, rest m.1)
 
   -- a look at the table by a seat that stands for two passes: each has seen the whole history
   pub record Meets (st : Step T) (m : Me T (View T)) (found : ℕ) (w : Me T (View T)) : Type 0 where
@@ -155,7 +163,7 @@ module _ {T : Type 0} where
   abbrev pub joined : View T → View T → View T
   joined v w = resting (v.passes ++ w.passes)
 
-  -- each of the parts reads as empty
-  abbrev pub AreEmpty : (T → Store) → List T → Type 0
+  -- each of the parts reads as empty, and has no marks
+  abbrev pub AreEmpty : Meaning T → List T → Type 0
   AreEmpty contents [] = Unit {0}
-  AreEmpty contents (part ∷ parts) = ((key : Bytes) → contents part key ≡ None) × AreEmpty contents parts
+  AreEmpty contents (part ∷ parts) = ((key : Bytes) → contents.store part key ≡ None) × ((key : Bytes) (number : ℕ) → contents.marks part key number ≡ None) × AreEmpty contents parts

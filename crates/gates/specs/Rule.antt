@@ -1,14 +1,16 @@
 -- The rule of the gates: what is shared, what each pass knows, and what holds of both between any two steps.
-use Rattle.std.specs.Prelude.{◌≡◌, ◌⊎◌, ℕ, ◌+◌, ◌*◌, ◌^◌, ◌<◌, ◌≤◌, List, [], ◌∷◌, ◌++◌, length, map, cond, slice_index}
+use Rattle.std.specs.Prelude.{Bool, ◌≡◌, ◌≢◌, ◌⊎◌, ℕ, Some, ◌+◌, ◌*◌, ◌^◌, ◌<◌, ◌≤◌, List, [], ◌∷◌, ◌++◌, length, map, cond, slice_index}
 use mathlib.Core.Option.{none, some}
 use lib.ListN.{get_elem?}
 use Rattle.atomic_table.specs.Table.{State}
-use Rattle.words.specs.Store.{Bytes, Store}
-use Rattle.words.specs.History.{History, Legal, after, subhistory}
+use Rattle.words.specs.declared.history.Entry.{Entry}
+use Rattle.words.specs.Store.{Bytes, Store, writes_key}
+use Rattle.words.specs.History.{History, Legal, after, writes_of, subhistory, is_written, AreWatches}
+use Rattle.words.specs.Watches.{Marks, touched, mark_at}
 use Rattle.words.specs.Stripes.{IsPart, LeavesStripe, stripe_of}
 use Rattle.gates.specs.declared.view.Knowledge.{Knowledge}
 use Rattle.gates.specs.declared.view.View.{View}
-use Rattle.gates.specs.Sets.{times}
+use Rattle.gates.specs.Sets.{times, part_at}
 
 -- The table's words: the commit word, and then a word for each stripe, each on cache lines of its own.
 abbrev pub commit_word : ℕ
@@ -16,6 +18,10 @@ commit_word = 0
 
 abbrev pub word_of : ℕ → ℕ
 word_of stripe = 16 * (stripe + 1)
+
+-- whether an entry writes the key, where this store stands before it
+abbrev pub writes : Store → Entry → Bytes → Bool
+writes store entry key = writes_key (writes_of store entry) key
 
 -- each of the entries leaves the stripe
 abbrev pub AllLeave : (stripes stripe : ℕ) → History → Type 0
@@ -35,6 +41,7 @@ pub record Fits (stripes : ℕ) (log : History) (held : List ℕ) (knows : Knowl
   pub leave : (stripe : ℕ) → 0 < times stripe held → AllLeave stripes stripe more
   pub mine : knows.mine ≡ subhistory log knows.number
   pub mine_seen : knows.mine ≡ subhistory knows.seen knows.number
+  pub watches : AreWatches knows.seen knows.number knows.watched
 
 abbrev pub EachFits : (stripes : ℕ) → History → (held : List ℕ) → List Knowledge → Type 0
 EachFits stripes log held [] = Unit {0}
@@ -46,10 +53,28 @@ pub record Names (words : List ℕ) (stripe : ℕ) (passes : List Knowledge) : T
   pub single : passes ≡ knows ∷ []
   pub word : slice_index words (word_of stripe) ≡ knows.number + 1
 
+-- What a part stands for: a store, and marks of its keys.
+pub record Meaning (T : Type 0) : Type 0 where
+  pub store : T → Store
+  pub marks : T → Marks
+
+-- the marks of a stripe say of a pass which of the stripe's keys it watches, and which of these were written after their positions
+abbrev pub IsMarked : (stripes stripe : ℕ) → Marks → History → Knowledge → Type 0
+IsMarked stripes stripe marks log knows = (key : Bytes) → stripe_of stripes key ≡ stripe → marks key knows.number ≡ mark_at log knows.watched key
+
+-- the same of each pass of a list
+abbrev pub EachMarked : (stripes stripe : ℕ) → Marks → History → List Knowledge → Type 0
+EachMarked stripes stripe marks log [] = Unit {0}
+EachMarked stripes stripe marks log (knows ∷ others) = IsMarked stripes stripe marks log knows × EachMarked stripes stripe marks log others
+
+-- the marks with those of each key touched that was written from this moment on
+abbrev pub touched_marks : History → (moment : ℕ) → Marks → Marks
+touched_marks log moment marks key number = touched (is_written log moment key) (marks key number)
+
 module _ {T : Type 0} where
   -- how many passes a seat stands for; it is one but while `new` deals them and while two of them meet
-  abbrev pub weight : View T → ℕ
-  weight v = length v.passes
+  abbrev pub passes_at : View T → ℕ
+  passes_at v = length v.passes
 
   -- how often a seat stands for the pass of this number
   abbrev pub stands_for : ℕ → View T → ℕ
@@ -62,26 +87,33 @@ module _ {T : Type 0} where
   -- what the rule says of one view
   pub record FitsView (stripes : ℕ) (words : List ℕ) (log : History) (v : View T) : Type 0 where
     pub fits : EachFits stripes log v.held v.passes
-    pub ready : armed_by v ≤ weight v
+    pub ready : armed_by v ≤ passes_at v
     pub names : (stripe : ℕ) → 0 < times stripe v.held → (stripe < stripes) × Names words stripe v.passes
 
-  -- a stripe is free: its word is 0, and its part is at home and reads as its part of what the log leaves
-  pub record IsFree (contents : T → Store) (s : State T (View T)) (log : History) (stripe : ℕ) : Type 0 where
+  -- a stripe is free: its word is 0, and its part is at home, reads as its part of what the log leaves, and has the marks of each pass
+  pub record IsFree (contents : Meaning T) (s : State T (View T)) (log : History) (stripe : ℕ) : Type 0 where
     pub word : slice_index s.words (word_of stripe) ≡ 0
     pub part : T
     pub home : get_elem? s.homes stripe ≡ some (some part)
-    pub reads : IsPart (length s.homes) stripe (contents part) (after log)
+    pub reads : IsPart (length s.homes) stripe (contents.store part) (after log)
+    pub marks : (seat : ℕ) (v : View T) → get_elem? s.views seat ≡ some v → EachMarked (length s.homes) stripe (contents.marks part) log v.passes
 
-  -- a stripe is held: its part is out, and its word names a pass that holds it
-  pub record IsHeld (s : State T (View T)) (stripe : ℕ) : Type 0 where
+  -- a stripe is held: its part is out, and its word names a pass that holds it. The part as it was taken, touched at the keys that were
+  -- written since, has the marks of each other pass.
+  pub record IsHeld (contents : Meaning T) (s : State T (View T)) (log : History) (stripe : ℕ) : Type 0 where
     pub seat : ℕ
     pub view : View T
     pub there : get_elem? s.views seat ≡ some view
     pub holds : 0 < times stripe view.held
     pub away : get_elem? s.homes stripe ≡ some none
+    pub was : ℕ × T
+    pub taken : part_at view.taken stripe ≡ Some was
+    pub early : was.0 ≤ length log
+    pub marks : (other : ℕ) (v : View T) → other ≢ seat → get_elem? s.views other ≡ some v
+        → EachMarked (length s.homes) stripe (touched_marks log was.0 (contents.marks was.1)) log v.passes
 
   -- The rule. There is one legal log, as long as the commit word counts.
-  pub record Ruled (contents : T → Store) (passes : ℕ) (s : State T (View T)) : Type 0 where
+  pub record Ruled (contents : Meaning T) (passes : ℕ) (s : State T (View T)) : Type 0 where
     pub log : History
     pub legal : Legal log
     pub wide : length s.words ≡ word_of (length s.homes)
@@ -89,10 +121,10 @@ module _ {T : Type 0} where
     pub counts : slice_index s.words commit_word ≡ length log
     -- the commit word never wraps: once it is 2^62, each pass adds to it at most once more
     pub room : length log + total armed_by s.views ≤ 2 ^ 62 + passes
-    pub dealt : total weight s.views ≡ passes
+    pub dealt : total passes_at s.views ≡ passes
     pub once : (number : ℕ) → total (stands_for number) s.views ≤ 1
     pub views : (seat : ℕ) (v : View T) → get_elem? s.views seat ≡ some v → FitsView (length s.homes) s.words log v
-    pub stripes : (stripe : ℕ) → stripe < length s.homes → IsFree contents s log stripe ⊎ IsHeld s stripe
+    pub stripes : (stripe : ℕ) → stripe < length s.homes → IsFree contents s log stripe ⊎ IsHeld contents s log stripe
 
 -- each key belongs to a stripe of the list
 abbrev pub AreHeld : (stripes : ℕ) (held : List ℕ) → List Bytes → Type 0

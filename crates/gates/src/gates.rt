@@ -3,13 +3,13 @@
 ghost use Rattle.std.specs.Prelude.{◌≡◌, ◌+◌, ◌*◌, ◌^◌, ◌<◌, ◌≤◌, ◌++◌, ◌∷◌, [], ℕ, true, false, length, map, IsTrue, IsFalse, IfOk, OnOk, OnErr, vec_len, vec_capacity, MatchBool};
 ghost use Rattle.gates.specs.Rule.{word_of};
 
+use crate::asks::Asks;
 use crate::laws::laws;
 use crate::part::Part;
-use crate::rule::{Arm, Commit, Give, Keep, Leave, Meet, OneHistory, Together, Told, Try};
+use crate::rule::{Arm, Commit, Ending, Give, Keep, Leave, Meet, OneHistory, Together, Told, Try};
 use crate::view::View;
 use atomic_table::{Refused, Seat, Table};
 use std::alloc::{AllocError, Global};
-use words::history::Operation;
 use words::reply::Reply;
 use words::word::OutOfMemory;
 
@@ -76,10 +76,11 @@ impl<T: Part> Gates<T> {
     ghost use Rattle.gates.specs.declared.view.Note.{Note};
     ghost use Rattle.gates.specs.declared.view.Note.TheVariants.{Busy, Worn};
     ghost use Rattle.gates.specs.Sets.{times};
-    ghost use Rattle.gates.specs.Passes.{stripes_of, known, parts_in, stripes_in, AllFit, IsHolding, IsResting, Learned, WasTold, Committed, KeysHeld, id_of, AreNew};
-    ghost use Rattle.gates.specs.Plays.{AreEmpty, unmet};
+    ghost use Rattle.gates.specs.Passes.{stripes_of, known, parts_in, taken_in, stripes_in, AllFit, IsHolding, IsResting, Learned, WasTold, Committed, KeysHeld, MayEnd, id_of, AreNew};
+    ghost use Rattle.gates.specs.Plays.{AreEmpty, unmet, kept};
     ghost use Rattle.atomic_table.specs.Table.{rest};
-    ghost use Rattle.words.specs.History.{Legal, keys_named};
+    ghost use Rattle.words.specs.History.{HasPlace, due, keys_named};
+    ghost use Rattle.words.specs.Session.{operation_of};
 
     /// Gates over these parts, one a stripe, each of which reads as empty, and their passes, numbered 0,
     /// 1, 2 and so on, which have seen nothing.
@@ -97,7 +98,7 @@ impl<T: Part> Gates<T> {
         requires some { 1 ≤ vec_len parts }
         requires most { vec_len parts ≤ 64 }
         requires few { passes < 2 ^ 62 }
-        requires empty { AreEmpty T.contents parts.items }
+        requires empty { AreEmpty T.meaning parts.items }
         ensures stripes { IfOk result (λ made. stripes_of made.0 ≡ vec_len parts) }
         ensures count { IfOk result (λ made. vec_len made.1 ≡ passes) }
         ensures passes { IfOk result (λ made. AreNew made.0 0 made.1.items) }
@@ -150,6 +151,7 @@ impl<T: Part> Gates<T> {
         ensures first_told { (known first.new).notes ≡ (known first.old).notes }
         ensures second_told { (known second.new).notes ≡ (known second.old).notes }
     {
+        laws();
         let shared = &self.table.shared;
         let theirs = shared.split_seat::<Leave>(&mut second.seat);
         shared.join_seat::<Together>(&mut first.seat, theirs);
@@ -159,27 +161,30 @@ impl<T: Part> Gates<T> {
         second.armed = false;
     }
 
-    /// How many stripes there are.
+    /// How many stripes there are: from 1 to 64.
     pub fn stripes(&self) -> usize
-        ensures { result ≡ stripes_of self.now }
+        ensures count { result ≡ stripes_of self.now }
+        ensures some { 1 ≤ result }
+        ensures most { result ≤ 64 }
     {
         self.table.slot_count()
     }
 
     /// Gives back the first part, which is this stripe's.
     #[inline]
-    pub(crate) fn give_first(&self, pass: &mut Pass<T>, stripe: usize)
+    pub(crate) fn give_first<E: Ending>(&self, pass: &mut Pass<T>, stripe: usize)
         requires holding { IsHolding self.now pass.old }
+        requires ends { MayEnd E.ends (stripes_of self.now) (parts_in pass.old) (known pass.old).watched }
         requires first { (part : T) × (parts_in pass.old ≡ (stripe, part) ∷ rest (parts_in pass.old)) }
-        requires fit { AllFit T.contents (stripes_of self.now) (known pass.old).seen (parts_in pass.old) }
+        requires fit { AllFit T.meaning (stripes_of self.now) (kept E.ends (known pass.old)) (taken_in pass.old) (parts_in pass.old) }
         ensures holding { IsHolding self.now pass.new }
-        ensures known { known pass.new ≡ known pass.old }
+        ensures known { known pass.new ≡ kept E.ends (known pass.old) }
         ensures others { parts_in pass.new ≡ rest (parts_in pass.old) }
-        ensures fit { AllFit T.contents (stripes_of self.now) (known pass.new).seen (parts_in pass.new) }
+        ensures fit { AllFit T.meaning (stripes_of self.now) (known pass.new) (taken_in pass.new) (parts_in pass.new) }
     {
         laws();
         let word = word_index(stripe);
-        self.table.shared.store::<Give>(&mut pass.seat, word, 0);
+        self.table.shared.store::<Give<E>>(&mut pass.seat, word, 0);
     }
 
     /// Looks at the commit word where the pass may not add to it yet.
@@ -187,6 +192,7 @@ impl<T: Part> Gates<T> {
         requires { IsHolding self.now pass.old }
         ensures holding { IsHolding self.now pass.new }
         ensures parts { parts_in pass.new ≡ parts_in pass.old }
+        ensures taken { taken_in pass.new ≡ taken_in pass.old }
         ensures number { pass.new.number ≡ pass.old.number }
         ensures ok { OnOk result ((pass.new.armed ≡ true) × (known pass.new ≡ known pass.old)) }
         ensures worn { OnErr result (WasTold Worn (known pass.old) (known pass.new)) }
@@ -204,18 +210,20 @@ impl<T: Part> Gates<T> {
 
     /// Commits the entry that is picked.
     #[inline]
-    pub(crate) fn commit_as<E: Told>(
+    pub(crate) fn commit_as<E: Told, C: Asks>(
         &self,
         pass: &mut Pass<T>,
-        operation: &Operation,
+        call: &C,
         reply: &Reply,
     ) -> Result<u64, CommitsWornOut>
         requires holding { IsHolding self.now pass.old }
-        requires told { E.entry ≡ record { session = (known pass.old).number; operation = operation.now; reply = reply.now } }
-        requires legal { Legal (E.entry ∷ (known pass.old).seen) }
+        requires told { E.entry ≡ record { session = (known pass.old).number; operation = operation_of (known pass.old).watched (C.asked call.now); reply = reply.now } }
+        requires place { HasPlace E.entry.operation }
+        requires due { reply.now ≡ due (known pass.old).seen E.entry.operation }
         requires keys { KeysHeld (stripes_of self.now) (parts_in pass.old) (keys_named E.entry.operation) }
         ensures holding { IsHolding self.now pass.new }
         ensures parts { parts_in pass.new ≡ parts_in pass.old }
+        ensures taken { taken_in pass.new ≡ taken_in pass.old }
         ensures number { pass.new.number ≡ pass.old.number }
         ensures ok { IfOk result (λ place. Committed (stripes_of self.now) (parts_in pass.old) E.entry place (known pass.old) (known pass.new)) }
         ensures worn { OnErr result (WasTold Worn (known pass.old) (known pass.new)) }
@@ -234,9 +242,9 @@ impl<T: Part> Gates<T> {
         requires holding { IsHolding self.now pass.old }
         requires below { stripe < stripes_of self.now }
         requires other { times stripe (stripes_in pass.old) ≡ 0 }
-        requires fit { AllFit T.contents (stripes_of self.now) (known pass.old).seen (parts_in pass.old) }
+        requires fit { AllFit T.meaning (stripes_of self.now) (known pass.old) (taken_in pass.old) (parts_in pass.old) }
         ensures holding { IsHolding self.now pass.new }
-        ensures fit { AllFit T.contents (stripes_of self.now) (known pass.new).seen (parts_in pass.new) }
+        ensures fit { AllFit T.meaning (stripes_of self.now) (known pass.new) (taken_in pass.new) (parts_in pass.new) }
         ensures taken { IsTrue result → Learned (known pass.old) (known pass.new) × ((known pass.new).notes ≡ (known pass.old).notes) × ((part : T) × (parts_in pass.new ≡ parts_in pass.old ++ (stripe, part) ∷ [])) }
         ensures missed { IsFalse result → WasTold (Busy stripe) (known pass.old) (known pass.new) × (parts_in pass.new ≡ parts_in pass.old) }
     {

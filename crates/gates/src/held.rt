@@ -2,14 +2,15 @@
 
 ghost use Rattle.std.specs.Prelude.{◌≡◌, ◌+◌, ◌<◌, ◌≤◌, ◌++◌, ◌∷◌, ◌↔◌, [], ℕ, true, false, length, IsTrue, IsFalse, IfOk, IfErr, OnErr, OnOk, IsSome, Some, MatchResult};
 
+use crate::asks::Asks;
 use crate::gates::{CommitsWornOut, Gates, Pass};
 use crate::order::Order;
 use crate::part::{Part, Parts};
+use crate::rule::{Forget, Stay};
 use crate::sorted::Sorted;
 use crossbeam_utils::Backoff;
 use std::marker::Brand;
 use std::sync::Wait;
-use words::history::Operation;
 use words::reply::Reply;
 
 /// Stripes that a pass holds. It has to be given back, and until then the pass can take nothing else.
@@ -31,8 +32,8 @@ pub struct Busy<'a, T> {
 
 impl<T: Part> Gates<T> {
     ghost use Rattle.gates.specs.declared.view.Note.TheVariants as note;
-    ghost use Rattle.gates.specs.Sets.{times, AreBelow};
-    ghost use Rattle.gates.specs.Passes.{stripes_of, known, parts_in, part_at, stripes_in, AllFit, IsHolding, IsResting, Learned, WasTold, WasBusy, Committed, KeysHeld};
+    ghost use Rattle.gates.specs.Sets.{times, AreBelow, part_at};
+    ghost use Rattle.gates.specs.Passes.{stripes_of, known, parts_in, taken_in, stripes_in, AllFit, IsHolding, IsResting, Learned, ToldBusy, WasTold, WasBusy, Committed, KeysHeld};
     ghost use Rattle.gates.specs.Helds.{IsOpen, held_parts, HasTaken};
 
     /// Takes a stripe that the pass does not have, and waits where another has it.
@@ -41,10 +42,11 @@ impl<T: Part> Gates<T> {
         requires holding { IsHolding self.now pass.old }
         requires below { stripe < stripes_of self.now }
         requires other { times stripe (stripes_in pass.old) ≡ 0 }
-        requires fit { AllFit T.contents (stripes_of self.now) (known pass.old).seen (parts_in pass.old) }
+        requires fit { AllFit T.meaning (stripes_of self.now) (known pass.old) (taken_in pass.old) (parts_in pass.old) }
         ensures holding { IsHolding self.now pass.new }
-        ensures fit { AllFit T.contents (stripes_of self.now) (known pass.new).seen (parts_in pass.new) }
+        ensures fit { AllFit T.meaning (stripes_of self.now) (known pass.new) (taken_in pass.new) (parts_in pass.new) }
         ensures learned { Learned (known pass.old) (known pass.new) }
+        ensures told { ToldBusy (stripe ∷ []) (known pass.old) (known pass.new) }
         ensures parts { (part : T) × (parts_in pass.new ≡ parts_in pass.old ++ (stripe, part) ∷ []) }
     {
         let taken = self.try_stripe(pass, stripe);
@@ -59,10 +61,11 @@ impl<T: Part> Gates<T> {
         requires holding { IsHolding self.now pass.old }
         requires below { stripe < stripes_of self.now }
         requires other { times stripe (stripes_in pass.old) ≡ 0 }
-        requires fit { AllFit T.contents (stripes_of self.now) (known pass.old).seen (parts_in pass.old) }
+        requires fit { AllFit T.meaning (stripes_of self.now) (known pass.old) (taken_in pass.old) (parts_in pass.old) }
         ensures holding { IsHolding self.now pass.new }
-        ensures fit { AllFit T.contents (stripes_of self.now) (known pass.new).seen (parts_in pass.new) }
+        ensures fit { AllFit T.meaning (stripes_of self.now) (known pass.new) (taken_in pass.new) (parts_in pass.new) }
         ensures learned { Learned (known pass.old) (known pass.new) }
+        ensures told { ToldBusy (stripe ∷ []) (known pass.old) (known pass.new) }
         ensures parts { (part : T) × (parts_in pass.new ≡ parts_in pass.old ++ (stripe, part) ∷ []) }
     {
         let backoff = Backoff::new();
@@ -80,12 +83,12 @@ impl<T: Part> Gates<T> {
     fn give_all(&self, pass: &mut Pass<T>, mut order: Order)
         requires holding { IsHolding self.now pass.old }
         requires order { stripes_in pass.old ≡ order }
-        requires fit { AllFit T.contents (stripes_of self.now) (known pass.old).seen (parts_in pass.old) }
+        requires fit { AllFit T.meaning (stripes_of self.now) (known pass.old) (taken_in pass.old) (parts_in pass.old) }
         ensures resting { IsResting self.now pass.new }
         ensures known { known pass.new ≡ known pass.old }
     {
         while let Some(stripe) = order.first() {
-            self.give_first(pass, stripe);
+            self.give_first::<Stay>(pass, stripe);
             order.pop();
         }
     }
@@ -102,7 +105,7 @@ impl<T: Part> Gates<T> {
     ) -> Result<Held<'a, T>, Busy<'a, T>>
         requires own { IsResting self.now pass.old }
         requires known { AreBelow (stripes_of self.now) stripes.now }
-        ensures ok { IfOk result (λ held. HasTaken T.contents self.now stripes.now pass.entry held × ((known held.pass.now).notes ≡ (known pass.old).notes)) }
+        ensures ok { IfOk result (λ held. HasTaken T.meaning self.now stripes.now pass.entry held × ((known held.pass.now).notes ≡ (known pass.old).notes)) }
         ensures busy { IfErr result (λ busy. (busy.pass.ghost_name ≡ pass.entry.ghost_name) × IsResting self.now busy.pass.now × (0 < times busy.stripe stripes.now) × WasBusy busy.stripe (known pass.old) (known busy.pass.now)) }
     {
         stripes.rises();
@@ -134,7 +137,7 @@ impl<T: Part> Gates<T> {
     ) -> Held<'a, T>
         requires own { IsResting self.now pass.old }
         requires known { AreBelow (stripes_of self.now) stripes.now }
-        ensures { HasTaken T.contents self.now stripes.now pass.entry result }
+        ensures { HasTaken T.meaning self.now stripes.now pass.entry result }
     {
         stripes.rises();
         let mut left = stripes.again();
@@ -152,54 +155,49 @@ impl<T: Part> Gates<T> {
 }
 
 impl<'a, T: Part> Held<'a, T> {
-    ghost use Rattle.words.specs.declared.history.Entry.{Entry};
-    ghost use Rattle.words.specs.History.{Legal, keys_named};
-    ghost use Rattle.gates.specs.declared.view.Note.TheVariants as note;
-    ghost use Rattle.gates.specs.Passes.{stripes_of, known, parts_in, part_at, AllFit, IsHolding, IsResting, WasTold, Committed, KeysHeld, pass_number};
-    ghost use Rattle.gates.specs.Helds.{IsOpen, held_parts, entry_of, gates_of, known_to, borrow_of, has_committed};
+    ghost use Rattle.words.specs.History.{HasPlace, due, keys_named, keys_of_pairs};
+    ghost use Rattle.gates.specs.Plays.{kept};
+    ghost use Rattle.gates.specs.Passes.{stripes_of, known, AllFit, IsResting, KeysHeld};
+    ghost use Rattle.gates.specs.Helds.{IsOpen, held_parts, held_taken, gates_of, known_to, number_of, operation_asked, has_committed, HasCommitted};
 
-    /// Commits one entry of the pass, an operation and what it is answered, and says its position in
-    /// the history. It has to be legal where it stands behind all that the pass has seen, and its keys
-    /// to be of held stripes. The operation and the reply are for the proof alone.
+    /// Commits one entry of the pass, what a call asks and what it is answered, and says its position in
+    /// the history. A transaction goes by all that the pass watches. The reply has to be the one that is
+    /// due behind all that the pass has seen, and the keys to be of held stripes. The call and the reply
+    /// are for the proof alone.
     ///
     /// # Errors
     ///
     /// [`CommitsWornOut`] where the commit word was read at 2^62 or more. Nothing was committed.
     #[inline]
-    pub fn commit(&mut self, operation: &Operation, reply: &Reply) -> Result<u64, CommitsWornOut>
+    pub fn commit<C: Asks>(&mut self, call: &C, reply: &Reply) -> Result<u64, CommitsWornOut>
         requires open { IsOpen self.old }
         requires once { has_committed self.old ≡ false }
-        requires legal { Legal (entry_of self.old operation.now reply.now ∷ (known_to self.old).seen) }
-        requires keys { KeysHeld (stripes_of (gates_of self.old)) (held_parts self.old) (keys_named operation.now) }
-        ensures open { IsOpen self.new }
-        ensures gates { gates_of self.new ≡ gates_of self.old }
-        ensures pass { borrow_of self.new ≡ borrow_of self.old }
-        ensures parts { held_parts self.new ≡ held_parts self.old }
-        ensures ok { IfOk result (λ place. Committed (stripes_of (gates_of self.old)) (held_parts self.old) (entry_of self.old operation.now reply.now) place (known_to self.old) (known_to self.new)) }
-        ensures once { OnOk result (has_committed self.new ≡ true) }
-        ensures worn { OnErr result (WasTold note.Worn (known_to self.old) (known_to self.new)) }
-        ensures none { OnErr result (has_committed self.new ≡ false) }
+        requires place { HasPlace (operation_asked self.old (C.asked call.now)) }
+        requires due { reply.now ≡ due (known_to self.old).seen (operation_asked self.old (C.asked call.now)) }
+        requires keys { KeysHeld (stripes_of (gates_of self.old)) (held_parts self.old) (keys_named (operation_asked self.old (C.asked call.now))) }
+        ensures { HasCommitted self.old (operation_asked self.old (C.asked call.now)) reply.now self.new result }
     {
         let place = self
             .gates
-            .commit_as::<Brand>(&mut *self.pass, operation, reply)?;
+            .commit_as::<Brand, C>(&mut *self.pass, call, reply)?;
         self.committed = true;
         Ok(place)
     }
 
     /// The number of the pass.
     pub fn number(&self) -> u64
-        ensures { result ≡ pass_number self.now.pass.now }
+        ensures { result ≡ number_of self.now }
     {
         self.pass.number
     }
 
-    /// Gives all stripes back. Each part has to read as its part of what the history leaves that the
-    /// pass has seen.
+    /// Gives all stripes back. Each part has to fit: it reads as its part of what the history leaves
+    /// that the pass has seen, its marks say which of the pass's watched keys were written in it, and for
+    /// others they are as they were taken, touched at the keys that were written since.
     #[inline]
     pub fn give(self)
         requires open { IsOpen self }
-        requires fit { AllFit T.contents (stripes_of (gates_of self)) (known_to self).seen (held_parts self) }
+        requires fit { AllFit T.meaning (stripes_of (gates_of self)) (known_to self) (held_taken self) (held_parts self) }
         ensures pass { IsResting (gates_of self.entry) self.exit.1.0.now }
         ensures known { known self.exit.1.0.now ≡ known_to self.entry }
     {
@@ -211,13 +209,38 @@ impl<'a, T: Part> Held<'a, T> {
         } = self;
         gates.give_all(pass, order);
     }
+
+    /// Gives all stripes back, as [`Held::give`] does, and the pass watches nothing more. The stripes of
+    /// all watched keys have to be held, and no part to have marks of the pass.
+    #[inline]
+    pub fn forget(self)
+        requires open { IsOpen self }
+        requires keys { KeysHeld (stripes_of (gates_of self)) (held_parts self) (keys_of_pairs (known_to self).watched) }
+        requires fit { AllFit T.meaning (stripes_of (gates_of self)) (kept true (known_to self)) (held_taken self) (held_parts self) }
+        ensures pass { IsResting (gates_of self.entry) self.exit.1.0.now }
+        ensures known { known self.exit.1.0.now ≡ kept true (known_to self.entry) }
+    {
+        let Held {
+            gates,
+            pass,
+            mut order,
+            committed: _,
+        } = self;
+        let Some(stripe) = order.first() else {
+            gates.give_all(pass, order);
+            return;
+        };
+        gates.give_first::<Forget>(pass, stripe);
+        order.pop();
+        gates.give_all(pass, order);
+    }
 }
 
 impl<'a, T: Part> Held<'a, T> {
     ghost use Rattle.std.specs.Borrow.{sem, Lends};
     ghost use mir.Syntax.{named};
     ghost use Rattle.gates.specs.contracts.held.Held.{the_row};
-    ghost use Rattle.gates.specs.Passes.{part_at};
+    ghost use Rattle.gates.specs.Sets.{part_at};
     ghost use Rattle.gates.specs.Helds.{IsOpen, held_parts};
     ghost use Rattle.gates.specs.Lending.{brought, held_with, with_part};
 
@@ -252,7 +275,7 @@ impl<'a, T: Part> Held<'a, T> {
 }
 
 impl<'a, T: Part> Parts<T> for Held<'a, T> {
-    ghost use Rattle.gates.specs.Passes.{part_at};
+    ghost use Rattle.gates.specs.Sets.{part_at};
     ghost use Rattle.gates.specs.Helds.{IsOpen, held_parts, SameHold, same_as_it, same_by_both};
     ghost use Rattle.gates.specs.Lending as lending;
 

@@ -9,5 +9,5 @@ load-requires g c =
     let shared = c.args.self.now.table.shared in (
       h.table,
       omega arith,
-      arms c.laws.ensures g.T.Part.contents shared.key shared.table_id.slots c.args.pass.now.seat.id c.args.pass.now.seat.me h.seat.single (sym h.armed ∙ c.if-pass.false),
+      arms c.laws.ensures g.T.Part.meaning shared.key shared.table_id.slots c.args.pass.now.seat.id c.args.pass.now.seat.me h.seat.single (sym h.armed ∙ c.if-pass.false),
     )

@@ -12,7 +12,7 @@ split_seat-theirs-requires g c =
     let h = c.requires.second.holding in
     let sized = c.args.self.now.sized in
     let second = c.args.second.now in
-    (h.table, omega arith, leave_splits g.T.Part.contents c.args.self.now.table.shared.key second.seat.id second.seat.me.0 (nothing_held n second.number second.seat.me h.seat c.requires.second.nothing))
+    (h.table, omega arith, leave_splits g.T.Part.meaning c.args.self.now.table.shared.key second.seat.id second.seat.me.0 (nothing_held n second.number second.seat.me h.seat c.requires.second.nothing))
 
 pub join_seat-requires : goal.join_seat-requires
 join_seat-requires g c =
@@ -25,7 +25,7 @@ join_seat-requires g c =
       c.split_seat-theirs.ensures.3 ∙ c.requires.second.holding.table,
       ap (λ m. m.1) left,
       omega arith,
-      joins g.T.Part.contents c.args.self.now.table.shared.key first.seat.id c.split_seat-theirs.result.id first.seat.me.0 c.split_seat-theirs.result.me.0
+      joins g.T.Part.meaning c.args.self.now.table.shared.key first.seat.id c.split_seat-theirs.result.id first.seat.me.0 c.split_seat-theirs.result.me.0
           (nothing_held n first.number first.seat.me h.seat c.requires.first.nothing) (ap (λ m. m.0.held) left),
     )
 
@@ -36,7 +36,7 @@ load-requires g c =
     let small = c.args.self.now.small in (
       c.join_seat.ensures.0 ∙ c.requires.first.holding.table,
       omega (arith, c.word_index.ensures, sized, small),
-      meets g.T.Part.contents c.args.self.now.table.shared.key n c.join_seat.new.seat.id c.word_index.result c.join_seat.new.seat.me (ap (λ m. m.0.held) c.join_seat.ensures.2),
+      meets g.T.Part.meaning c.args.self.now.table.shared.key c.laws.ensures n c.join_seat.new.seat.id c.word_index.result c.join_seat.new.seat.me (ap (λ m. m.0.held) c.join_seat.ensures.2),
     )
 
 pub split_seat-requires : goal.split_seat-requires
@@ -52,7 +52,7 @@ split_seat-requires g c =
     c.requires.first.holding.seat.single c.requires.second.holding.seat.single refl c.split_seat-theirs.ensures.4 c.join_seat.ensures.2 met in (
       c.load.ensures.0 ∙ c.join_seat.ensures.0 ∙ c.requires.first.holding.table,
       omega arith,
-      keep_splits g.T.Part.contents c.args.self.now.table.shared.key c.load.new.seat.id c.load.new.seat.me.0 held
+      keep_splits g.T.Part.meaning c.args.self.now.table.shared.key c.load.new.seat.id c.load.new.seat.me.0 held
           (passes ∙ ap (λ l. first_of l ∷ others_of l) (sym passes)),
     )
 
@@ -79,17 +79,17 @@ returns g c =
     let table = c.load.ensures.0 ∙ c.join_seat.ensures.0 ∙ h1.holding.table in
     record {
       first = record {
-        holding = record { table = c.split_seat.ensures.0 ∙ table; small = h1.holding.small; armed = sym (ap (λ m. m.0.armed) w1); seat = seen_seat n first.number log first.seat.me c.split_seat.new.seat.me h1.holding.seat goes.0 w1 };
+        holding = record { table = c.split_seat.ensures.0 ∙ table; small = h1.holding.small; armed = sym (ap (λ m. m.0.armed) w1); seat = seen_seat c.laws.ensures n first.number log first.seat.me c.split_seat.new.seat.me h1.holding.seat goes.0 w1 };
         nothing = ap (λ m. m.1) w1;
       };
       second = record {
-        holding = record { table = c.split_seat.ensures.3 ∙ table; small = h2.holding.small; armed = sym (ap (λ m. m.0.armed) w2); seat = seen_seat n second.number log second.seat.me c.split_seat.result.me h2.holding.seat goes.1 w2 };
+        holding = record { table = c.split_seat.ensures.3 ∙ table; small = h2.holding.small; armed = sym (ap (λ m. m.0.armed) w2); seat = seen_seat c.laws.ensures n second.number log second.seat.me c.split_seat.result.me h2.holding.seat goes.1 w2 };
         nothing = ap (λ m. m.1) w2;
       };
-      one = seen_log n first.number log first.seat.me c.split_seat.new.seat.me h1.holding.seat goes.0 w1
-          ∙ sym (seen_log n second.number log second.seat.me c.split_seat.result.me h2.holding.seat goes.1 w2);
-      first_learned = seen_learned n first.number log first.seat.me c.split_seat.new.seat.me h1.holding.seat goes.0 w1;
-      second_learned = seen_learned n second.number log second.seat.me c.split_seat.result.me h2.holding.seat goes.1 w2;
-      first_told = seen_notes n first.number log first.seat.me c.split_seat.new.seat.me h1.holding.seat goes.0 w1;
-      second_told = seen_notes n second.number log second.seat.me c.split_seat.result.me h2.holding.seat goes.1 w2;
+      one = seen_log c.laws.ensures n first.number log first.seat.me c.split_seat.new.seat.me h1.holding.seat goes.0 w1
+          ∙ sym (seen_log c.laws.ensures n second.number log second.seat.me c.split_seat.result.me h2.holding.seat goes.1 w2);
+      first_learned = seen_learned c.laws.ensures n first.number log first.seat.me c.split_seat.new.seat.me h1.holding.seat goes.0 w1;
+      second_learned = seen_learned c.laws.ensures n second.number log second.seat.me c.split_seat.result.me h2.holding.seat goes.1 w2;
+      first_told = seen_notes c.laws.ensures n first.number log first.seat.me c.split_seat.new.seat.me h1.holding.seat goes.0 w1;
+      second_told = seen_notes c.laws.ensures n second.number log second.seat.me c.split_seat.result.me h2.holding.seat goes.1 w2;
     }

@@ -1,15 +1,16 @@
 use Rattle.std.proofs.Common.{◌≡◌, ◌++◌, length}
 use Rattle.gates.specs.Sets.{AreBelow}
-use Rattle.gates.specs.Passes.{stripes_of, known, parts_in, stripes_in, AllFit, IsHolding, Learned}
+use Rattle.gates.specs.Passes.{stripes_of, known, parts_in, taken_in, stripes_in, AllFit, IsHolding, Learned, ToldBusy}
 use Rattle.gates.proofs.gates.Gates.take.Given as goal
 
 abbrev pub invariant-loop-stripe : goal.invariant-loop-stripe
 invariant-loop-stripe g l =
     IsHolding l.self l.pass
-    × AllFit g.T.Part.contents (stripes_of l.self) (known l.pass).seen (parts_in l.pass)
+    × AllFit g.T.Part.meaning (stripes_of l.self) (known l.pass) (taken_in l.pass) (parts_in l.pass)
     × Learned (known l.initial.pass) (known l.pass)
     × (l.stripes ≡ stripes_in l.pass ++ l.left)
     × AreBelow (stripes_of l.self) l.left
+    × ToldBusy l.stripes (known l.initial.pass) (known l.pass)
 
 abbrev pub decreases-loop-stripe : goal.decreases-loop-stripe
 decreases-loop-stripe g l = length l.left

@@ -15,7 +15,7 @@ compare_exchange-found-requires g c =
     let sized = c.args.self.now.sized in (
       h.table,
       omega (arith, c.word_index-word.ensures, c.requires.below, sized),
-      tries_at c.laws.ensures g.T.Part.contents c.args.self.now.table.shared.key c.args.self.now.table.shared.table_id.slots pass.seat.id pass.seat.me
+      tries_at c.laws.ensures g.T.Part.meaning c.args.self.now.table.shared.key c.args.self.now.table.shared.table_id.slots pass.seat.id pass.seat.me
           c.args.stripe c.word_index-word.result (pass.number + 1) c.word_index-word.ensures (ap (λ (k : ℕ). k + 1) (sym h.seat.number_is)) h.seat.single c.requires.below
           (h.seat.same c.args.stripe ∙ c.requires.other) (omega arith),
     )
@@ -29,7 +29,7 @@ returns-then-found-ne0 g c =
     let m = pass.seat.me in
     let w = c.compare_exchange-found.new.seat.me in
     let told = c.compare_exchange-found.ensures.2 c.args.stripe c.word_index-word.ensures in
-    let missed : Missed c.args.stripe found m w = MatchBool-at_false (Took g.T.Part.contents n c.args.stripe m w) (Missed c.args.stripe found m w) (ne_eqb found 0 c.if-found-ne0.true) told in
+    let missed : Missed c.args.stripe found m w = MatchBool-at_false (Took g.T.Part.meaning n c.args.stripe m w) (Missed c.args.stripe found m w) (ne_eqb found 0 c.if-found-ne0.true) told in
     let knows = missed_knows n pass.number c.args.stripe found m w h.seat missed in
     record {
       holding = record {
@@ -38,7 +38,7 @@ returns-then-found-ne0 g c =
         armed = h.armed ∙ sym (ap (λ y. y.0.armed) missed.seat);
         seat = missed_seat n pass.number c.args.stripe found m w h.seat missed;
       };
-      fit = missed_fit n pass.number c.args.stripe found m w h.seat missed g.T.Part.contents c.requires.fit;
+      fit = missed_fit n pass.number c.args.stripe found m w h.seat missed g.T.Part.meaning c.requires.fit;
       taken = λ e. absurd (false≢true e);
       missed = λ _. (knows, missed_parts n pass.number c.args.stripe found m w h.seat missed);
     }
@@ -53,7 +53,7 @@ returns g c =
     let m = pass.seat.me in
     let w = c.compare_exchange-found.new.seat.me in
     let x = c.turn.new.self.me in
-    let contents = g.T.Part.contents in
+    let contents = g.T.Part.meaning in
     let told = c.compare_exchange-found.ensures.2 i c.word_index-word.ensures in
     let took : Took contents n i m w = MatchBool-at_true (Took contents n i m w) (Missed i found m w) (eq-eqb found 0 c.if-found-ne0.false) told in
     let none_held = c.requires.other in
@@ -65,7 +65,7 @@ returns g c =
         armed = h.armed ∙ sym (ap (λ y. y.0.armed) turn ∙ ap (λ y. y.0.armed) took.seat);
         seat = subst (IsSeatOf n pass.number) (sym turn) (took_seat c.laws.ensures contents n pass.number i m w h.seat c.requires.below none_held took);
       };
-      fit = subst (λ y. AllFit contents n (own y.0).seen y.1) (sym turn) (took_fit c.laws.ensures contents n pass.number i m w h.seat c.requires.below none_held took c.requires.fit);
+      fit = subst (λ y. AllFit contents n (own y.0) y.0.taken y.1) (sym turn) (took_fit c.laws.ensures contents n pass.number i m w h.seat c.requires.below none_held took c.requires.fit);
       taken = λ _. (
         subst (λ y. Learned (own m.0) (own y.0)) (sym turn) (took_knows c.laws.ensures contents n pass.number i m w h.seat c.requires.below none_held took),
         ap (λ y. (own y.0).notes) turn ∙ took_notes c.laws.ensures contents n pass.number i m w h.seat c.requires.below none_held took,

@@ -1,7 +1,0 @@
-use Rattle.std.proofs.Common.{◌≡◌, vec_len}
-use Rattle.gates.specs.Plays.{AreEmpty}
-use Rattle.gates.specs.Maps.{map_contents}
-use Rattle.gates.proofs.tests.parts.Given as goal
-
-abbrev pub invariant-loop-n : goal.invariant-loop-n
-invariant-loop-n l = (vec_len l.parts ≡ l._n) × AreEmpty map_contents l.parts.items

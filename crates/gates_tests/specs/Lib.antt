@@ -1,0 +1,3 @@
+pub mod Watchers
+pub mod Maps
+pub mod Calls
