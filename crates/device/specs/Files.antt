@@ -8,6 +8,10 @@ use Rattle.device.specs.Written.{page_of}
 abbrev pub page_shown : FileReceipt → List ℕ
 page_shown receipt = page_of receipt.written
 
+-- the place of that page in the file
+abbrev pub place_of : FileReceipt → ℕ
+place_of receipt = receipt.place
+
 -- its number
 abbrev pub receipt_number : FileReceipt → ℕ
 receipt_number receipt = receipt.number

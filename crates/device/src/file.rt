@@ -43,6 +43,10 @@ impl fmt::Display for OpenFault {
 impl Error for OpenFault {}
 
 impl From<AllocError> for OpenFault {
+    ghost use Rattle.device.specs.declared.file.OpenFault.TheVariants.{OutOfMemory};
+
+    ghost from_gives = { λ _ fault. fault ≡ OutOfMemory };
+
     fn from(_: AllocError) -> OpenFault {
         OpenFault::OutOfMemory
     }
@@ -66,8 +70,9 @@ pub(crate) enum Written {
 }
 
 impl Shows for FileReceipt {
-    ghost use Rattle.std.specs.Prelude.{◌∷◌, drop};
+    ghost use Rattle.std.specs.Prelude.{◌∷◌, drop, ◌↔◌, IsTrue};
     ghost use Rattle.std.proofs.Common.{ap};
+    ghost use Rattle.device.specs.Files.{place_of, receipt_number};
 
     ghost shown = { λ r. page_of r.written };
 
@@ -86,7 +91,10 @@ impl Shows for FileReceipt {
     }
 
     /// Whether both have one place, and one page number.
-    fn same(&self, other: &FileReceipt) -> bool {
+    fn same(&self, other: &FileReceipt) -> bool
+        ensures exact { IsTrue result ↔ ((place_of self.now ≡ place_of other.now)
+            × (receipt_number self.now ≡ receipt_number other.now)) }
+    {
         self.place == other.place && self.number == other.number
     }
 }

@@ -1,6 +1,6 @@
 // Each call failing in turn, through a device that fails on demand.
 
-use crate::file::{length_of, opened};
+use crate::file::{length_of, numbers_after_releases, opened};
 use device::{Device, DeviceFault, Faulty, MemoryDevice};
 use records::Page;
 use std::alloc::Global;
@@ -64,5 +64,26 @@ fn a_failed_write_takes_no_place(rt: HostRuntime) {
     let path = "faulty.pages";
     assert!(rt; fails_in_file(&rt, rt.alloc(), path, 0) == Some(true));
     assert!(rt; length_of(&rt, path) == Some(16_384));
+    assert!(rt; fs::remove_file(&rt, path).is_ok());
+}
+
+// The numbers of the pages that are read after a place was released twice, through a device that fails at
+// no call.
+fn numbers_through<R: Wait + Files<File = File>>(
+    rt: &R,
+    alloc: Global,
+    path: &str,
+) -> Option<[Option<u64>; 3]> {
+    let device = opened(rt, alloc, path)?;
+    let mut device = Faulty::new(device, Vec::new(alloc));
+    numbers_after_releases(alloc, &mut device)
+}
+
+#[test]
+fn a_release_comes_to_the_device_below(rt: HostRuntime) {
+    let path = "faulty_released.pages";
+    let numbers = numbers_through(&rt, rt.alloc(), path);
+    assert!(rt; numbers == Some([Some(1), Some(2), Some(3)]));
+    assert!(rt; length_of(&rt, path) == Some(3 * 16_384));
     assert!(rt; fs::remove_file(&rt, path).is_ok());
 }

@@ -126,7 +126,10 @@ fn numbers_after<D: Device>(device: &mut D, before: &D::Receipt) -> Option<[Opti
 }
 
 // The same, where a place was released twice.
-fn numbers_after_releases<D: Device>(alloc: Global, device: &mut D) -> Option<[Option<u64>; 3]> {
+pub(crate) fn numbers_after_releases<D: Device>(
+    alloc: Global,
+    device: &mut D,
+) -> Option<[Option<u64>; 3]> {
     let (epochs, mut seat) = epochs(alloc)?;
     let kept = release_twice(device, &epochs, &mut seat)?;
     numbers_after(device, &kept)

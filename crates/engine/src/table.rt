@@ -133,7 +133,7 @@ impl Table {
         }
     }
 
-    /// Makes these writes, all of them or none.
+    /// Makes these writes, all of them or none. Deletions alone take no memory.
     ///
     /// # Errors
     ///
@@ -141,6 +141,7 @@ impl Table {
     pub(crate) fn write(&mut self, writes: Writes) -> Result<(), OutOfMemory>
         ensures ok { OnOk result (held self.new ≡ written (held self.old) writes) }
         ensures err { OnErr result ((k : List ℕ) → held self.new k ≡ held self.old k) }
+        ensures memory { AreDeletions writes → IsOk result }
     {
         if are_deletions(writes.as_slice()) {
             self.delete_all(writes.as_slice());
@@ -154,7 +155,8 @@ impl Table {
 
 /// Whether each of the writes is a deletion.
 fn are_deletions(writes: &[Write]) -> bool
-    ensures { result ≡ true → AreDeletions writes.now }
+    ensures yes { result ≡ true → AreDeletions writes.now }
+    ensures no { result ≡ false → AreDeletions writes.now → ⊥ }
 {
     match writes {
         [] => true,
