@@ -13,11 +13,11 @@ use Rattle.words.specs.Spelling.{spelling, spellings, header, AreRequests, IsReq
 use Rattle.words.specs.Stream.{front, Part, Faulty}
 use Rattle.words.specs.Encoding.{encoding, encodings}
 use Rattle.words.specs.History.{History, Placed, Legal, subhistory}
-use Rattle.words.specs.Session.{Mode, Idle, Closed, Transcript}
+use Rattle.words.specs.Session.{Mode, Idle, Transcript}
 use Rattle.engine.specs.Calls.{Reads}
 use Rattle.connection.specs.Supported.{read_as}
 use Rattle.connection.specs.Clients.{Standing, start, TakesOff, IsOpen, mode_of, WantsMemory}
-use Rattle.connection.specs.Conversations.{Talk, Went, Conversation, Answers, AreSame, MayFollow, with_entry, at_place}
+use Rattle.connection.specs.Conversations.{Talk, Conversation, Answers, AreSame, MayFollow, with_entry, at_place}
 use Rattle.connection.specs.declared.serving.Ended.{Ended}
 use Rattle.connection.specs.declared.serving.Ended.TheVariants as ended
 use Rattle.connection.specs.Served.{Answered, Served, HasTaken, fault_line}

@@ -2,15 +2,15 @@
 use Rattle.std.proofs.Common.{◌≡◌, refl, sym, ◌∙◌, ap, List, []}
 use Rattle.words.specs.declared.reply.Reply.{Reply}
 use Rattle.words.specs.Store.{Bytes}
-use Rattle.words.specs.Session.{Mode, Idle, Closed, Turn, Says, Forgets, Tries, Calls, Never, turn_idle, turn}
+use Rattle.words.specs.Session.{Idle, Closed, Turn, Says, Forgets, Tries, Calls, Never, turn_idle}
 use Rattle.words.specs.Commands.{command_of}
 use Rattle.engine.specs.declared.Call.{Call}
 use Rattle.engine.specs.Calls.{asked_of}
 use Rattle.connection.specs.declared.client.State.{State}
 use Rattle.connection.specs.declared.client.State.TheVariants as state
 use Rattle.connection.specs.declared.session.Turned.TheVariants as turned
-use Rattle.connection.specs.Supported.{as_supported, read_as}
-use Rattle.connection.specs.Clients.{Stage, Ready, Called, stage_of, mode_of, turn_at, IsReady, IsSaid, IsAsked}
+use Rattle.connection.specs.Supported.{as_supported}
+use Rattle.connection.specs.Clients.{Stage, Ready, Called, stage_of, turn_at, IsReady, IsSaid, IsAsked}
 use Rattle.connection.specs.Sessions.{Makes}
 use Rattle.connection.proofs.Turns.{read_command}
 

@@ -1,5 +1,5 @@
 -- One turn of a session, as a step of its transcript.
-use Rattle.std.proofs.Common.{◌≡◌, ℕ, Bool, true, false, List, [], ◌∷◌, ◌++◌, length, map, Option, Some, None, IsSome, Result, Ok, Err, refl, sym, ap, ◌∙◌, subst, inl, inr, if◌then◌else◌, ◌⊎◌}
+use Rattle.std.proofs.Common.{◌≡◌, ℕ, true, false, List, [], ◌∷◌, ◌++◌, length, Option, Some, None, Err, refl, sym, ap, ◌∙◌, inl, inr, if◌then◌else◌, ◌⊎◌}
 use Rattle.words.specs.declared.reply.Reply.{Reply}
 use Rattle.words.specs.declared.history.Operation.{Operation}
 use Rattle.words.specs.declared.history.Entry.{Entry}
@@ -8,9 +8,9 @@ use Rattle.words.specs.Spelling.{spelling}
 use Rattle.words.specs.declared.reply.Refusal.TheVariants.{UnknownCommand}
 use Rattle.words.specs.Commands.{command_of}
 use Rattle.words.specs.Commands as commands
-use Rattle.resp_read.specs.Taken.{FitInline}
-use Rattle.words.specs.History.{History, Pair, Placed, Legal, Extends, HasPlace, AreWatches, pairs_of, due}
-use Rattle.words.specs.Session.{Mode, Turn, Says, Forgets, Tries, Calls, Never, Asked, operation_of, turn, Rest, Follows, Transcript}
+use Rattle.resp_read.specs.Memory.{FitInline}
+use Rattle.words.specs.History.{History, Placed, HasPlace, AreWatches, pairs_of, due}
+use Rattle.words.specs.Session.{Mode, Turn, Says, Forgets, Tries, Calls, Never, Asked, Rest, Follows}
 use Rattle.engine.specs.declared.Call.{Call}
 use Rattle.engine.specs.declared.Call.TheVariants.{One}
 use Rattle.engine.specs.declared.Answer.{Answer}
@@ -18,7 +18,7 @@ use Rattle.engine.specs.declared.Answer.TheVariants as answer
 use Rattle.engine.specs.Calls.{asked_of, operation_asked, Reads, IfReply, IfFault, IsReply, AsksNoMemory}
 use Rattle.connection.specs.Supported.{is_supported, as_supported, read_as}
 use Rattle.connection.specs.Clients.{Standing, Stage, Ready, Called, IsReady, IsCalled, mode_of, turn_at, TakesOff, WantsMemory, IsSaid, IsAsked, Resumes}
-use Rattle.connection.specs.Conversations.{Answers, AreSame, MakesEntry, MayFollow, at_place, with_entry}
+use Rattle.connection.specs.Conversations.{Answers, AreSame, MakesEntry, at_place}
 
 -- a request is read as the command that the server has
 pub read_command : (words : List Bytes) → command_of (read_as words) ≡ as_supported (command_of words)

@@ -1,6 +1,6 @@
 -- What a step of a session gives, by what the request does.
 use Rattle.std.specs.Prelude.{◌≡◌}
-use Rattle.words.specs.Session.{Idle, Closed, Turn, Says, Forgets, Tries, Calls, Never}
+use Rattle.words.specs.Session.{Idle, Closed, Turn, Says, Tries, Calls}
 use Rattle.words.specs.History.{HasPlace}
 use Rattle.engine.specs.Calls.{asked_of, operation_asked}
 use Rattle.connection.specs.declared.session.Turned.{Turned}
