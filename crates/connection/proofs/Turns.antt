@@ -9,7 +9,7 @@ use Rattle.words.specs.Spelling.{spelling}
 use Rattle.words.specs.declared.reply.Refusal.TheVariants.{UnknownCommand}
 use Rattle.words.specs.Commands.{command_of}
 use Rattle.words.specs.Commands as commands
-use Rattle.resp_read.specs.Taken.{FitInline}
+use Rattle.resp_read.specs.Memory.{FitInline}
 use Rattle.words.specs.History.{History, Placed, HasPlace, AreWatches, pairs_of, due}
 use Rattle.words.specs.Session.{Mode, Turn, Says, Forgets, Tries, Calls, Never, Asked, Rest, Follows}
 use Rattle.engine.specs.declared.Call.{Call}

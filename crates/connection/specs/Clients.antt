@@ -7,7 +7,7 @@ use Rattle.words.specs.Spelling.{IsRequest, spelling}
 use Rattle.words.specs.Stream as stream
 use Rattle.words.specs.Commands.{command_of, AsksNoMemory}
 use Rattle.words.specs.Session.{Mode, Idle, Queueing, Spoiled, Closed, Turn, Says, Forgets, Tries, Calls, Never, Asked, turn, line_reply}
-use Rattle.resp_read.specs.Taken.{FitInline}
+use Rattle.resp_read.specs.Memory.{FitInline}
 use Rattle.engine.specs.declared.Call.{Call}
 use Rattle.engine.specs.declared.Answer.{Answer}
 use Rattle.engine.specs.declared.Answer.TheVariants as answer

@@ -2,7 +2,8 @@
 
 ghost use Rattle.std.specs.Prelude.{◌≡◌, ◌++◌, OnOk, OnErr};
 
-use crate::session::{Turned, idle_step, supported};
+use crate::session::{Turned, idle_step};
+use bytes::Bytes;
 use engine::{Answer, Call};
 use resp_read::{ReadFault, Reader};
 use std::alloc::Global;
@@ -48,11 +49,12 @@ pub struct Client {
 }
 
 impl Model for Client {
+    ghost use Rattle.resp_read.specs.Unread.{unread as unread_of};
     ghost use Rattle.connection.specs.Clients.{Standing, stage_of};
 
     ghost Value = { Standing };
 
-    ghost view = { λ client. record { unread = client.reader; stage = stage_of client.state } };
+    ghost view = { λ client. record { unread = unread_of client.reader; stage = stage_of client.state } };
 }
 
 impl Client {
@@ -72,13 +74,16 @@ impl Client {
         }
     }
 
-    /// Feeds the next bytes. After an `Err` the client is as it was.
-    pub fn feed(&mut self, piece: &[u8]) -> Result<(), OutOfMemory>
+    /// Feeds the next piece. After an `Err` the client is as it was.
+    pub fn feed(&mut self, piece: Bytes) -> Result<(), OutOfMemory>
         ensures ok { OnOk result
-            (self.new ≡ record self.old { unread = self.old.unread ++ piece.now }) }
+            (self.new ≡ record self.old { unread = self.old.unread ++ piece }) }
         ensures err { OnErr result (self.new ≡ self.old) }
     {
-        self.reader.feed_slice(piece)
+        match self.reader.feed(piece) {
+            Ok(()) => Ok(()),
+            Err(refused) => Err(refused.1),
+        }
     }
 
     /// What the client does next. It is not to be asked while a call is open.
@@ -100,7 +105,7 @@ impl Client {
             return Next::OutOfMemory;
         };
         drop(words);
-        match idle_step(supported(command)) {
+        match idle_step(command) {
             Turned::Says(reply) => Next::Says(reply),
             Turned::Ends(reply) => {
                 self.state = State::Closed;

@@ -1,7 +1,7 @@
 //! Serving one connection: what a reader gives is answered by the engine, and the replies go to a
 //! writer.
 
-ghost use Rattle.std.specs.Prelude.{◌≡◌, ◌<◌, ℕ, [], ◌++◌, List, length, OnOk, IfOk, IfNone, is_ok};
+ghost use Rattle.std.specs.Prelude.{◌≡◌, ◌<◌, ◌≤◌, ℕ, [], ◌++◌, List, length, OnOk, OnErr, IfNone, IsTrue, is_ok};
 ghost use Rattle.words.specs.Encoding.{encoding};
 ghost use Rattle.words.specs.History.{History, Legal};
 ghost use Rattle.engine.specs.Calls.{Reads};
@@ -13,15 +13,21 @@ ghost use Rattle.connection.specs.Served.{HasTurned, IsDue, HasPaused, StandsAt,
 ghost use Rattle.std.specs.Io.KnownBytes.{Appends, Consumes, IsAtEnd};
 
 use crate::client::{Client, Next};
+use bytes::BytesMut;
 use engine::{Engine, Pass};
 use resp_write::{encode_within, send};
-use std::alloc::{AllocError, Global};
+use std::alloc::Global;
 use std::io::{Read, Write};
 use streams::{Input, Noted, WriteFault};
 use words::reply::{Line, ProtocolFault, Reply};
+use words::word::OutOfMemory;
 
 /// The most bytes that are read at a time.
 const PIECE_BYTES: usize = 16_384;
+/// The bytes of a block that pieces are cut from.
+const BLOCK_BYTES: usize = 65_536;
+/// The most bytes that are read at a time where there is no memory for a block.
+const FEW_BYTES: usize = 256;
 /// The room that the output buffer has at least, in bytes: every line fits.
 const LINE_ROOM: usize = 128;
 /// The room that the output buffer has where memory serves, in bytes.
@@ -244,42 +250,106 @@ fn answer_piece<W: Write>(
     }
 }
 
-/// Reads a piece, and feeds it to the client. `None` where the connection goes on.
+/// Makes room for a piece, and says whether there is. A block whose pieces are all let go is used again from
+/// its start. Else the next piece is cut from what is left of it, as long as that is enough, so small pieces
+/// share a block.
+fn make_room(room: &mut BytesMut) -> bool
+    ensures room { IsTrue result → PIECE_BYTES ≤ room.new.spare }
+    ensures block { PIECE_BYTES ≤ room.old.spare → IsTrue result }
+    ensures items { room.new.items ≡ room.old.items }
+{
+    room.try_reclaim(BLOCK_BYTES)
+        || PIECE_BYTES <= room.capacity() - room.len()
+        || room.reserve(BLOCK_BYTES).is_ok()
+}
+
+/// Feeds the client what was read into the room, as one piece that is cut from its block.
+fn feed_read(room: &mut BytesMut, client: &mut Client) -> Result<(), OutOfMemory>
+    ensures ok { OnOk result
+        (client.new ≡ record client.old { unread = client.old.unread ++ room.old.items }) }
+    ensures err { OnErr result (client.new ≡ client.old) }
+    ensures empty { OnOk result (room.new.items ≡ []) }
+{
+    let piece = room.freeze_to(room.len())?;
+    client.feed(piece)
+}
+
+/// Reads a piece of at most [`PIECE_BYTES`] bytes, and feeds it to the client. `None` where the connection
+/// goes on.
 fn take_piece<R: Read>(
     reader: &mut Noted<R>,
-    piece: &mut [u8],
+    room: &mut BytesMut,
     client: &mut Client,
 ) -> Option<Ended>
-    requires { 0 < length piece.old }
-    ensures taken { (bytes : List ℕ)
+    requires { room.old.items ≡ [] }
+    ensures taken { (bytes : List ℕ) × (length bytes ≤ 16384)
         × Consumes (R.remaining (stream_of reader.old)) (R.remaining (stream_of reader.new)) bytes
         × HasTaken result client.old bytes client.new }
     ensures end { result ≡ Some Ended.EndOfInput → IsAtEnd (R.remaining (stream_of reader.new)) }
     ensures told { told_of reader.new ≡ taken_told result (told_of reader.old) }
     ensures fewer { IfNone result (reads_of reader.new < reads_of reader.old) }
+    ensures empty { IfNone result (room.new.items ≡ []) }
 {
-    match reader.read(piece) {
-        Input::Bytes(count) => match client.feed(&piece[..count]) {
-            Ok(()) => None,
-            Err(_) => Some(Ended::NoMemory),
-        },
+    if !make_room(room) {
+        return take_few(reader, room, client);
+    }
+    room.advance_mut(PIECE_BYTES);
+    match reader.read(room.as_mut_slice()) {
+        Input::Bytes(count) => {
+            room.truncate(count);
+            match feed_read(room, client) {
+                Ok(()) => None,
+                Err(_) => Some(Ended::NoMemory),
+            }
+        }
         Input::End => Some(Ended::EndOfInput),
         Input::Failure => Some(Ended::ReadFailed),
     }
 }
 
+/// Reads a small piece where there is no memory for a block: what the client sends next may need little.
+#[cold]
+fn take_few<R: Read>(
+    reader: &mut Noted<R>,
+    room: &mut BytesMut,
+    client: &mut Client,
+) -> Option<Ended>
+    requires { room.old.items ≡ [] }
+    ensures taken { (bytes : List ℕ) × (length bytes ≤ 16384)
+        × Consumes (R.remaining (stream_of reader.old)) (R.remaining (stream_of reader.new)) bytes
+        × HasTaken result client.old bytes client.new }
+    ensures end { result ≡ Some Ended.EndOfInput → IsAtEnd (R.remaining (stream_of reader.new)) }
+    ensures told { told_of reader.new ≡ taken_told result (told_of reader.old) }
+    ensures fewer { IfNone result (reads_of reader.new < reads_of reader.old) }
+    ensures empty { IfNone result (room.new.items ≡ []) }
+{
+    let mut few = [0; FEW_BYTES];
+    let count = match reader.read(&mut few) {
+        Input::Bytes(count) => count,
+        Input::End => return Some(Ended::EndOfInput),
+        Input::Failure => return Some(Ended::ReadFailed),
+    };
+    if let Err(_) = room.extend_from_slice(&few[..count]) {
+        return Some(Ended::NoMemory);
+    }
+    match feed_read(room, client) {
+        Ok(()) => None,
+        Err(_) => Some(Ended::NoMemory),
+    }
+}
+
 /// Reads, answers and writes, until the connection ends.
 fn converse<R: Read, W: Write>(
-    mut client: Client,
-    piece: &mut [u8],
+    client: &mut Client,
+    room: &mut BytesMut,
     out: &mut Vec<u8>,
     reader: &mut Noted<R>,
     writer: &mut Noted<W>,
     engine: &mut Engine,
     pass: &mut Pass,
 ) -> Ended
-    requires begins { client ≡ start }
-    requires room { 0 < length piece.old }
+    requires begins { client.old ≡ start }
+    requires room { room.old.items ≡ [] }
     requires empty { out.old.items ≡ [] }
     ensures served { (seen : History) → Legal seen → Reads (contents engine.old) seen → (bytes text : List ℕ)
         × Consumes (R.remaining (stream_of reader.old)) (R.remaining (stream_of reader.new)) bytes
@@ -291,20 +361,13 @@ fn converse<R: Read, W: Write>(
     ensures pass { pass.new ≡ pass.old }
 {
     loop {
-        if let Some(ended) = take_piece(reader, piece, &mut client) {
+        if let Some(ended) = take_piece(reader, room, client) {
             return ended;
         }
-        if let Some(ended) = answer_piece(&mut client, out, writer, engine, pass) {
+        if let Some(ended) = answer_piece(client, out, writer, engine, pass) {
             return ended;
         }
     }
-}
-
-/// A buffer for the pieces that are read.
-fn piece_buffer(alloc: Global) -> Result<Vec<u8>, AllocError>
-    ensures { IfOk result (λ piece. length piece.items ≡ PIECE_BYTES) }
-{
-    vec![in alloc; 0u8; PIECE_BYTES]
 }
 
 /// Serves one connection: reads requests, answers them by the engine, and writes the replies, until
@@ -314,6 +377,16 @@ fn piece_buffer(alloc: Global) -> Result<Vec<u8>, AllocError>
 /// the next read, in one write where they fit into 65,536 bytes and the writer takes them. No memory
 /// is asked for once a call has changed the store: a reply that does not fit into the output buffer is
 /// written after what the buffer holds, piece by piece.
+///
+/// # Memory
+///
+/// Pieces are cut from blocks of 65,536 bytes, and a new block is taken only where the one before has room
+/// for less than a piece and some of its pieces are kept. Where no request waits none is kept. Of a waiting
+/// request the whole words are copied, 65,536 bytes at most, and what is left in the pieces is a part of
+/// one word: 8,200 bytes at most, so at most two blocks are held at a time. Each piece costs 40 bytes in the
+/// reader's list beside its own, so a client that sends one byte a piece costs 41 bytes a byte, or 81 just
+/// after the list has doubled. Only where memory was refused for a word do whole words stay in the pieces:
+/// then the request's 66,694 bytes stand in at most three blocks. The output buffer has 65,536 bytes.
 pub fn serve<R: Read, W: Write>(
     alloc: Global,
     reader: &mut Noted<R>,
@@ -339,12 +412,16 @@ pub fn serve<R: Read, W: Write>(
     };
     // More room where memory serves: it saves writes.
     let _ = out.reserve(OUTPUT_BYTES);
-    let Ok(mut piece) = piece_buffer(alloc) else {
-        return (pass, Ended::NoMemory);
-    };
-    let client = Client::new(alloc);
+    let mut room = BytesMut::new(alloc);
+    let mut client = Client::new(alloc);
     let ended = converse(
-        client, &mut piece, &mut out, reader, writer, engine, &mut pass,
+        &mut client,
+        &mut room,
+        &mut out,
+        reader,
+        writer,
+        engine,
+        &mut pass,
     );
     (pass, ended)
 }

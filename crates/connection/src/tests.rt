@@ -176,7 +176,7 @@ const SET_AND_GET: &[u8] =
 const SET_AND_GET_ANSWER: &[u8] = b"+OK\r\n$5\r\na\r\n*1\r\n";
 
 /// Input, text and ending of some connections.
-const ROWS: [(&[u8], &[u8], Ended); 21] = [
+const ROWS: &[(&[u8], &[u8], Ended)] = &[
     (PING, b"+PONG\r\n", Ended::EndOfInput),
     (b"", b"", Ended::EndOfInput),
     (SET_AND_GET, SET_AND_GET_ANSWER, Ended::EndOfInput),
@@ -268,56 +268,83 @@ const ROWS: [(&[u8], &[u8], Ended); 21] = [
     ),
 ];
 
+/// Whether a connection wrote this text and kept nothing of it back, and ended so.
+fn came_to(outcome: &Outcome, text: &[u8], ended: Ended) -> bool {
+    let passed_on = ended == Ended::WriteFailed || outcome.flushed == text.len();
+    outcome.text.as_slice() == text && outcome.ended == ended && passed_on
+}
+
+/// Asserts what a connection comes to.
+fn check_run(
+    rt: &impl Abort,
+    alloc: Global,
+    streams: (Source<'_>, Sink),
+    text: &[u8],
+    ended: Ended,
+) -> Result<(), Fail> {
+    let outcome = run(alloc, streams.0, streams.1)?;
+    assert!(rt; came_to(&outcome, text, ended), "{:?}", outcome.text);
+    Ok(())
+}
+
+/// So many times this text, and then another.
+fn repeated(alloc: Global, text: &[u8], count: u32, after: &[u8]) -> Result<Vec<u8>, AllocError> {
+    let mut all = Vec::new(alloc);
+    for _ in 0..count {
+        all.extend_from_slice(text)?;
+    }
+    all.extend_from_slice(after)?;
+    Ok(all)
+}
+
+/// Streams that give and take at most so many bytes at a time, and are interrupted or not.
+fn streams(
+    alloc: Global,
+    input: &[u8],
+    most: usize,
+    interrupts: bool,
+) -> Result<(Source<'_>, Sink), AllocError> {
+    let mut source = Source::new(input, most);
+    source.interrupts = interrupts;
+    let mut sink = Sink::new(alloc, most)?;
+    sink.interrupts = interrupts;
+    Ok((source, sink))
+}
+
 /// The rows answer so however the input is cut, whatever the writer takes at a time, and where calls
 /// are interrupted. None meets a fault, and nothing is kept back.
 #[test]
 fn ample_memory_answers(rt: HostRuntime) -> Result<(), Fail> {
     let alloc = rt.alloc();
-    for (input, text, ended) in ROWS {
+    for &(input, text, ended) in ROWS {
         for most in [16_384, 31, 7, 1] {
             for interrupts in [false, true] {
-                let mut source = Source::new(input, most);
-                source.interrupts = interrupts;
-                let mut sink = Sink::new(alloc, most)?;
-                sink.interrupts = interrupts;
-                let outcome = run(alloc, source, sink)?;
-                assert_eq!(rt; outcome.text.as_slice(), text, "{input:?} by {most}");
-                assert_eq!(rt; outcome.ended, ended, "{input:?} by {most}");
-                assert_eq!(rt; outcome.flushed, text.len(), "{input:?} by {most}");
+                let streams = streams(alloc, input, most, interrupts)?;
+                check_run(&rt, alloc, streams, text, ended)?;
             }
         }
     }
     Ok(())
 }
 
+/// How many writes the replies take where a read gives at most so many bytes.
+fn writes_of(alloc: Global, input: &[u8], most: usize) -> Result<u64, AllocError> {
+    let outcome = run(alloc, Source::new(input, most), Sink::new(alloc, 16_384)?)?;
+    Ok(outcome.writes)
+}
+
 /// The replies of one read take one write.
 #[test]
 fn one_write_for_one_read(rt: HostRuntime) -> Result<(), Fail> {
     let alloc = rt.alloc();
-    let mut input = Vec::new(alloc);
-    for _ in 0..64 {
-        input.extend_from_slice(PING)?;
-    }
-    let outcome = run(
-        alloc,
-        Source::new(&input, 16_384),
-        Sink::new(alloc, 16_384)?,
-    )?;
-    assert_eq!(rt; outcome.writes, 1);
-    assert_eq!(rt; outcome.text.len(), 64 * 7);
-    let outcome = run(
-        alloc,
-        Source::new(&input, PING.len()),
-        Sink::new(alloc, 16_384)?,
-    )?;
-    assert_eq!(rt; outcome.writes, 64);
+    let input = repeated(alloc, PING, 64, b"")?;
+    assert_eq!(rt; writes_of(alloc, &input, 16_384)?, 1);
+    assert_eq!(rt; writes_of(alloc, &input, PING.len())?, 64);
     Ok(())
 }
 
-/// Words at the limits and past them.
-#[test]
-fn long_words(rt: HostRuntime) -> Result<(), Fail> {
-    let alloc = rt.alloc();
+/// A key that is too long, then the longest key with the longest value, read twenty times.
+fn long_words(alloc: Global) -> Result<Vec<u8>, AllocError> {
     let long = vec![in alloc; b'x'; 8_192]?;
     let mut input = Vec::new(alloc);
     spell(&mut input, &[b"GET", &long[..513]])?;
@@ -325,38 +352,44 @@ fn long_words(rt: HostRuntime) -> Result<(), Fail> {
     for _ in 0..20 {
         spell(&mut input, &[b"GET", &long[..512]])?;
     }
-    let mut text = Vec::from_slice(alloc, b"-ERR key is too long\r\n+OK\r\n")?;
-    for _ in 0..20 {
-        text.extend_from_slice(b"$8192\r\n")?;
-        text.extend_from_slice(&long)?;
-        text.extend_from_slice(b"\r\n")?;
-    }
-    let outcome = run(
-        alloc,
-        Source::new(&input, 16_384),
-        Sink::new(alloc, 100_000)?,
-    )?;
-    assert!(rt; outcome.text == text);
-    assert_eq!(rt; outcome.ended, Ended::EndOfInput);
+    Ok(input)
+}
 
-    let mut large = Vec::from_slice(alloc, b"*9\r\n")?;
-    for _ in 0..8 {
-        large.extend_from_slice(b"$8192\r\n")?;
-        large.extend_from_slice(&long)?;
-        large.extend_from_slice(b"\r\n")?;
+/// So many replies of the longest value, after the replies before them.
+fn long_replies(alloc: Global, before: &[u8], count: u32) -> Result<Vec<u8>, AllocError> {
+    let reply = repeated(alloc, b"", 0, b"$8192\r\n")?;
+    let reply = with_value(reply)?;
+    let replies = repeated(alloc, &reply, count, b"")?;
+    repeated(alloc, before, 1, &replies)
+}
+
+/// The longest value and its line end, after what is there.
+fn with_value(mut text: Vec<u8>) -> Result<Vec<u8>, AllocError> {
+    for _ in 0..8_192 {
+        text.push(b'x')?;
     }
-    large.extend_from_slice(b"$1")?;
-    let outcome = run(
-        alloc,
-        Source::new(&large, 16_384),
-        Sink::new(alloc, 16_384)?,
-    )?;
-    assert_eq!(rt;
-        outcome.text.as_slice(),
-        b"-ERR Protocol error: request too large\r\n".as_slice()
-    );
-    assert_eq!(rt; outcome.ended, Ended::ProtocolFault);
-    Ok(())
+    text.extend_from_slice(b"\r\n")?;
+    Ok(text)
+}
+
+#[test]
+fn words_at_the_limits(rt: HostRuntime) -> Result<(), Fail> {
+    let alloc = rt.alloc();
+    let input = long_words(alloc)?;
+    let text = long_replies(alloc, b"-ERR key is too long\r\n+OK\r\n", 20)?;
+    let streams = (Source::new(&input, 16_384), Sink::new(alloc, 100_000)?);
+    check_run(&rt, alloc, streams, &text, Ended::EndOfInput)
+}
+
+/// Eight words of 8,192 bytes and one byte more. The spelling of a word is that of a reply.
+#[test]
+fn a_request_that_is_too_large(rt: HostRuntime) -> Result<(), Fail> {
+    let alloc = rt.alloc();
+    let mut input = long_replies(alloc, b"*9\r\n", 8)?;
+    input.extend_from_slice(b"$1")?;
+    let streams = (Source::new(&input, 16_384), Sink::new(alloc, 16_384)?);
+    let text = b"-ERR Protocol error: request too large\r\n";
+    check_run(&rt, alloc, streams, text, Ended::ProtocolFault)
 }
 
 /// A read that fails after a complete request: it is answered, and the answer is written.
@@ -366,39 +399,52 @@ fn a_read_that_fails(rt: HostRuntime) -> Result<(), Fail> {
     let mut source = Source::new(SET_AND_GET, 16_384);
     source.fails_after = Some(SET.len());
     let outcome = run(alloc, source, Sink::new(alloc, 16_384)?)?;
-    assert_eq!(rt; outcome.text.as_slice(), b"+OK\r\n".as_slice());
-    assert_eq!(rt; outcome.ended, Ended::ReadFailed);
-    assert_eq!(rt; outcome.told, (Told::Failure, Told::Nothing));
+    assert!(rt; came_to(&outcome, b"+OK\r\n", Ended::ReadFailed));
+    assert!(rt; outcome.told == (Told::Failure, Told::Nothing));
     Ok(())
 }
 
-/// A write that fails after each number of bytes, or takes none: a beginning of the text is written.
+/// Asserts what is written where writes fail after so many bytes.
+fn check_cut(
+    rt: &impl Abort,
+    alloc: Global,
+    input: &[u8],
+    text: &[u8],
+    most: usize,
+) -> Result<(), Fail> {
+    let mut sink = Sink::new(alloc, most)?;
+    sink.fails_after = Some(text.len());
+    let outcome = run(alloc, Source::new(input, 16_384), sink)?;
+    assert!(rt; came_to(&outcome, text, Ended::WriteFailed), "{input:?}");
+    assert!(rt; outcome.told == (Told::Nothing, Told::Failure), "{input:?}");
+    Ok(())
+}
+
+/// A write that fails after each number of bytes: a beginning of the text is written.
 #[test]
 fn a_write_that_fails(rt: HostRuntime) -> Result<(), Fail> {
-    let alloc = rt.alloc();
-    for (input, text, ended) in ROWS {
+    for &(input, text, _) in ROWS {
         for room in 0..text.len() {
             for most in [16_384, 1] {
-                let mut sink = Sink::new(alloc, most)?;
-                sink.fails_after = Some(room);
-                let outcome = run(alloc, Source::new(input, 16_384), sink)?;
-                assert_eq!(rt;
-                    outcome.text.as_slice(),
-                    &text[..room],
-                    "{input:?} at {room}"
-                );
-                assert_eq!(rt; outcome.ended, Ended::WriteFailed, "{input:?} at {room}");
-                assert_eq!(rt; outcome.told, (Told::Nothing, Told::Failure));
+                check_cut(&rt, rt.alloc(), input, &text[..room], most)?;
             }
         }
-        let outcome = run(alloc, Source::new(input, 16_384), Sink::new(alloc, 0)?)?;
-        assert_eq!(rt; outcome.text.len(), 0);
-        let wanted = if text.is_empty() {
+    }
+    Ok(())
+}
+
+/// A write that takes no byte has failed.
+#[test]
+fn a_write_that_takes_nothing(rt: HostRuntime) -> Result<(), Fail> {
+    let alloc = rt.alloc();
+    for &(input, text, ended) in ROWS {
+        let ended = if text.is_empty() {
             ended
         } else {
             Ended::WriteFailed
         };
-        assert_eq!(rt; outcome.ended, wanted, "{input:?}");
+        let streams = (Source::new(input, 16_384), Sink::new(alloc, 0)?);
+        check_run(&rt, alloc, streams, b"", ended)?;
     }
     Ok(())
 }
@@ -414,45 +460,67 @@ fn after_reply<'a>(text: &'a [u8], reply: &[u8]) -> Option<(bool, &'a [u8])> {
     }
 }
 
+/// How many of the requests below are answered, each with its reply or the line of want of memory;
+/// `None` where a text is none of these.
+fn answered_below(text: &[u8]) -> Option<usize> {
+    if text.is_empty() {
+        return Some(0);
+    }
+    let (stored, rest) = after_reply(text, b"+OK\r\n")?;
+    if rest.is_empty() {
+        return Some(1);
+    }
+    let value: &[u8] = if stored {
+        b"$30\r\nvvvvvvvvvvvvvvvvvvvvvvvvvvvvvv\r\n"
+    } else {
+        b"$-1\r\n"
+    };
+    let (_, rest) = after_reply(rest, value)?;
+    if rest.is_empty() {
+        return Some(2);
+    }
+    let rest = rest.strip_prefix(b"$25\r\nttttttttttttttttttttttttt\r\n")?;
+    if rest.is_empty() { Some(3) } else { None }
+}
+
 /// Where an allocation is refused (`rt try --test --fail-alloc`), each request has its reply or the
 /// line of want of memory, in order, or the connection ends before it. No reply is lost or doubled.
 #[test]
 fn a_refused_allocation(rt: HostRuntime) -> Result<(), Fail> {
     let alloc = rt.alloc();
+    let input =
+        b"*3\r\n$3\r\nSET\r\n$24\r\nkkkkkkkkkkkkkkkkkkkkkkkk\r\n$30\r\nvvvvvvvvvvvvvvvvvvvvvvvvvvvvvv\r\n*2\r\n$3\r\nGET\r\n$24\r\nkkkkkkkkkkkkkkkkkkkkkkkk\r\n*2\r\n$4\r\nPING\r\n$25\r\nttttttttttttttttttttttttt\r\n";
     let Ok(sink) = Sink::new(alloc, 16_384) else {
         return Ok(());
     };
-    let input =
-        b"*3\r\n$3\r\nSET\r\n$24\r\nkkkkkkkkkkkkkkkkkkkkkkkk\r\n$30\r\nvvvvvvvvvvvvvvvvvvvvvvvvvvvvvv\r\n*2\r\n$3\r\nGET\r\n$24\r\nkkkkkkkkkkkkkkkkkkkkkkkk\r\n*2\r\n$4\r\nPING\r\n$25\r\nttttttttttttttttttttttttt\r\n";
     let Ok(outcome) = run(alloc, Source::new(input, 100), sink) else {
         return Ok(());
     };
-    let value = b"$30\r\nvvvvvvvvvvvvvvvvvvvvvvvvvvvvvv\r\n".as_slice();
-    let mut rest = outcome.text.as_slice();
-    let mut answered = 0;
-    let mut stored = false;
-    if let Some((done, more)) = after_reply(rest, b"+OK\r\n") {
-        stored = done;
-        rest = more;
-        answered = 1;
-        let wanted = if stored { value } else { b"$-1\r\n" };
-        if let Some((_, more)) = after_reply(rest, wanted) {
-            rest = more;
-            answered = 2;
-            if let Some((done, more)) = after_reply(rest, b"$25\r\nttttttttttttttttttttttttt\r\n") {
-                assert!(rt; done);
-                rest = more;
-                answered = 3;
-            }
-        }
-    }
-    assert_eq!(rt; rest.len(), 0);
-    if answered == 3 {
-        assert_eq!(rt; outcome.ended, Ended::EndOfInput);
-    } else {
-        assert_eq!(rt; outcome.ended, Ended::NoMemory);
-    }
+    let ended = match answered_below(&outcome.text) {
+        Some(3) => Ended::EndOfInput,
+        Some(_) => Ended::NoMemory,
+        None => return Err(Fail::from("another text")),
+    };
+    assert_eq!(rt; outcome.ended, ended);
     Ok(())
+}
+
+/// More requests than a block has bytes for, and then a part of one with most of a long word.
+fn many_bytes(alloc: Global) -> Result<Vec<u8>, AllocError> {
+    let part = repeated(alloc, b"*2\r\n$4\r\nECHO\r\n$8192\r\n", 1, b"")?;
+    let word = repeated(alloc, b"xxxxxxxx", 1_000, b"")?;
+    let part = repeated(alloc, &part, 1, &word)?;
+    repeated(alloc, PING, 5_000, &part)
+}
+
+/// A client that sends one byte at a time. Pieces of one byte share a block, and blocks are used again.
+#[test]
+fn many_pieces_of_one_byte(rt: HostRuntime) -> Result<(), Fail> {
+    let alloc = rt.alloc();
+    let input = many_bytes(alloc)?;
+    let text = repeated(alloc, b"+PONG\r\n", 5_000, b"")?;
+    let streams = (Source::new(&input, 1), Sink::new(alloc, 16_384)?);
+    check_run(&rt, alloc, streams, &text, Ended::EndOfInput)
 }
 
 /// The numbers by which endings are listed.

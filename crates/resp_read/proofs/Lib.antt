@@ -2,5 +2,8 @@ pub mod Steps
 pub mod Headers
 pub mod Numbers
 pub mod DataLemmas
-pub mod ScanLemmas
-pub mod TakeLemmas
+pub mod PieceLemmas
+pub mod RequestLemmas
+pub mod LookLemmas
+pub mod ReaderLemmas
+pub mod WholeLemmas

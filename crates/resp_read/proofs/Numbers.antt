@@ -1,7 +1,7 @@
 -- The digits of a line so far, in the loops that read them, and what the loops find.
-use Rattle.std.proofs.Common.{ℕ, zero, suc, ◌≡◌, ◌≢◌, ◌+◌, ◌-◌, ◌*◌, ◌^◌, ◌<◌, ◌≤◌, ◌⊎◌, inl, inr, [], ◌∷◌, ◌++◌, Some, None, length, take, drop, get_or, refl, sym, ap, ◌∙◌, subst, arith, append_assoc}
+use Rattle.std.proofs.Common.{ℕ, zero, suc, ◌≡◌, ◌≢◌, ◌+◌, ◌-◌, ◌*◌, ◌^◌, ◌<◌, ◌≤◌, ◌⊎◌, inl, inr, [], ◌∷◌, ◌++◌, Some, None, length, take, drop, get_or, refl, sym, ap, ◌∙◌, subst, arith, length-append, append_assoc}
 use Rattle.std.specs.Fmt.{decimal}
-use Rattle.std.proofs.lemmas.Fmt.{decimal_digit}
+use Rattle.std.proofs.lemmas.Fmt.{decimal_digit, length-decimal-le}
 use Rattle.std.proofs.lemmas.List.{drop_more, drop_all, drop-drop, length-drop, take_rest, nil_from_length}
 use Rattle.words.specs.declared.limits.TheConstants.{WORDS_MAX, WORD_BYTES_MAX, REQUEST_BYTES_MAX}
 use Rattle.words.specs.declared.reply.ProtocolFault.TheVariants.{ExpectedArray, BadCount, ExpectedBulk, BadLength, RequestTooLarge}
@@ -34,6 +34,10 @@ digits_more digits at n digit lt is some low small e =
 digits_first : (digits : Bytes) (digit : ℕ) → 0 < length digits → get_or digits 0 0 ≡ 48 + digit → digit ≤ 9 → digits ≡ decimal digit ++ drop 1 digits
 digits_first digits digit lt is low =
     bytes_by_first digits lt ∙ (ap (λ (b : ℕ). b ∷ drop 1 digits) is ∙ ap (λ (d : Bytes). d ++ drop 1 digits) (sym (decimal_digit digit (omega arith))))
+
+-- how many bytes a part of a line has
+digits_are_few : (digits : Bytes) (at n k : ℕ) → digits ≡ decimal n ++ drop at digits → 0 < k → n < 10 ^ k → n < 2 ^ 64 → length digits ≤ k + (length digits - at)
+digits_are_few digits at n k e some low small = omega (arith, ap length e, length-append (decimal n) (drop at digits), length-drop at digits, length-decimal-le k n some low small)
 
 -- the line is whole
 pub line_begins : (sign value at : ℕ) (bytes digits rest : Bytes) → bytes ≡ sign ∷ digits → digits ≡ decimal value ++ drop at digits → at < length digits → get_or digits at 0 ≡ 13 → rest ≡ drop (at + 1) digits → rest ≡ 10 ∷ drop 1 rest → BeginsWithLine sign value (at + 3) bytes
@@ -92,6 +96,13 @@ pub count_part : (bytes digits : Bytes) (at count : ℕ) → bytes ≡ 42 ∷ di
 count_part bytes digits at count e so_far past =
     count_front bytes digits at count e so_far ∙ ap (front_from (count_place at count)) (drop_all at digits past)
 
+count_few : (digits : Bytes) (at count : ℕ) → CountSoFar digits at count → length digits ≤ 3 + (length digits - at)
+count_few digits at count (inl h) = omega arith
+count_few digits at count (inr h) = digits_are_few digits at count 3 h.3 (omega arith) (omega arith) (omega arith)
+
+pub count_part_few : (bytes digits : Bytes) (at count : ℕ) → bytes ≡ 42 ∷ digits → CountSoFar digits at count → length digits ≤ at → length bytes ≤ 6
+count_part_few bytes digits at count e so_far past = omega (arith, ap length e, count_few digits at count so_far)
+
 -- the front at the byte that is read now
 count_front_at : (bytes digits : Bytes) (at count byte : ℕ) → bytes ≡ 42 ∷ digits → CountSoFar digits at count → at < length digits → get_or digits at 0 ≡ byte → front bytes ≡ front_from (count_place at count) (byte ∷ drop (at + 1) digits)
 count_front_at bytes digits at count byte e so_far lt is =
@@ -140,8 +151,10 @@ count_ends bytes digits rest at count line e (inl h) some lt cr is tells = absur
 count_ends bytes digits rest at count (Number value width) e (inr h) some lt cr is tells =
     rw (tells.0, tells.1) (line_begins 42 count at bytes digits rest e h.3 lt cr is tells.2, h.1, h.2)
 count_ends bytes digits rest zero count Part e (inr h) some lt cr is tells = absurd (omega arith)
-count_ends bytes digits rest (suc at) count Part e (inr h) some lt cr is tells =
-    count_front_at bytes digits (suc at) count 13 e (inr h) lt cr ∙ ap (front_from (CountEnd count)) (sym is ∙ tells)
+count_ends bytes digits rest (suc at) count Part e (inr h) some lt cr is tells = (
+  omega (arith, ap length e, count_few digits (suc at) count (inr h), ap length is, ap length tells, length-drop (suc at + 1) digits),
+  count_front_at bytes digits (suc at) count 13 e (inr h) lt cr ∙ ap (front_from (CountEnd count)) (sym is ∙ tells),
+)
 count_ends bytes digits rest zero count (Faulty fault) e (inr h) some lt cr is tells = absurd (omega arith)
 count_ends bytes digits rest (suc at) count (Faulty fault) e (inr h) some lt cr is tells =
     rw tells.0 (count_front_at bytes digits (suc at) count 13 e (inr h) lt cr ∙ (ap (front_from (CountEnd count)) (sym is ∙ tells.1.2) ∙ count_end_due count tells.1.0 (drop 1 rest) tells.1.1))
@@ -176,6 +189,13 @@ length_front left size bytes digits at n e so_far = ap (front_from (Word left si
 pub length_part : (left size : ℕ) (bytes digits : Bytes) (at n : ℕ) → bytes ≡ 36 ∷ digits → LengthSoFar size digits at n → length digits ≤ at → front_from (Word left size) bytes ≡ stream.Part
 length_part left size bytes digits at n e so_far past =
     length_front left size bytes digits at n e so_far ∙ ap (front_from (length_place left size at n)) (drop_all at digits past)
+
+length_few : (size : ℕ) (digits : Bytes) (at n : ℕ) → LengthSoFar size digits at n → length digits ≤ 4 + (length digits - at)
+length_few size digits at n (inl h) = omega arith
+length_few size digits at n (inr h) = digits_are_few digits at n 4 h.3 (omega arith) (omega arith) (omega arith)
+
+pub length_part_few : (size : ℕ) (bytes digits : Bytes) (at n : ℕ) → bytes ≡ 36 ∷ digits → LengthSoFar size digits at n → length digits ≤ at → length bytes ≤ 6
+length_part_few size bytes digits at n e so_far past = omega (arith, ap length e, length_few size digits at n so_far)
 
 -- the front at the byte that is read now
 length_front_at : (left size : ℕ) (bytes digits : Bytes) (at n byte : ℕ) → bytes ≡ 36 ∷ digits → LengthSoFar size digits at n → at < length digits → get_or digits at 0 ≡ byte → front_from (Word left size) bytes ≡ front_from (length_place left size at n) (byte ∷ drop (at + 1) digits)
@@ -247,8 +267,10 @@ length_ends size bytes digits rest at n line e (inl h) some lt cr is tells = abs
 length_ends size bytes digits rest at n (Number value width) e (inr h) some lt cr is tells =
     rw (tells.0, tells.1) (line_begins 36 n at bytes digits rest e h.3 lt cr is tells.2, h.1, h.2)
 length_ends size bytes digits rest zero n Part e (inr h) some lt cr is tells = absurd (omega arith)
-length_ends size bytes digits rest (suc at) n Part e (inr h) some lt cr is tells =
-    λ left. length_front_at left size bytes digits (suc at) n 13 e (inr h) lt cr ∙ ap (front_from (LengthEnd left size n)) (sym is ∙ tells)
+length_ends size bytes digits rest (suc at) n Part e (inr h) some lt cr is tells = (
+  omega (arith, ap length e, length_few size digits (suc at) n (inr h), ap length is, ap length tells, length-drop (suc at + 1) digits),
+  λ left. length_front_at left size bytes digits (suc at) n 13 e (inr h) lt cr ∙ ap (front_from (LengthEnd left size n)) (sym is ∙ tells),
+)
 length_ends size bytes digits rest zero n (Faulty fault) e (inr h) some lt cr is tells = absurd (omega arith)
 length_ends size bytes digits rest (suc at) n (Faulty fault) e (inr h) some lt cr is tells =
     rw tells.0 (λ left. length_front_at left size bytes digits (suc at) n 13 e (inr h) lt cr ∙ (ap (front_from (LengthEnd left size n)) (sym is ∙ tells.1.2) ∙ length_end_due left size n tells.1.0 (drop 1 rest) tells.1.1))

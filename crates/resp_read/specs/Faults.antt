@@ -2,7 +2,7 @@
 use Rattle.std.specs.Prelude.{◌≡◌}
 use Rattle.words.specs.Store.{Bytes}
 use Rattle.words.specs.Stream as stream
-use Rattle.resp_read.specs.Taken.{NeedsMemory}
+use Rattle.resp_read.specs.Memory.{NeedsMemory}
 use Rattle.resp_read.specs.declared.reader.ReadFault.{ReadFault}
 use Rattle.resp_read.specs.declared.reader.ReadFault.TheVariants.{Protocol, OutOfMemory}
 

@@ -1,4 +1,7 @@
 pub mod Lines
-pub mod Scanned
-pub mod Taken
+pub mod Pieces
+pub mod Unread
+pub mod Looks
+pub mod Memory
 pub mod Faults
+pub mod Taking

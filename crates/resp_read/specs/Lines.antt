@@ -23,20 +23,20 @@ pub record BeginsWithLine (sign value width : ℕ) (bytes : Bytes) : Type 0 wher
   pub some : 1 ≤ width
   pub begins : bytes ≡ header sign value ++ drop width bytes
 
--- where the line of a count is due
+-- where the line of a count is due; a part of a line has at most 6 bytes
 abbrev pub TellsCount : Bytes → Line → Type 0
 TellsCount bytes (Number value width) = BeginsWithLine 42 value width bytes × (1 ≤ value) × (value ≤ WORDS_MAX)
-TellsCount bytes Part = stream.front bytes ≡ stream.Part
+TellsCount bytes Part = (length bytes ≤ 6) × (stream.front bytes ≡ stream.Part)
 TellsCount bytes (Faulty fault) = stream.front bytes ≡ stream.Faulty fault
 
 -- where the line of a word's length is due, and the words before it have this many bytes
 abbrev pub TellsLength : ℕ → Bytes → Line → Type 0
 TellsLength size bytes (Number value width) = BeginsWithLine 36 value width bytes × (value ≤ WORD_BYTES_MAX) × (size + value ≤ REQUEST_BYTES_MAX)
-TellsLength size bytes Part = (left : ℕ) → stream.front_from (stream.Word left size) bytes ≡ stream.Part
+TellsLength size bytes Part = (length bytes ≤ 6) × ((left : ℕ) → stream.front_from (stream.Word left size) bytes ≡ stream.Part)
 TellsLength size bytes (Faulty fault) = (left : ℕ) → stream.front_from (stream.Word left size) bytes ≡ stream.Faulty fault
 
 -- where this many bytes of a word and their line end are due
 abbrev pub TellsDataEnd : ℕ → Bytes → DataEnd → Type 0
 TellsDataEnd due bytes end.Whole = (due + 2 ≤ length bytes) × (bytes ≡ take due bytes ++ (crlf ++ drop (due + 2) bytes))
-TellsDataEnd due bytes end.Part = (left size : ℕ) → stream.front_from (stream.Data left size due) bytes ≡ stream.Part
+TellsDataEnd due bytes end.Part = (length bytes ≤ due + 1) × ((left size : ℕ) → stream.front_from (stream.Data left size due) bytes ≡ stream.Part)
 TellsDataEnd due bytes end.Missing = (left size : ℕ) → stream.front_from (stream.Data left size due) bytes ≡ stream.Faulty MissingLineEnd

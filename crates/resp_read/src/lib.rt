@@ -4,10 +4,11 @@
 #![tactic(auto)]
 
 mod lines;
+mod look;
+mod pieces;
 mod reader;
-mod scan;
-mod take;
 #[cfg(test)]
 mod tests;
+mod whole;
 
 pub use reader::{ReadFault, Reader};

@@ -1,143 +1,284 @@
 //! A client's bytes on their way to requests.
 
-ghost use Rattle.std.specs.Prelude.{◌≡◌, ◌≤◌, [], ◌++◌, length, OnOk, OnErr, IfOk, IfErr, IfSome, IfNone, OnSome};
-ghost use Rattle.words.specs.Spelling.{spelling, IsRequest};
+ghost use Rattle.std.specs.Prelude.{◌≡◌, ◌≤◌, ◌<◌, ◌⊎◌, [], ◌∷◌, ◌++◌, length, slice_get, option_copied, OnOk, OnErr, IsOk, IfOk, IfErr, IfSome, IfNone, OnSome};
+ghost use Rattle.words.specs.Spelling.{spelling, bytes_of, IsRequest};
 ghost use Rattle.words.specs.Stream.{front, Part, Whole};
+ghost use Rattle.resp_read.specs.Pieces.{as_piece, joined};
+ghost use Rattle.resp_read.specs.Unread.{unread, kept, HasTakenOff, KeepsWords, IsTakenUp, IsBetween};
 
-use crate::scan::{Found, Progress, scan};
-use crate::take::words_of;
-use bytes::{Bytes, BytesMut};
-use std::alloc::Global;
+use crate::lines::Line;
+use crate::look::{Look, Rest, look_at_count, look_at_rest, look_at_word, word_at};
+use crate::pieces::Pieces;
+use crate::whole::request_in;
+use bytes::Bytes;
+use std::alloc::{AllocError, Global};
 use std::marker::Model;
-use words::limits::PART_BYTES_MAX;
+use words::limits::{PART_BYTES_MAX, WORDS_MAX};
 use words::reply::ProtocolFault;
 use words::stream_laws::part_is_a_beginning;
-use words::word::{OutOfMemory, Words};
+use words::word::{OutOfMemory, WORD_INLINE, WORDS_INLINE, Word, Words};
 
 /// Why the reader gives no request.
 #[derive(Clone, Copy, Debug, PartialEq, Eq)]
 pub enum ReadFault {
     /// The bytes are no request. The reader answers this from now on.
     Protocol(ProtocolFault),
-    /// The allocator refused the room for the words of a whole request. Nothing was taken, and it can
-    /// be tried again.
+    /// The allocator refused the room for the words of a whole request. It stays unread, and it can be
+    /// tried again.
     OutOfMemory,
 }
 
-/// The bytes of one client that were fed and are not yet given as requests. Contracts see it as these
-/// bytes.
+/// The bytes of one client that were fed and are not yet given as requests.
 ///
-/// A waiting request is not scanned anew for each piece that comes: the reader keeps how many whole lines
-/// and words of it have been scanned and goes on from there, so a request costs time in its length
-/// however it is cut. Only a line that has not come whole, of at most 6 bytes so far, is looked at again.
-/// The reader takes memory for its buffer alone until a request is whole. Then words of at most
-/// [`WORD_INLINE`] bytes, and the first [`WORDS_INLINE`] words, take none.
+/// They are kept as the pieces that were fed. Of a request that has not come whole, the line of its
+/// count and each whole word are taken off the pieces and kept as words, so they are not read again.
+/// Contracts see the count and the words that were taken off, and the pieces that are left; `unread` is
+/// what they stand for.
 ///
-/// [`WORD_INLINE`]: words::word::WORD_INLINE
-/// [`WORDS_INLINE`]: words::word::WORDS_INLINE
+/// A request that stands whole in one piece is taken in one go. The bytes of a word are copied when it has
+/// come whole, and not looked at before: once into the word where they stand in one piece, else they are
+/// gathered first. What is looked at again each time
+/// [`next`] is asked is a line that has not come whole, of at most 6 bytes, the length line of a word that
+/// has not, of at most 7, and the first byte of its line end. Where memory was refused for a word of a
+/// request that has not come whole, the word stays in the pieces until it can be kept.
 ///
 /// # Memory
 ///
-/// Where [`next`] gives `None`, at most [`PART_BYTES_MAX`] bytes are left, 66,694. So where pieces of at
-/// most 16,384 bytes are fed, each only after it gave `None`, the buffer never holds more than 83,078
-/// bytes, and its capacity is at most twice that, since it grows by doubling. It is kept from request to
-/// request, and a reader holds no other memory.
+/// Where [`next`] gives `None`, at most [`PART_BYTES_MAX`] bytes are left, 66,694, those of the words
+/// that are kept counted in. No piece is empty, so there are no more pieces than bytes, and the list
+/// takes 40 bytes for each, doubling as it grows. Where memory was not refused, what is left in the
+/// pieces is a part of one line or of one word: at most 8,200 bytes.
+///
+/// A piece keeps the block alive that it was cut from. So whoever feeds pieces cuts many small ones from
+/// one block, and uses a block again once none of its pieces is kept.
 ///
 /// [`next`]: Reader::next
 /// [`PART_BYTES_MAX`]: words::limits::PART_BYTES_MAX
 #[derive(Drop)]
 pub struct Reader {
-    buffer: BytesMut,
-    progress: Progress,
+    alloc: Global,
+    pieces: Pieces,
+    /// How many words of the request at the front are due; 0 before its count was taken off.
+    due: usize,
+    /// How many bytes the words of it have that were taken off.
+    size: usize,
+    words: Option<Words>,
 }
 
 impl Model for Reader {
-    ghost use Rattle.std.specs.Prelude.{ℕ, List};
-    ghost use Rattle.resp_read.specs.Scanned.{IsScanned};
+    ghost use Rattle.std.specs.Prelude.{◌+◌, length};
+    ghost use Rattle.resp_read.specs.Unread.{Held, kept, IsBegun};
 
-    ghost Value = { List ℕ };
+    ghost Value = { Held };
 
-    ghost view = { λ reader. reader.buffer.items };
+    ghost view = { λ reader. record { count = reader.due + length (kept reader.words); words = kept reader.words; pieces = reader.pieces } };
 
-    ghost invariant = { λ reader. IsScanned reader.buffer.items reader.progress };
+    ghost invariant = { λ reader. IsBegun reader.due reader.size (kept reader.words) };
+}
+
+/// What one step takes off the front.
+#[derive(Drop)]
+enum Step {
+    /// A count, or a word. More is due.
+    Goes,
+    /// The last word of a request.
+    Gives(Words),
+    /// Nothing: a part of a request is left.
+    Waits,
+    /// Nothing, and this is why.
+    Fails(ReadFault),
 }
 
 impl Reader {
     ghost use Rattle.resp_read.specs.Faults.{TellsFault};
+    ghost use Rattle.resp_read.specs.Looks.{HasWord};
+    ghost use Rattle.resp_read.specs.Taking.{Takes, TakesWhole};
 
     /// A reader with nothing fed. It takes no memory.
     pub fn new(alloc: Global) -> Reader
-        ensures { result ≡ [] }
+        ensures unread { unread result ≡ [] }
+        ensures none { result.pieces ≡ [] }
+        ensures between { IsBetween result }
     {
         Reader {
-            buffer: BytesMut::new(alloc),
-            progress: Progress::START,
+            alloc,
+            pieces: Pieces::new(alloc),
+            due: 0,
+            size: 0,
+            words: None,
         }
     }
 
-    /// Adds a piece at the end, also an empty one. Where there is no room for it and no memory, the
-    /// piece comes back and the reader is unchanged.
+    /// Adds a piece at the end. An empty one is not kept. Where there is no room for it and no memory,
+    /// it comes back and the reader is unchanged.
     pub fn feed(&mut self, piece: Bytes) -> Result<(), (Bytes, OutOfMemory)>
-        ensures ok { OnOk result (self.new ≡ self.old ++ piece) }
+        ensures unread { OnOk result (unread self.new ≡ unread self.old ++ piece) }
+        ensures last { OnOk result
+            (self.new ≡ record self.old { pieces = self.old.pieces ++ as_piece piece }) }
         ensures err { OnErr result (self.new ≡ self.old) }
         ensures returned { IfErr result (λ refused. refused.0 ≡ piece) }
     {
-        match self.feed_slice(piece.as_slice()) {
+        match self.pieces.push(piece) {
             Ok(()) => Ok(()),
-            Err(error) => Err((piece, error)),
+            Err(piece) => Err((piece, AllocError)),
         }
     }
 
-    /// Adds a copy of these bytes at the end, as [`feed`](Reader::feed) does.
-    pub fn feed_slice(&mut self, piece: &[u8]) -> Result<(), OutOfMemory>
-        ensures ok { OnOk result (self.new ≡ self.old ++ piece.now) }
-        ensures err { OnErr result (self.new ≡ self.old) }
+    /// The piece with so many kept pieces before it, oldest first, without the bytes that were taken
+    /// off. It takes no memory.
+    pub fn piece(&self, index: usize) -> Option<&[u8]>
+        ensures value { option_copied result ≡ slice_get self.now.pieces index }
+        ensures filled { IfSome result (λ piece. 0 < length piece.now) }
     {
-        make_room(&mut self.buffer, piece.len());
-        self.buffer.extend_from_slice(piece)
+        self.pieces.get(index)
     }
 
     /// Takes the first request and gives its words, or `None` where more bytes are due. After a
     /// protocol fault it answers the same for good, since the bytes stay.
     pub fn next(&mut self) -> Result<Option<Words>, ReadFault>
         ensures request { IfOk result (λ given. IfSome given (λ words. IsRequest words)) }
-        ensures words { IfOk result (λ given. IfSome given (λ words. self.old ≡ spelling words ++ self.new)) }
-        ensures whole { IfOk result (λ given. OnSome given (front self.old ≡ Whole self.new)) }
-        ensures none { IfOk result (λ given. IfNone given (front self.old ≡ Part)) }
-        ensures waits { IfOk result (λ given. IfNone given (self.new ≡ self.old)) }
-        ensures bounded { IfOk result (λ given. IfNone given (length self.new ≤ PART_BYTES_MAX)) }
-        ensures fault { IfErr result (λ fault. TellsFault self.old fault) }
-        ensures err { OnErr result (self.new ≡ self.old) }
+        ensures words { IfOk result (λ given. IfSome given (λ words.
+            unread self.old ≡ spelling words ++ unread self.new)) }
+        ensures whole { IfOk result (λ given. OnSome given
+            (front (unread self.old) ≡ Whole (unread self.new))) }
+        ensures none { IfOk result (λ given. IfNone given (front (unread self.old) ≡ Part)) }
+        ensures waits { IfOk result (λ given. IfNone given (unread self.new ≡ unread self.old)) }
+        ensures bounded { IfOk result (λ given. IfNone given
+            (length (unread self.new) ≤ PART_BYTES_MAX)) }
+        ensures fault { IfErr result (λ fault. TellsFault (unread self.old) fault) }
+        ensures err { OnErr result (unread self.new ≡ unread self.old) }
+
+        // Of the pieces only the front is taken off: whole lines and words, as they come, so none is
+        // read again. What was taken off is kept until it is given.
+        ensures pieces { HasTakenOff self.old self.new }
+        ensures between { IfOk result (λ given. OnSome given (IsBetween self.new)) }
+        ensures takes_up { IfOk result (λ given. IfNone given (IsTakenUp self.new)) }
+        ensures keeps { IfOk result (λ given. IfNone given (KeepsWords self.old self.new)) }
+        ensures err_keeps { OnErr result (KeepsWords self.old self.new) }
     {
-        let unread = self.buffer.as_slice();
-        match scan(unread, &mut self.progress) {
-            Found::Part => {
-                part_is_a_beginning();
-                Ok(None)
-            }
-            Found::Faulty(fault) => Err(ReadFault::Protocol(fault)),
-            Found::Whole(width) => {
-                let alloc = *self.buffer.allocator();
-                match words_of(alloc, &unread[..width]) {
-                    Ok(words) => {
-                        self.buffer.advance(width);
-                        self.progress = Progress::START;
-                        Ok(Some(words))
-                    }
-                    Err(_) => Err(ReadFault::OutOfMemory),
+        if let Some(words) = self.take_whole() {
+            return Ok(Some(words));
+        }
+        loop {
+            match self.step() {
+                Step::Goes => {}
+                Step::Gives(words) => return Ok(Some(words)),
+                Step::Waits => {
+                    part_is_a_beginning();
+                    return Ok(None);
                 }
+                Step::Fails(fault) => return Err(fault),
             }
+        }
+    }
+
+    /// Takes the first request, if nothing of it has been taken off, it stands whole in the oldest piece
+    /// and there is memory for its words.
+    #[inline(always)]
+    fn take_whole(&mut self) -> Option<Words>
+        ensures { TakesWhole self.old result self.new }
+    {
+        if self.due > 0 {
+            return None;
+        }
+        let mut width = 0;
+        let words = request_in(self.alloc, self.pieces.oldest(), &mut width)?;
+        self.pieces.skip(width);
+        Some(words)
+    }
+
+    /// Takes a count, or a word, off the front.
+    #[inline]
+    fn step(&mut self) -> Step
+        ensures { Takes self.old result self.new }
+    {
+        if self.due == 0 {
+            return self.take_count();
+        }
+        match look_at_word(self.alloc, &self.pieces, 0, self.size) {
+            Look::Whole { start, long } => self.take_word(start, long),
+            Look::Part => Step::Waits,
+            Look::Faulty(fault) => Step::Fails(ReadFault::Protocol(fault)),
+        }
+    }
+
+    /// Takes the line of the count off the front.
+    #[inline]
+    fn take_count(&mut self) -> Step
+        requires { self.old.count ≡ 0 }
+        ensures { Takes self.old result self.new }
+    {
+        match look_at_count(self.alloc, &self.pieces) {
+            Line::Number { value, width } => {
+                self.pieces.skip(width);
+                self.due = value;
+                Step::Goes
+            }
+            Line::Part => Step::Waits,
+            Line::Faulty(fault) => Step::Fails(ReadFault::Protocol(fault)),
+        }
+    }
+
+    /// Takes the word off the front that stands there, and keeps it.
+    #[inline]
+    fn take_word(&mut self, start: usize, long: usize) -> Step
+        requires due { 0 < self.old.count }
+        requires word { HasWord (joined self.old.pieces) (bytes_of self.old.words) start long }
+        ensures { Takes self.old result self.new }
+    {
+        let Ok(word) = word_at(self.alloc, &self.pieces, start, long) else {
+            return self.refused(start, long);
+        };
+        if let Err(_) = keep(&mut self.words, self.alloc, word) {
+            return self.refused(start, long);
+        }
+        self.pieces.skip(start + long + 2);
+        self.due -= 1;
+        if self.due > 0 {
+            self.size += long;
+            return Step::Goes;
+        }
+        self.size = 0;
+        match self.words.take() {
+            Some(words) => Step::Gives(words),
+            None => unreachable!(),
+        }
+    }
+
+    /// Tells what stands at the front where the word there found no memory, which is asked for only
+    /// where the request is whole.
+    #[cold]
+    fn refused(&self, start: usize, long: usize) -> Step
+        requires due { 0 < self.now.count }
+        requires word { HasWord (joined self.now.pieces) (bytes_of self.now.words) start long }
+        requires large { (WORD_INLINE < long) ⊎ (WORDS_INLINE ≤ length self.now.words) }
+        ensures { Takes self.now result self.now }
+    {
+        let at = start + long + 2;
+        match look_at_rest(self.alloc, &self.pieces, at, self.due - 1, self.size + long) {
+            Rest::Whole => Step::Fails(ReadFault::OutOfMemory),
+            Rest::Part => Step::Waits,
+            Rest::Faulty(fault) => Step::Fails(ReadFault::Protocol(fault)),
         }
     }
 }
 
-/// Makes room for `size` bytes after those of the buffer, as far as the memory that it has allows: bytes
-/// are moved to its front only where the room after them is too small.
-fn make_room(buffer: &mut BytesMut, size: usize)
-    ensures { buffer.new.items ≡ buffer.old.items }
+/// Keeps a word after those that are kept. It takes memory only past [`WORDS_INLINE`] words.
+#[inline]
+fn keep(words: &mut Option<Words>, alloc: Global, word: Word) -> Result<(), OutOfMemory>
+    requires { length (kept words.old) < WORDS_MAX }
+    ensures ok { OnOk result (kept words.new ≡ kept words.old ++ word ∷ []) }
+    ensures err { OnErr result (words.new ≡ words.old) }
+    ensures inline { length (kept words.old) < WORDS_INLINE → IsOk result }
 {
-    if buffer.is_empty() {
-        buffer.clear();
+    match words {
+        Some(words) => {
+            words.push(word)?;
+            Ok(())
+        }
+        None => {
+            *words = Some(Words::one(alloc, word));
+            Ok(())
+        }
     }
-    buffer.try_reclaim(size);
 }

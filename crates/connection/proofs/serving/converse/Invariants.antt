@@ -19,6 +19,7 @@ invariant-loop-ended g l = record {
   waits : front (l.client).unread ≡ Part;
   is_open : IsOpen (mode_of (l.client).stage);
   empty : l.out.items ≡ [];
+  room : l.room.items ≡ [];
   reader_told : told_of l.reader ≡ told_of l.initial.reader;
   writer_told : told_of l.writer ≡ told_of l.initial.writer;
   pass : l.pass ≡ l.initial.pass;

@@ -6,7 +6,3 @@ use Rattle.connection.proofs.serving.serve.Goals as goal
 pub returns-in_default-clause-served : goal.returns-in_default-clause-served
 returns-in_default-clause-served g c =
     λ seen legal reads. ([], [], Consumes-none _ _ (Keeps-same _), Appends-none _ _ (Keeps-same _), served_nothing _ _ _ legal reads)
-
-pub returns-in_default-piece_buffer-clause-served : goal.returns-in_default-piece_buffer-clause-served
-returns-in_default-piece_buffer-clause-served g c =
-    λ seen legal reads. ([], [], Consumes-none _ _ (Keeps-same _), Appends-none _ _ (Keeps-same _), served_nothing _ _ _ legal reads)

@@ -1,10 +1,10 @@
 use Rattle.std.proofs.Common.{arith, refl, ◌-◌, List, ℕ, take, drop, length}
 use Rattle.std.proofs.lemmas.List.{take_rest}
-use Rattle.resp_read.proofs.Numbers.{bytes_by_sign, front_of_nothing, front_without_star, count_part, count_no_digit, count_bad_digit, count_more, count_ends}
+use Rattle.resp_read.proofs.Numbers.{bytes_by_sign, front_of_nothing, front_without_star, count_part, count_part_few, count_no_digit, count_bad_digit, count_more, count_ends}
 use Rattle.resp_read.proofs.lines.count_line.Goals as goal
 
 pub returns-in-empty : goal.returns-in-empty
-returns-in-empty c = front_of_nothing c.args.bytes.now c.in-empty.len_below
+returns-in-empty c = (omega arith, front_of_nothing c.args.bytes.now c.in-empty.len_below)
 
 pub returns-in_default : goal.returns-in_default
 returns-in_default c = front_without_star c.args.bytes.now c.in_default.len_at_least (λ e. absurd (omega arith))
@@ -34,4 +34,5 @@ loop-at-preserved c =
 pub returns : goal.returns
 returns c =
     let bytes : List ℕ = c.args.bytes.now in
-    count_part bytes _ c.loop-at.at c.loop-at.count (bytes_by_sign bytes 42 c.in-42.len_at_least (omega arith)) c.loop-at.invariant c.loop-at-test.false
+    let starred = bytes_by_sign bytes 42 c.in-42.len_at_least (omega arith) in
+    (count_part_few bytes _ c.loop-at.at c.loop-at.count starred c.loop-at.invariant c.loop-at-test.false, count_part bytes _ c.loop-at.at c.loop-at.count starred c.loop-at.invariant c.loop-at-test.false)

@@ -1,10 +1,10 @@
 use Rattle.std.proofs.Common.{arith, refl, ◌-◌, List, ℕ, take, drop, length}
 use Rattle.std.proofs.lemmas.List.{take_rest}
-use Rattle.resp_read.proofs.Numbers.{bytes_by_sign, word_of_nothing, word_without_dollar, length_part, length_no_digit, length_leading_zero, length_too_long, length_too_large, length_more, length_ends}
+use Rattle.resp_read.proofs.Numbers.{bytes_by_sign, word_of_nothing, word_without_dollar, length_part, length_part_few, length_no_digit, length_leading_zero, length_too_long, length_too_large, length_more, length_ends}
 use Rattle.resp_read.proofs.lines.length_line.Goals as goal
 
 pub returns-in-empty : goal.returns-in-empty
-returns-in-empty c = λ left. word_of_nothing left c.args.size c.args.bytes.now c.in-empty.len_below
+returns-in-empty c = (omega arith, λ left. word_of_nothing left c.args.size c.args.bytes.now c.in-empty.len_below)
 
 pub returns-in_default : goal.returns-in_default
 returns-in_default c = λ left. word_without_dollar left c.args.size c.args.bytes.now c.in_default.len_at_least (λ e. absurd (omega arith))
@@ -46,4 +46,5 @@ loop-at-preserved c =
 pub returns : goal.returns
 returns c =
     let bytes : List ℕ = c.args.bytes.now in
-    λ left. length_part left c.args.size bytes _ c.loop-at.at c.loop-at.length (bytes_by_sign bytes 36 c.in-36.len_at_least (omega arith)) c.loop-at.invariant c.loop-at-test.false
+    let signed = bytes_by_sign bytes 36 c.in-36.len_at_least (omega arith) in
+    (length_part_few c.args.size bytes _ c.loop-at.at c.loop-at.length signed c.loop-at.invariant c.loop-at-test.false, λ left. length_part left c.args.size bytes _ c.loop-at.at c.loop-at.length signed c.loop-at.invariant c.loop-at-test.false)

@@ -1,13 +1,25 @@
-use Rattle.std.proofs.Common.{◌∙◌, List, ℕ, ap, sym, take, drop}
-use Rattle.words.specs.Stream.{Whole}
-use Rattle.resp_read.proofs.TakeLemmas.{needs_memory_in_front, whole_in_front}
+use Rattle.std.proofs.Common.{◌≡◌, subst}
+use Rattle.words.specs.Stream.{Whole, front}
+use Rattle.resp_read.specs.Unread.{Held, unread, HasTakenOff}
+use Rattle.resp_read.proofs.ReaderLemmas.{goes_nowhere, goes_after, given_front, taken_off_after}
 use Rattle.resp_read.proofs.reader.Reader.next.Goals as goal
 
-pub returns-in-Err-clause-fault : goal.returns-in-Err-clause-fault
-returns-in-Err-clause-fault c =
-    needs_memory_in_front c.args.self.now _ c.in-Whole.width (ap (take c.in-Whole.width) (c.as_slice-unread.ensures ∙ c.self.view_is)) c.in-Err.ensures.memory
+pub returns-in-Some-clause-whole : goal.returns-in-Some-clause-whole
+returns-in-Some-clause-whole c =
+    given_front c.args.self.now c.args.self.now c.take_whole.new.self c.in-Some.words (goes_nowhere c.args.self.now) c.in-Some.ensures.0 c.in-Some.ensures.1
 
-pub returns-in-Ok-clause-whole : goal.returns-in-Ok-clause-whole
-returns-in-Ok-clause-whole c =
-    whole_in_front c.args.self.now _ c.in-Ok.words c.in-Whole.width (ap (take c.in-Whole.width) (c.as_slice-unread.ensures ∙ c.self.view_is)) c.in-Ok.ensures.request c.in-Ok.ensures.words
-    ∙ ap (λ (rest : List ℕ). Whole rest) (sym (c.advance.ensures.items ∙ ap (drop c.in-Whole.width) c.self.view_is))
+pub loop-words-init : goal.loop-words-init
+loop-words-init c = goes_nowhere c.take_whole.new.self
+
+pub loop-words-preserved : goal.loop-words-preserved
+loop-words-preserved c = goes_after c.take_whole.new.self c.loop-words.self c.step.new.self c.loop-words.invariant c.in-Goes.ensures.0
+
+pub returns-in-Gives-clause-whole : goal.returns-in-Gives-clause-whole
+returns-in-Gives-clause-whole c =
+    subst (λ (h : Held). front (unread h) ≡ Whole (unread c.step.new.self)) c.in_default.ensures
+    (given_front c.take_whole.new.self c.loop-words.self c.step.new.self c.in-Gives.words c.loop-words.invariant c.in-Gives.ensures.0 c.in-Gives.ensures.1)
+
+pub returns-in-Gives-clause-pieces : goal.returns-in-Gives-clause-pieces
+returns-in-Gives-clause-pieces c =
+    subst (λ (h : Held). HasTakenOff h c.step.new.self) c.in_default.ensures
+    (taken_off_after c.take_whole.new.self c.loop-words.self c.step.new.self c.loop-words.invariant.taken c.in-Gives.ensures.2)

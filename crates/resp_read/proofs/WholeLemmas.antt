@@ -1,0 +1,76 @@
+-- A request that stands whole in one piece.
+use Rattle.std.proofs.Common.{ℕ, ◌≡◌, ◌+◌, ◌≤◌, List, [], ◌∷◌, ◌++◌, length, take, drop, refl, sym, ap, ◌∙◌, arith, append_assoc, length-drop}
+use Rattle.std.specs.List.{flat_map}
+use Rattle.std.proofs.lemmas.List.{append-nil, drop-drop, drop-append-le, length-take-le}
+use Rattle.words.specs.declared.limits.TheConstants.{WORDS_MAX, REQUEST_BYTES_MAX}
+use Rattle.words.specs.Store.{Bytes}
+use Rattle.words.specs.Spelling.{header, bulk_string, spelling, bytes_of, AreShort}
+use Rattle.resp_read.specs.declared.reader.Step.TheVariants.{Gives}
+use Rattle.resp_read.specs.Lines.{BeginsWithLine}
+use Rattle.resp_read.specs.Looks.{HasWord, BeginsWithWord, BeginsWithRequest}
+use Rattle.resp_read.specs.Pieces.{joined, without}
+use Rattle.resp_read.specs.Taking.{Takes}
+use Rattle.resp_read.specs.Unread.{Held, unread}
+use Rattle.resp_read.proofs.PieceLemmas.{joined-without}
+use Rattle.resp_read.proofs.RequestLemmas.{AreShort-push, bytes_of-push, flat_map-push}
+use Rattle.resp_read.proofs.ReaderLemmas.{regroup, unread_between}
+
+-- the word that stands at the front
+pub word_begins : (bytes word : Bytes) (size start long : ℕ) → HasWord bytes size start long → word ≡ take long (drop start bytes) → BeginsWithWord bytes size word (start + long + 2)
+word_begins bytes word size start long has is = record {
+  within = has.within;
+  short = omega (arith, long_is, has.short);
+  room = omega (arith, long_is, has.room);
+  begins = has.begins ∙ ap (λ (w : Bytes). bulk_string w ++ drop (start + long + 2) bytes) (sym is);
+}
+  where
+    long_is : length word ≡ long
+    long_is = ap length is ∙ length-take-le long (drop start bytes) (omega (arith, has.within, length-drop start bytes))
+
+-- the line of a count and some words have been taken
+pub record AreTaken (bytes : Bytes) (count : ℕ) (words : List Bytes) (at size : ℕ) : Type 0 where
+  pub within : at ≤ length bytes
+  pub short : AreShort words
+  pub together : bytes_of words ≡ size
+  pub room : size ≤ REQUEST_BYTES_MAX
+  pub begins : bytes ≡ (header 42 count ++ flat_map bulk_string words) ++ drop at bytes
+
+pub none_taken : (bytes : Bytes) (count start : ℕ) → BeginsWithLine 42 count start bytes → AreTaken bytes count [] start 0
+none_taken bytes count start line = record {
+  within = line.within;
+  short = tt;
+  together = refl;
+  room = omega arith;
+  begins = line.begins ∙ ap (λ (b : Bytes). b ++ drop start bytes) (sym (append-nil (header 42 count)));
+}
+
+pub one_more : (bytes part word : Bytes) (count at size width : ℕ) (words : List Bytes) → AreTaken bytes count words at size → part ≡ drop at bytes → BeginsWithWord part size word width → AreTaken bytes count (words ++ word ∷ []) (at + width) (size + length word)
+one_more bytes part word count at size width words taken is next = record {
+  within = omega (arith, taken.within, next.within, ap length is, length-drop at bytes);
+  short = AreShort-push words word taken.short next.short;
+  together = bytes_of-push words word ∙ ap (λ (k : ℕ). k + length word) taken.together;
+  room = next.room;
+  begins = taken.begins ∙ (ap (λ (b : Bytes). (header 42 count ++ flat_map bulk_string words) ++ b) left_is ∙ (regroup (header 42 count) (flat_map bulk_string words) (bulk_string word) (drop (at + width) bytes) ∙ ap (λ (b : Bytes). (header 42 count ++ b) ++ drop (at + width) bytes) (sym (flat_map-push words word))));
+}
+  where
+    left_is : drop at bytes ≡ bulk_string word ++ drop (at + width) bytes
+    left_is = sym is ∙ (next.begins ∙ ap (λ (b : Bytes). bulk_string word ++ b) (ap (drop width) is ∙ drop-drop width at bytes))
+
+pub all_taken : (bytes : Bytes) (count at size : ℕ) (words : List Bytes) → AreTaken bytes count words at size → length words ≡ count → 1 ≤ count → count ≤ WORDS_MAX → BeginsWithRequest bytes words at
+unfolding spelling
+all_taken bytes count at size words taken all some most = record {
+  request = record { some = omega (arith, all); most = omega (arith, all); short = taken.short; together = omega (arith, taken.together, taken.room) };
+  within = taken.within;
+  begins = taken.begins ∙ ap (λ (n : ℕ). (header 42 n ++ flat_map bulk_string words) ++ drop at bytes) (sym all);
+}
+
+-- it is taken off
+pub whole_taken : (old new : Held) (oldest more : Bytes) (words : List Bytes) (width : ℕ) → old.count ≡ 0 → new.count ≡ 0 → new.words ≡ [] → joined old.pieces ≡ oldest ++ more → BeginsWithRequest oldest words width → new.pieces ≡ without width old.pieces → Takes old (Gives words) new
+whole_taken old new oldest more words width none still no_words first request left_is = (request.request, spelled, record { many = width; left = left_is }, (still, no_words)) where
+  joined_is : joined new.pieces ≡ drop width oldest ++ more
+  joined_is = ap joined left_is ∙ (joined-without width old.pieces ∙ (ap (drop width) first ∙ drop-append-le width oldest more request.within))
+
+  spelled : unread old ≡ spelling words ++ unread new
+  spelled =
+      unread_between old none
+      ∙ (first ∙ (ap (λ (b : Bytes). b ++ more) request.begins ∙ (append_assoc (spelling words) (drop width oldest) more ∙ ap (λ (b : Bytes). spelling words ++ b) (sym joined_is ∙ sym (unread_between new still)))))

@@ -1,0 +1,28 @@
+-- What one step of the reader takes off the front.
+use Rattle.std.specs.Prelude.{◌≡◌, ◌<◌, List, ◌++◌, Option, Some, None, length}
+use Rattle.words.specs.Store.{Bytes}
+use Rattle.words.specs.Spelling.{spelling, IsRequest}
+use Rattle.words.specs.Stream as stream
+use Rattle.resp_read.specs.Pieces.{joined}
+use Rattle.resp_read.specs.Unread.{Held, unread, HasTakenOff, KeepsWords, IsTakenUp, IsBetween}
+use Rattle.resp_read.specs.Faults.{TellsFault}
+use Rattle.resp_read.specs.declared.reader.Step.{Step}
+use Rattle.resp_read.specs.declared.reader.Step.TheVariants.{Goes, Gives, Waits, Fails}
+
+-- a count or a word has been taken off, and is kept
+pub record GoesOn (old new : Held) : Type 0 where
+  pub same : unread new ≡ unread old
+  pub taken : HasTakenOff old new
+  pub kept : KeepsWords old new
+
+-- what a step takes
+abbrev pub Takes : Held → Step → Held → Type 0
+Takes old Goes new = GoesOn old new × (length (joined new.pieces) < length (joined old.pieces))
+Takes old (Gives words) new = IsRequest words × (unread old ≡ spelling words ++ unread new) × HasTakenOff old new × IsBetween new
+Takes old Waits new = (stream.front (unread old) ≡ stream.Part) × (new ≡ old) × IsTakenUp new
+Takes old (Fails fault) new = TellsFault (unread old) fault × (new ≡ old)
+
+-- a request that stood whole at the front is taken off, or nothing is
+abbrev pub TakesWhole : Held → Option (List Bytes) → Held → Type 0
+TakesWhole old None new = new ≡ old
+TakesWhole old (Some words) new = Takes old (Gives words) new
