@@ -1,26 +1,23 @@
 -- A conversation, from one turn to the next.
-use Rattle.std.proofs.Common.{◌≡◌, ℕ, ◌<◌, List, [], ◌∷◌, ◌++◌, length, map, reverse, Option, Some, None, refl, sym, ap, ◌∙◌, append_assoc, append-nil, length-append, arith, inl, inr}
-use Rattle.std.proofs.lemmas.Bool.{eq-eqb}
+use Rattle.std.proofs.Common.{◌≡◌, ℕ, ◌<◌, List, [], ◌∷◌, ◌++◌, length, reverse, Option, Some, None, refl, sym, ap, ◌∙◌, append_assoc, append-nil, length-append, arith, inl, inr}
 use Rattle.std.specs.List.{flat_map}
 use Rattle.std.proofs.lemmas.List.Concat.{flat_map-append}
 use Rattle.std.proofs.lemmas.Grind.{common_steps}
 use Rattle.std.proofs.lemmas.List.{reverse-append}
 use Rattle.words.specs.declared.reply.Reply.{Reply}
 use Rattle.words.specs.declared.reply.ProtocolFault.{ProtocolFault}
-use Rattle.words.specs.declared.history.Entry.{Entry}
-use Rattle.words.specs.Store.{Bytes, Store}
+use Rattle.words.specs.Store.{Bytes}
 use Rattle.words.specs.Spelling.{spelling, spellings, header, AreRequests, IsRequest}
 use Rattle.words.specs.Stream.{front, Part, Faulty}
 use Rattle.words.specs.Encoding.{encoding, encodings}
-use Rattle.words.specs.History.{History, Placed, Legal, subhistory}
+use Rattle.words.specs.History.{Pair, Placed, keys_of_pairs}
 use Rattle.words.specs.Session.{Mode, Idle, Transcript}
-use Rattle.engine.specs.Calls.{Reads}
-use Rattle.connection.specs.Supported.{read_as}
-use Rattle.connection.specs.Clients.{Standing, start, TakesOff, IsOpen, mode_of, WantsMemory}
-use Rattle.connection.specs.Conversations.{Talk, Conversation, Answers, AreSame, MayFollow, with_entry, at_place}
+use Rattle.gates.specs.declared.view.Knowledge.{Knowledge}
+use Rattle.connection.specs.Clients.{Progress, beginning, TakesOff, IsOpen, mode_of, watched_of, WantsMemory}
+use Rattle.connection.specs.Conversations.{Talk, Conversation, Answers, Went}
 use Rattle.connection.specs.declared.serving.Ended.{Ended}
 use Rattle.connection.specs.declared.serving.Ended.TheVariants as ended
-use Rattle.connection.specs.Served.{Answered, Served, HasTaken, fault_line}
+use Rattle.connection.specs.Served.{Answered, Conversing, Served, Turned, HasTaken, Attends, fault_line}
 
 -- spellings, requests and encodings, with one more
 spellings-more : (requests : List (List Bytes)) (words : List Bytes) → spellings (requests ++ words ∷ []) ≡ spellings requests ++ spelling words
@@ -46,160 +43,189 @@ pub fewer_unread : (old new : Bytes) (words : List Bytes) → TakesOff old words
 unfolding spelling header
 fewer_unread old new words taken = rw taken.taken (grind (arith, common_steps))
 
--- a conversation that begins where a history stands
-pub conversation_begins : (session : ℕ) (seen : History) (store : Store) → Legal seen → Reads store seen → Conversation session seen store [] start []
-conversation_begins session seen store legal reads = record {
+-- a conversation that begins
+pub conversation_begins : (session : ℕ) → Conversation session [] [] [] beginning []
+conversation_begins session = record {
   requests = [];
-  own = [];
   replies = [];
   joined = refl;
   within = tt;
-  went = record { more = []; legal = legal; reads = reads; own_entries = refl };
   ready = tt;
+  watches = refl;
   talk = λ others entries more goes. goes;
   text = sym encodings-none;
 }
 
 -- a talk that ends here is a transcript
-pub closed_transcript : (session : ℕ) (requests : List (List Bytes)) (own : List Placed) (replies : List Reply) (mode : Mode)
-    → Talk session requests own replies mode → Transcript session Idle [] (map read_as requests) own replies
-closed_transcript session requests own replies mode talk =
+pub closed_transcript : (session : ℕ) (requests : List (List Bytes)) (own : List Placed) (replies : List Reply) (mode : Mode) (pairs : List Pair)
+    → Talk session requests own replies mode pairs → Transcript session Idle [] requests own replies
+closed_transcript session requests own replies mode pairs talk =
     rw (append-nil requests, append-nil own, append-nil replies) at (talk [] [] [] (refl, refl))
 
 -- a conversation whose client is fed a piece
-pub conversation_fed : (session : ℕ) (seen : History) (store : Store) (fed said piece : Bytes) (standing : Standing)
-    → Conversation session seen store fed standing said
-    → Conversation session seen store (fed ++ piece) (record standing { unread = standing.unread ++ piece }) said
-conversation_fed session seen store fed said piece standing talk = record {
+pub conversation_fed : (session : ℕ) (own : List Placed) (pairs : List Pair) (fed said piece : Bytes) (at : Progress)
+    → Conversation session own pairs fed at said
+    → Conversation session own pairs (fed ++ piece) (record at { unread = at.unread ++ piece }) said
+conversation_fed session own pairs fed said piece at talk = record {
   requests = talk.requests;
-  own = talk.own;
   replies = talk.replies;
-  joined = ap (λ (t : Bytes). t ++ piece) talk.joined ∙ append_assoc (spellings talk.requests) standing.unread piece;
+  joined = ap (λ (t : Bytes). t ++ piece) talk.joined ∙ append_assoc (spellings talk.requests) at.unread piece;
   within = talk.within;
-  went = talk.went;
   ready = talk.ready;
+  watches = talk.watches;
   talk = talk.talk;
   text = talk.text;
 }
 
--- a conversation over a store that is the same at each key
-pub conversation_same : (session : ℕ) (seen : History) (before after : Store) (fed said : Bytes) (standing : Standing)
-    → Conversation session seen before fed standing said → AreSame before after → Conversation session seen after fed standing said
-conversation_same session seen before after fed said standing talk same = record {
-  requests = talk.requests;
+-- a conversation that has answered one more request
+pub conversation_next : (session : ℕ) (own entries : List Placed) (pairs after : List Pair) (fed said : Bytes) (old new : Progress) (reply : Reply)
+    → Conversation session own pairs fed old said → Answers session entries pairs after old new reply
+    → Conversation session (own ++ entries) after fed new (said ++ encoding reply)
+conversation_next session own entries pairs after fed said old new reply talk one = record {
+  requests = talk.requests ++ one.words ∷ [];
+  replies = talk.replies ++ reply ∷ [];
+  joined =
+      talk.joined
+      ∙ ap (λ (t : Bytes). spellings talk.requests ++ t) one.taken.taken
+      ∙ sym (append_assoc (spellings talk.requests) (spelling one.words) new.unread)
+      ∙ ap (λ (t : Bytes). t ++ new.unread) (sym (spellings-more talk.requests one.words));
+  within = AreRequests-more talk.requests one.words talk.within one.taken.request;
+  ready = one.ready;
+  watches = one.watches;
+  talk = λ others later more goes.
+      rw (
+        append_assoc talk.requests (one.words ∷ []) others,
+        append_assoc talk.replies (reply ∷ []) more,
+        append_assoc own entries later,
+      )
+      (talk.talk (one.words ∷ others) (entries ++ later) (reply ∷ more) (one.goes_on others later more goes));
+  text = ap (λ (t : Bytes). t ++ encoding reply) talk.text ∙ sym (encodings-more talk.replies reply);
+}
+
+-- a pass that has made no entry
+pub went_none : (was : Knowledge) → Went was was []
+went_none was = record { number = refl; more = []; seen = refl; mine = refl }
+
+-- a pass that goes on
+pub went_then : (was mid now : Knowledge) (own entries : List Placed) → Went was mid own → Went mid now entries → Went was now (own ++ entries)
+went_then was mid now own entries one two = record {
+  number = two.number ∙ one.number;
+  more = two.more ++ one.more;
+  seen = two.seen ∙ ap (λ (t : List _). two.more ++ t) one.seen ∙ sym (append_assoc two.more one.more was.seen);
+  mine =
+      two.mine
+      ∙ ap (λ (t : List Placed). reverse entries ++ t) one.mine
+      ∙ sym (append_assoc (reverse entries) (reverse own) was.mine)
+      ∙ ap (λ (t : List Placed). t ++ was.mine) (sym (reverse-append own entries));
+}
+
+-- the conversation of a pass that watches nothing begins
+pub conversing_begins : (was : Knowledge) (at : Progress) → was.watched ≡ [] → at ≡ beginning → Conversing was was [] at []
+conversing_begins was at none begins = record {
+  own = [];
+  went = went_none was;
+  conversation = rw (none, begins) (conversation_begins was.number);
+}
+
+-- it goes on with a piece
+pub conversing_fed : (was now : Knowledge) (fed said piece : Bytes) (at after : Progress) → Conversing was now fed at said
+    → after ≡ record at { unread = at.unread ++ piece } → Conversing was now (fed ++ piece) after said
+conversing_fed was now fed said piece at after talk is = record {
   own = talk.own;
-  replies = talk.replies;
-  joined = talk.joined;
-  within = talk.within;
-  went = record { more = talk.went.more; legal = talk.went.legal; reads = λ key. same key ∙ talk.went.reads key; own_entries = talk.went.own_entries };
-  ready = talk.ready;
-  talk = talk.talk;
-  text = talk.text;
+  went = talk.went;
+  conversation = rw is (conversation_fed was.number talk.own now.watched fed said piece at talk.conversation);
+}
+
+-- it goes on with one answered request
+pub conversing_next : (was mid now : Knowledge) (fed said : Bytes) (old new : Progress) (reply : Reply)
+    → Conversing was mid fed old said → Turned mid now old new reply → Conversing was now fed new (said ++ encoding reply)
+conversing_next was mid now fed said old new reply talk one = record {
+  own = talk.own ++ one.own;
+  went = went_then was mid now talk.own one.own talk.went one.went;
+  conversation =
+      conversation_next was.number talk.own one.own mid.watched now.watched fed said old new reply talk.conversation
+      (rw talk.went.number at one.answers);
 }
 
 -- the same of an equal text
-pub conversation_says : (session : ℕ) (seen : History) (store : Store) (fed : Bytes) (standing : Standing) {said text : Bytes}
-    → Conversation session seen store fed standing said → said ≡ text → Conversation session seen store fed standing text
-conversation_says session seen store fed standing talk is = rw is at talk
+pub conversing_says : (was now : Knowledge) (fed : Bytes) (at : Progress) {said text : Bytes} → Conversing was now fed at said → said ≡ text
+    → Conversing was now fed at text
+conversing_says was now fed at talk is = rw is at talk
 
--- the history of a conversation, where it stands now
-abbrev pub now : {session : ℕ} {seen : History} {store : Store} {fed : Bytes} {standing : Standing} {said : Bytes}
-    → Conversation session seen store fed standing said → History
-now {seen = seen} talk = talk.went.more ++ seen
-
-legal_more : (session : ℕ) (before : History) (entry : Option Entry) → Legal before → MayFollow session before entry → Legal (with_entry entry before)
-legal_more session before None legal follows = legal
-legal_more session before (Some entry) legal follows = (legal, follows.1)
-
-with_entry-append : (entry : Option Entry) (more seen : History) → with_entry entry more ++ seen ≡ with_entry entry (more ++ seen)
-with_entry-append None more seen = refl
-with_entry-append (Some entry) more seen = refl
-
-own_more : (session : ℕ) (before : History) (entry : Option Entry) (own older : List Placed) → MayFollow session before entry
-    → subhistory before session ≡ reverse own ++ older
-    → subhistory (with_entry entry before) session ≡ reverse (own ++ at_place entry (length before)) ++ older
-own_more session before None own older follows is = is ∙ ap (λ (t : List Placed). reverse t ++ older) (sym (append-nil own))
-own_more session before (Some entry) own older follows is =
-    rw (eq-eqb entry.session session follows.0) (
-    ap (λ (t : List Placed). (length before, entry) ∷ t) is
-    ∙ ap (λ (t : List Placed). t ++ older) (sym (reverse-append own ((length before, entry) ∷ [])))
-    )
-
--- a conversation that has answered one more request
-pub conversation_next : (session : ℕ) (seen : History) (was store : Store) (fed said : Bytes) (standing next : Standing) (reply : Reply)
-    (talk : Conversation session seen was fed standing said) → Answers session (now talk) was store standing next reply
-    → Conversation session seen store fed next (said ++ encoding reply)
-conversation_next session seen was store fed said standing next reply talk one =
-    let before : History = talk.went.more ++ seen in
-    record {
-      requests = talk.requests ++ one.words ∷ [];
-      own = talk.own ++ at_place one.entry (length before);
-      replies = talk.replies ++ reply ∷ [];
-      joined =
-          talk.joined
-          ∙ ap (λ (t : Bytes). spellings talk.requests ++ t) one.taken.taken
-          ∙ sym (append_assoc (spellings talk.requests) (spelling one.words) next.unread)
-          ∙ ap (λ (t : Bytes). t ++ next.unread) (sym (spellings-more talk.requests one.words));
-      within = AreRequests-more talk.requests one.words talk.within one.taken.request;
-      went = record {
-        more = with_entry one.entry talk.went.more;
-        legal = rw (with_entry-append one.entry talk.went.more seen) (legal_more session before one.entry talk.went.legal one.follows);
-        reads = rw (with_entry-append one.entry talk.went.more seen) one.reads;
-        own_entries = rw (with_entry-append one.entry talk.went.more seen)
-            (own_more session before one.entry talk.own (subhistory seen session) one.follows talk.went.own_entries);
-      };
-      ready = one.ready;
-      talk = λ others entries more goes.
-          rw (
-            append_assoc talk.requests (one.words ∷ []) others,
-            append_assoc talk.replies (reply ∷ []) more,
-            append_assoc talk.own (at_place one.entry (length before)) entries,
-          )
-          (talk.talk (one.words ∷ others) (at_place one.entry (length before) ++ entries) (reply ∷ more)
-          (one.goes_on others entries more goes));
-      text = ap (λ (t : Bytes). t ++ encoding reply) talk.text ∙ sym (encodings-more talk.replies reply);
-    }
+-- the same of a pass that knows the same
+pub conversing_same : (was mid now : Knowledge) (fed said : Bytes) (at : Progress) → Conversing was mid fed at said → now ≡ mid
+    → Conversing was now fed at said
+conversing_same was mid now fed said at talk is = rw is talk
 
 -- a conversation, closed
-abbrev pub closed : {session : ℕ} {seen : History} {store : Store} {fed : Bytes} {standing : Standing} {said : Bytes}
-    → Conversation session seen store fed standing said → Answered session seen store fed
-closed {session} {seen} {store} {fed} {standing} talk = record {
-  requests = talk.requests;
-  rest = standing.unread;
+abbrev pub closed : {was now : Knowledge} {fed : Bytes} {at : Progress} {said : Bytes} → Conversing was now fed at said → Answered was now fed
+closed {was} {now} {fed} {at} {said} talk = record {
+  requests = talk.conversation.requests;
+  rest = at.unread;
   own = talk.own;
-  replies = talk.replies;
-  mode = mode_of standing.stage;
-  joined = talk.joined;
-  within = talk.within;
+  replies = talk.conversation.replies;
+  mode = mode_of at.stage;
+  pairs = now.watched;
+  joined = talk.conversation.joined;
+  within = talk.conversation.within;
   went = talk.went;
-  transcript = closed_transcript session talk.requests talk.own talk.replies (mode_of standing.stage) talk.talk;
-  talk = talk.talk;
+  transcript = closed_transcript was.number talk.conversation.requests talk.own talk.conversation.replies (mode_of at.stage) now.watched talk.conversation.talk;
+  talk = talk.conversation.talk;
+}
+
+-- a connection whose pass has gone on by no entry of its own since it ended
+pub served_later : (was now then : Knowledge) (e : Ended) (bytes text : Bytes) → Served was now e bytes text → Went now then []
+    → Served was then e bytes text
+served_later was now then e bytes text served later = record {
+  talk = record {
+    requests = served.talk.requests;
+    rest = served.talk.rest;
+    own = served.talk.own;
+    replies = served.talk.replies;
+    mode = served.talk.mode;
+    pairs = served.talk.pairs;
+    joined = served.talk.joined;
+    within = served.talk.within;
+    went = rw (append-nil served.talk.own) at (went_then was now then served.talk.own [] served.talk.went later);
+    transcript = served.talk.transcript;
+    talk = served.talk.talk;
+  };
+  ends = served.ends;
 }
 
 -- a conversation whose text was cut
-pub served_cut : {session : ℕ} {seen : History} {store : Store} {fed : Bytes} {standing : Standing} {whole : Bytes} (text more : Bytes)
-    → Conversation session seen store fed standing whole → whole ≡ text ++ more → Served session seen store ended.WriteFailed fed text
-served_cut {whole = whole} text more talk is = (closed talk, whole, more, inl talk.text, is)
+pub served_cut : {was now : Knowledge} {fed : Bytes} {at : Progress} {whole : Bytes} (text more : Bytes)
+    → Conversing was now fed at whole → whole ≡ text ++ more → Served was now ended.WriteFailed fed text
+served_cut {whole = whole} text more talk is = record { talk = closed talk; ends = (whole, more, inl talk.conversation.text, is) }
 
 -- the same of a text that a fault's line ends
-pub served_cut_fault : {session : ℕ} {seen : History} {store : Store} {fed : Bytes} {standing : Standing} {said : Bytes} (fault : ProtocolFault) (text more : Bytes)
-    → Conversation session seen store fed standing said → front standing.unread ≡ Faulty fault → said ++ fault_line fault ≡ text ++ more
-    → Served session seen store ended.WriteFailed fed text
-served_cut_fault {said = said} fault text more talk stands is =
-    (closed talk, said ++ fault_line fault, more, inr (fault, stands, ap (λ (t : Bytes). t ++ fault_line fault) talk.text), is)
+pub served_cut_fault : {was now : Knowledge} {fed : Bytes} {at : Progress} {said : Bytes} (fault : ProtocolFault) (text more : Bytes)
+    → Conversing was now fed at said → front at.unread ≡ Faulty fault → said ++ fault_line fault ≡ text ++ more
+    → Served was now ended.WriteFailed fed text
+served_cut_fault {said = said} fault text more talk stands is = record {
+  talk = closed talk;
+  ends = (said ++ fault_line fault, more, inr (fault, stands, ap (λ (t : Bytes). t ++ fault_line fault) talk.conversation.text), is);
+}
 
 -- a conversation that a fault's line ended
-pub served_fault : {session : ℕ} {seen : History} {store : Store} {fed : Bytes} {standing : Standing} {said : Bytes} (fault : ProtocolFault) (text : Bytes)
-    → Conversation session seen store fed standing said → front standing.unread ≡ Faulty fault → IsOpen (mode_of standing.stage)
-    → said ++ fault_line fault ≡ text
-    → Served session seen store ended.ProtocolFault fed text
-served_fault fault text talk stands is_open is =
-    (closed talk, fault, stands, is_open, sym is ∙ ap (λ (t : Bytes). t ++ fault_line fault) talk.text)
+pub served_fault : {was now : Knowledge} {fed : Bytes} {at : Progress} {said : Bytes} (fault : ProtocolFault) (text : Bytes)
+    → Conversing was now fed at said → front at.unread ≡ Faulty fault → IsOpen (mode_of at.stage) → said ++ fault_line fault ≡ text
+    → Served was now ended.ProtocolFault fed text
+served_fault fault text talk stands is_open is = record {
+  talk = closed talk;
+  ends = (fault, stands, is_open, sym is ∙ ap (λ (t : Bytes). t ++ fault_line fault) talk.conversation.text);
+}
+
+-- a conversation that QUIT ended
+pub served_quit : {was now : Knowledge} {fed : Bytes} {at : Progress} {said : Bytes} (text : Bytes)
+    → Conversing was now fed at said → mode_of at.stage ≡ Mode.Closed → said ≡ text → Served was now ended.Quit fed text
+served_quit text talk is_closed is = record { talk = closed talk; ends = (is_closed, sym is ∙ talk.conversation.text) }
 
 -- a connection that found no memory before it began
-pub served_nothing : (session : ℕ) (seen : History) (store : Store) → Legal seen → Reads store seen → Served session seen store ended.NoMemory [] []
-served_nothing session seen store legal reads =
-    let talk = conversation_begins session seen store legal reads in (closed talk, inl refl, tt, talk.text)
+pub served_nothing : (was : Knowledge) → was.watched ≡ [] → Served was was ended.NoMemory [] []
+served_nothing was none =
+    let talk = conversing_begins was beginning none refl in
+    record { talk = closed talk; ends = (inl refl, tt, talk.conversation.text) }
 
 -- where memory is asked for something is unread
 pub some_unread : (unread : Bytes) → WantsMemory unread → 0 < length unread
@@ -207,37 +233,62 @@ unfolding spelling header
 some_unread unread wants = rw wants.2.taken (grind (arith, common_steps))
 
 -- a connection that found no memory for a request
-pub served_no_memory : {session : ℕ} {seen : History} {store : Store} {fed : Bytes} {standing : Standing} {said : Bytes} (text : Bytes)
-    → Conversation session seen store fed standing said → WantsMemory standing.unread → IsOpen (mode_of standing.stage) → said ≡ text
-    → Served session seen store ended.NoMemory fed text
-served_no_memory text talk wants is_open is = (closed talk, inr (some_unread _ wants), is_open, sym is ∙ talk.text)
+pub served_no_memory : {was now : Knowledge} {fed : Bytes} {at : Progress} {said : Bytes} (text : Bytes)
+    → Conversing was now fed at said → WantsMemory at.unread → IsOpen (mode_of at.stage) → said ≡ text → Served was now ended.NoMemory fed text
+served_no_memory text talk wants is_open is = record {
+  talk = closed talk;
+  ends = (inr (some_unread _ wants), is_open, sym is ∙ talk.conversation.text);
+}
 
 -- nothing is a part of a request
 pub front-none : front [] ≡ Part
 unfolding front
 front-none = refl
 
--- the same conversation with the client as it stands after it was fed
-pub conversation_after : (session : ℕ) (seen : History) (store : Store) (fed said piece : Bytes) (standing after : Standing)
-    → Conversation session seen store fed standing said → after ≡ record standing { unread = standing.unread ++ piece }
-    → Conversation session seen store (fed ++ piece) after said
-conversation_after session seen store fed said piece standing after talk is = rw is (conversation_fed session seen store fed said piece standing talk)
-
 longer : (unread piece : Bytes) → 0 < length piece → 0 < length (unread ++ piece)
 longer unread piece some = omega (arith, length-append unread piece)
 
+-- it goes on with a piece, of a client that stands as before but for that
+pub conversing_with : (was now : Knowledge) (fed said piece : Bytes) (at : Progress) → Conversing was now fed at said
+    → Conversing was now (fed ++ piece) (record at { unread = at.unread ++ piece }) said
+conversing_with was now fed said piece at talk = record {
+  own = talk.own;
+  went = talk.went;
+  conversation = conversation_fed was.number talk.own now.watched fed said piece at talk.conversation;
+}
+
 -- a connection that ends where it took a piece
-pub served_taken : (session : ℕ) (seen : History) (store : Store) (fed piece said : Bytes) (standing after : Standing) (e : Ended)
-    → Conversation session seen store fed standing said → front standing.unread ≡ Part → IsOpen (mode_of standing.stage)
-    → HasTaken (Some e) standing piece after
-    → Served session seen store e (fed ++ piece) said
-unfolding conversation_fed
-served_taken session seen store fed piece said standing after ended.EndOfInput talk waits is_open taken =
-    (closed (conversation_fed session seen store fed said piece standing talk), rw (taken.0, append-nil standing.unread) waits, is_open, talk.text)
-served_taken session seen store fed piece said standing after ended.Quit talk waits is_open taken = absurd taken
-served_taken session seen store fed piece said standing after ended.ProtocolFault talk waits is_open taken = absurd taken
-served_taken session seen store fed piece said standing after ended.ReadFailed talk waits is_open taken =
-    (closed (conversation_fed session seen store fed said piece standing talk), rw (taken.0, append-nil standing.unread) waits, is_open, talk.text)
-served_taken session seen store fed piece said standing after ended.WriteFailed talk waits is_open taken = absurd taken
-served_taken session seen store fed piece said standing after ended.NoMemory talk waits is_open taken =
-    (closed (conversation_fed session seen store fed said piece standing talk), inr (longer standing.unread piece taken.0), is_open, talk.text)
+pub served_taken : (was now : Knowledge) (fed piece said : Bytes) (at after : Progress) (e : Ended)
+    → Conversing was now fed at said → front at.unread ≡ Part → IsOpen (mode_of at.stage) → HasTaken (Some e) at piece after
+    → Served was now e (fed ++ piece) said
+unfolding conversing_with conversation_fed
+served_taken was now fed piece said at after ended.EndOfInput talk waits is_open taken = record {
+  talk = closed (conversing_with was now fed said piece at talk);
+  ends = (rw (taken.0, append-nil at.unread) waits, is_open, talk.conversation.text);
+}
+served_taken was now fed piece said at after ended.Quit talk waits is_open taken = absurd taken
+served_taken was now fed piece said at after ended.ProtocolFault talk waits is_open taken = absurd taken
+served_taken was now fed piece said at after ended.ReadFailed talk waits is_open taken = record {
+  talk = closed (conversing_with was now fed said piece at talk);
+  ends = (rw (taken.0, append-nil at.unread) waits, is_open, talk.conversation.text);
+}
+served_taken was now fed piece said at after ended.WriteFailed talk waits is_open taken = absurd taken
+served_taken was now fed piece said at after ended.NoMemory talk waits is_open taken = record {
+  talk = closed (conversing_with was now fed said piece at talk);
+  ends = (inr (longer at.unread piece taken.0), is_open, talk.conversation.text);
+}
+
+-- a client that took a piece, or none, watches what it watched
+pub attends_taken : (knows : Knowledge) (e : Option Ended) (piece : Bytes) (at after : Progress) → Attends knows at → HasTaken e at piece after
+    → Attends knows after
+attends_taken knows None piece at after attends taken = rw taken (record { ready = attends.ready; watches = attends.watches })
+attends_taken knows (Some ended.EndOfInput) piece at after attends taken = rw taken.1 attends
+attends_taken knows (Some ended.Quit) piece at after attends taken = absurd taken
+attends_taken knows (Some ended.ProtocolFault) piece at after attends taken = absurd taken
+attends_taken knows (Some ended.ReadFailed) piece at after attends taken = rw taken.1 attends
+attends_taken knows (Some ended.WriteFailed) piece at after attends taken = absurd taken
+attends_taken knows (Some ended.NoMemory) piece at after attends taken = rw taken.1 attends
+
+-- a client at the beginning watches what its pass does, which is nothing
+pub attends_begins : (knows : Knowledge) (at : Progress) → knows.watched ≡ [] → at ≡ beginning → Attends knows at
+attends_begins knows at none begins = rw begins (record { ready = tt; watches = ap keys_of_pairs (sym none) })

@@ -1,4 +1,5 @@
-pub mod Known
-pub mod Stages
 pub mod Turns
 pub mod Conversing
+pub mod Called
+pub mod Opened
+pub mod Known

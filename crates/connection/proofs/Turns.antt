@@ -1,191 +1,246 @@
 -- One turn of a session, as a step of its transcript.
-use Rattle.std.proofs.Common.{◌≡◌, ℕ, true, false, List, [], ◌∷◌, ◌++◌, length, Option, Some, None, Err, refl, sym, ap, ◌∙◌, inl, inr, if◌then◌else◌, ◌⊎◌}
+use Rattle.std.proofs.Common.{◌≡◌, ℕ, List, [], ◌∷◌, ◌++◌, length, Option, Some, None, refl, sym, ap, ◌∙◌, inl, inr}
 use Rattle.words.specs.declared.reply.Reply.{Reply}
 use Rattle.words.specs.declared.reply.Fault.{Fault}
-use Rattle.words.specs.declared.history.Operation.{Operation}
+use Rattle.words.specs.declared.reply.Fault.TheVariants as fault
+use Rattle.words.specs.declared.reply.Line.TheVariants as line
 use Rattle.words.specs.declared.history.Entry.{Entry}
-use Rattle.words.specs.Store.{Bytes, Store}
-use Rattle.words.specs.Spelling.{spelling}
-use Rattle.words.specs.declared.reply.Refusal.TheVariants.{UnknownCommand}
-use Rattle.words.specs.Commands.{command_of}
-use Rattle.words.specs.Commands as commands
-use Rattle.resp_read.specs.Memory.{FitInline}
-use Rattle.words.specs.History.{History, Placed, HasPlace, AreWatches, pairs_of, due}
-use Rattle.words.specs.Session.{Mode, Turn, Says, Forgets, Tries, Calls, Never, Asked, Rest, Follows}
-use Rattle.engine.specs.declared.Call.{Call}
-use Rattle.engine.specs.declared.Call.TheVariants.{One}
-use Rattle.engine.specs.declared.Answer.{Answer}
-use Rattle.engine.specs.declared.Answer.TheVariants as answer
-use Rattle.engine.specs.Calls.{asked_of, operation_asked, Reads, IfReply, IfFault, IsReply, AsksNoMemory}
-use Rattle.connection.specs.Supported.{is_supported, as_supported, read_as}
-use Rattle.connection.specs.Clients.{Standing, Stage, Ready, Called, IsReady, IsCalled, mode_of, turn_at, TakesOff, WantsMemory, IsSaid, IsAsked, Resumes}
-use Rattle.connection.specs.Conversations.{Answers, AreSame, MakesEntry, IsDone, IsUndone, entry_of, at_place}
+use Rattle.words.specs.Store.{Bytes}
+use Rattle.words.specs.History.{Pair, Placed, keys_of_pairs}
+use Rattle.words.specs.Watches.{watched_after}
+use Rattle.words.specs.Session.{Mode, Turn, Says, Forgets, Tries, Calls, Never, Asked, Run, Watch, Exec, operation_of, watched_at_fault, turn, line_reply, Rest, Follows, Transcript}
+use Rattle.transact.specs.declared.call.Call.{Call}
+use Rattle.transact.specs.declared.call.Call.TheVariants.{Forget}
+use Rattle.transact.specs.declared.call.Answer.{Answer}
+use Rattle.transact.specs.declared.call.Answer.TheVariants as answer
+use Rattle.transact.specs.Calls.{asked_of, call_of}
+use Rattle.session.specs.Standings.{Standing, Wait, ForAnswer, ForEnd, stands, watched_done, watched_faulty}
+use Rattle.session.specs.Standings as standings
+use Rattle.session.specs.Steps.{IsSaid, IsAsked, IsOutOfMemory, BringsKey}
+use Rattle.session.specs.Laws.{WatchesPairsOfEntry, WatchesPairsOfFault}
+use Rattle.connection.specs.declared.client.Next.TheVariants as next
+use Rattle.connection.specs.Clients.{Progress, Stage, Ready, Called, Stepping, IsReady, mode_of, watched_of, turn_at, TakesOff, TakesUp, Steps, Resumes}
+use Rattle.connection.specs.Conversations.{Answers}
 
--- a request is read as the command that the server has
-pub read_command : (words : List Bytes) → command_of (read_as words) ≡ as_supported (command_of words)
-read_command words =
-    elim (is_supported (command_of words))
-    as (λ test. command_of (if test then words else [] ∷ []) ≡ (if test then command_of words else Err UnknownCommand)) [
-      | true ↦ refl
-      | false ↦ refl
-    ]
+-- pairs of no key are none
+pub no_pairs : (pairs : List Pair) → keys_of_pairs pairs ≡ [] → pairs ≡ []
+no_pairs [] is = refl
+no_pairs (pair ∷ pairs) is = absurd (cc is)
 
--- a session that was asked nothing is ready
-pub ready_said : (t : Turn) (reply : Reply) (stage : Stage) → IsSaid t reply stage → IsReady stage
-ready_said (Says said after) reply stage is = rw is.1 tt
-ready_said (Forgets said after) reply stage is = rw is.1 tt
-ready_said (Tries said done faulty) reply stage is = rw is.1 tt
-ready_said (Calls asked done faulty) reply stage is = absurd is
-ready_said Never reply stage is = absurd is
+-- a request at a stage that watches the keys of some pairs
+turn_of_pairs : (stage : Stage) (pairs : List Pair) (words : List Bytes) → watched_of stage ≡ keys_of_pairs pairs
+    → turn_at stage words ≡ turn (mode_of stage) (keys_of_pairs pairs) words
+turn_of_pairs stage pairs words is = ap (λ (keys : List Bytes). turn (mode_of stage) keys words) is
 
--- what is said goes on as the turn says
-follows_said : (session : ℕ) (t : Turn) (reply : Reply) (stage : Stage) (entries : List Placed) (more : List Reply) (rest : Rest)
-    → IsSaid t reply stage → rest (mode_of stage) [] entries more → Follows session [] t entries (reply ∷ more) rest
-follows_said session (Says said after) reply stage entries more rest is goes = (is.0, rw (ap mode_of is.1) at goes)
-follows_said session (Forgets said after) reply stage entries more rest is goes = (is.0, rw (ap mode_of is.1) at goes)
-follows_said session (Tries said done faulty) reply stage entries more rest is goes = inl (is.0, rw (ap mode_of is.1) at goes)
-follows_said session (Calls asked done faulty) reply stage entries more rest is goes = absurd is
-follows_said session Never reply stage entries more rest is goes = absurd is
+-- what is said at once goes on as the turn says, and watches the same
+follows_said : (session : ℕ) (t : Turn) (pairs : List Pair) (reply : Reply) (after : Standing) (later : List Placed) (more : List Reply) (rest : Rest)
+    → IsSaid t (keys_of_pairs pairs) reply after → rest after.mode pairs later more → Follows session pairs t later (reply ∷ more) rest
+follows_said session (Says said then) pairs reply after later more rest is goes = (is.0, rw (is.1) at goes)
+follows_said session (Forgets said then) pairs reply after later more rest is goes =
+    (is.1, rw (no_pairs pairs is.0, is.2) at goes)
+follows_said session (Tries said done faulty) pairs reply after later more rest is goes = inl (is.0, rw (is.1) at goes)
+follows_said session (Calls asked done faulty) pairs reply after later more rest is goes = absurd is
+follows_said session Never pairs reply after later more rest is goes = absurd is
 
--- a request that is answered at once asks the store for nothing
-said_asks_nothing : (t : Turn) (reply : Reply) (stage : Stage) (store : Store) → IsSaid t reply stage → MakesEntry t store None
-said_asks_nothing (Says said after) reply stage store is = tt
-said_asks_nothing (Forgets said after) reply stage store is = tt
-said_asks_nothing (Tries said done faulty) reply stage store is = tt
-said_asks_nothing (Calls asked done faulty) reply stage store is = absurd is
-said_asks_nothing Never reply stage store is = absurd is
+watches_said : (t : Turn) (watched : List Bytes) (reply : Reply) (after : Standing) → IsSaid t watched reply after → after.watched ≡ watched
+watches_said (Says said then) watched reply after is = rw is.1 refl
+watches_said (Forgets said then) watched reply after is = rw is.2 (sym is.0)
+watches_said (Tries said done faulty) watched reply after is = rw is.1 refl
+watches_said (Calls asked done faulty) watched reply after is = absurd is
+watches_said Never watched reply after is = absurd is
 
--- a request that is answered at once
-pub answers_said : (session : ℕ) (before : History) (was store : Store) (old new : Standing) (reply : Reply) (words : List Bytes)
-    → TakesOff old.unread words new.unread → IsSaid (turn_at old.stage words) reply new.stage → Reads was before → AreSame was store
-    → Answers session before was store old new reply
-answers_said session before was store old new reply words taken is reads same = record {
+-- the line of want of memory goes on as the turn says, and watches the same
+follows_want : (session : ℕ) (t : Turn) (pairs : List Pair) (after : Standing) (later : List Placed) (more : List Reply) (rest : Rest)
+    → IsOutOfMemory t (keys_of_pairs pairs) after → rest after.mode pairs later more
+    → Follows session pairs t later (line_reply (line.Faulty fault.OutOfMemory) ∷ more) rest
+follows_want session (Says said then) pairs after later more rest is goes = absurd is
+follows_want session (Forgets said then) pairs after later more rest is goes = absurd is
+follows_want session (Tries said done faulty) pairs after later more rest is goes = inr (refl, rw (is.1) at goes)
+follows_want session (Calls (Run command) done faulty) pairs after later more rest is goes = absurd is.0
+follows_want session (Calls (Watch keys) done faulty) pairs after later more rest is goes = inr (fault.OutOfMemory, refl, rw (is.1) at goes)
+follows_want session (Calls (Exec commands) done faulty) pairs after later more rest is goes = absurd is.0
+follows_want session Never pairs after later more rest is goes = absurd is
+
+watches_want : (t : Turn) (watched : List Bytes) (after : Standing) → IsOutOfMemory t watched after → after.watched ≡ watched
+watches_want (Says said then) watched after is = absurd is
+watches_want (Forgets said then) watched after is = absurd is
+watches_want (Tries said done faulty) watched after is = rw is.1 refl
+watches_want (Calls asked done faulty) watched after is = rw is.1 refl
+watches_want Never watched after is = absurd is
+
+-- what a call asks that a session makes
+pub asked_of_call : (watched : List Bytes) (asked : Asked) → asked_of (call_of watched asked) ≡ Some asked
+asked_of_call watched (Run command) = refl
+asked_of_call watched (Watch keys) = refl
+asked_of_call watched (Exec commands) = refl
+
+pub some_is : {asked other : Asked} → Option.Some asked ≡ Some other → asked ≡ other
+some_is is = cc is
+
+-- the reply to what was asked goes on by its entry
+follows_done : (session : ℕ) (t : Turn) (pairs : List Pair) (call : Call) (wait : Wait) (asked : Asked) (given reply : Reply) (after : Standing)
+    (position : ℕ) (later : List Placed) (more : List Reply) (rest : Rest)
+    → IsAsked t (keys_of_pairs pairs) call wait → asked_of call ≡ Some asked → standings.Resumes wait (answer.Reply given) reply after
+    → rest after.mode (watched_after pairs (operation_of pairs asked) position) later more
+    → Follows session pairs t ((position, record { session = session; operation = operation_of pairs asked; reply = given }) ∷ later) (reply ∷ more) rest
+follows_done session (Says said then) pairs call wait asked given reply after position later more rest is asks resumes goes = absurd is
+follows_done session (Tries said done faulty) pairs call wait asked given reply after position later more rest is asks resumes goes = absurd is
+follows_done session Never pairs call wait asked given reply after position later more rest is asks resumes goes = absurd is
+follows_done session (Forgets said then) pairs call wait asked given reply after position later more rest is asks resumes goes =
+    absurd (cc (sym (ap asked_of is.1) ∙ asks))
+follows_done session (Calls wanted done faulty) pairs call wait asked given reply after position later more rest is asks resumes goes =
+    let same : wanted ≡ asked = some_is (sym (asked_of_call (keys_of_pairs pairs) wanted) ∙ sym (ap asked_of is.0) ∙ asks) in
+    let answers = rw is.1 at resumes in
+    inl (rw (same, answers.0) refl, rw same (rw answers.1 at goes))
+
+watches_done : (t : Turn) (pairs : List Pair) (call : Call) (wait : Wait) (asked : Asked) (given reply : Reply) (after : Standing) (position : ℕ)
+    → WatchesPairsOfEntry → IsAsked t (keys_of_pairs pairs) call wait → asked_of call ≡ Some asked → standings.Resumes wait (answer.Reply given) reply after
+    → after.watched ≡ keys_of_pairs (watched_after pairs (operation_of pairs asked) position)
+watches_done (Says said then) pairs call wait asked given reply after position law is asks resumes = absurd is
+watches_done (Tries said done faulty) pairs call wait asked given reply after position law is asks resumes = absurd is
+watches_done Never pairs call wait asked given reply after position law is asks resumes = absurd is
+watches_done (Forgets said then) pairs call wait asked given reply after position law is asks resumes =
+    absurd (cc (sym (ap asked_of is.1) ∙ asks))
+watches_done (Calls wanted done faulty) pairs call wait asked given reply after position law is asks resumes =
+    let same : wanted ≡ asked = some_is (sym (asked_of_call (keys_of_pairs pairs) wanted) ∙ sym (ap asked_of is.0) ∙ asks) in
+    let answers = rw is.1 at resumes in
+    ap (λ (s : Standing). s.watched) answers.1 ∙ ap (watched_done (keys_of_pairs pairs)) same ∙ sym (law pairs asked position)
+
+-- a fault's line goes on by no entry
+follows_undone : (session : ℕ) (t : Turn) (pairs : List Pair) (call : Call) (wait : Wait) (asked : Asked) (f : Fault) (reply : Reply) (after : Standing)
+    (later : List Placed) (more : List Reply) (rest : Rest)
+    → IsAsked t (keys_of_pairs pairs) call wait → asked_of call ≡ Some asked → standings.Resumes wait (answer.Fault f) reply after
+    → rest after.mode (watched_at_fault pairs asked) later more
+    → Follows session pairs t later (reply ∷ more) rest
+follows_undone session (Says said then) pairs call wait asked f reply after later more rest is asks resumes goes = absurd is
+follows_undone session (Tries said done faulty) pairs call wait asked f reply after later more rest is asks resumes goes = absurd is
+follows_undone session Never pairs call wait asked f reply after later more rest is asks resumes goes = absurd is
+follows_undone session (Forgets said then) pairs call wait asked f reply after later more rest is asks resumes goes =
+    absurd (cc (sym (ap asked_of is.1) ∙ asks))
+follows_undone session (Calls wanted done faulty) pairs call wait asked f reply after later more rest is asks resumes goes =
+    let same : wanted ≡ asked = some_is (sym (asked_of_call (keys_of_pairs pairs) wanted) ∙ sym (ap asked_of is.0) ∙ asks) in
+    let answers = rw is.1 at resumes in
+    inr (f, answers.0, rw same (rw answers.1 at goes))
+
+watches_undone : (t : Turn) (pairs : List Pair) (call : Call) (wait : Wait) (asked : Asked) (f : Fault) (reply : Reply) (after : Standing)
+    → WatchesPairsOfFault → IsAsked t (keys_of_pairs pairs) call wait → asked_of call ≡ Some asked → standings.Resumes wait (answer.Fault f) reply after
+    → after.watched ≡ keys_of_pairs (watched_at_fault pairs asked)
+watches_undone (Says said then) pairs call wait asked f reply after law is asks resumes = absurd is
+watches_undone (Tries said done faulty) pairs call wait asked f reply after law is asks resumes = absurd is
+watches_undone Never pairs call wait asked f reply after law is asks resumes = absurd is
+watches_undone (Forgets said then) pairs call wait asked f reply after law is asks resumes =
+    absurd (cc (sym (ap asked_of is.1) ∙ asks))
+watches_undone (Calls wanted done faulty) pairs call wait asked f reply after law is asks resumes =
+    let same : wanted ≡ asked = some_is (sym (asked_of_call (keys_of_pairs pairs) wanted) ∙ sym (ap asked_of is.0) ∙ asks) in
+    let answers = rw is.1 at resumes in
+    ap (λ (s : Standing). s.watched) answers.1 ∙ ap (watched_faulty (keys_of_pairs pairs)) same ∙ sym (law pairs asked)
+
+-- the end of watches goes on by no entry, and nothing is watched
+follows_forgot : (session : ℕ) (t : Turn) (pairs : List Pair) (call : Call) (wait : Wait) (a : Answer) (reply : Reply) (after : Standing)
+    (later : List Placed) (more : List Reply) (rest : Rest)
+    → IsAsked t (keys_of_pairs pairs) call wait → asked_of call ≡ None → standings.Resumes wait a reply after
+    → rest after.mode [] later more → Follows session pairs t later (reply ∷ more) rest
+follows_forgot session (Says said then) pairs call wait a reply after later more rest is asks resumes goes = absurd is
+follows_forgot session (Tries said done faulty) pairs call wait a reply after later more rest is asks resumes goes = absurd is
+follows_forgot session Never pairs call wait a reply after later more rest is asks resumes goes = absurd is
+follows_forgot session (Forgets said then) pairs call wait a reply after later more rest is asks resumes goes =
+    let answers = rw is.2 at resumes in (answers.0, rw answers.1 at goes)
+follows_forgot session (Calls wanted done faulty) pairs call wait a reply after later more rest is asks resumes goes =
+    absurd (cc (sym (asked_of_call (keys_of_pairs pairs) wanted) ∙ sym (ap asked_of is.0) ∙ asks))
+
+watches_forgot : (t : Turn) (pairs : List Pair) (call : Call) (wait : Wait) (a : Answer) (reply : Reply) (after : Standing)
+    → IsAsked t (keys_of_pairs pairs) call wait → asked_of call ≡ None → standings.Resumes wait a reply after → after.watched ≡ []
+watches_forgot (Says said then) pairs call wait a reply after is asks resumes = absurd is
+watches_forgot (Tries said done faulty) pairs call wait a reply after is asks resumes = absurd is
+watches_forgot Never pairs call wait a reply after is asks resumes = absurd is
+watches_forgot (Forgets said then) pairs call wait a reply after is asks resumes =
+    let answers = rw is.2 at resumes in ap (λ (s : Standing). s.watched) answers.1
+watches_forgot (Calls wanted done faulty) pairs call wait a reply after is asks resumes =
+    absurd (cc (sym (asked_of_call (keys_of_pairs pairs) wanted) ∙ sym (ap asked_of is.0) ∙ asks))
+
+-- A request that is answered, by its turn and the stage after it.
+answers_by : (session : ℕ) (entries : List Placed) (pairs after : List Pair) (old new : Progress) (reply : Reply) (words : List Bytes) (then : Standing)
+    → watched_of old.stage ≡ keys_of_pairs pairs → TakesOff old.unread words new.unread → new.stage ≡ Ready then
+    → then.watched ≡ keys_of_pairs after
+    → ((later : List Placed) (more : List Reply) (rest : Rest)
+    → rest then.mode after later more → Follows session pairs (turn (mode_of old.stage) (keys_of_pairs pairs) words) (entries ++ later) (reply ∷ more) rest)
+    → Answers session entries pairs after old new reply
+answers_by session entries pairs after old new reply words then watches taken stands watches_then follows = record {
   words = words;
   taken = taken;
-  entry = None;
-  follows = tt;
-  reads = λ key. same key ∙ reads key;
-  ready = ready_said _ _ _ is;
-  makes_entry = said_asks_nothing (turn_at old.stage words) reply new.stage was is;
-  goes_on = λ others entries more goes. follows_said session (turn_at old.stage words) reply new.stage entries more _ is goes;
+  ready = rw stands tt;
+  watches = rw stands watches_then;
+  goes_on = λ others later more goes. follows later more _ (rw (ap mode_of stands) at goes);
 }
 
--- the entry that an answer makes, if any
-abbrev entry_made : ℕ → Operation → Answer → Option Entry
-entry_made session operation (answer.Reply given) = Some (record { session = session; operation = operation; reply = given })
-entry_made session operation (answer.Fault fault) = None
+-- a turn, seen by the pairs that are watched
+by_pairs : (P : Turn → List Bytes → Type 0) (stage : Stage) (pairs : List Pair) (words : List Bytes) → watched_of stage ≡ keys_of_pairs pairs
+    → P (turn_at stage words) (watched_of stage) → P (turn (mode_of stage) (keys_of_pairs pairs) words) (keys_of_pairs pairs)
+by_pairs P stage pairs words is holds = rw is at holds
 
--- a session that was answered is ready
-pub ready_called : (stage new : Stage) (a : Answer) (reply : Reply) → Resumes stage a reply new → IsReady new
-ready_called (Ready mode) new a reply is = absurd is
-ready_called (Called done faulty) new (answer.Reply given) reply is = rw is.1 tt
-ready_called (Called done faulty) new (answer.Fault fault) reply is = rw is.1 tt
+pub answers_said : (session : ℕ) (pairs : List Pair) (old new : Progress) (reply : Reply) → watched_of old.stage ≡ keys_of_pairs pairs
+    → TakesUp old (next.Says reply) new → Answers session [] pairs pairs old new reply
+answers_said session pairs old new reply watches up =
+    let is : IsSaid (turn (mode_of old.stage) (keys_of_pairs pairs) up.0) (keys_of_pairs pairs) reply up.2.0 =
+    by_pairs (λ t watched. IsSaid t watched reply up.2.0) old.stage pairs up.0 watches up.2.2 in
+    answers_by session [] pairs pairs old new reply up.0 up.2.0 watches up.1 up.2.1 (watches_said _ _ reply up.2.0 is)
+    (λ later more rest goes. follows_said session _ pairs reply up.2.0 later more rest is goes)
 
--- the modes of a session that was asked something
-called_done : {done faulty d f : Mode} → Called d f ≡ Called done faulty → d ≡ done
-called_done is = cc
+pub answers_want : (session : ℕ) (pairs : List Pair) (old new : Progress) → watched_of old.stage ≡ keys_of_pairs pairs
+    → TakesUp old next.SaysOutOfMemory new → Answers session [] pairs pairs old new (line_reply (line.Faulty fault.OutOfMemory))
+answers_want session pairs old new watches up =
+    let is : IsOutOfMemory (turn (mode_of old.stage) (keys_of_pairs pairs) up.0) (keys_of_pairs pairs) up.2.0 =
+    by_pairs (λ t watched. IsOutOfMemory t watched up.2.0) old.stage pairs up.0 watches up.2.2 in
+    answers_by session [] pairs pairs old new _ up.0 up.2.0 watches up.1 up.2.1 (watches_want _ _ up.2.0 is)
+    (λ later more rest goes. follows_want session _ pairs up.2.0 later more rest is goes)
 
-called_faulty : {done faulty d f : Mode} → Called d f ≡ Called done faulty → f ≡ faulty
-called_faulty is = cc
+-- what a client that made a call waits for
+called_wait : {wait other : Wait} → Called wait ≡ Called other → wait ≡ other
+called_wait is = cc is
 
--- what is said to an answer goes on as the turn says
-follows_called : (session : ℕ) (t : Turn) (call : Call) (stage new : Stage) (a : Answer) (reply : Reply) (place : ℕ)
-    (entries : List Placed) (more : List Reply) (rest : Rest)
-    → IsAsked t (asked_of call) stage → Resumes stage a reply new → rest (mode_of new) [] entries more
-    → Follows session [] t (at_place (entry_made session (operation_asked call) a) place ++ entries) (reply ∷ more) rest
-follows_called session (Says said after) call stage new a reply place entries more rest is resumes goes = absurd is
-follows_called session (Forgets said after) call stage new a reply place entries more rest is resumes goes = absurd is
-follows_called session (Tries said done faulty) call stage new a reply place entries more rest is resumes goes = absurd is
-follows_called session Never call stage new a reply place entries more rest is resumes goes = absurd is
-follows_called session (Calls asked done faulty) call (Ready mode) new a reply place entries more rest is resumes goes = absurd resumes
-follows_called session (Calls asked done faulty) (One command) (Called d f) new (answer.Reply given) reply place entries more rest is resumes goes =
-    let same : d ≡ done = called_done is.1 in
-    inl (rw (← is.0, resumes.0) refl, rw (← is.0) (rw (ap mode_of resumes.1, same) at goes))
-follows_called session (Calls asked done faulty) (One command) (Called d f) new (answer.Fault fault) reply place entries more rest is resumes goes =
-    let same : f ≡ faulty = called_faulty is.1 in
-    inr (fault, resumes.0, rw (← is.0) (rw (ap mode_of resumes.1, same) at goes))
-
--- a request that asks for what needs no memory makes its entry
-makes_entry_called : (session : ℕ) (t : Turn) (call : Call) (stage : Stage) (store : Store) (a : Answer)
-    → IsAsked t (asked_of call) stage → (AsksNoMemory store (asked_of call) → IsReply a) → MakesEntry t store (entry_made session (operation_asked call) a)
-makes_entry_called session (Says said after) call stage store a is memory = absurd is
-makes_entry_called session (Forgets said after) call stage store a is memory = absurd is
-makes_entry_called session (Tries said done faulty) call stage store a is memory = absurd is
-makes_entry_called session Never call stage store a is memory = absurd is
-makes_entry_called session (Calls asked done faulty) call stage store (answer.Reply given) is memory = λ spares. refl
-makes_entry_called session (Calls asked done faulty) call stage store (answer.Fault fault) is memory =
-    λ spares. absurd (memory (rw (is.0) spares))
-
--- a single command goes by no watches
-no_watches : (call : Call) (before : History) (session : ℕ) → AreWatches before session (pairs_of (operation_asked call))
-no_watches (One command) before session = tt
+-- what it says to the answer, where it waits for this
+resumes_wait : (stage new : Stage) (wait : Wait) (a : Answer) (reply : Reply) → stage ≡ Called wait → Resumes stage a reply new
+    → (then : Standing) × (new ≡ Ready then) × standings.Resumes wait a reply then
+resumes_wait (Ready s) new wait a reply is resumes = absurd resumes
+resumes_wait (Called w) new wait a reply is resumes = (resumes.0, resumes.1, rw (called_wait is) at resumes.2)
+resumes_wait Stepping new wait a reply is resumes = absurd resumes
 
 -- a request is taken off still where as much is unread
-pub taken_after : (unread : Bytes) (words : List Bytes) (mid new : Bytes) → TakesOff unread words mid → new ≡ mid → TakesOff unread words new
-taken_after unread words mid new taken same = record { request = taken.request; taken = taken.taken ∙ ap (λ bytes. spelling words ++ bytes) (sym same) }
+pub taken_still : (unread : Bytes) (words : List Bytes) (mid new : Bytes) → TakesOff unread words mid → new ≡ mid → TakesOff unread words new
+taken_still unread words mid new taken same = rw (sym same) at taken
 
--- a request that asks the store, once its call was done
-pub answers_done : (session : ℕ) (before : History) (was store : Store) (old mid new : Standing) (call : Call) (given reply : Reply) (words : List Bytes)
-    → TakesOff old.unread words mid.unread → IsAsked (turn_at old.stage words) (asked_of call) mid.stage
-    → Reads was before → IsDone session was store call given
-    → new.unread ≡ mid.unread → Resumes mid.stage (answer.Reply given) reply new.stage
-    → Answers session before was store old new reply
-answers_done session before was store old mid new call given reply words taken is reads done unread resumes = record {
-  words = words;
-  taken = taken_after old.unread words mid.unread new.unread taken unread;
-  entry = entry_made session (operation_asked call) (answer.Reply given);
-  follows = (refl, record { place = done.place; reply_due = done.reply_due before reads; watches = no_watches call before session });
-  reads = done.leaves before reads;
-  ready = ready_called _ _ (answer.Reply given) reply resumes;
-  makes_entry = makes_entry_called session (turn_at old.stage words) call mid.stage was (answer.Reply given) is (λ spares. tt);
-  goes_on = λ others entries more goes. follows_called session (turn_at old.stage words) call mid.stage new.stage (answer.Reply given) reply (length before) entries more _ is resumes goes;
-}
+pub answers_done : (session : ℕ) (pairs : List Pair) (old called new : Progress) (call : Call) (asked : Asked) (given reply : Reply) (position : ℕ)
+    → WatchesPairsOfEntry → watched_of old.stage ≡ keys_of_pairs pairs → TakesUp old (next.Calls call) called → asked_of call ≡ Some asked
+    → new.unread ≡ called.unread → Resumes called.stage (answer.Reply given) reply new.stage
+    → Answers session ((position, record { session = session; operation = operation_of pairs asked; reply = given }) ∷ [])
+    pairs (watched_after pairs (operation_of pairs asked) position) old new reply
+answers_done session pairs old called new call asked given reply position law watches up asks unread resumes =
+    let is : IsAsked (turn (mode_of old.stage) (keys_of_pairs pairs) up.0) (keys_of_pairs pairs) call up.2.0 =
+    by_pairs (λ t watched. IsAsked t watched call up.2.0) old.stage pairs up.0 watches up.2.2 in
+    let says = resumes_wait called.stage new.stage up.2.0 (answer.Reply given) reply up.2.1 resumes in
+    answers_by session _ pairs _ old new reply up.0 says.0 watches (taken_still _ up.0 _ _ up.1 unread) says.1
+    (watches_done _ pairs call up.2.0 asked given reply says.0 position law is asks says.2)
+    (λ later more rest goes. follows_done session _ pairs call up.2.0 asked given reply says.0 position later more rest is asks says.2 goes)
 
--- a request that asks the store, once its call was not done
-pub answers_undone : (session : ℕ) (before : History) (was store : Store) (old mid new : Standing) (call : Call) (f : Fault) (reply : Reply) (words : List Bytes)
-    → TakesOff old.unread words mid.unread → IsAsked (turn_at old.stage words) (asked_of call) mid.stage
-    → Reads was before → IsUndone was store call
-    → new.unread ≡ mid.unread → Resumes mid.stage (answer.Fault f) reply new.stage
-    → Answers session before was store old new reply
-answers_undone session before was store old mid new call f reply words taken is reads undone unread resumes = record {
-  words = words;
-  taken = taken_after old.unread words mid.unread new.unread taken unread;
-  entry = None;
-  follows = tt;
-  reads = λ key. undone.same key ∙ reads key;
-  ready = ready_called _ _ (answer.Fault f) reply resumes;
-  makes_entry = makes_entry_called session (turn_at old.stage words) call mid.stage was (answer.Fault f) is undone.wants_memory;
-  goes_on = λ others entries more goes. follows_called session (turn_at old.stage words) call mid.stage new.stage (answer.Fault f) reply (length before) entries more _ is resumes goes;
-}
+pub answers_undone : (session : ℕ) (pairs : List Pair) (old called new : Progress) (call : Call) (asked : Asked) (f : Fault) (reply : Reply)
+    → WatchesPairsOfFault → watched_of old.stage ≡ keys_of_pairs pairs → TakesUp old (next.Calls call) called → asked_of call ≡ Some asked
+    → new.unread ≡ called.unread → Resumes called.stage (answer.Fault f) reply new.stage
+    → Answers session [] pairs (watched_at_fault pairs asked) old new reply
+answers_undone session pairs old called new call asked f reply law watches up asks unread resumes =
+    let is : IsAsked (turn (mode_of old.stage) (keys_of_pairs pairs) up.0) (keys_of_pairs pairs) call up.2.0 =
+    by_pairs (λ t watched. IsAsked t watched call up.2.0) old.stage pairs up.0 watches up.2.2 in
+    let says = resumes_wait called.stage new.stage up.2.0 (answer.Fault f) reply up.2.1 resumes in
+    answers_by session [] pairs _ old new reply up.0 says.0 watches (taken_still _ up.0 _ _ up.1 unread) says.1
+    (watches_undone _ pairs call up.2.0 asked f reply says.0 law is asks says.2)
+    (λ later more rest goes. follows_undone session _ pairs call up.2.0 asked f reply says.0 later more rest is asks says.2 goes)
 
--- what an answer says of a call, as one of the two
-pub answers_called : (session : ℕ) (before : History) (was store : Store) (old mid new : Standing) (call : Call) (a : Answer) (reply : Reply) (words : List Bytes)
-    → TakesOff old.unread words mid.unread → IsAsked (turn_at old.stage words) (asked_of call) mid.stage
-    → HasPlace (operation_asked call) → Reads was before
-    → IfReply a (λ given. (seen : History) → Reads was seen → given ≡ due seen (operation_asked call))
-    → IfReply a (λ given. (seen : History) → Reads was seen → Reads store (entry_of session call given ∷ seen))
-    → IfFault a (λ fault. AreSame was store)
-    → (AsksNoMemory was (asked_of call) → IsReply a)
-    → new.unread ≡ mid.unread → Resumes mid.stage a reply new.stage
-    → Answers session before was store old new reply
-answers_called session before was store old mid new call (answer.Reply given) reply words taken is place reads is_due leaves fault memory unread resumes =
-    answers_done session before was store old mid new call given reply words taken is reads
-    (record { place = place; reply_due = is_due; leaves = leaves }) unread resumes
-answers_called session before was store old mid new call (answer.Fault f) reply words taken is place reads is_due leaves fault memory unread resumes =
-    answers_undone session before was store old mid new call f reply words taken is reads
-    (record { same = fault; wants_memory = memory }) unread resumes
-
--- a client that asked is at a stage that waits for an answer
-pub called_stage : (t : Turn) (asked : Asked) (stage : Stage) → IsAsked t asked stage → IsCalled stage
-called_stage (Says said after) asked stage is = absurd is
-called_stage (Forgets said after) asked stage is = absurd is
-called_stage (Tries said done faulty) asked stage is = absurd is
-called_stage (Calls asks done faulty) asked stage is = rw is.1 tt
-called_stage Never asked stage is = absurd is
-
--- a client that found no memory asked for some
-pub wants_memory : (old new : Standing) (words : List Bytes) (rest : Bytes) → TakesOff old.unread words rest
-    → ((¬ FitInline words) × (new ≡ old)) ⊎ ((¬ commands.AsksNoMemory (command_of words)) × (new ≡ record old { unread = rest }))
-    → WantsMemory old.unread
-wants_memory old new words rest taken (inl one) = (words, rest, taken, inl one.0)
-wants_memory old new words rest taken (inr one) = (words, rest, taken, inr one.0)
+pub answers_forgot : (session : ℕ) (pairs : List Pair) (old called new : Progress) (call : Call) (a : Answer) (reply : Reply)
+    → watched_of old.stage ≡ keys_of_pairs pairs → TakesUp old (next.Calls call) called → asked_of call ≡ None
+    → new.unread ≡ called.unread → Resumes called.stage a reply new.stage → Answers session [] pairs [] old new reply
+answers_forgot session pairs old called new call a reply watches up asks unread resumes =
+    let is : IsAsked (turn (mode_of old.stage) (keys_of_pairs pairs) up.0) (keys_of_pairs pairs) call up.2.0 =
+    by_pairs (λ t watched. IsAsked t watched call up.2.0) old.stage pairs up.0 watches up.2.2 in
+    let says = resumes_wait called.stage new.stage up.2.0 a reply up.2.1 resumes in
+    answers_by session [] pairs [] old new reply up.0 says.0 watches (taken_still _ up.0 _ _ up.1 unread) says.1
+    (watches_forgot _ pairs call up.2.0 a reply says.0 is asks says.2)
+    (λ later more rest goes. follows_forgot session _ pairs call up.2.0 a reply says.0 later more rest is asks says.2 goes)

@@ -1,41 +1,50 @@
 -- What serving one connection did, for each way in which it ends.
-use Rattle.std.specs.Prelude.{ℕ, ◌≡◌, ◌<◌, ◌⊎◌, List, [], ◌++◌, length, map, Option, Some, None}
+use Rattle.std.specs.Prelude.{ℕ, ◌≡◌, ◌<◌, ◌≤◌, ◌⊎◌, List, [], ◌∷◌, ◌++◌, length, Option, Some, None}
 use Rattle.words.specs.declared.reply.ProtocolFault.{ProtocolFault}
 use Rattle.words.specs.declared.reply.Reply.{Reply}
+use Rattle.words.specs.declared.reply.Fault.TheVariants as fault
 use Rattle.words.specs.declared.reply.Line.TheVariants as line
 use Rattle.words.specs.Store.{Bytes, Store}
 use Rattle.words.specs.Spelling.{spellings, AreRequests}
 use Rattle.words.specs.Stream.{front, Part, Faulty}
 use Rattle.words.specs.Stream as stream
 use Rattle.words.specs.Encoding.{encoding, encodings}
-use Rattle.words.specs.History.{History, Placed}
-use Rattle.words.specs.Session.{Mode, Idle, Closed, Transcript, line_reply}
+use Rattle.words.specs.History.{Pair, Placed, after, keys_of_pairs}
+use Rattle.words.specs.Session.{Mode, Idle, Closed, Turn, Calls, Asked, Transcript, line_reply}
+use Rattle.gates.specs.declared.view.Knowledge.{Knowledge}
 use Rattle.streams.specs.declared.observed.Told.{Told}
 use Rattle.streams.specs.declared.observed.Told.TheVariants as told
-use Rattle.connection.specs.declared.serving.Due.{Due}
-use Rattle.connection.specs.declared.serving.Due.TheVariants as due
+use Rattle.transact.specs.Memory.{AsksNoMemory}
+use Rattle.connection.specs.declared.answering.Due.{Due}
+use Rattle.connection.specs.declared.answering.Due.TheVariants as due
 use Rattle.connection.specs.declared.serving.Ended.{Ended}
 use Rattle.connection.specs.declared.serving.Ended.TheVariants as ended
-use Rattle.connection.specs.declared.serving.Paused.{Paused}
-use Rattle.connection.specs.declared.serving.Paused.TheVariants as paused
-use Rattle.connection.specs.Supported.{read_as}
-use Rattle.connection.specs.Clients.{Standing, IsReady, IsOpen, mode_of, TakesOff, WantsMemory}
-use Rattle.connection.specs.Conversations.{Went, Talk, Conversation, Answers, AreSame}
+use Rattle.connection.specs.declared.answering.Paused.{Paused}
+use Rattle.connection.specs.declared.answering.Paused.TheVariants as paused
+use Rattle.connection.specs.Clients.{Progress, IsReady, IsOpen, mode_of, watched_of, turn_at, TakesOff, WantsMemory}
+use Rattle.connection.specs.Conversations.{Went, Talk, Conversation, Answers}
 
--- A connection that read these bytes, of a session that began where a history stood: the bytes are the spellings of requests, in order,
--- and a rest. The history has gone on, is legal, and leaves the store; the requests, the entries that the session made and the replies
--- are a transcript, after which the session is in this mode.
-pub record Answered (session : ℕ) (seen : History) (store : Store) (bytes : Bytes) : Type 0 where
+-- A connection that read these bytes, of a pass that knew the one and then knows the other: the bytes are the spellings of requests, in
+-- order, and a rest; the requests, the entries that the pass made and the replies are a transcript, after which the session is in this
+-- mode.
+pub record Answered (was now : Knowledge) (bytes : Bytes) : Type 0 where
   pub requests : List (List Bytes)
   pub rest : Bytes
   pub own : List Placed
   pub replies : List Reply
   pub mode : Mode
+  pub pairs : List Pair
   pub joined : bytes ≡ spellings requests ++ rest
   pub within : AreRequests requests
-  pub went : Went session seen own store
-  pub transcript : Transcript session Idle [] (map read_as requests) own replies
-  pub talk : Talk session requests own replies mode
+  pub went : Went was now own
+  pub transcript : Transcript was.number Idle [] requests own replies
+  pub talk : Talk was.number requests own replies mode pairs
+
+-- A conversation of a pass that knew the one when it began and knows the other now.
+pub record Conversing (was now : Knowledge) (fed : Bytes) (at : Progress) (said : Bytes) : Type 0 where
+  pub own : List Placed
+  pub went : Went was now own
+  pub conversation : Conversation was.number own now.watched fed at said
 
 -- the line of a protocol fault
 abbrev pub fault_line : ProtocolFault → Bytes
@@ -47,25 +56,24 @@ IsWhole rest replies whole =
     (whole ≡ encodings replies)
     ⊎ ((fault : ProtocolFault) × (front rest ≡ Faulty fault) × (whole ≡ encodings replies ++ fault_line fault))
 
--- What was read and what was written where a connection ended so. After the end of the input, or a read that failed, all complete
--- requests are answered and all is written. After QUIT the requests up to it are answered and all is written. After a protocol fault
--- all requests before it are answered, and its line is written last. After a write that failed, a beginning of the text is written.
--- After want of memory the requests before the one that found none are answered, and something is left unread, unless nothing was read.
-abbrev pub Served : ℕ → History → Store → Ended → Bytes → Bytes → Type 0
-Served session seen store ended.EndOfInput bytes text =
-    (talk : Answered session seen store bytes) × (front talk.rest ≡ Part) × IsOpen talk.mode × (text ≡ encodings talk.replies)
-Served session seen store ended.Quit bytes text =
-    (talk : Answered session seen store bytes) × (talk.mode ≡ Closed) × (text ≡ encodings talk.replies)
-Served session seen store ended.ProtocolFault bytes text =
-    (talk : Answered session seen store bytes) × (fault : ProtocolFault) × (front talk.rest ≡ Faulty fault) × IsOpen talk.mode
-    × (text ≡ encodings talk.replies ++ fault_line fault)
-Served session seen store ended.ReadFailed bytes text =
-    (talk : Answered session seen store bytes) × (front talk.rest ≡ Part) × IsOpen talk.mode × (text ≡ encodings talk.replies)
-Served session seen store ended.WriteFailed bytes text =
-    (talk : Answered session seen store bytes) × (whole more : Bytes) × IsWhole talk.rest talk.replies whole × (whole ≡ text ++ more)
-Served session seen store ended.NoMemory bytes text =
-    (talk : Answered session seen store bytes) × ((bytes ≡ []) ⊎ (0 < length talk.rest)) × IsOpen talk.mode
-    × (text ≡ encodings talk.replies)
+-- What is left of the bytes, the mode of the session, and the text that was written, where a connection ended so. After the end of the
+-- input, or a read that failed, all complete requests are answered and all is written. After QUIT the requests up to it are answered and
+-- all is written. After a protocol fault all requests before it are answered, and its line is written last. After a write that failed, a
+-- beginning of the text is written. After want of memory the requests before the one that found none are answered, and something is left
+-- unread, unless nothing was read.
+abbrev pub Ends : Ended → (bytes rest : Bytes) → Mode → List Reply → (text : Bytes) → Type 0
+Ends ended.EndOfInput bytes rest mode replies text = (front rest ≡ Part) × IsOpen mode × (text ≡ encodings replies)
+Ends ended.Quit bytes rest mode replies text = (mode ≡ Closed) × (text ≡ encodings replies)
+Ends ended.ProtocolFault bytes rest mode replies text =
+    (fault : ProtocolFault) × (front rest ≡ Faulty fault) × IsOpen mode × (text ≡ encodings replies ++ fault_line fault)
+Ends ended.ReadFailed bytes rest mode replies text = (front rest ≡ Part) × IsOpen mode × (text ≡ encodings replies)
+Ends ended.WriteFailed bytes rest mode replies text = (whole more : Bytes) × IsWhole rest replies whole × (whole ≡ text ++ more)
+Ends ended.NoMemory bytes rest mode replies text = ((bytes ≡ []) ⊎ (0 < length rest)) × IsOpen mode × (text ≡ encodings replies)
+
+-- What was read and what was written of a connection that ended so, whose pass knew the one when it began and then knows the other.
+pub record Served (was now : Knowledge) (ended : Ended) (bytes text : Bytes) : Type 0 where
+  pub talk : Answered was now bytes
+  pub ends : Ends ended bytes talk.rest talk.mode talk.replies text
 
 -- what the reader has told when a connection ended so
 abbrev pub reader_told : Ended → Told → Told
@@ -95,17 +103,17 @@ number_of ended.WriteFailed = 5
 number_of ended.NoMemory = 6
 
 -- Where the answering of what was fed paused: `written` was written since the connection began, and the output buffer holds the rest.
-abbrev pub HasPaused : ℕ → History → Store → Bytes → Paused → Standing → (written held : Bytes) → Type 0
-HasPaused session seen store fed paused.Input standing written held =
-    (front standing.unread ≡ Part) × IsOpen (mode_of standing.stage) × Conversation session seen store fed standing (written ++ held)
-HasPaused session seen store fed (paused.Malformed fault) standing written held =
-    (front standing.unread ≡ Faulty fault) × IsOpen (mode_of standing.stage) × Conversation session seen store fed standing (written ++ held)
-HasPaused session seen store fed paused.Closed standing written held =
-    (mode_of standing.stage ≡ Closed) × Conversation session seen store fed standing (written ++ held)
-HasPaused session seen store fed paused.NoMemory standing written held =
-    (at : Standing) × WantsMemory at.unread × IsOpen (mode_of at.stage) × Conversation session seen store fed at (written ++ held)
-HasPaused session seen store fed paused.WriteFailed standing written held =
-    (at : Standing) × (whole more : Bytes) × Conversation session seen store fed at whole × (whole ≡ written ++ more)
+abbrev pub HasPaused : (was now : Knowledge) → Bytes → Paused → Progress → (written held : Bytes) → Type 0
+HasPaused was now fed paused.Input standing written held =
+    (front standing.unread ≡ Part) × IsOpen (mode_of standing.stage) × Conversing was now fed standing (written ++ held)
+HasPaused was now fed (paused.Malformed fault) standing written held =
+    (front standing.unread ≡ Faulty fault) × IsOpen (mode_of standing.stage) × Conversing was now fed standing (written ++ held)
+HasPaused was now fed paused.Closed standing written held =
+    (mode_of standing.stage ≡ Closed) × Conversing was now fed standing (written ++ held)
+HasPaused was now fed paused.NoMemory standing written held =
+    (at : Progress) × WantsMemory at.unread × IsOpen (mode_of at.stage) × Conversing was now fed at (written ++ held)
+HasPaused was now fed paused.WriteFailed standing written held =
+    (at : Progress) × (whole more : Bytes) × Conversing was now fed at whole × (whole ≡ written ++ more)
 
 -- what the writer has told where the answering paused so
 abbrev pub paused_told : Paused → Told → Told
@@ -116,19 +124,19 @@ paused_told paused.NoMemory old = old
 paused_told paused.WriteFailed old = told.Failure
 
 -- how a client stands where the answering of what it was fed paused
-abbrev pub StandsAt : Paused → Standing → Type 0
-StandsAt paused.Input standing = IsReady standing.stage × (front standing.unread ≡ Part) × IsOpen (mode_of standing.stage)
+abbrev pub StandsAt : Paused → Progress → Type 0
+StandsAt paused.Input standing = (front standing.unread ≡ Part) × IsOpen (mode_of standing.stage)
 StandsAt _ standing = Unit {0}
 
 -- how a client stands, and what the output buffer holds, where a connection goes on
-abbrev pub GoesOn : Option Ended → Standing → (held : Bytes) → Type 0
-GoesOn None standing held = IsReady standing.stage × (front standing.unread ≡ Part) × IsOpen (mode_of standing.stage) × (held ≡ [])
+abbrev pub GoesOn : Option Ended → Progress → (held : Bytes) → Type 0
+GoesOn None standing held = (front standing.unread ≡ Part) × IsOpen (mode_of standing.stage) × (held ≡ [])
 GoesOn (Some ended) standing held = Unit {0}
 
 -- What the answering of a piece came to: all is written and the conversation goes on, or the connection ended.
-abbrev pub HasAnswered : ℕ → History → Store → Bytes → Option Ended → Standing → (written : Bytes) → Type 0
-HasAnswered session seen store fed None standing written = Conversation session seen store fed standing written
-HasAnswered session seen store fed (Some ended) standing written = Served session seen store ended fed written
+abbrev pub HasAnswered : (was now : Knowledge) → Bytes → Option Ended → Progress → (written : Bytes) → Type 0
+HasAnswered was now fed None standing written = Conversing was now fed standing written
+HasAnswered was now fed (Some ended) standing written = Served was now ended fed written
 
 -- the endings to which the answering of a piece may come
 abbrev pub EndsAnswering : Option Ended → Type 0
@@ -146,7 +154,7 @@ answered_told None old = old
 answered_told (Some ended) old = writer_told ended old
 
 -- What the reading of a piece came to: the client was fed it, or the connection ends.
-abbrev pub HasTaken : Option Ended → Standing → Bytes → Standing → Type 0
+abbrev pub HasTaken : Option Ended → Progress → Bytes → Progress → Type 0
 HasTaken None old piece new = new ≡ record old { unread = old.unread ++ piece }
 HasTaken (Some ended.EndOfInput) old piece new = (piece ≡ []) × (new ≡ old)
 HasTaken (Some ended.Quit) old piece new = ⊥
@@ -160,16 +168,37 @@ abbrev pub taken_told : Option Ended → Told → Told
 taken_told None old = old
 taken_told (Some ended) old = reader_told ended old
 
--- How a client stands after its next turn: it took a request off the front, or no whole request is left, or a fault stands at the front,
--- or memory was asked for, or its session has ended.
-abbrev pub HasTurned : Standing → Due → Standing → Type 0
-HasTurned old (due.Reply reply) new = (words : List Bytes) × TakesOff old.unread words new.unread × IsReady new.stage
+-- How far a client has come after its next turn: it took a request off the front, or no whole request is left, or a fault stands at the
+-- front, or memory was asked for, or its session has ended.
+abbrev pub HasTurned : Progress → Due → Progress → Type 0
+HasTurned old (due.Reply reply) new = (words : List Bytes) × TakesOff old.unread words new.unread
 HasTurned old due.Input new = (stream.front old.unread ≡ stream.Part) × IsOpen (mode_of old.stage) × (new ≡ old)
 HasTurned old (due.Malformed fault) new = (stream.front old.unread ≡ stream.Faulty fault) × IsOpen (mode_of old.stage) × (new ≡ old)
 HasTurned old due.Closed new = (mode_of old.stage ≡ Closed) × (new ≡ old)
 HasTurned old due.NoMemory new = WantsMemory old.unread × IsOpen (mode_of old.stage)
 
--- What the turn did to the store, where a history stood: it answered the request along it, or left the store.
-abbrev pub IsDue : ℕ → History → Store → Standing → Due → Store → Standing → Type 0
-IsDue session before was old (due.Reply reply) store new = Answers session before was store old new reply
-IsDue session before was old _ store new = AreSame was store
+-- a request that asks the store for what needs no memory there makes its entry, unless commits are worn out
+abbrev pub Spares : Turn → Store → List Placed → Reply → Type 0
+Spares (Calls asked done faulty) store own reply = AsksNoMemory store asked → own ≡ [] → reply ≡ line_reply (line.Faulty fault.CommitsWornOut)
+Spares _ store own reply = Unit {0}
+
+-- the same of the request that was taken off
+abbrev pub Spared : Progress → Store → List Placed → Progress → Reply → Type 0
+Spared old store own new reply = (words : List Bytes) × TakesOff old.unread words new.unread × Spares (turn_at old.stage words) store own reply
+
+-- The next turn of a client whose pass knew the one and then knows the other answered its request with this reply.
+pub record Turned (was now : Knowledge) (old new : Progress) (reply : Reply) : Type 0 where
+  pub own : List Placed
+  pub went : Went was now own
+  pub answers : Answers was.number own was.watched now.watched old new reply
+  pub spared : Spared old (after now.seen) own new reply
+
+-- what a turn did: it answered the request, or the pass knows what it knew
+abbrev pub IsDue : (was now : Knowledge) → Progress → Due → Progress → Type 0
+IsDue was now old (due.Reply reply) new = Turned was now old new reply
+IsDue was now old _ new = now ≡ was
+
+-- the client's session waits for a request, or has ended, and watches what its pass does
+pub record Attends (knows : Knowledge) (at : Progress) : Type 0 where
+  pub ready : IsReady at.stage
+  pub watches : watched_of at.stage ≡ keys_of_pairs knows.watched

@@ -2,34 +2,27 @@
 
 ghost use Rattle.std.specs.Prelude.{◌≡◌, ◌++◌, OnOk, OnErr};
 
-use crate::session::{Turned, idle_step};
+use crate::state::State;
 use bytes::Bytes;
-use engine::{Answer, Call};
 use resp_read::{ReadFault, Reader};
+use session::modes::{AnySession, Idle, Session};
 use std::alloc::Global;
 use std::marker::Model;
+use transact::call::{Answer, Call};
 use words::command::Command;
-use words::reply::{Line, ProtocolFault, Reply};
+use words::reply::{ProtocolFault, Reply};
 use words::word::OutOfMemory;
 
-/// How far a client's session has come.
-#[derive(Clone, Copy, Debug, PartialEq, Eq)]
-enum State {
-    /// It waits for a request.
-    Ready,
-    /// It waits for the answer to a call.
-    Called,
-    /// It has ended.
-    Closed,
-}
-
 /// What a client does next.
-#[derive(Debug, Drop)]
+#[derive(Debug)]
 pub enum Next {
     /// It wants more input: no whole request is left, and no fault.
     Input,
     /// It says a reply.
     Says(Reply),
+    /// It says the line of want of memory: there was none for a command that is to be queued, or for a
+    /// key that is to be watched.
+    SaysOutOfMemory,
     /// It calls the store, and waits for the answer.
     Calls(Call),
     /// The bytes at the front are no request. It says the line of this fault, and nothing after it.
@@ -40,8 +33,8 @@ pub enum Next {
     Closed,
 }
 
-/// One client: the bytes that it was fed and its session.
-#[derive(Drop)]
+/// One client: the bytes that it was fed and its session. What the session watches is forgotten by the
+/// call that [`close`](Client::close) gives, and by no other way: a client cannot be dropped.
 pub struct Client {
     alloc: Global,
     reader: Reader,
@@ -50,27 +43,25 @@ pub struct Client {
 
 impl Model for Client {
     ghost use Rattle.resp_read.specs.Unread.{unread as unread_of};
-    ghost use Rattle.connection.specs.Clients.{Standing, stage_of};
+    ghost use Rattle.connection.specs.Clients.{Progress, stage_of};
 
-    ghost Value = { Standing };
+    ghost Value = { Progress };
 
     ghost view = { λ client. record { unread = unread_of client.reader; stage = stage_of client.state } };
 }
 
 impl Client {
-    ghost use Rattle.std.specs.Prelude.{IsTrue};
-    ghost use Rattle.words.specs.History.{HasPlace};
-    ghost use Rattle.engine.specs.Calls.{operation_asked};
-    ghost use Rattle.connection.specs.Clients.{Standing, start, IsReady, IsCalled, Gives, IfCalls, Resumes};
+    ghost use Rattle.session.specs.Standings.{forget_of};
+    ghost use Rattle.connection.specs.Clients.{Progress, beginning, IsReady, IsCalled, Gives, Resumes, watched_of};
 
     /// A client that was fed nothing. It takes no memory.
     pub fn new(alloc: Global) -> Client
-        ensures { result ≡ start }
+        ensures { result ≡ beginning }
     {
         Client {
             alloc,
             reader: Reader::new(alloc),
-            state: State::Ready,
+            state: State::Ready(AnySession::Idle(Session::<Idle>::new(alloc))),
         }
     }
 
@@ -89,10 +80,9 @@ impl Client {
     /// What the client does next. It is not to be asked while a call is open.
     pub fn next(&mut self) -> Next
         requires { IsReady self.old.stage }
-        ensures gives { Gives self.old result self.new }
-        ensures place { IfCalls result (λ call. HasPlace (operation_asked call)) }
+        ensures { Gives self.old result self.new }
     {
-        if let State::Closed = self.state {
+        if let State::Closed(_) = &self.state {
             return Next::Closed;
         }
         let words = match self.reader.next() {
@@ -104,18 +94,7 @@ impl Client {
         let Ok(command) = Command::of(self.alloc, &words) else {
             return Next::OutOfMemory;
         };
-        drop(words);
-        match idle_step(command) {
-            Turned::Says(reply) => Next::Says(reply),
-            Turned::Ends(reply) => {
-                self.state = State::Closed;
-                Next::Says(reply)
-            }
-            Turned::Calls(call) => {
-                self.state = State::Called;
-                Next::Calls(call)
-            }
-        }
+        self.state.step(words, command)
     }
 
     /// Takes the answer to the open call, and tells the reply that the client says to it. It takes
@@ -125,10 +104,25 @@ impl Client {
         ensures unread { self.new.unread ≡ self.old.unread }
         ensures resumes { Resumes self.old.stage answer result self.new.stage }
     {
-        self.state = State::Ready;
-        match answer {
-            Answer::Reply(reply) => reply,
-            Answer::Fault(fault) => Reply::line(Line::Faulty(fault)),
+        self.state.resume(answer)
+    }
+
+    /// Ends the client: the call that forgets what its session watches, exactly where it watches
+    /// something. It takes no memory. It is not to be ended while a call is open.
+    pub fn close(self) -> Option<Call>
+        requires { IsReady self.stage }
+        ensures { result ≡ forget_of (watched_of self.stage) }
+    {
+        let Client {
+            alloc: _,
+            reader: _,
+            state,
+        } = self;
+        match state {
+            State::Ready(session) => session.close(),
+            State::Closed(session) => session.close(),
+            State::Called(_called) => unreachable!(),
+            State::Stepping => unreachable!(),
         }
     }
 }

@@ -2,10 +2,13 @@
 //! written.
 #![tactic(auto)]
 
+mod answering;
 pub mod client;
 pub mod conversation;
+mod output;
+mod reading;
 pub mod serving;
-mod session;
+mod state;
 #[cfg(test)]
 mod tests;
 

@@ -1,11 +1,16 @@
 //! Connections over streams in memory.
 
+ghost use Rattle.std.specs.Prelude.{◌≡◌, [], IfOk};
+ghost use Rattle.engine.specs.Passes.{knows, Rests};
+
 use crate::serving::{Ended, serve};
 use engine::{Engine, Pass};
+use gates::Open;
 use std::alloc::{AllocError, Global};
 use std::io;
 use std::io::{ErrorKind, Read, Write};
 use std::process::Abort;
+use std::sync::Wait;
 use std::test::Fail;
 use streams::{Noted, Told};
 use words::limits::Limits;
@@ -130,39 +135,66 @@ struct Outcome {
 }
 
 /// An empty engine, and one of its passes.
-fn engine(alloc: Global) -> Result<(Engine, Pass), AllocError> {
+fn engine(alloc: Global) -> Result<(Engine, Pass), AllocError>
+    ensures rests { IfOk result (λ made. Rests made.0 made.1) }
+    ensures watches { IfOk result (λ made. (knows made.1).watched ≡ []) }
+{
     let (engine, mut passes) = Engine::new(alloc, &Limits::default())?;
-    let pass = passes.pop().ok_or(AllocError)?;
+    let pass = passes.swap_remove(0);
     Ok((engine, pass))
 }
 
-/// Serves a connection over a new engine.
-fn run(alloc: Global, source: Source<'_>, sink: Sink) -> Result<Outcome, AllocError> {
-    let (mut engine, pass) = engine(alloc)?;
-    let mut reader = Noted::new(source);
-    let mut writer = Noted::new(sink);
-    let (_pass, ended) = serve(alloc, &mut reader, &mut writer, &mut engine, pass);
+/// Serves a connection, and gives the pass back.
+fn talk(
+    rt: &impl Wait,
+    alloc: Global,
+    streams: (Source<'_>, Sink),
+    engine: &Engine,
+    pass: Pass,
+) -> (Pass, Outcome)
+    requires rests { Rests engine.now pass }
+    requires watches { (knows pass).watched ≡ [] }
+    ensures rests { Rests engine.now result.0 }
+    ensures watches { (knows result.0).watched ≡ [] }
+{
+    let mut reader = Noted::new(streams.0);
+    let mut writer = Noted::new(streams.1);
+    let (pass, ended) = serve(rt, alloc, &mut reader, &mut writer, engine, pass, &Open);
     let told = (reader.told(), writer.told());
     let sink = writer.into_inner();
-    Ok(Outcome {
+    let outcome = Outcome {
         text: sink.text,
         writes: sink.writes,
         flushed: sink.flushed,
         ended,
         told,
-    })
+    };
+    (pass, outcome)
 }
 
-/// Appends the spelling of a request.
-fn spell(input: &mut Vec<u8>, words: &[&[u8]]) -> Result<(), AllocError> {
-    let alloc = *input.allocator();
-    input.extend_from_slice(format!(in alloc; "*{}\r\n", words.len())?.as_bytes())?;
-    for word in words {
-        input.extend_from_slice(format!(in alloc; "${}\r\n", word.len())?.as_bytes())?;
-        input.extend_from_slice(word)?;
-        input.extend_from_slice(b"\r\n")?;
-    }
-    Ok(())
+/// Serves a connection over a new engine.
+fn run(
+    rt: &impl Wait,
+    alloc: Global,
+    source: Source<'_>,
+    sink: Sink,
+) -> Result<Outcome, AllocError> {
+    let (engine, pass) = engine(alloc)?;
+    let (_pass, outcome) = talk(rt, alloc, (source, sink), &engine, pass);
+    Ok(outcome)
+}
+
+/// Serves two connections over a new engine, one after the other, with the same pass.
+fn run_both(
+    rt: &impl Wait,
+    alloc: Global,
+    first: (Source<'_>, Sink),
+    second: (Source<'_>, Sink),
+) -> Result<(Outcome, Outcome), AllocError> {
+    let (engine, pass) = engine(alloc)?;
+    let (pass, first) = talk(rt, alloc, first, &engine, pass);
+    let (_pass, second) = talk(rt, alloc, second, &engine, pass);
+    Ok((first, second))
 }
 
 const PING: &[u8] = b"*1\r\n$4\r\nPING\r\n";
@@ -232,11 +264,6 @@ const ROWS: &[(&[u8], &[u8], Ended)] = &[
         Ended::EndOfInput,
     ),
     (
-        b"*1\r\n$5\r\nMULTI\r\n*1\r\n$4\r\nPING\r\n",
-        b"-ERR unknown command\r\n+PONG\r\n",
-        Ended::EndOfInput,
-    ),
-    (
         b"*1\r\n$4\r\nPING\r\n*1\r\n$4\r\nquit\r\n*1\r\n$4\r\nPING\r\n",
         b"+PONG\r\n+OK\r\n",
         Ended::Quit,
@@ -266,6 +293,51 @@ const ROWS: &[(&[u8], &[u8], Ended)] = &[
         b"-ERR Protocol error: missing line end\r\n",
         Ended::ProtocolFault,
     ),
+    (
+        b"*1\r\n$5\r\nMULTI\r\n*3\r\n$3\r\nSET\r\n$1\r\na\r\n$1\r\n1\r\n*2\r\n$4\r\nINCR\r\n$1\r\na\r\n*2\r\n$3\r\nGET\r\n$1\r\na\r\n*1\r\n$4\r\nEXEC\r\n",
+        b"+OK\r\n+QUEUED\r\n+QUEUED\r\n+QUEUED\r\n*3\r\n+OK\r\n:2\r\n$1\r\n2\r\n",
+        Ended::EndOfInput,
+    ),
+    (
+        b"*1\r\n$5\r\nMULTI\r\n*1\r\n$3\r\nGET\r\n*3\r\n$3\r\nSET\r\n$1\r\na\r\n$1\r\n1\r\n*1\r\n$4\r\nEXEC\r\n*2\r\n$3\r\nGET\r\n$1\r\na\r\n",
+        b"+OK\r\n-ERR wrong number of arguments\r\n+QUEUED\r\n-EXECABORT transaction discarded because of earlier errors\r\n$-1\r\n",
+        Ended::EndOfInput,
+    ),
+    (
+        b"*1\r\n$5\r\nMULTI\r\n*3\r\n$3\r\nSET\r\n$1\r\na\r\n$1\r\nx\r\n*2\r\n$4\r\nINCR\r\n$1\r\na\r\n*1\r\n$4\r\nEXEC\r\n*2\r\n$3\r\nGET\r\n$1\r\na\r\n",
+        b"+OK\r\n+QUEUED\r\n+QUEUED\r\n*2\r\n+OK\r\n-ERR value is not an integer or out of range\r\n$1\r\nx\r\n",
+        Ended::EndOfInput,
+    ),
+    (
+        b"*3\r\n$3\r\nSET\r\n$1\r\nk\r\n$1\r\nv\r\n*2\r\n$5\r\nWATCH\r\n$1\r\nk\r\n*3\r\n$3\r\nSET\r\n$1\r\nk\r\n$1\r\nv\r\n*1\r\n$5\r\nMULTI\r\n*1\r\n$4\r\nPING\r\n*1\r\n$4\r\nEXEC\r\n*1\r\n$5\r\nMULTI\r\n*1\r\n$4\r\nPING\r\n*1\r\n$4\r\nEXEC\r\n",
+        b"+OK\r\n+OK\r\n+OK\r\n+OK\r\n+QUEUED\r\n*-1\r\n+OK\r\n+QUEUED\r\n*1\r\n+PONG\r\n",
+        Ended::EndOfInput,
+    ),
+    (
+        b"*1\r\n$5\r\nMULTI\r\n*1\r\n$5\r\nMULTI\r\n*2\r\n$5\r\nWATCH\r\n$1\r\nk\r\n*1\r\n$4\r\nEXEC\r\n*1\r\n$4\r\nEXEC\r\n*1\r\n$7\r\nDISCARD\r\n",
+        b"+OK\r\n-ERR MULTI inside MULTI\r\n-ERR WATCH inside MULTI\r\n*0\r\n-ERR EXEC without MULTI\r\n-ERR DISCARD without MULTI\r\n",
+        Ended::EndOfInput,
+    ),
+    (
+        b"*1\r\n$5\r\nMULTI\r\n*3\r\n$3\r\nSET\r\n$1\r\na\r\n$1\r\n1\r\n*1\r\n$4\r\nQUIT\r\n*2\r\n$3\r\nGET\r\n$1\r\na\r\n",
+        b"+OK\r\n+QUEUED\r\n+OK\r\n",
+        Ended::Quit,
+    ),
+    (
+        b"*1\r\n$5\r\nMULTI\r\n*3\r\n$3\r\nSET\r\n$1\r\na\r\n$1\r\n1\r\n*1\r\n$7\r\nDISCARD\r\n*2\r\n$3\r\nGET\r\n$1\r\na\r\n*1\r\n$4\r\nEXEC\r\n",
+        b"+OK\r\n+QUEUED\r\n+OK\r\n$-1\r\n-ERR EXEC without MULTI\r\n",
+        Ended::EndOfInput,
+    ),
+    (
+        b"*2\r\n$5\r\nWATCH\r\n$1\r\nk\r\n*1\r\n$5\r\nMULTI\r\n*3\r\n$3\r\nSET\r\n$1\r\nk\r\n$1\r\nv\r\n*1\r\n$4\r\nEXEC\r\n*2\r\n$3\r\nGET\r\n$1\r\nk\r\n",
+        b"+OK\r\n+OK\r\n+QUEUED\r\n*1\r\n+OK\r\n$1\r\nv\r\n",
+        Ended::EndOfInput,
+    ),
+    (
+        b"*3\r\n$3\r\nSET\r\n$1\r\nk\r\n$1\r\nv\r\n*2\r\n$5\r\nWATCH\r\n$1\r\nk\r\n*2\r\n$3\r\nDEL\r\n$1\r\nk\r\n*3\r\n$3\r\nSET\r\n$1\r\nk\r\n$1\r\nv\r\n*1\r\n$7\r\nUNWATCH\r\n*1\r\n$5\r\nMULTI\r\n*1\r\n$7\r\nUNWATCH\r\n*1\r\n$4\r\nEXEC\r\n",
+        b"+OK\r\n+OK\r\n:1\r\n+OK\r\n+OK\r\n+OK\r\n+QUEUED\r\n*1\r\n+OK\r\n",
+        Ended::EndOfInput,
+    ),
 ];
 
 /// Whether a connection wrote this text and kept nothing of it back, and ended so.
@@ -274,16 +346,21 @@ fn came_to(outcome: &Outcome, text: &[u8], ended: Ended) -> bool {
     outcome.text.as_slice() == text && outcome.ended == ended && passed_on
 }
 
+/// Asserts what a connection came to.
+fn check_outcome(rt: &impl Abort, outcome: &Outcome, text: &[u8], ended: Ended) {
+    assert!(rt; came_to(outcome, text, ended), "{:?}", outcome.text);
+}
+
 /// Asserts what a connection comes to.
-fn check_run(
-    rt: &impl Abort,
+fn check_run<R: Abort + Wait>(
+    rt: &R,
     alloc: Global,
     streams: (Source<'_>, Sink),
     text: &[u8],
     ended: Ended,
 ) -> Result<(), Fail> {
-    let outcome = run(alloc, streams.0, streams.1)?;
-    assert!(rt; came_to(&outcome, text, ended), "{:?}", outcome.text);
+    let outcome = run(rt, alloc, streams.0, streams.1)?;
+    check_outcome(rt, &outcome, text, ended);
     Ok(())
 }
 
@@ -327,9 +404,11 @@ fn ample_memory_answers(rt: HostRuntime) -> Result<(), Fail> {
     Ok(())
 }
 
-/// How many writes the replies take where a read gives at most so many bytes.
-fn writes_of(alloc: Global, input: &[u8], most: usize) -> Result<u64, AllocError> {
-    let outcome = run(alloc, Source::new(input, most), Sink::new(alloc, 16_384)?)?;
+/// How many writes the replies to 64 requests take where a read gives at most so many bytes.
+fn writes_of(rt: &impl Wait, alloc: Global, most: usize) -> Result<u64, AllocError> {
+    let input = repeated(alloc, PING, 64, b"")?;
+    let sink = Sink::new(alloc, 16_384)?;
+    let outcome = run(rt, alloc, Source::new(&input, most), sink)?;
     Ok(outcome.writes)
 }
 
@@ -337,39 +416,49 @@ fn writes_of(alloc: Global, input: &[u8], most: usize) -> Result<u64, AllocError
 #[test]
 fn one_write_for_one_read(rt: HostRuntime) -> Result<(), Fail> {
     let alloc = rt.alloc();
-    let input = repeated(alloc, PING, 64, b"")?;
-    assert_eq!(rt; writes_of(alloc, &input, 16_384)?, 1);
-    assert_eq!(rt; writes_of(alloc, &input, PING.len())?, 64);
+    let one = writes_of(&rt, alloc, 16_384)?;
+    let many = writes_of(&rt, alloc, PING.len())?;
+    assert_eq!(rt; (one, many), (1, 64));
     Ok(())
 }
 
+/// Texts, each with so many bytes after it.
+fn filled(alloc: Global, parts: &[(&[u8], usize)]) -> Result<Vec<u8>, AllocError> {
+    let mut all = Vec::new(alloc);
+    for &(text, count) in parts {
+        all.extend_from_slice(text)?;
+        for _ in 0..count {
+            all.push(b'x')?;
+        }
+    }
+    Ok(all)
+}
+
+/// GET of a key that is too long, and SET of the longest key and value.
+const LONG_WORDS: &[(&[u8], usize)] = &[
+    (b"*2\r\n$3\r\nGET\r\n$513\r\n", 513),
+    (b"\r\n*3\r\n$3\r\nSET\r\n$512\r\n", 512),
+    (b"\r\n$8192\r\n", 8_192),
+    (b"\r\n", 0),
+];
+
+/// GET of the longest key.
+const LONG_GET: &[(&[u8], usize)] = &[(b"*2\r\n$3\r\nGET\r\n$512\r\n", 512), (b"\r\n", 0)];
+
 /// A key that is too long, then the longest key with the longest value, read twenty times.
 fn long_words(alloc: Global) -> Result<Vec<u8>, AllocError> {
-    let long = vec![in alloc; b'x'; 8_192]?;
-    let mut input = Vec::new(alloc);
-    spell(&mut input, &[b"GET", &long[..513]])?;
-    spell(&mut input, &[b"SET", &long[..512], &long])?;
-    for _ in 0..20 {
-        spell(&mut input, &[b"GET", &long[..512]])?;
-    }
-    Ok(input)
+    let get = filled(alloc, LONG_GET)?;
+    let gets = repeated(alloc, &get, 20, b"")?;
+    drop(get);
+    let first = filled(alloc, LONG_WORDS)?;
+    repeated(alloc, &first, 1, &gets)
 }
 
 /// So many replies of the longest value, after the replies before them.
 fn long_replies(alloc: Global, before: &[u8], count: u32) -> Result<Vec<u8>, AllocError> {
-    let reply = repeated(alloc, b"", 0, b"$8192\r\n")?;
-    let reply = with_value(reply)?;
+    let reply = filled(alloc, &[(b"$8192\r\n", 8_192), (b"\r\n", 0)])?;
     let replies = repeated(alloc, &reply, count, b"")?;
     repeated(alloc, before, 1, &replies)
-}
-
-/// The longest value and its line end, after what is there.
-fn with_value(mut text: Vec<u8>) -> Result<Vec<u8>, AllocError> {
-    for _ in 0..8_192 {
-        text.push(b'x')?;
-    }
-    text.extend_from_slice(b"\r\n")?;
-    Ok(text)
 }
 
 #[test]
@@ -398,15 +487,15 @@ fn a_read_that_fails(rt: HostRuntime) -> Result<(), Fail> {
     let alloc = rt.alloc();
     let mut source = Source::new(SET_AND_GET, 16_384);
     source.fails_after = Some(SET.len());
-    let outcome = run(alloc, source, Sink::new(alloc, 16_384)?)?;
+    let outcome = run(&rt, alloc, source, Sink::new(alloc, 16_384)?)?;
     assert!(rt; came_to(&outcome, b"+OK\r\n", Ended::ReadFailed));
     assert!(rt; outcome.told == (Told::Failure, Told::Nothing));
     Ok(())
 }
 
 /// Asserts what is written where writes fail after so many bytes.
-fn check_cut(
-    rt: &impl Abort,
+fn check_cut<R: Abort + Wait>(
+    rt: &R,
     alloc: Global,
     input: &[u8],
     text: &[u8],
@@ -414,7 +503,7 @@ fn check_cut(
 ) -> Result<(), Fail> {
     let mut sink = Sink::new(alloc, most)?;
     sink.fails_after = Some(text.len());
-    let outcome = run(alloc, Source::new(input, 16_384), sink)?;
+    let outcome = run(rt, alloc, Source::new(input, 16_384), sink)?;
     assert!(rt; came_to(&outcome, text, Ended::WriteFailed), "{input:?}");
     assert!(rt; outcome.told == (Told::Nothing, Told::Failure), "{input:?}");
     Ok(())
@@ -445,6 +534,119 @@ fn a_write_that_takes_nothing(rt: HostRuntime) -> Result<(), Fail> {
         };
         let streams = (Source::new(input, 16_384), Sink::new(alloc, 0)?);
         check_run(&rt, alloc, streams, b"", ended)?;
+    }
+    Ok(())
+}
+
+/// GET of a key that is too long, at once and in a transaction.
+const LONG_KEYS: &[(&[u8], usize)] = &[
+    (b"*2\r\n$3\r\nGET\r\n$513\r\n", 513),
+    (b"\r\n*1\r\n$5\r\nMULTI\r\n*2\r\n$3\r\nGET\r\n$513\r\n", 513),
+    (b"\r\n*1\r\n$4\r\nEXEC\r\n", 0),
+];
+
+/// A key that is too long does not spoil a transaction: its line stands in the array.
+#[test]
+fn a_long_key_in_a_transaction(rt: HostRuntime) -> Result<(), Fail> {
+    let alloc = rt.alloc();
+    let input = filled(alloc, LONG_KEYS)?;
+    let streams = (Source::new(&input, 16_384), Sink::new(alloc, 16_384)?);
+    let text = b"-ERR key is too long\r\n+OK\r\n+QUEUED\r\n*1\r\n-ERR key is too long\r\n";
+    check_run(&rt, alloc, streams, text, Ended::EndOfInput)
+}
+
+/// Asserts what two connections come to, which are served one after the other with the same pass.
+fn check_both<R: Abort + Wait>(
+    rt: &R,
+    alloc: Global,
+    first: (Source<'_>, Sink),
+    told: (&[u8], Ended),
+    second: (&[u8], &[u8]),
+) -> Result<(), Fail> {
+    let streams = (Source::new(second.0, 16_384), Sink::new(alloc, 16_384)?);
+    let (before, after) = run_both(rt, alloc, first, streams)?;
+    check_outcome(rt, &before, told.0, told.1);
+    check_outcome(rt, &after, second.1, Ended::EndOfInput);
+    Ok(())
+}
+
+/// QUIT runs nothing of what is queued: the next connection finds no value.
+#[test]
+fn what_is_queued_goes_with_the_connection(rt: HostRuntime) -> Result<(), Fail> {
+    let alloc = rt.alloc();
+    let input =
+        b"*1\r\n$5\r\nMULTI\r\n*3\r\n$3\r\nSET\r\n$1\r\na\r\n$1\r\n1\r\n*1\r\n$4\r\nQUIT\r\n";
+    let first = (Source::new(input, 16_384), Sink::new(alloc, 16_384)?);
+    let told: &[u8] = b"+OK\r\n+QUEUED\r\n+OK\r\n";
+    let get: &[u8] = b"*2\r\n$3\r\nGET\r\n$1\r\na\r\n";
+    check_both(&rt, alloc, first, (told, Ended::Quit), (get, b"$-1\r\n"))
+}
+
+/// Connections that end while they watch a key: their input, how many bytes are read and written
+/// before reads and writes fail, their text and their ending.
+const WATCHING: &[(&[u8], Option<usize>, Option<usize>, &[u8], Ended)] = &[
+    (
+        b"*2\r\n$5\r\nWATCH\r\n$1\r\nk\r\n",
+        None,
+        None,
+        b"+OK\r\n",
+        Ended::EndOfInput,
+    ),
+    (
+        b"*2\r\n$5\r\nWATCH\r\n$1\r\nk\r\n*1\r\n$4\r\nQUIT\r\n",
+        None,
+        None,
+        b"+OK\r\n+OK\r\n",
+        Ended::Quit,
+    ),
+    (
+        b"*2\r\n$5\r\nWATCH\r\n$1\r\nk\r\n*1\r\n$5\r\nMULTI\r\n*2\r\n$3\r\nGET\r\n$1\r\nk\r\n*1\r\n$4\r\nQUIT\r\n",
+        None,
+        None,
+        b"+OK\r\n+OK\r\n+QUEUED\r\n+OK\r\n",
+        Ended::Quit,
+    ),
+    (
+        b"*2\r\n$5\r\nWATCH\r\n$1\r\nk\r\n+",
+        None,
+        None,
+        b"+OK\r\n-ERR Protocol error: expected '*'\r\n",
+        Ended::ProtocolFault,
+    ),
+    (
+        b"*2\r\n$5\r\nWATCH\r\n$1\r\nk\r\n*2\r\n$3\r\nGET\r\n$1\r\nk\r\n",
+        Some(22),
+        None,
+        b"+OK\r\n",
+        Ended::ReadFailed,
+    ),
+    (
+        b"*2\r\n$5\r\nWATCH\r\n$1\r\nk\r\n",
+        None,
+        Some(3),
+        b"+OK",
+        Ended::WriteFailed,
+    ),
+];
+
+/// SET of the key, and a transaction.
+const AFTER_WATCHING: &[u8] =
+    b"*3\r\n$3\r\nSET\r\n$1\r\nk\r\n$1\r\nv\r\n*1\r\n$5\r\nMULTI\r\n*2\r\n$3\r\nGET\r\n$1\r\nk\r\n*1\r\n$4\r\nEXEC\r\n";
+
+const AFTER_WATCHING_ANSWER: &[u8] = b"+OK\r\n+OK\r\n+QUEUED\r\n*1\r\n$1\r\nv\r\n";
+
+/// However a connection ends, nothing that it watched stays: with the same pass the next one writes the
+/// key, and its transaction runs.
+#[test]
+fn watches_end_with_the_connection(rt: HostRuntime) -> Result<(), Fail> {
+    let alloc = rt.alloc();
+    for &(input, read, written, text, ended) in WATCHING {
+        let mut source = Source::new(input, 16_384);
+        source.fails_after = read;
+        let mut sink = Sink::new(alloc, 16_384)?;
+        sink.fails_after = written;
+        let second = (AFTER_WATCHING, AFTER_WATCHING_ANSWER);
+        check_both(&rt, alloc, (source, sink), (text, ended), second)?;
     }
     Ok(())
 }
@@ -493,7 +695,7 @@ fn a_refused_allocation(rt: HostRuntime) -> Result<(), Fail> {
     let Ok(sink) = Sink::new(alloc, 16_384) else {
         return Ok(());
     };
-    let Ok(outcome) = run(alloc, Source::new(input, 100), sink) else {
+    let Ok(outcome) = run(&rt, alloc, Source::new(input, 100), sink) else {
         return Ok(());
     };
     let ended = match answered_below(&outcome.text) {

@@ -1,2 +1,2 @@
-pub mod Tables
-pub mod Runs
+pub mod New
+pub mod Calls

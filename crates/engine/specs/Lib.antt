@@ -1,3 +1,2 @@
+pub mod Passes
 pub mod Calls
-pub mod Contents
-pub mod Runs

@@ -1,206 +1,128 @@
-//! The shared store behind all sessions: an ordered map of byte strings, and the calls that read and write it.
+//! The shared store behind all sessions: calls of many passes over striped gates, which come one after
+//! another in one history.
 #![tactic(auto)]
 
-ghost use Rattle.std.specs.Prelude.{◌≡◌, ◌+◌, ◌<◌, ℕ, List, ◌∷◌, ◌++◌, [], IfOk, OnOk, None, Some, nat_lt, length, vec_len, option_map, slice_get};
-ghost use Rattle.words.specs.declared.history.Entry.{Entry};
-ghost use Rattle.words.specs.declared.limits.TheConstants.{WEIGHT_MAX, WEIGHT_OF_KEY};
-ghost use Rattle.words.specs.Commands.{keys_of};
-ghost use Rattle.words.specs.Answers.{answer};
-ghost use Rattle.words.specs.History.{History, HasPlace, due};
-ghost use Rattle.engine.specs.Calls.{asked_of, operation_asked, Reads, IfReply, IfFault, IsReply, AsksNoMemory, NeedsNoMemory};
-ghost use Rattle.engine.specs.Contents.{contents, held, pass_number};
-ghost use Rattle.engine.specs.Runs.{reply_of, left_by, values_of};
+ghost use Rattle.std.specs.Prelude.{◌≡◌, ◌+◌, ◌<◌, ℕ, IfOk, vec_len, slice_index_or};
+ghost use Rattle.gates.specs.Plays.{AreEmpty};
+ghost use Rattle.gates.specs.declared.gates.Pass as gates_pass;
+ghost use Rattle.transact.specs.Shards.{shard_meaning};
+ghost use Rattle.transact.specs.Calls.{asked_of};
+ghost use Rattle.transact.specs.Plans.{EndsAll};
+ghost use Rattle.engine.specs.Passes.{knows, Rests, IsNew, stripe_count};
+ghost use Rattle.transact.specs.Submits.{IfReply, IfFault, stripes_asked};
+ghost use Rattle.gates.specs.Passes.{Learned};
+ghost use Rattle.engine.specs.Calls.{HasItsPlace, IsDone, IsUndone};
 
-use crate::table::Table;
+use gates::{Gates, Latch, Open, Point};
 use std::alloc::Global;
-use strings::found::Findings;
-use strings::keys::{key_at, key_count};
-use strings::overlay::Overlay;
-use strings::run::run;
-use strings::writes::Writes;
-use words::command::{Command, When};
-use words::limits::{Limits, WEIGHT_MAX, WEIGHT_OF_KEY};
-use words::locality::depends_on_named_keys;
-use words::reply::{CommandReply, Fault, Item, Line, Refusal, Reply};
-use words::word::{OutOfMemory, Word};
-
-mod table;
+use std::sync::Wait;
+use transact::call::{Answer, Call};
+use transact::shard::Shard;
+use transact::submit::submit;
+use words::limits::Limits;
+use words::word::OutOfMemory;
 
 /// How many passes there are beside one for each client: those of the threads that work in the
 /// background.
 pub const BACKGROUND_PASSES: usize = 3;
 
+/// The right to call an [`Engine`], for one session at a time. It has a number, by which the entries of
+/// its calls are known in the history.
+pub type Pass = gates::Pass<Shard>;
+
 /// The shared store: which value each key has.
 #[derive(Drop)]
 pub struct Engine {
     alloc: Global,
-    table: Table,
-}
-
-/// The right to call an [`Engine`], one for each session that is served at one time. It has a number,
-/// by which the entries of its calls are known in the history.
-#[derive(Debug, Drop)]
-pub struct Pass {
-    number: u64,
-}
-
-/// What a session asks of the shared store.
-#[derive(Debug, Drop)]
-pub enum Call {
-    /// One command runs. It is a command that reads or writes keys.
-    One(Command),
-}
-
-/// What a [`Call`] is answered.
-#[derive(Debug, Drop)]
-pub enum Answer {
-    /// The call was done, or refused by a line of the command's own.
-    Reply(Reply),
-    /// The call could not be done. Nothing was changed.
-    Fault(Fault),
+    gates: Gates<Shard>,
 }
 
 impl Engine {
     /// An engine with an empty store, and its passes: one for each client of the limits and
-    /// [`BACKGROUND_PASSES`] more, numbered 0, 1, 2 and so on.
+    /// [`BACKGROUND_PASSES`] more, numbered 0, 1, 2 and so on, which have seen nothing.
     ///
     /// # Errors
     ///
-    /// [`OutOfMemory`] where there is no memory for the list of passes.
-    #[tactic(auto, unfolding(crate::specs::Contents::pass_number))]
+    /// [`OutOfMemory`] where there is no memory for the stripes or the passes.
     pub fn new(alloc: Global, limits: &Limits) -> Result<(Engine, Vec<Pass>), OutOfMemory>
-        ensures store { IfOk result (λ made. (key : List ℕ) → contents made.0 key ≡ None) }
+        ensures stripes { IfOk result (λ made. stripe_count made.0 ≡ limits.now.stripes) }
         ensures count { IfOk result (λ made. vec_len made.1 ≡ limits.now.clients + BACKGROUND_PASSES) }
-        ensures numbers { IfOk result (λ made. (place : ℕ) → place < vec_len made.1 → option_map pass_number (slice_get made.1.items place) ≡ Some place) }
+        ensures passes { IfOk result (λ made. (place : ℕ) (other : gates_pass.Pass Shard) → place < vec_len made.1 → IsNew made.0 place (slice_index_or made.1.items place other)) }
     {
-        let count = limits.clients + BACKGROUND_PASSES;
-        let mut passes = Vec::with_capacity(alloc, count)?;
-        for number in 0..count {
-            passes.push(Pass {
-                number: number as u64,
-            })?;
-        }
-        let engine = Engine {
-            alloc,
-            table: Table::new(alloc),
-        };
-        Ok((engine, passes))
+        let shards = empty_shards(alloc, limits.stripes)?;
+        let (gates, passes) = Gates::new(alloc, shards, limits.clients + BACKGROUND_PASSES)?;
+        Ok((Engine { alloc, gates }, passes))
     }
 
-    /// Does what the call asks, whole or not at all, and tells its reply. Whichever history the store is
-    /// the result of, the reply is the one that is due after it, and the store is then the one that the
-    /// history with the call's entry leaves.
+    /// Does what the call asks, whole or not at all, and tells its reply. It may wait for calls of other
+    /// passes on the stripes of its keys. A transaction leaves nothing watched, whatever it is answered.
     ///
     /// # Errors
     ///
-    /// [`Answer::Fault`] with [`Fault::OutOfMemory`] where a growth was refused. The store is then as it
-    /// was.
-    pub fn submit(&mut self, pass: &mut Pass, call: Call) -> Answer
-        requires { HasPlace (operation_asked call) }
-        ensures reply { IfReply result (λ reply. (seen : History) → Reads (contents self.old) seen → reply ≡ due seen (operation_asked call)) }
-        ensures store { IfReply result (λ reply. (seen : History) → Reads (contents self.old) seen → let entry : Entry = record { session = pass_number pass.old; operation = operation_asked call; reply = reply } in Reads (contents self.new) (entry ∷ seen)) }
-        ensures fault { IfFault result (λ fault. fault ≡ Fault.OutOfMemory) }
-        ensures unchanged { IfFault result (λ fault. (key : List ℕ) → contents self.new key ≡ contents self.old key) }
-        ensures memory { AsksNoMemory (contents self.old) (asked_of call) → IsReply result }
-        ensures pass { pass.new ≡ pass.old }
+    /// [`Answer::Fault`] with [`Fault::OutOfMemory`] where a growth was refused, or
+    /// [`Fault::CommitsWornOut`] where the commit word was read at 2^62 or more. No key was changed, and
+    /// there is no entry. A call that ends watches is not answered so.
+    ///
+    /// [`Fault::OutOfMemory`]: words::reply::Fault::OutOfMemory
+    /// [`Fault::CommitsWornOut`]: words::reply::Fault::CommitsWornOut
+    pub fn submit<R: Wait>(&self, rt: &R, pass: &mut Pass, call: Call) -> Answer
+        requires rests { Rests self.now pass.old }
+        requires place { HasItsPlace (knows pass.old).watched (asked_of call) }
+        requires watching { EndsAll call (knows pass.old).watched }
+        ensures rests { Rests self.now pass.new }
+        ensures done { IfReply result (λ reply. IsDone (stripes_asked (stripe_count self.now) call) (asked_of call) reply (knows pass.old) (knows pass.new)) }
+        ensures undone { IfFault result (λ fault. IsUndone (stripes_asked (stripe_count self.now) call) (asked_of call) fault (knows pass.old) (knows pass.new)) }
     {
-        let _ = pass;
-        match call {
-            Call::One(Command::Get(key)) => self.get(&key),
-            Call::One(Command::Set(key, value, When::Always)) => self.set(key, value),
-            Call::One(command) => {
-                let answer = self.run(&command);
-                drop(command);
-                answer
-            }
-        }
+        self.submit_with(rt, pass, call, &Open)
     }
 
-    /// The value of a key, as a reply: `GET`, with one copy of the value.
-    fn get(&self, key: &Word) -> Answer
-        ensures reply { IfReply result (λ reply. reply ≡ reply_of (contents self.now) (Command.Get key.now)) }
-        ensures memory { NeedsNoMemory (contents self.now) (Command.Get key.now) → IsReply result }
-        ensures fault { IfFault result (λ fault. fault ≡ Fault.OutOfMemory) }
+    /// The same as [`submit`](Engine::submit), with a latch that is told where the call is.
+    pub fn submit_with<R: Wait, L: Latch>(
+        &self,
+        rt: &R,
+        pass: &mut Pass,
+        call: Call,
+        latch: &L,
+    ) -> Answer
+        requires rests { Rests self.now pass.old }
+        requires place { HasItsPlace (knows pass.old).watched (asked_of call) }
+        requires watching { EndsAll call (knows pass.old).watched }
+        ensures rests { Rests self.now pass.new }
+        ensures done { IfReply result (λ reply. IsDone (stripes_asked (stripe_count self.now) call) (asked_of call) reply (knows pass.old) (knows pass.new)) }
+        ensures undone { IfFault result (λ fault. IsUndone (stripes_asked (stripe_count self.now) call) (asked_of call) fault (knows pass.old) (knows pass.new)) }
     {
-        let item = match self.table.value(key) {
-            None => Item::Null,
-            Some(value) => match value.clone() {
-                Ok(copy) => Item::Bulk(copy),
-                Err(_) => return Answer::Fault(Fault::OutOfMemory),
-            },
-        };
-        Answer::Reply(Reply::Single(CommandReply::One(item)))
+        let number = pass.number();
+        latch.at(number, Point::Before);
+        let answer = submit(rt, self.alloc, &self.gates, pass, call, latch);
+        latch.at(number, Point::After);
+        answer
     }
 
-    /// Gives a key this value: `SET` without an option, whose words are moved into the store.
-    fn set(&mut self, key: Word, value: Word) -> Answer
-        ensures reply { IfReply result (λ reply. reply ≡ reply_of (contents self.old) (Command.Set key value When.Always)) }
-        ensures store { IfReply result (λ reply. (k : List ℕ) → contents self.new k ≡ left_by (contents self.old) (Command.Set key value When.Always) k) }
-        ensures fault { IfFault result (λ fault. fault ≡ Fault.OutOfMemory) }
-        ensures unchanged { IfFault result (λ fault. (k : List ℕ) → contents self.new k ≡ contents self.old k) }
-        ensures memory { NeedsNoMemory (contents self.old) (Command.Set key value When.Always) → IsReply result }
+    /// Both passes have then seen one legal history, which begins with what each had seen and has the
+    /// entries of each.
+    pub fn meet(&self, first: &mut Pass, second: &mut Pass)
+        requires first { Rests self.now first.old }
+        requires second { Rests self.now second.old }
+        ensures first { Rests self.now first.new }
+        ensures second { Rests self.now second.new }
+        ensures one { (knows first.new).seen ≡ (knows second.new).seen }
+        ensures first_learned { Learned (knows first.old) (knows first.new) }
+        ensures second_learned { Learned (knows second.old) (knows second.new) }
     {
-        if weighs_too_much(&key, &value) {
-            return Answer::Reply(Reply::line(Line::Refused(Refusal::WritesTooMuch)));
-        }
-        match self.table.put(key, Some(value)) {
-            Ok(()) => Answer::Reply(Reply::line(Line::Done)),
-            Err(_) => Answer::Fault(Fault::OutOfMemory),
-        }
-    }
-
-    /// Runs a command on an overlay of its keys, and makes its writes, all of them or none.
-    fn run(&mut self, command: &Command) -> Answer
-        ensures reply { IfReply result (λ reply. reply ≡ reply_of (contents self.old) command.now) }
-        ensures store { IfReply result (λ reply. (k : List ℕ) → contents self.new k ≡ left_by (contents self.old) command.now k) }
-        ensures fault { IfFault result (λ fault. fault ≡ Fault.OutOfMemory) }
-        ensures unchanged { IfFault result (λ fault. (k : List ℕ) → contents self.new k ≡ contents self.old k) }
-    {
-        let Ok((reply, writes)) = self.plan(command) else {
-            return Answer::Fault(Fault::OutOfMemory);
-        };
-        if writes.weight().is_none() {
-            return Answer::Reply(Reply::line(Line::Refused(Refusal::WritesTooMuch)));
-        }
-        match self.table.write(writes) {
-            Ok(()) => Answer::Reply(Reply::Single(reply)),
-            Err(_) => Answer::Fault(Fault::OutOfMemory),
-        }
-    }
-
-    /// What a command answers and writes. The store is not changed.
-    fn plan(&self, command: &Command) -> Result<(CommandReply, Writes), OutOfMemory>
-        ensures { IfOk result (λ planned. planned ≡ answer (contents self.now) command.now) }
-    {
-        depends_on_named_keys();
-        let mut overlay = Overlay::new(self.alloc);
-        find(&self.table, command, &mut overlay.found)?;
-        let reply = run(self.alloc, command, &mut overlay)?;
-        Ok((reply, overlay.writes))
+        self.gates.meet(first, second);
     }
 }
 
-/// Finds the values of a command's keys.
-fn find<'a>(
-    table: &'a Table,
-    command: &'a Command,
-    found: &mut Findings<'a>,
-) -> Result<(), OutOfMemory>
-    ensures { OnOk result (found.new ≡ found.old ++ values_of (held table.now) (keys_of command.now)) }
+/// So many shards without a key.
+fn empty_shards(alloc: Global, count: usize) -> Result<Vec<Shard>, OutOfMemory>
+    ensures count { IfOk result (λ shards. vec_len shards ≡ count) }
+    ensures empty { IfOk result (λ shards. AreEmpty shard_meaning shards.items) }
 {
-    for place in 0..key_count(command) {
-        let key = key_at(command, place);
-        found.push(key.as_slice(), table.bytes(key))?;
+    let mut shards = Vec::with_capacity(alloc, count)?;
+    for _ in 0..count {
+        shards.push(Shard::new(alloc))?;
     }
-    Ok(())
-}
-
-/// Whether one key with this value weighs more than a call may write.
-fn weighs_too_much(key: &Word, value: &Word) -> bool
-    ensures { result ≡ nat_lt WEIGHT_MAX (WEIGHT_OF_KEY + length key.now + length value.now) }
-{
-    let room = WEIGHT_MAX - WEIGHT_OF_KEY;
-    key.len() > room || value.len() > room - key.len()
+    Ok(shards)
 }
 
 #[cfg(test)]

@@ -1,12 +1,32 @@
-ghost use Rattle.std.specs.Prelude.{◌≡◌, IfSome, IsTrue};
-ghost use Rattle.words.specs.Commands.{touches_keys};
+//! An engine, by one pass, by two, and by two threads.
 
-use super::*;
+ghost use Rattle.std.specs.Prelude.{◌≡◌, ◌∷◌, [], IfOk, IfSome, IsTrue};
+ghost use Rattle.words.specs.History.{keys_of_pairs};
+ghost use Rattle.words.specs.Commands.{touches_keys};
+ghost use Rattle.engine.specs.Passes.{knows, Rests};
+
+use crate::{Engine, Pass};
+use gates::{Latch, Open, Point};
+use std::alloc::Global;
 use std::process::Abort;
+use std::sync::Wait;
+use std::sync::atomic::{AtomicBool, Ordering};
 use std::test::Fail;
-use words::limits::WORDS_MAX;
+use std::thread::{Threads, join, sleep};
+use std::time::{Clock, Duration};
+use transact::call::{Answer, Call, Watching};
+use words::command::{Command, Keys, When};
+use words::history::Commands;
+use words::limits::{Limits, WORDS_MAX};
 use words::number;
-use words::word::Words;
+use words::reply::{CommandReply, Fault, Item, Reply};
+use words::word::{OutOfMemory, Word, Words};
+
+/// How often each of two threads adds to a key.
+const TIMES: u64 = 1_000;
+
+/// How many turns of a millisecond a thread waits for the other.
+const TURNS: u64 = 10_000;
 
 /// A request, its words set apart by one space each, and what it is answered.
 #[derive(Clone, Copy)]
@@ -113,9 +133,11 @@ struct Client {
 
 impl Client {
     /// An engine that holds nothing. `None` where there was no memory.
-    fn of_new_engine(alloc: Global) -> Option<Client> {
+    fn of_new_engine(alloc: Global) -> Option<Client>
+        ensures { IfSome result (λ client. Rests client.engine client.pass) }
+    {
         let (engine, mut passes) = Engine::new(alloc, &Limits::default()).ok()?;
-        let pass = passes.pop()?;
+        let pass = passes.swap_remove(0);
         Some(Client {
             alloc,
             engine,
@@ -125,7 +147,9 @@ impl Client {
     }
 
     /// The same, made again where there was no memory for it.
-    fn new(alloc: Global) -> Option<Client> {
+    fn new(alloc: Global) -> Option<Client>
+        ensures { IfSome result (λ client. Rests client.engine client.pass) }
+    {
         match Client::of_new_engine(alloc) {
             Some(client) => Some(client),
             None => Client::of_new_engine(alloc),
@@ -133,10 +157,12 @@ impl Client {
     }
 
     /// How a command is answered.
-    fn run(&mut self, command: Command, due: &str) -> Outcome
-        requires { IsTrue (touches_keys command) }
+    fn run(&mut self, rt: &impl Wait, command: Command, due: &str) -> Outcome
+        requires rests { Rests self.old.engine self.old.pass }
+        requires place { IsTrue (touches_keys command) }
+        ensures rests { Rests self.new.engine self.new.pass }
     {
-        let answer = self.engine.submit(&mut self.pass, Call::One(command));
+        let answer = self.engine.submit(rt, &mut self.pass, Call::One(command));
         let outcome = compare(&answer, due);
         if outcome == Outcome::OutOfMemory {
             self.refusals = self.refusals.saturating_add(1);
@@ -145,38 +171,52 @@ impl Client {
     }
 
     /// How a request is answered. `None` where there was no memory for its own words.
-    fn ask_once(&mut self, exchange: Exchange<'_>) -> Option<Outcome> {
+    fn ask_once(&mut self, rt: &impl Wait, exchange: Exchange<'_>) -> Option<Outcome>
+        requires rests { Rests self.old.engine self.old.pass }
+        ensures rests { Rests self.new.engine self.new.pass }
+    {
         let command = command_of(self.alloc, exchange.request);
         match command.filter(|command| touches_keys(command)) {
-            Some(command) => Some(self.run(command, exchange.due)),
+            Some(command) => Some(self.run(rt, command, exchange.due)),
             None => None,
         }
     }
 
     /// How a request is answered. Its words are made again where there was no memory for them.
-    fn ask(&mut self, exchange: Exchange<'_>) -> Outcome {
-        match self.ask_once(exchange) {
+    fn ask(&mut self, rt: &impl Wait, exchange: Exchange<'_>) -> Outcome
+        requires rests { Rests self.old.engine self.old.pass }
+        ensures rests { Rests self.new.engine self.new.pass }
+    {
+        match self.ask_once(rt, exchange) {
             Some(outcome) => outcome,
-            None => self.ask_once(exchange).unwrap_or(Outcome::Other),
+            None => self.ask_once(rt, exchange).unwrap_or(Outcome::Other),
         }
     }
 
     /// Whether a request that only reads is answered as is due, the second time where there was no memory
     /// the first time.
-    fn reads(&mut self, exchange: Exchange<'_>) -> bool {
-        match self.ask(exchange) {
+    fn reads(&mut self, rt: &impl Wait, exchange: Exchange<'_>) -> bool
+        requires rests { Rests self.old.engine self.old.pass }
+        ensures rests { Rests self.new.engine self.new.pass }
+    {
+        match self.ask(rt, exchange) {
             Outcome::Due => true,
-            Outcome::OutOfMemory => self.ask(exchange) == Outcome::Due,
+            Outcome::OutOfMemory => self.ask(rt, exchange) == Outcome::Due,
             Outcome::Other => false,
         }
     }
 
     /// Whether a request is answered as is due. Where there was no memory, the reading is answered as it
     /// was before, and the request as is due when it is made again.
-    fn answers(&mut self, exchange: Exchange<'_>, reading: Exchange<'_>) -> bool {
-        match self.ask(exchange) {
+    fn answers(&mut self, rt: &impl Wait, exchange: Exchange<'_>, reading: Exchange<'_>) -> bool
+        requires rests { Rests self.old.engine self.old.pass }
+        ensures rests { Rests self.new.engine self.new.pass }
+    {
+        match self.ask(rt, exchange) {
             Outcome::Due => true,
-            Outcome::OutOfMemory => self.reads(reading) && self.ask(exchange) == Outcome::Due,
+            Outcome::OutOfMemory => {
+                self.reads(rt, reading) && self.ask(rt, exchange) == Outcome::Due
+            }
             Outcome::Other => false,
         }
     }
@@ -190,13 +230,21 @@ fn exchange_of(text: &str) -> Option<Exchange<'_>> {
 
 /// Makes the request of a text, and reads the keys. The text is a line, ` -> ` and what reading the keys is
 /// answered after it, which is given back; `None` where an answer is not as is due.
-fn state_after<'a>(client: &mut Client, text: &'a str, reading: Exchange<'_>) -> Option<&'a str> {
+fn state_after<'a>(
+    rt: &impl Wait,
+    client: &mut Client,
+    text: &'a str,
+    reading: Exchange<'_>,
+) -> Option<&'a str>
+    requires rests { Rests client.old.engine client.old.pass }
+    ensures rests { Rests client.new.engine client.new.pass }
+{
     let (line, due) = text.rsplit_once(" -> ")?;
     let after = Exchange {
         request: reading.request,
         due,
     };
-    if client.answers(exchange_of(line)?, reading) && client.reads(after) {
+    if client.answers(rt, exchange_of(line)?, reading) && client.reads(rt, after) {
         Some(due)
     } else {
         None
@@ -204,20 +252,32 @@ fn state_after<'a>(client: &mut Client, text: &'a str, reading: Exchange<'_>) ->
 }
 
 /// Makes the requests of some lines, one after the other.
-fn answer_all<'a>(rt: &impl Abort, client: &mut Client, mut reading: Exchange<'a>, lines: &'a str) {
+fn answer_all<'a, R: Abort + Wait>(
+    rt: &R,
+    client: &mut Client,
+    mut reading: Exchange<'a>,
+    lines: &'a str,
+)
+    requires rests { Rests client.old.engine client.old.pass }
+{
     for line in lines.split('\n') {
-        let state = state_after(client, line, reading);
+        let state = state_after(rt, client, line, reading);
         assert!(rt; state.is_some(), "{line}");
         reading.due = state.unwrap_or("");
     }
     assert!(rt; client.refusals <= 1);
 }
 
+/// The reading of a text's first line, and the lines below it.
+fn reading_of(text: &str) -> Option<(Exchange<'_>, &str)> {
+    let (first, lines) = text.split_once('\n')?;
+    Some((exchange_of(first)?, lines))
+}
+
 /// Makes the requests of a text, one after the other, below the line that reads their keys. Meant for runs
 /// in which one growth is refused: then want of memory is answered once at most.
-fn all_answered(rt: &impl Abort, alloc: Global, text: &str) -> Result<(), Fail> {
-    let (first, lines) = text.split_once('\n').ok_or("one line")?;
-    let reading = exchange_of(first).ok_or("no reading")?;
+fn all_answered<R: Abort + Wait>(rt: &R, alloc: Global, text: &str) -> Result<(), Fail> {
+    let (reading, lines) = reading_of(text).ok_or("no reading")?;
     let mut client = Client::new(alloc).ok_or("no engine")?;
     answer_all(rt, &mut client, reading, lines);
     Ok(())
@@ -312,44 +372,58 @@ fn set(alloc: Global, value: &[u8]) -> Option<Command>
 }
 
 /// How SET of the key `k` to a value is answered. `None` where there was no memory for its words.
-fn run_set(client: &mut Client, value: &[u8], due: &str) -> Option<Outcome> {
+fn run_set(rt: &impl Wait, client: &mut Client, value: &[u8], due: &str) -> Option<Outcome>
+    requires rests { Rests client.old.engine client.old.pass }
+    ensures rests { Rests client.new.engine client.new.pass }
+{
     let command = set(client.alloc, value)?;
-    Some(client.run(command, due))
+    Some(client.run(rt, command, due))
 }
 
 /// Whether SET of the key `k` to a value is answered as is due, the second time where there was no memory
 /// the first time.
-fn sets(client: &mut Client, value: &[u8], due: &str) -> bool {
-    match run_set(client, value, due) {
+fn sets(rt: &impl Wait, client: &mut Client, value: &[u8], due: &str) -> bool
+    requires rests { Rests client.old.engine client.old.pass }
+    ensures rests { Rests client.new.engine client.new.pass }
+{
+    match run_set(rt, client, value, due) {
         Some(Outcome::Due) => true,
         Some(Outcome::Other) => false,
-        Some(Outcome::OutOfMemory) | None => run_set(client, value, due) == Some(Outcome::Due),
+        Some(Outcome::OutOfMemory) | None => run_set(rt, client, value, due) == Some(Outcome::Due),
     }
 }
 
 /// Whether the key `k` has the value that follows `$` in a text, once it is set to it.
-fn keeps(client: &mut Client, due: &str) -> bool {
+fn keeps(rt: &impl Wait, client: &mut Client, due: &str) -> bool
+    requires rests { Rests client.old.engine client.old.pass }
+    ensures rests { Rests client.new.engine client.new.pass }
+{
     let [_, value @ ..] = due.as_bytes() else {
         return false;
     };
     let request = "GET k";
-    sets(client, value, "+OK") && client.reads(Exchange { request, due })
+    sets(rt, client, value, "+OK") && client.reads(rt, Exchange { request, due })
 }
 
 /// Gives one key values, each read after it.
-fn keeps_values(rt: &impl Abort, client: &mut Client) {
+fn keeps_values<R: Abort + Wait>(rt: &R, client: &mut Client)
+    requires rests { Rests client.old.engine client.old.pass }
+    ensures rests { Rests client.new.engine client.new.pass }
+{
     for due in [
         "$1",
         "$",
         "$a-value-that-is-longer-than-a-word-without-memory",
         "$a\r\n*1\r\n",
     ] {
-        assert!(rt; keeps(client, due), "{due}");
+        assert!(rt; keeps(rt, client, due), "{due}");
     }
 }
 
 /// Reads keys that are missing.
-fn misses_others(rt: &impl Abort, client: &mut Client) {
+fn misses_others<R: Abort + Wait>(rt: &R, client: &mut Client)
+    requires rests { Rests client.old.engine client.old.pass }
+{
     for request in [
         "GET ",
         "GET K",
@@ -357,7 +431,7 @@ fn misses_others(rt: &impl Abort, client: &mut Client) {
         "GET a-key-that-is-longer-than-a-word-without-memory",
     ] {
         let due = "null";
-        assert!(rt; client.reads(Exchange { request, due }), "{request}");
+        assert!(rt; client.reads(rt, Exchange { request, due }), "{request}");
     }
 }
 
@@ -377,21 +451,29 @@ fn longer_value(alloc: Global) -> Result<Vec<u8>, OutOfMemory> {
 }
 
 /// Whether a key keeps the longest value when it is given one that is longer by one byte.
-fn refuses(client: &mut Client, longer: &str) -> bool {
+fn refuses(rt: &impl Wait, client: &mut Client, longer: &str) -> bool
+    requires rests { Rests client.old.engine client.old.pass }
+    ensures rests { Rests client.new.engine client.new.pass }
+{
     let kept = Exchange {
         request: "GET k",
         due: longer,
     };
-    keeps(client, longer)
-        && sets(client, longer.as_bytes(), "-ERR command writes too much")
-        && client.reads(kept)
+    keeps(rt, client, longer)
+        && sets(
+            rt,
+            client,
+            longer.as_bytes(),
+            "-ERR command writes too much",
+        )
+        && client.reads(rt, kept)
 }
 
 /// Gives a key the longest value, and then one that is longer by one byte.
-fn refuses_the_longer(rt: &impl Abort, alloc: Global, longer: &[u8]) -> Result<(), Fail> {
+fn refuses_the_longer<R: Abort + Wait>(rt: &R, alloc: Global, longer: &[u8]) -> Result<(), Fail> {
     let longer = str::from_utf8(longer)?;
     let mut client = Client::new(alloc).ok_or("no engine")?;
-    assert!(rt; refuses(&mut client, longer));
+    assert!(rt; refuses(rt, &mut client, longer));
     Ok(())
 }
 
@@ -402,7 +484,10 @@ fn a_value_that_weighs_too_much_is_refused(rt: HostRuntime) -> Result<(), Fail> 
 }
 
 /// Whether a key that is missing is given a value. The byte tells it from others.
-fn sets_key(client: &mut Client, byte: u8) -> Option<bool> {
+fn sets_key(rt: &impl Wait, client: &mut Client, byte: u8) -> Option<bool>
+    requires rests { Rests client.old.engine client.old.pass }
+    ensures rests { Rests client.new.engine client.new.pass }
+{
     let mut get = *b"GET 0-key-of-more-than-22-bytes";
     let mut set = *b"SET 0-key-of-more-than-22-bytes 0-value-of-more-than-22-bytes";
     get[4] = byte;
@@ -416,11 +501,14 @@ fn sets_key(client: &mut Client, byte: u8) -> Option<bool> {
         request: str::from_utf8(&set).ok()?,
         due: "+OK",
     };
-    Some(client.answers(line, reading))
+    Some(client.answers(rt, line, reading))
 }
 
 /// Whether a key has the value that it was given.
-fn has_key(client: &mut Client, byte: u8) -> Option<bool> {
+fn has_key(rt: &impl Wait, client: &mut Client, byte: u8) -> Option<bool>
+    requires rests { Rests client.old.engine client.old.pass }
+    ensures rests { Rests client.new.engine client.new.pass }
+{
     let mut get = *b"GET 0-key-of-more-than-22-bytes";
     let mut value = *b"$0-value-of-more-than-22-bytes";
     get[4] = byte;
@@ -429,16 +517,25 @@ fn has_key(client: &mut Client, byte: u8) -> Option<bool> {
         request: str::from_utf8(&get).ok()?,
         due: str::from_utf8(&value).ok()?,
     };
-    Some(client.reads(line))
+    Some(client.reads(rt, line))
 }
 
-/// Gives keys values, and reads each of them.
-fn keeps_each(rt: &impl Abort, client: &mut Client) {
+/// Gives keys values.
+fn sets_each<R: Abort + Wait>(rt: &R, client: &mut Client)
+    requires rests { Rests client.old.engine client.old.pass }
+    ensures rests { Rests client.new.engine client.new.pass }
+{
     for byte in b'0'..b'Z' {
-        assert!(rt; sets_key(client, byte) == Some(true));
+        assert!(rt; sets_key(rt, client, byte) == Some(true));
     }
+}
+
+/// Reads each of them.
+fn has_each<R: Abort + Wait>(rt: &R, client: &mut Client)
+    requires rests { Rests client.old.engine client.old.pass }
+{
     for byte in b'0'..b'Z' {
-        assert!(rt; has_key(client, byte) == Some(true));
+        assert!(rt; has_key(rt, client, byte) == Some(true));
     }
     assert!(rt; client.refusals <= 1);
 }
@@ -448,6 +545,317 @@ fn keeps_each(rt: &impl Abort, client: &mut Client) {
 #[test]
 fn a_refused_growth_changes_nothing(rt: HostRuntime) -> Result<(), Fail> {
     let mut client = Client::new(rt.alloc()).ok_or("no engine")?;
-    keeps_each(&rt, &mut client);
+    sets_each(&rt, &mut client);
+    has_each(&rt, &mut client);
     Ok(())
+}
+
+/// An engine, and two passes of it.
+fn with_two(alloc: Global) -> Result<(Engine, Pass, Pass), OutOfMemory>
+    ensures first { IfOk result (λ made. Rests made.0 made.1) }
+    ensures second { IfOk result (λ made. Rests made.0 made.2) }
+    ensures nothing { IfOk result (λ made. (knows made.1).watched ≡ []) }
+{
+    let (engine, mut passes) = Engine::new(alloc, &Limits::default())?;
+    let second = passes.swap_remove(1);
+    let first = passes.swap_remove(0);
+    Ok((engine, first, second))
+}
+
+/// What a pass is answered. `None` where there was no memory for the request's own words.
+fn answer_of<R: Wait, L: Latch>(
+    rt: &R,
+    alloc: Global,
+    latch: &L,
+    engine: &Engine,
+    pass: &mut Pass,
+    request: &str,
+) -> Option<Answer>
+    requires { Rests engine.now pass.old }
+    ensures { Rests engine.now pass.new }
+{
+    let command = command_of(alloc, request);
+    match command.filter(|command| touches_keys(command)) {
+        Some(command) => Some(engine.submit_with(rt, pass, Call::One(command), latch)),
+        None => None,
+    }
+}
+
+/// Whether a pass is answered as is due.
+fn is_due<R: Wait, L: Latch>(
+    rt: &R,
+    alloc: Global,
+    latch: &L,
+    engine: &Engine,
+    pass: &mut Pass,
+    exchange: Exchange<'_>,
+) -> bool
+    requires { Rests engine.now pass.old }
+    ensures { Rests engine.now pass.new }
+{
+    match answer_of(rt, alloc, latch, engine, pass, exchange.request) {
+        Some(answer) => compare(&answer, exchange.due) == Outcome::Due,
+        None => false,
+    }
+}
+
+/// Adds one to the key `n` so many times, and says how often it was done.
+fn count_up<R: Wait>(rt: &R, alloc: Global, engine: &Engine, mut pass: Pass) -> (Pass, u64)
+    requires { Rests engine.now pass }
+    ensures { Rests engine.now result.0 }
+{
+    let mut done = 0u64;
+    for _n in 0..TIMES {
+        let answer = answer_of(rt, alloc, &Open, engine, &mut pass, "INCR n");
+        if let Some(Answer::Reply(_)) = answer {
+            done = done.saturating_add(1);
+        }
+    }
+    (pass, done)
+}
+
+/// Whether no addition is lost where two threads add to one key.
+fn counts_to<R: Threads + Wait + Sync>(
+    rt: &R,
+    alloc: Global,
+    due: &str,
+) -> Result<bool, OutOfMemory> {
+    let (engine, one, two) = with_two(alloc)?;
+    let shared = &engine;
+    let ((mut first, a), (second, b)) = join(
+        rt,
+        move || -> (Pass, u64)
+            requires { Rests shared.now one }
+            ensures { Rests shared.entry.now result.0 }
+        { count_up(rt, alloc, shared, one) },
+        move || -> (Pass, u64)
+            requires { Rests shared.now two }
+            ensures { Rests shared.entry.now result.0 }
+        { count_up(rt, alloc, shared, two) },
+    );
+    drop(second);
+    let request = "GET n";
+    let exchange = Exchange { request, due };
+    let is_all = is_due(rt, alloc, &Open, &engine, &mut first, exchange);
+    Ok(a == TIMES && b == TIMES && is_all)
+}
+
+#[test]
+fn two_threads_add_to_one_key(rt: HostRuntime) -> Result<(), Fail> {
+    assert!(rt; counts_to(&rt, rt.alloc(), "$2000")?);
+    Ok(())
+}
+
+/// Holds the call of pass 0 up until another was answered.
+#[derive(Drop)]
+struct Holds<'a, R> {
+    rt: &'a R,
+    came: AtomicBool,
+    answered: AtomicBool,
+    late: AtomicBool,
+}
+
+impl<'a, R: Clock> Holds<'a, R> {
+    /// Waits until this is so. False after all turns.
+    fn wait_for(&self, told: &AtomicBool) -> bool {
+        for _n in 0..TURNS {
+            if told.load(Ordering::SeqCst) {
+                return true;
+            }
+            sleep(self.rt, Duration::from_millis(1));
+        }
+        false
+    }
+}
+
+impl<'a, R: Clock> Latch for Holds<'a, R> {
+    fn at(&self, pass: u64, point: Point) {
+        if pass == 0 && point == Point::Holding {
+            self.came.store(true, Ordering::SeqCst);
+            let answered = self.wait_for(&self.answered);
+            self.late.store(!answered, Ordering::SeqCst);
+        }
+    }
+}
+
+/// Whether the call that is held up is answered as is due.
+fn call_held<R: Wait + Clock>(
+    rt: &R,
+    alloc: Global,
+    latch: &Holds<'_, R>,
+    engine: &Engine,
+    mut pass: Pass,
+) -> bool
+    requires { Rests engine.now pass }
+{
+    let request = "SET a value";
+    let due = "+OK";
+    is_due(
+        rt,
+        alloc,
+        latch,
+        engine,
+        &mut pass,
+        Exchange { request, due },
+    )
+}
+
+/// Whether a call is answered as is due once the other one holds its stripe.
+fn call_after<R: Wait + Clock>(
+    rt: &R,
+    alloc: Global,
+    latch: &Holds<'_, R>,
+    engine: &Engine,
+    mut pass: Pass,
+) -> bool
+    requires { Rests engine.now pass }
+{
+    let came = latch.wait_for(&latch.came);
+    let request = "GET b";
+    let due = "null";
+    let is_due = is_due(
+        rt,
+        alloc,
+        &Open,
+        engine,
+        &mut pass,
+        Exchange { request, due },
+    );
+    latch.answered.store(true, Ordering::SeqCst);
+    came && is_due
+}
+
+/// Whether call two was answered while call one was held. The keys `a` and `b` are of stripes 12 and 5.
+fn two_calls<R: Threads + Wait + Clock + Sync>(rt: &R, alloc: Global) -> Result<bool, OutOfMemory> {
+    let (engine, one, two) = with_two(alloc)?;
+    let latch = Holds {
+        rt,
+        came: AtomicBool::new(false),
+        answered: AtomicBool::new(false),
+        late: AtomicBool::new(false),
+    };
+    let shared = &engine;
+    let held = &latch;
+    let (first, second) = join(
+        rt,
+        move || -> bool
+            requires { Rests shared.now one }
+        { call_held(rt, alloc, held, shared, one) },
+        move || -> bool
+            requires { Rests shared.now two }
+        { call_after(rt, alloc, held, shared, two) },
+    );
+    Ok(first && second && !latch.late.load(Ordering::SeqCst))
+}
+
+#[test]
+fn call_two_is_answered_while_call_one_is_held(rt: HostRuntime) -> Result<(), Fail> {
+    assert!(rt; two_calls(&rt, rt.alloc())?);
+    Ok(())
+}
+
+/// A list of one key. `None` where there was no memory.
+fn list_of(alloc: Global, key: &Word) -> Option<Keys>
+    ensures { IfSome result (λ keys. keys ≡ key.now ∷ []) }
+{
+    let mut keys = Vec::new(alloc);
+    let key = key.clone().ok()?;
+    keys.push(key).ok()?;
+    Some(Keys::from_vec(keys))
+}
+
+/// Watches this key alone, and says whether it does.
+#[tactic(auto, using(crate::proofs::Calls::watches_one))]
+fn watches<R: Wait>(rt: &R, alloc: Global, engine: &Engine, pass: &mut Pass, key: &Word) -> bool
+    requires rests { Rests engine.now pass.old }
+    requires nothing { (knows pass.old).watched ≡ [] }
+    ensures rests { Rests engine.now pass.new }
+    ensures watches { IsTrue result → keys_of_pairs (knows pass.new).watched ≡ key.now ∷ [] }
+{
+    let Some(keys) = list_of(alloc, key) else {
+        return false;
+    };
+    match engine.submit(rt, pass, Call::Watch(keys)) {
+        Answer::Reply(_) => true,
+        Answer::Fault(_) => false,
+    }
+}
+
+/// What a session that watches this key alone hands in. `None` where there was no memory.
+fn watching_of(alloc: Global, key: &Word) -> Option<Watching>
+    ensures { IfSome result (λ watching. watching ≡ key.now ∷ []) }
+{
+    let keys = list_of(alloc, key)?;
+    let mut watching = Watching::none(alloc);
+    if let Err(_) = watching.add(keys.as_slice()) {
+        drop(watching.into_keys());
+        return None;
+    }
+    Some(watching)
+}
+
+/// Whether a transaction of no commands is answered by the null array.
+fn is_null<R: Wait>(
+    rt: &R,
+    alloc: Global,
+    engine: &Engine,
+    pass: &mut Pass,
+    key: &Word,
+) -> Option<bool>
+    requires rests { Rests engine.now pass.old }
+    requires watches { keys_of_pairs (knows pass.old).watched ≡ key.now ∷ [] }
+{
+    let watching = watching_of(alloc, key)?;
+    let commands = Commands::from_vec(Vec::new(alloc));
+    match engine.submit(rt, pass, Call::Exec(commands, watching)) {
+        Answer::Reply(Reply::NullArray) => Some(true),
+        Answer::Reply(_) => Some(false),
+        Answer::Fault(_) => None,
+    }
+}
+
+/// Whether the transaction of the first pass, which watches a key, is answered by the null array after a
+/// call of the second. `None` where the call is not answered as is due.
+fn null_after<R: Wait>(
+    rt: &R,
+    alloc: Global,
+    engine: &Engine,
+    first: &mut Pass,
+    second: &mut Pass,
+    key: &Word,
+    exchange: Exchange<'_>,
+) -> Option<bool>
+    requires first { Rests engine.now first.old }
+    requires second { Rests engine.now second.old }
+    requires nothing { (knows first.old).watched ≡ [] }
+{
+    let watches = watches(rt, alloc, engine, first, key);
+    let is_due = is_due(rt, alloc, &Open, engine, second, exchange);
+    engine.meet(first, second);
+    if watches && is_due {
+        is_null(rt, alloc, engine, first, key)
+    } else {
+        None
+    }
+}
+
+/// The same, over a new engine and the key `k`.
+fn null_of_new<R: Wait>(rt: &R, alloc: Global, exchange: Exchange<'_>) -> Option<bool> {
+    let key = Word::from_slice(alloc, b"k").ok()?;
+    let (engine, mut first, mut second) = with_two(alloc).ok()?;
+    null_after(rt, alloc, &engine, &mut first, &mut second, &key, exchange)
+}
+
+#[test]
+fn exec_is_null_where_another_pass_wrote_the_watched_key(rt: HostRuntime) {
+    let request = "SET k value";
+    let due = "+OK";
+    assert!(rt; null_of_new(&rt, rt.alloc(), Exchange { request, due }) == Some(true));
+}
+
+#[test]
+fn exec_is_run_where_another_pass_deleted_the_watched_key_that_was_missing(rt: HostRuntime) {
+    let request = "DEL k";
+    let due = ":0";
+    assert!(rt; null_of_new(&rt, rt.alloc(), Exchange { request, due }) == Some(false));
 }

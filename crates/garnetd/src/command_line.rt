@@ -32,7 +32,7 @@ pub fn options_of<'a, S: AsStr>(alloc: Global, words: &'a [S]) -> Result<Options
     let mut command = Command::new(alloc, "garnetd")
         .version("0.1.0")
         .about(
-            "Serves PING, GET and SET of Redis in RESP2, one client after the other, and ends when all have",
+            "Serves the string commands and transactions of Redis in RESP2, one client after the other, and ends when all have",
         )
         .arg(port)?
         .arg(accept)?;

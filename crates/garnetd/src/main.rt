@@ -6,6 +6,7 @@ mod command_line;
 use anyhow::Result;
 use clap::error::ErrorKind;
 use command_line::options_of;
+use gates::Open;
 use server::{Endings, Options, ServerFault, listen, run_workers};
 use std::env;
 use std::net::{Net, TcpListener, TcpStream};
@@ -53,7 +54,7 @@ where
     // Nobody has to read where the server listens.
     let _ = println!(rt; "listening on {address}");
     let endings = Endings::new(rt.alloc()).map_err(|_| ServerFault::OutOfMemory)?;
-    run_workers(rt, listener, options, &endings)
+    run_workers(rt, listener, options, &Open, &endings)
 }
 
 /// Tells on standard error why the server stopped.

@@ -4,6 +4,7 @@
 pub mod asks;
 pub mod gates;
 pub mod held;
+pub mod latch;
 mod laws;
 mod order;
 pub mod part;
@@ -14,5 +15,6 @@ pub mod view;
 pub use asks::Asks;
 pub use gates::{CommitsWornOut, Gates, Pass};
 pub use held::{Busy, Held};
+pub use latch::{Latch, Open, Point};
 pub use part::{Part, Parts};
 pub use sorted::Sorted;

@@ -1,7 +1,6 @@
 //! Callers of the gates over ordered maps, and tests of the gates with them.
 #![tactic(auto)]
 
-pub mod latch;
 pub mod map;
 #[cfg(test)]
 mod tests;

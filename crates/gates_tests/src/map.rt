@@ -15,9 +15,8 @@ ghost use Rattle.gates.specs.Plays.{kept};
 ghost use Rattle.gates_tests.specs.Calls.{del_entry, del_reply, done, set_entry, get_entry, watch_entry, exec_entry, exec_reply, value_of_key, Did, WatchesOnly, Failed};
 ghost use Rattle.gates_tests.specs.Maps.{map_contents};
 
-use crate::latch::{Latch, Point};
 use crate::watchers::Watchers;
-use gates::{Asks, CommitsWornOut, Gates, Held, Part, Parts, Pass, Sorted};
+use gates::{Asks, CommitsWornOut, Gates, Held, Latch, Part, Parts, Pass, Point, Sorted};
 use std::alloc::Global;
 use std::collections::BTreeMap;
 use std::sync::Wait;

@@ -8,10 +8,9 @@ ghost use Rattle.gates.specs.Sets.{AreBelow};
 ghost use Rattle.gates_tests.specs.Maps.{map_meaning};
 ghost use Rattle.gates_tests.specs.Calls.{WatchesOnly};
 
-use crate::latch::{Latch, Open, Point};
 use crate::map::{DelCall, GetCall, MapPart, SetCall, WatchCall, del, exec, get, set, watch};
 use gates::part::replace;
-use gates::{Gates, Pass, Sorted};
+use gates::{Gates, Latch, Open, Pass, Point, Sorted};
 use std::alloc::{AllocError, Global};
 use std::sync::Wait;
 use std::sync::atomic::{AtomicBool, Ordering};

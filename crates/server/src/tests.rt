@@ -1,6 +1,7 @@
 //! Over real loopback sockets: the server in one thread, its clients in another.
 
 use super::*;
+use gates::Open;
 use std::io::{Read, Write};
 use std::net::{Ipv4Addr, Shutdown, SocketAddrV4, TcpListener, TcpStream};
 use std::test::Fail;
@@ -54,7 +55,7 @@ fn replies_before_input_ends(rt: HostRuntime) -> Result<(), Fail> {
     let port = listener.local_addr()?.port();
     let (served, talked) = thread::join(
         &rt,
-        || run_workers(&rt, listener, &options, &endings),
+        || run_workers(&rt, listener, &options, &Open, &endings),
         || -> io::Result<bool> {
             let client = connect(&rt, port)?;
             Ok(
@@ -84,12 +85,67 @@ fn a_later_connection_reads_what_an_earlier_one_set(rt: HostRuntime) -> Result<(
     let port = address.port();
     let (served, talked) = thread::join(
         &rt,
-        || run_workers(&rt, listener, &options, &endings),
+        || run_workers(&rt, listener, &options, &Open, &endings),
         || -> io::Result<bool> {
             let first = connect(&rt, port)?;
             let set = answers(&first, SET, b"+OK\r\n")? && answers(&first, QUIT, b"+OK\r\n")?;
             let second = connect(&rt, port)?;
             Ok(set && answers(&second, GET, b"$5\r\na\r\n*1\r\n")?)
+        },
+    );
+    assert_eq!(rt; served, Ok(()));
+    assert!(rt; talked?);
+    assert_eq!(rt; endings.get(0), Some(2));
+    assert_eq!(rt; endings.get(1), Some(1));
+    Ok(())
+}
+
+/// A transaction, each request sent when the one before is answered.
+const TRANSACTION: &[(&[u8], &[u8])] = &[
+    (b"*1\r\n$5\r\nMULTI\r\n", b"+OK\r\n"),
+    (b"*3\r\n$3\r\nSET\r\n$1\r\nn\r\n$1\r\n7\r\n", b"+QUEUED\r\n"),
+    (b"*2\r\n$4\r\nINCR\r\n$1\r\nn\r\n", b"+QUEUED\r\n"),
+    (b"*1\r\n$4\r\nEXEC\r\n", b"*2\r\n+OK\r\n:8\r\n"),
+];
+
+/// A transaction of which a watched key was written, then one of which it was not.
+const WATCHED: &[(&[u8], &[u8])] = &[
+    (b"*2\r\n$5\r\nWATCH\r\n$1\r\nn\r\n", b"+OK\r\n"),
+    (b"*2\r\n$4\r\nINCR\r\n$1\r\nn\r\n", b":9\r\n"),
+    (b"*1\r\n$5\r\nMULTI\r\n", b"+OK\r\n"),
+    (b"*2\r\n$4\r\nINCR\r\n$1\r\nn\r\n", b"+QUEUED\r\n"),
+    (b"*1\r\n$4\r\nEXEC\r\n", b"*-1\r\n"),
+    (b"*2\r\n$5\r\nWATCH\r\n$1\r\nn\r\n", b"+OK\r\n"),
+    (b"*1\r\n$5\r\nMULTI\r\n", b"+OK\r\n"),
+    (b"*2\r\n$4\r\nINCR\r\n$1\r\nn\r\n", b"+QUEUED\r\n"),
+    (b"*1\r\n$4\r\nEXEC\r\n", b"*1\r\n:10\r\n"),
+];
+
+/// Whether each request gets exactly its reply.
+fn answers_all(stream: &TcpStream, rows: &[(&[u8], &[u8])]) -> io::Result<bool> {
+    for &(request, reply) in rows {
+        if !answers(stream, request, reply)? {
+            return Ok(false);
+        }
+    }
+    Ok(true)
+}
+
+/// A transaction on one connection, and two on the next with a watch on what the first wrote.
+#[test]
+fn transactions_over_connections(rt: HostRuntime) -> Result<(), Fail> {
+    let options = Options::new(0, 2).ok_or("options")?;
+    let endings = Endings::new(rt.alloc())?;
+    let listener = listen(&rt, &options)?;
+    let port = listener.local_addr()?.port();
+    let (served, talked) = thread::join(
+        &rt,
+        || run_workers(&rt, listener, &options, &Open, &endings),
+        || -> io::Result<bool> {
+            let first = connect(&rt, port)?;
+            let told = answers_all(&first, TRANSACTION)? && answers(&first, QUIT, b"+OK\r\n")?;
+            let second = connect(&rt, port)?;
+            Ok(told && answers_all(&second, WATCHED)?)
         },
     );
     assert_eq!(rt; served, Ok(()));
@@ -109,7 +165,7 @@ fn a_client_that_goes_away_ends_its_own_connection_alone(rt: HostRuntime) -> Res
     let port = listener.local_addr()?.port();
     let (served, talked) = thread::join(
         &rt,
-        || run_workers(&rt, listener, &options, &endings),
+        || run_workers(&rt, listener, &options, &Open, &endings),
         || -> io::Result<bool> {
             goes_in_the_middle_of_a_request(&connect(&rt, port)?)?;
             goes_in_the_middle_of_a_reply(&rt, connect(&rt, port)?)?;
@@ -162,7 +218,7 @@ fn a_client_that_sends_on_reads_the_last_line(rt: HostRuntime) -> Result<(), Fai
     let port = listener.local_addr()?.port();
     let (served, talked) = thread::join(
         &rt,
-        || run_workers(&rt, listener, &options, &endings),
+        || run_workers(&rt, listener, &options, &Open, &endings),
         || -> io::Result<bool> {
             let mut sends_on = &connect(&rt, port)?;
             sends_on.write_all(BAD_LENGTH)?;
@@ -202,7 +258,7 @@ fn a_listener_that_gives_no_connection_stops_the_server(rt: HostRuntime) -> Resu
     let listener = listen(&rt, &options)?;
     // So that the system refuses to wait for a connection.
     listener.set_nonblocking(true)?;
-    let served = run_workers(&rt, listener, &options, &endings);
+    let served = run_workers(&rt, listener, &options, &Open, &endings);
     assert_eq!(rt; served, Err(ServerFault::CannotAccept));
     assert_eq!(rt; endings.count(), 0);
     let text = format!(in rt.alloc(); "{}", ServerFault::CannotAccept)?;

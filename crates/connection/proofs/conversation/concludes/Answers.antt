@@ -1,6 +1,5 @@
-use Rattle.std.proofs.Common.{refl}
-use Rattle.connection.proofs.Conversing.{closed}
+use Rattle.connection.proofs.Conversing.{closed_transcript}
 use Rattle.connection.proofs.conversation.concludes.Goals as goal
 
 pub returns : goal.returns
-returns c = λ session seen store fed said standing talk. (closed talk, refl, talk.text)
+returns c = λ session own pairs fed said at talk. closed_transcript session talk.requests own talk.replies _ pairs talk.talk

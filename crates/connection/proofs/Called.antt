@@ -1,0 +1,213 @@
+-- The turn of a client that makes a call, and of one that does not.
+use Rattle.std.proofs.Common.{◌≡◌, ℕ, List, [], ◌∷◌, ◌++◌, length, Option, Some, None, refl, sym, ap, ◌∙◌, ◌⊎◌, inl, inr}
+use Rattle.words.specs.Commands.{command_of}
+use Rattle.words.specs.Commands as commands
+use Rattle.resp_read.specs.Memory.{FitInline}
+use Rattle.words.specs.declared.reply.Reply.{Reply}
+use Rattle.words.specs.declared.reply.Fault.{Fault}
+use Rattle.words.specs.declared.reply.Fault.TheVariants as fault
+use Rattle.words.specs.declared.reply.Line.TheVariants as line
+use Rattle.words.specs.Store.{Bytes, Store}
+use Rattle.words.specs.History.{Pair, Placed, after, keys_of_pairs}
+use Rattle.words.specs.Session.{Turn, Says, Forgets, Tries, Calls, Never, Asked, Run, Watch, Exec, operation_of, line_reply}
+use Rattle.gates.specs.declared.view.Knowledge.{Knowledge}
+use Rattle.gates.specs.declared.view.Note.{Note}
+use Rattle.transact.specs.declared.call.Call.{Call}
+use Rattle.transact.specs.declared.call.Call.TheVariants.{Forget}
+use Rattle.transact.specs.declared.call.Answer.{Answer}
+use Rattle.transact.specs.declared.call.Answer.TheVariants as answer
+use Rattle.transact.specs.Calls.{asked_of, call_of}
+use Rattle.transact.specs.Plans.{EndsAll}
+use Rattle.session.specs.Standings.{Standing, Wait, forget_of}
+use Rattle.session.specs.Steps.{IsSaid, IsAsked, IsOutOfMemory}
+use Rattle.session.specs.Steps as steps
+use Rattle.session.specs.Laws.{WatchesPairsOfEntry, WatchesPairsOfFault}
+use Rattle.transact.specs.Memory.{AsksNoMemory}
+use Rattle.transact.specs.Submits.{IfReply, IfFault}
+use Rattle.engine.specs.Calls.{HasItsPlace, IsDone, IsUndone, IsCause, Did, DidNot, Forgot, entry_of}
+use Rattle.connection.specs.declared.client.Next.TheVariants as next
+use Rattle.connection.specs.Clients.{Progress, Stage, watched_of, turn_at, TakesOff, TakesUp, Resumes, WantsMemory}
+use Rattle.connection.specs.Conversations.{Went}
+use Rattle.connection.specs.Served.{Turned, Spares, Attends}
+use Rattle.connection.proofs.Turns.{answers_said, answers_want, answers_done, answers_undone, answers_forgot, asked_of_call, some_is, taken_still, no_pairs}
+use Rattle.connection.proofs.Conversing.{went_none}
+
+-- what is asked has its place, whatever is watched
+pub place_for : (pairs : List Pair) (asked : Option Asked) → steps.HasItsPlace asked → HasItsPlace pairs asked
+place_for pairs None place = tt
+place_for pairs (Some asked) place = place pairs
+
+-- a call that ends watches ends all
+ends_all_asked : (asked : Asked) (watched : List Bytes) (pairs : List Pair) → watched ≡ keys_of_pairs pairs → EndsAll (call_of watched asked) pairs
+ends_all_asked (Run command) watched pairs is = tt
+ends_all_asked (Watch keys) watched pairs is = tt
+ends_all_asked (Exec commands) watched pairs is = is
+
+pub ends_all : (t : Turn) (watched : List Bytes) (call : Call) (wait : Wait) (pairs : List Pair)
+    → IsAsked t watched call wait → watched ≡ keys_of_pairs pairs → EndsAll call pairs
+ends_all (Says said then) watched call wait pairs is watches = absurd is
+ends_all (Tries said done faulty) watched call wait pairs is watches = absurd is
+ends_all Never watched call wait pairs is watches = absurd is
+ends_all (Forgets said then) watched call wait pairs is watches = rw is.1 watches
+ends_all (Calls asked done faulty) watched call wait pairs is watches = rw is.0 (ends_all_asked asked watched pairs watches)
+
+-- where there is nothing to forget nothing is watched
+pub forget_none : (watched : List Bytes) → forget_of watched ≡ None → watched ≡ []
+forget_none [] is = refl
+forget_none (key ∷ keys) is = absurd (cc is)
+
+pub watches_none : (knows : Knowledge) (at : Progress) → Attends knows at → watched_of at.stage ≡ [] → knows.watched ≡ []
+watches_none knows at attends none = no_pairs knows.watched (sym attends.watches ∙ none)
+
+-- what forgets is the call that ends all watches
+pub forget_some : (watched : List Bytes) (call : Call) → forget_of watched ≡ Some call → call ≡ Forget watched
+forget_some [] call is = absurd (cc is)
+forget_some (key ∷ keys) call is = cc is
+
+-- a turn that asks the store for nothing spares it
+spares_said : (t : Turn) (watched : List Bytes) (store : Store) (reply : Reply) (then : Standing) → IsSaid t watched reply then → Spares t store [] reply
+spares_said (Says said next) watched store reply then is = tt
+spares_said (Forgets said next) watched store reply then is = tt
+spares_said (Tries said done faulty) watched store reply then is = tt
+spares_said (Calls asked done faulty) watched store reply then is = absurd is
+spares_said Never watched store reply then is = tt
+
+spares_want : (t : Turn) (watched : List Bytes) (store : Store) (reply : Reply) (then : Standing) → IsOutOfMemory t watched then → Spares t store [] reply
+spares_want (Says said next) watched store reply then is = tt
+spares_want (Forgets said next) watched store reply then is = tt
+spares_want (Tries said done faulty) watched store reply then is = tt
+spares_want (Calls (Run command) done faulty) watched store reply then is = absurd is.0
+spares_want (Calls (Watch keys) done faulty) watched store reply then is = λ none. absurd none
+spares_want (Calls (Exec commands) done faulty) watched store reply then is = absurd is.0
+spares_want Never watched store reply then is = tt
+
+-- a call that was done makes an entry
+spares_done : (t : Turn) (store : Store) (one : Placed) (reply : Reply) → Spares t store (one ∷ []) reply
+spares_done (Says said next) store one reply = tt
+spares_done (Forgets said next) store one reply = tt
+spares_done (Tries said done faulty) store one reply = tt
+spares_done (Calls asked done faulty) store one reply = λ none is. absurd (cc is)
+spares_done Never store one reply = tt
+
+-- a call that was not done has its cause
+cause_spares : (f : Fault) (stripes : List ℕ) (asked : Asked) (store : Store) (told : List Note) → IsCause f stripes asked store told → AsksNoMemory store asked
+    → f ≡ fault.CommitsWornOut
+cause_spares fault.OutOfMemory stripes asked store told cause spares = absurd (cause.0 spares)
+cause_spares fault.CommitsWornOut stripes asked store told cause spares = refl
+cause_spares fault.DeviceFault stripes asked store told cause spares = absurd cause
+cause_spares fault.StoreFull stripes asked store told cause spares = absurd cause
+
+spares_undone : (t : Turn) (watched : List Bytes) (call : Call) (wait : Wait) (asked : Asked) (f : Fault) (stripes : List ℕ) (store : Store) (told : List Note)
+    (reply : Reply) → IsAsked t watched call wait → asked_of call ≡ Some asked → IsCause f stripes asked store told → reply ≡ line_reply (line.Faulty f)
+    → Spares t store [] reply
+spares_undone (Says said then) watched call wait asked f stripes store told reply is asks cause says = tt
+spares_undone (Forgets said then) watched call wait asked f stripes store told reply is asks cause says = tt
+spares_undone (Tries said done faulty) watched call wait asked f stripes store told reply is asks cause says = tt
+spares_undone (Calls wanted done faulty) watched call wait asked f stripes store told reply is asks cause says =
+    let same : wanted ≡ asked = some_is (sym (asked_of_call watched wanted) ∙ sym (ap asked_of is.0) ∙ asks) in
+    λ spares none. says ∙ ap (λ (x : Fault). line_reply (line.Faulty x)) (cause_spares f stripes asked store told cause (rw same at spares))
+spares_undone Never watched call wait asked f stripes store told reply is asks cause says = tt
+
+spares_forgot : (t : Turn) (watched : List Bytes) (call : Call) (wait : Wait) (store : Store) (reply : Reply) → IsAsked t watched call wait → asked_of call ≡ None
+    → Spares t store [] reply
+spares_forgot (Says said then) watched call wait store reply is asks = tt
+spares_forgot (Forgets said then) watched call wait store reply is asks = tt
+spares_forgot (Tries said done faulty) watched call wait store reply is asks = tt
+spares_forgot (Calls wanted done faulty) watched call wait store reply is asks =
+    absurd (cc (sym (asked_of_call watched wanted) ∙ sym (ap asked_of is.0) ∙ asks))
+spares_forgot Never watched call wait store reply is asks = tt
+
+-- a turn that says a reply at once
+pub turned_said : (was : Knowledge) (old new : Progress) (reply : Reply) → Attends was old → TakesUp old (next.Says reply) new → Turned was was old new reply
+turned_said was old new reply attends up = record {
+  own = [];
+  went = went_none was;
+  answers = answers_said was.number was.watched old new reply attends.watches up;
+  spared = (up.0, up.1, spares_said (turn_at old.stage up.0) (watched_of old.stage) (after was.seen) reply up.2.0 up.2.2);
+}
+
+-- a turn that says that there was no memory
+pub turned_want : (was : Knowledge) (old new : Progress) (reply : Reply) → Attends was old → TakesUp old next.SaysOutOfMemory new
+    → reply ≡ line_reply (line.Faulty fault.OutOfMemory) → Turned was was old new reply
+turned_want was old new reply attends up is = record {
+  own = [];
+  went = went_none was;
+  answers = rw is (answers_want was.number was.watched old new attends.watches up);
+  spared = (up.0, up.1, spares_want (turn_at old.stage up.0) (watched_of old.stage) (after was.seen) reply up.2.0 up.2.2);
+}
+
+-- what a session that waits says to a fault
+says_fault : (stage new : Stage) (f : Fault) (asked : Asked) (call : Call) (t : Turn) (watched : List Bytes) (wait : Wait) (reply : Reply)
+    → stage ≡ Stage.Called wait → IsAsked t watched call wait → asked_of call ≡ Some asked → Resumes stage (answer.Fault f) reply new
+    → reply ≡ line_reply (line.Faulty f)
+says_fault (Stage.Ready s) new f asked call t watched wait reply stands is asks resumes = absurd resumes
+says_fault Stage.Stepping new f asked call t watched wait reply stands is asks resumes = absurd resumes
+says_fault (Stage.Called w) new f asked call (Says said then) watched wait reply stands is asks resumes = absurd is
+says_fault (Stage.Called w) new f asked call (Tries said done faulty) watched wait reply stands is asks resumes = absurd is
+says_fault (Stage.Called w) new f asked call Never watched wait reply stands is asks resumes = absurd is
+says_fault (Stage.Called w) new f asked call (Forgets said then) watched wait reply stands is asks resumes = absurd (cc (sym (ap asked_of is.1) ∙ asks))
+says_fault (Stage.Called w) new f asked call (Calls wanted done faulty) watched wait reply stands is asks resumes =
+    let same : w ≡ wait = cc stands in
+    (rw (same, is.1) at resumes.2).0
+
+-- a turn whose call was answered with a reply
+turned_done : (was now : Knowledge) (stripes : List ℕ) (call : Call) (given reply : Reply) (old called new : Progress) (a : Option Asked)
+    → WatchesPairsOfEntry → Attends was old → TakesUp old (next.Calls call) called → asked_of call ≡ a → IsDone stripes a given was now
+    → new.unread ≡ called.unread → Resumes called.stage (answer.Reply given) reply new.stage → Turned was now old new reply
+turned_done was now stripes call given reply old called new None law attends up asks done unread resumes = record {
+  own = [];
+  went = record { number = done.number; more = done.others; seen = done.seen; mine = done.mine };
+  answers = rw done.watched (answers_forgot was.number was.watched old called new call (answer.Reply given) reply attends.watches up asks unread resumes);
+  spared = (
+    up.0,
+    taken_still _ up.0 _ _ up.1 unread,
+    spares_forgot (turn_at old.stage up.0) (watched_of old.stage) call up.2.0 (after now.seen) reply up.2.2 asks,
+  );
+}
+turned_done was now stripes call given reply old called new (Some asked) law attends up asks done unread resumes = record {
+  own = (length (done.others ++ was.seen), entry_of was asked given) ∷ [];
+  went = record { number = done.number; more = entry_of was asked given ∷ done.others; seen = done.seen; mine = done.mine };
+  answers =
+      rw done.watched
+      (answers_done was.number was.watched old called new call asked given reply (length (done.others ++ was.seen)) law attends.watches up asks unread resumes);
+  spared = (up.0, taken_still _ up.0 _ _ up.1 unread, spares_done (turn_at old.stage up.0) (after now.seen) _ reply);
+}
+
+-- a turn whose call was answered with a fault
+turned_undone : (was now : Knowledge) (stripes : List ℕ) (call : Call) (f : Fault) (reply : Reply) (old called new : Progress) (a : Option Asked)
+    → WatchesPairsOfFault → Attends was old → TakesUp old (next.Calls call) called → asked_of call ≡ a → IsUndone stripes a f was now
+    → new.unread ≡ called.unread → Resumes called.stage (answer.Fault f) reply new.stage → Turned was now old new reply
+turned_undone was now stripes call f reply old called new None law attends up asks undone unread resumes = absurd undone
+turned_undone was now stripes call f reply old called new (Some asked) law attends up asks undone unread resumes = record {
+  own = [];
+  went = record { number = undone.number; more = undone.others; seen = undone.seen; mine = undone.mine };
+  answers =
+      rw undone.watched (answers_undone was.number was.watched old called new call asked f reply law attends.watches up asks unread resumes);
+  spared = (
+    up.0,
+    taken_still _ up.0 _ _ up.1 unread,
+    spares_undone (turn_at old.stage up.0) (watched_of old.stage) call up.2.0 asked f stripes (after now.seen) undone.told reply up.2.2 asks undone.cause
+        (says_fault called.stage new.stage f asked call (turn_at old.stage up.0) (watched_of old.stage) up.2.0 reply up.2.1 up.2.2 asks resumes),
+  );
+}
+
+-- a turn whose call was answered
+pub turned_called : (was now : Knowledge) (stripes : List ℕ) (call : Call) (a : Answer) (reply : Reply) (old called new : Progress)
+    → WatchesPairsOfEntry → WatchesPairsOfFault → Attends was old → TakesUp old (next.Calls call) called
+    → IfReply a (λ given. IsDone stripes (asked_of call) given was now) → IfFault a (λ f. IsUndone stripes (asked_of call) f was now)
+    → new.unread ≡ called.unread → Resumes called.stage a reply new.stage → Turned was now old new reply
+turned_called was now stripes call (answer.Reply given) reply old called new entry law attends up done undone unread resumes =
+    turned_done was now stripes call given reply old called new (asked_of call) entry attends up refl done unread resumes
+turned_called was now stripes call (answer.Fault f) reply old called new entry law attends up done undone unread resumes =
+    turned_undone was now stripes call f reply old called new (asked_of call) law attends up refl undone unread resumes
+
+-- after a turn the client watches what its pass does
+pub attends_turned : (was now : Knowledge) (old new : Progress) (reply : Reply) → Turned was now old new reply → Attends now new
+attends_turned was now old new reply turned = record { ready = turned.answers.ready; watches = turned.answers.watches }
+
+-- a client that found no memory asked for some
+pub wants_memory : (old new : Progress) (words : List Bytes) (rest : Bytes) → TakesOff old.unread words rest
+    → ((¬ FitInline words) × (new ≡ old)) ⊎ ((¬ commands.AsksNoMemory (command_of words)) × (new ≡ record old { unread = rest }))
+    → WantsMemory old.unread
+wants_memory old new words rest taken (inl one) = (words, rest, taken, inl one.0)
+wants_memory old new words rest taken (inr one) = (words, rest, taken, inr one.0)

@@ -1,0 +1,22 @@
+use Rattle.std.proofs.Common.{◌≡◌, ℕ, List, ◌++◌, length}
+use Rattle.std.specs.Io.KnownBytes.{Appends}
+use Rattle.gates.specs.declared.view.Knowledge.{Knowledge}
+use Rattle.engine.specs.Passes.{knows, Rests}
+use Rattle.streams.specs.Streams.{stream_of, told_of}
+use Rattle.connection.specs.Served.{Attends, Conversing}
+use Rattle.connection.proofs.answering.answer_all.Given as goal
+
+abbrev pub invariant-loop-reply : goal.invariant-loop-reply
+invariant-loop-reply g l = record {
+  talk :
+      (was : Knowledge) (fed before : List ℕ)
+      → Conversing was (knows l.initial.pass) fed l.initial.client (before ++ l.initial.out.items)
+      → (sent : List ℕ) × Appends (g.W.Write.contents (stream_of l.initial.writer)) (g.W.Write.contents (stream_of l.writer)) sent
+      × Conversing was (knows l.pass) fed l.client ((before ++ sent) ++ l.out.items);
+  told : told_of l.writer ≡ told_of l.initial.writer;
+  rests : Rests l.initial.engine l.pass;
+  attends : Attends (knows l.pass) l.client;
+}
+
+abbrev pub decreases-loop-reply : goal.decreases-loop-reply
+decreases-loop-reply g l = length (l.client).unread

@@ -1,0 +1,179 @@
+//! The answering of what a client was fed: its requests are put to the engine, one after the other, and
+//! their replies are said.
+
+ghost use Rattle.std.specs.Prelude.{◌≡◌, ℕ, [], ◌++◌, List};
+ghost use Rattle.streams.specs.Streams.{stream_of, told_of};
+ghost use Rattle.gates.specs.declared.view.Knowledge.{Knowledge};
+ghost use Rattle.engine.specs.Passes.{knows, Rests};
+ghost use Rattle.connection.specs.Served.{HasTurned, IsDue, Attends, Conversing, HasPaused, StandsAt, paused_told, HasAnswered, GoesOn, EndsAnswering, answered_told};
+ghost use Rattle.std.specs.Io.KnownBytes.{Appends};
+
+use crate::client::{Client, Next};
+use crate::output::{flush, say};
+use crate::serving::Ended;
+use engine::{Engine, Pass};
+use gates::Latch;
+use session::watches_follow_entries;
+use std::io::Write;
+use std::sync::Wait;
+use streams::Noted;
+use words::reply::{Fault, Line, ProtocolFault, Reply};
+
+/// What the next turn of a client comes to.
+#[derive(Debug, Drop)]
+pub(crate) enum Due {
+    /// A request is answered with this reply.
+    Reply(Reply),
+    /// No whole request is left.
+    Input,
+    /// The bytes that are left begin with a fault.
+    Malformed(ProtocolFault),
+    /// There was no memory for the next request.
+    NoMemory,
+    /// The session has ended.
+    Closed,
+}
+
+/// Answers the client's next request, if there is a whole one.
+fn answer_next<T: Wait, L: Latch>(
+    rt: &T,
+    latch: &L,
+    client: &mut Client,
+    engine: &Engine,
+    pass: &mut Pass,
+) -> Due
+    requires rests { Rests engine.now pass.old }
+    requires attends { Attends (knows pass.old) client.old }
+    ensures turned { HasTurned client.old result client.new }
+    ensures due { IsDue (knows pass.old) (knows pass.new) client.old result client.new }
+    ensures rests { Rests engine.now pass.new }
+    ensures attends { Attends (knows pass.new) client.new }
+{
+    match client.next() {
+        Next::Input => Due::Input,
+        Next::Says(reply) => Due::Reply(reply),
+        Next::SaysOutOfMemory => Due::Reply(Reply::line(Line::Faulty(Fault::OutOfMemory))),
+        Next::Calls(call) => {
+            watches_follow_entries();
+            let answer = engine.submit_with(rt, pass, call, latch);
+            Due::Reply(client.resume(answer))
+        }
+        Next::Malformed(fault) => Due::Malformed(fault),
+        Next::OutOfMemory => Due::NoMemory,
+        Next::Closed => Due::Closed,
+    }
+}
+
+/// Where the answering of what a client was fed pauses.
+#[derive(Debug, Drop)]
+pub(crate) enum Paused {
+    /// No whole request is left.
+    Input,
+    /// The bytes that are left begin with a fault. Its line is not said yet.
+    Malformed(ProtocolFault),
+    /// There was no memory for the next request.
+    NoMemory,
+    /// A write failed.
+    WriteFailed,
+    /// The session has ended.
+    Closed,
+}
+
+/// Answers all whole requests that the client was fed. The replies go into the output buffer, and to
+/// the writer where it is full.
+fn answer_all<T: Wait, L: Latch, W: Write>(
+    rt: &T,
+    latch: &L,
+    client: &mut Client,
+    out: &mut Vec<u8>,
+    writer: &mut Noted<W>,
+    engine: &Engine,
+    pass: &mut Pass,
+) -> Paused
+    requires rests { Rests engine.now pass.old }
+    requires attends { Attends (knows pass.old) client.old }
+    ensures paused { (was : Knowledge) (fed before : List ℕ)
+        → Conversing was (knows pass.old) fed client.old (before ++ out.old.items)
+        → (sent : List ℕ)
+        × Appends (W.contents (stream_of writer.old)) (W.contents (stream_of writer.new)) sent
+        × HasPaused was (knows pass.new) fed result client.new (before ++ sent) out.new.items }
+    ensures stands { StandsAt result client.new }
+    ensures told { told_of writer.new ≡ paused_told result (told_of writer.old) }
+    ensures rests { Rests engine.now pass.new }
+    ensures attends { Attends (knows pass.new) client.new }
+{
+    loop {
+        let reply = match answer_next(rt, latch, client, engine, pass) {
+            Due::Reply(reply) => reply,
+            Due::Input => return Paused::Input,
+            Due::Malformed(fault) => return Paused::Malformed(fault),
+            Due::NoMemory => return Paused::NoMemory,
+            Due::Closed => return Paused::Closed,
+        };
+        let said = say(&reply, out, writer);
+        drop(reply);
+        if let Err(_) = said {
+            return Paused::WriteFailed;
+        }
+    }
+}
+
+/// Answers all whole requests that the client was fed, and writes the replies. `None` where the
+/// connection goes on.
+pub(crate) fn answer_piece<T: Wait, L: Latch, W: Write>(
+    rt: &T,
+    latch: &L,
+    client: &mut Client,
+    out: &mut Vec<u8>,
+    writer: &mut Noted<W>,
+    engine: &Engine,
+    pass: &mut Pass,
+) -> Option<Ended>
+    requires rests { Rests engine.now pass.old }
+    requires attends { Attends (knows pass.old) client.old }
+    requires empty { out.old.items ≡ [] }
+    ensures answered { (was : Knowledge) (fed before : List ℕ)
+        → Conversing was (knows pass.old) fed client.old before
+        → (sent : List ℕ)
+        × Appends (W.contents (stream_of writer.old)) (W.contents (stream_of writer.new)) sent
+        × HasAnswered was (knows pass.new) fed result client.new (before ++ sent) }
+    ensures goes_on { GoesOn result client.new out.new.items }
+    ensures ends { EndsAnswering result }
+    ensures told { told_of writer.new ≡ answered_told result (told_of writer.old) }
+    ensures rests { Rests engine.now pass.new }
+    ensures attends { Attends (knows pass.new) client.new }
+{
+    match answer_all(rt, latch, client, out, writer, engine, pass) {
+        Paused::Input => {
+            if let Err(_) = flush(out, writer) {
+                return Some(Ended::WriteFailed);
+            }
+            None
+        }
+        Paused::Malformed(fault) => {
+            let line = Reply::line(Line::Malformed(fault));
+            let said = say(&line, out, writer);
+            drop(line);
+            if let Err(_) = said {
+                return Some(Ended::WriteFailed);
+            }
+            if let Err(_) = flush(out, writer) {
+                return Some(Ended::WriteFailed);
+            }
+            Some(Ended::ProtocolFault)
+        }
+        Paused::NoMemory => {
+            if let Err(_) = flush(out, writer) {
+                return Some(Ended::WriteFailed);
+            }
+            Some(Ended::NoMemory)
+        }
+        Paused::Closed => {
+            if let Err(_) = flush(out, writer) {
+                return Some(Ended::WriteFailed);
+            }
+            Some(Ended::Quit)
+        }
+        Paused::WriteFailed => Some(Ended::WriteFailed),
+    }
+}

@@ -1,0 +1,51 @@
+//! What is written for a client: replies are put into an output buffer, and sent with one write where they
+//! fit.
+
+ghost use Rattle.std.specs.Prelude.{◌≡◌, [], OnOk, is_ok};
+ghost use Rattle.words.specs.Encoding.{encoding};
+ghost use Rattle.streams.specs.Streams.{IsSent, IsPut, stream_of, told_of, told_when};
+
+use resp_write::{encode_within, send};
+use std::io::Write;
+use streams::{Noted, WriteFault};
+use words::reply::Reply;
+
+/// Writes what the output buffer holds, and empties it.
+pub(crate) fn flush<W: Write>(out: &mut Vec<u8>, writer: &mut Noted<W>) -> Result<(), WriteFault>
+    ensures sent { IsSent (W.contents (stream_of writer.old)) (W.contents (stream_of writer.new))
+        result out.old.items }
+    ensures told { told_of writer.new ≡ told_when (is_ok result) (told_of writer.old) }
+    ensures empty { OnOk result (out.new.items ≡ []) }
+{
+    if let Err(fault) = writer.write_all(out.as_slice()) {
+        return Err(fault);
+    }
+    if let Err(fault) = writer.flush() {
+        return Err(fault);
+    }
+    out.clear();
+    Ok(())
+}
+
+/// Says a reply: it goes into the output buffer where there is room, else to the writer, after what
+/// the buffer holds. It takes no memory.
+pub(crate) fn say<W: Write>(
+    reply: &Reply,
+    out: &mut Vec<u8>,
+    writer: &mut Noted<W>,
+) -> Result<(), WriteFault>
+    ensures put { IsPut (W.contents (stream_of writer.old)) (W.contents (stream_of writer.new))
+        out.old.items out.new.items result (encoding reply.now) }
+    ensures told { told_of writer.new ≡ told_when (is_ok result) (told_of writer.old) }
+{
+    if encode_within(reply, out) {
+        return Ok(());
+    }
+    if let Err(fault) = flush(out, writer) {
+        return Err(fault);
+    }
+    if encode_within(reply, out) {
+        return Ok(());
+    }
+    send(reply, writer)
+}

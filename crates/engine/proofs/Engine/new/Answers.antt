@@ -1,0 +1,10 @@
+use Rattle.std.proofs.Common.{◌≡◌, ◌∙◌, ◌+◌, ap, arith, rules}
+use Rattle.gates.specs.Plays.{newcomer}
+use Rattle.engine.proofs.New.{new_at}
+use Rattle.engine.proofs.Engine.new.Goals as goal
+
+pub returns-clause-passes : goal.returns-clause-passes
+returns-clause-passes c = λ place other below.
+    let at = new_at c.in_ok-gates.gates 0 c.in_ok-gates.passes.items place other c.in_ok-gates.ensures.passes (search (rules, below)) in
+    let same : place + 0 ≡ place = omega arith in
+    record { rests = at.0; nothing = at.1 ∙ ap newcomer same }

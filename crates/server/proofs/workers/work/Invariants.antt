@@ -1,0 +1,9 @@
+use Rattle.std.proofs.Common.{◌≡◌, []}
+use Rattle.engine.specs.Passes.{knows, Rests}
+use Rattle.server.proofs.workers.work.Given as goal
+
+abbrev pub invariant-loop : goal.invariant-loop
+invariant-loop g l = record {
+  rests : Rests l.fn.engine l.pass;
+  watches : (knows l.pass).watched ≡ [];
+}

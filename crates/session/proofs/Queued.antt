@@ -1,0 +1,9 @@
+-- Commands that are queued.
+use Rattle.std.proofs.Common.{List, [], ◌∷◌, ◌++◌}
+use Rattle.words.specs.declared.command.Command.{Command}
+use Rattle.words.specs.Commands.{MayBeQueued}
+use Rattle.words.specs.History.{MayAllBeQueued}
+
+pub one_more : (queue : List Command) (command : Command) → MayAllBeQueued queue → MayBeQueued command → MayAllBeQueued (queue ++ command ∷ [])
+one_more [] command all one = (one, tt)
+one_more (first ∷ queue) command all one = (all.0, one_more queue command all.1 one)

@@ -1,0 +1,5 @@
+pub mod Transactions
+pub mod Standings
+pub mod Steps
+pub mod Sizes
+pub mod Laws

@@ -1,0 +1,26 @@
+//! Sessions that wait for an answer.
+
+use crate::modes::{Called, Idle, Session, Then};
+use transact::call::Answer;
+use words::reply::{Line, Reply};
+
+impl Called {
+    ghost use Rattle.session.specs.Standings.{idle_of, wait_of, Resumes};
+
+    /// Takes the answer to the call: the reply that the session says to it, and the session after. It
+    /// takes no memory.
+    pub fn resume(self, answer: Answer) -> (Reply, Session<Idle>)
+        ensures { Resumes (wait_of self) answer result.0 (idle_of result.1) }
+    {
+        let Called { mut session, then } = self;
+        match (then, answer) {
+            (Then::Says(line), _) => (Reply::line(line), session),
+            (_, Answer::Reply(reply)) => (reply, session),
+            (Then::Answers, Answer::Fault(fault)) => (Reply::line(Line::Faulty(fault)), session),
+            (Then::AnswersOrTakesBack(count), Answer::Fault(fault)) => {
+                session.watching.take_back(count);
+                (Reply::line(Line::Faulty(fault)), session)
+            }
+        }
+    }
+}
