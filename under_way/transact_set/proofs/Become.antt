@@ -1,0 +1,149 @@
+-- What becomes of parts, by one change of one part, and by several.
+use Rattle.std.proofs.Common.{◌≡◌, ◌≢◌, ◌∙◌, ◌||◌, ℕ, Bool, true, false, List, [], ◌∷◌, ◌++◌, Option, Some, None, IsSome, cond, bytes_eq, sym, ap, subst, refl, eq-eqb, ne_eqb, ⊎_elim}
+use Rattle.std.specs.Map.{update}
+use Rattle.std.proofs.lemmas.Bool.{cases_eq}
+use Rattle.words.specs.Store.{Bytes, Store, Write, written, writes_key}
+use Rattle.words.specs.Watches.{touched}
+use Rattle.words.specs.Stripes.{stripe_of}
+use Rattle.gates.specs.Rule.{Meaning}
+use Rattle.transact.specs.declared.shard.Shard.{Shard}
+use Rattle.transact.specs.Shards.{HasPlace}
+use Rattle.transact.specs.Tables.{Change, touches, stays, AreThere, AllRead, PartBecame, Became, IsReady, AreReady, keys_written}
+use Rattle.transact.proofs.Stores.{apart, written_same, written-append, some_is, or_false, touch_two, touched_false}
+
+module _ {T : Type 0} (contents : Meaning T) (n : ℕ) where
+  -- one part changed
+  pub became_one : (i : ℕ) (writes : List Write) (change : Change) (before later : ℕ → Option T) (old new : T)
+      → before i ≡ Some old → later i ≡ Some new → ((j : ℕ) → j ≢ i → later j ≡ before j)
+      → PartBecame contents n i writes change old new
+      → ((key : Bytes) (store : Store) → stripe_of n key ≢ i → written store writes key ≡ store key)
+      → ((key : Bytes) (number : ℕ) (m : Option Bool) → stripe_of n key ≢ i → change key number m ≡ m)
+      → Became contents n writes change before later
+  became_one i writes change before later old new was is others part leaves leaves_marks = record {
+    there = λ j some. ⊎_elim (λ same. subst (λ (k : ℕ). IsSome (later k)) (sym same) (subst IsSome (sym is) refl)) (λ ne. subst IsSome (sym (others j ne)) some) (cases_eq j i);
+    was = λ j q e. ⊎_elim
+        (λ same.
+        let q_is : new ≡ q = some_is new q (later i) is (ap later (sym same) ∙ e) in
+        (old, ap before same ∙ was, subst (λ (k : ℕ). PartBecame contents n k writes change old q) (sym same) (subst (PartBecame contents n i writes change old) q_is part)))
+        (λ ne. (
+          q,
+          sym (others j ne) ∙ e,
+          record {
+            here = λ key at. sym (leaves key (contents.store q) (λ x. ne (sym at ∙ x)));
+            away = λ key at. refl;
+            marks = λ key number at. sym (leaves_marks key number (contents.marks q key number) (λ x. ne (sym at ∙ x)));
+          },
+        ))
+        (cases_eq j i);
+  }
+
+  -- nothing changed, by a change that leaves marks
+  pub became_none : (change : Change) (before later : ℕ → Option T) → ((key : Bytes) (number : ℕ) (m : Option Bool) → change key number m ≡ m)
+      → ((j : ℕ) → later j ≡ before j) → Became contents n [] change before later
+  became_none change before later leaves same = record {
+    there = λ j some. subst IsSome (sym (same j)) some;
+    was = λ j q e. (q, sym (same j) ∙ e, record { here = λ key at. refl; away = λ key at. refl; marks = λ key number at. sym (leaves key number (contents.marks q key number)) });
+  }
+
+  -- nothing changed
+  pub became_same : (before later : ℕ → Option T) → later ≡ before → Became contents n [] stays before later
+  became_same before later same = became_none stays before later (λ key number m. refl) (λ j. ap (λ (p : ℕ → Option T). p j) same)
+
+  -- one after the other
+  pub became_both : (ws vs : List Write) (f g h : Change) (a b c : ℕ → Option T) → ((key : Bytes) (number : ℕ) (m : Option Bool) → g key number (f key number m) ≡ h key number m)
+      → Became contents n ws f a b → Became contents n vs g b c → Became contents n (ws ++ vs) h a c
+  became_both ws vs f g h a b c marks one two = record {
+    there = λ j some. two.there j (one.there j some);
+    was = λ j q e.
+        let second = two.was j q e in
+        let first = one.was j second.0 second.1 in (
+          first.0,
+          first.1,
+          record {
+            here = λ key at. second.2.here key at ∙ written_same vs (contents.store second.0) (written (contents.store first.0) ws) key (first.2.here key at)
+                ∙ sym (ap (λ s. s key) (written-append ws vs (contents.store first.0)));
+            away = λ key at. second.2.away key at ∙ first.2.away key at;
+            marks = λ key number at. second.2.marks key number at ∙ ap (g key number) (first.2.marks key number at) ∙ marks key number (contents.marks first.0 key number);
+          },
+        );
+  }
+
+  -- nothing changed meaning, twice
+  pub became_twice : (a b c : ℕ → Option T) → Became contents n [] stays a b → Became contents n [] stays b c → Became contents n [] stays a c
+  became_twice a b c = became_both [] [] stays stays stays a b c (λ key number m. refl)
+
+  pub became_touches : (w : Write) (ws : List Write) (a b c : ℕ → Option T)
+      → Became contents n (w ∷ []) (touches (w ∷ [])) a b → Became contents n ws (touches ws) b c → Became contents n (w ∷ ws) (touches (w ∷ ws)) a c
+  became_touches w ws a b c = became_both (w ∷ []) ws (touches (w ∷ [])) (touches ws) (touches (w ∷ ws)) a b c
+      (λ key number m. touch_two (bytes_eq w.0 key || false) (writes_key ws key) m ∙ ap (λ x. touched (x || writes_key ws key) m) (or_false (bytes_eq w.0 key)))
+
+  -- no writes were made
+  pub became_unwritten : (a b : ℕ → Option T) → ((j : ℕ) → b j ≡ a j) → Became contents n [] (touches []) a b
+  became_unwritten a b = became_none (touches []) a b (λ key number m. touched_false m)
+
+  -- parts that read as their parts of a store do so after writes
+  pub became_read : (ws : List Write) (f : Change) (a b : ℕ → Option T) (whole : Store) → Became contents n ws f a b → AllRead contents n a whole → AllRead contents n b (written whole ws)
+  became_read ws f a b whole became reads i q e key =
+      let was = became.was i q e in
+      let before = reads i was.0 was.1 key in
+      ⊎_elim
+      (λ at. was.2.here key at
+      ∙ written_same ws (contents.store was.0) whole key (before ∙ ap (λ t. cond t (whole key) None) (eq-eqb (stripe_of n key) i at))
+      ∙ sym (ap (λ t. cond t (written whole ws key) None) (eq-eqb (stripe_of n key) i at)))
+      (λ ne. was.2.away key ne ∙ before ∙ ap (λ t. cond t (whole key) None) (ne_eqb (stripe_of n key) i ne)
+      ∙ sym (ap (λ t. cond t (written whole ws key) None) (ne_eqb (stripe_of n key) i ne)))
+      (cases_eq (stripe_of n key) i)
+
+  pub there_after : (keys : List Bytes) (a b : ℕ → Option T) → ((i : ℕ) → IsSome (a i) → IsSome (b i)) → AreThere n a keys → AreThere n b keys
+  there_after [] a b all there = tt
+  there_after (key ∷ keys) a b all there = (all (stripe_of n key) there.0, there_after keys a b all there.1)
+
+-- a write leaves the keys of other stripes
+pub write_leaves : (n i : ℕ) (w : Write) → stripe_of n w.0 ≡ i → (key : Bytes) (store : Store) → stripe_of n key ≢ i → written store (w ∷ []) key ≡ store key
+write_leaves n i w at key store ne = ap (λ t. cond t w.1 (store key)) (apart w.0 key (λ e. ne (ap (stripe_of n) (sym e) ∙ at)))
+
+pub touch_leaves : (n i : ℕ) (w : Write) → stripe_of n w.0 ≡ i → (key : Bytes) (number : ℕ) (m : Option Bool) → stripe_of n key ≢ i → touches (w ∷ []) key number m ≡ m
+touch_leaves n i w at key number m ne = ap (λ t. touched (t || false) m) (apart w.0 key (λ e. ne (ap (stripe_of n) (sym e) ∙ at))) ∙ touched_false m
+
+pub ready_after : (n : ℕ) (ws : List Write) (a b : ℕ → Option Shard) → ((key : Bytes) → IsReady n a key → IsReady n b key) → AreReady n a ws → AreReady n b ws
+ready_after n [] a b all ready = tt
+ready_after n (w ∷ ws) a b all ready = (all w.0 ready.0, ready_after n ws a b all ready.1)
+
+-- where there are places, there are parts
+pub ready_there : (n : ℕ) (ws : List Write) (a : ℕ → Option Shard) → AreReady n a ws → AreThere n a (keys_written ws)
+ready_there n [] a ready = tt
+ready_there n (w ∷ ws) a ready = (subst IsSome (sym ready.0.1) refl, ready_there n ws a ready.1)
+
+-- places stay where one part keeps its places
+pub ready_one : (n i : ℕ) (before later : ℕ → Option Shard) (old new : Shard) → before i ≡ Some old → later i ≡ Some new → ((j : ℕ) → j ≢ i → later j ≡ before j)
+    → ((k : Bytes) → HasPlace old k → HasPlace new k) → (k : Bytes) → IsReady n before k → IsReady n later k
+ready_one n i before later old new was is others places k ready = ⊎_elim
+    (λ same. (new, ap later same ∙ is, places k (subst (λ (p : Shard). HasPlace p k) (some_is ready.0 old (before i) (ap before (sym same) ∙ ready.1) was) ready.2)))
+    (λ ne. (ready.0, others (stripe_of n k) ne ∙ ready.1, ready.2))
+    (cases_eq (stripe_of n k) i)
+
+-- one key was written
+pub wrote_one : {T : Type 0} (contents : Meaning T) (n i : ℕ) (w : Write) (before later : ℕ → Option T) (old new : T)
+    → before i ≡ Some old → later i ≡ Some new → ((j : ℕ) → j ≢ i → later j ≡ before j) → stripe_of n w.0 ≡ i
+    → ((k : Bytes) → contents.store new k ≡ update bytes_eq (contents.store old) w.0 w.1 k)
+    → ((k : Bytes) (number : ℕ) → contents.marks new k number ≡ touched (bytes_eq w.0 k) (contents.marks old k number))
+    → Became contents n (w ∷ []) (touches (w ∷ [])) before later
+wrote_one contents n i w before later old new was is others at value marks =
+    became_one contents n i (w ∷ []) (touches (w ∷ [])) before later old new was is others
+    record {
+      here = λ key here. value key;
+      away = λ key ne. value key ∙ write_leaves n i w at key (contents.store old) ne;
+      marks = λ key number here. marks key number ∙ sym (ap (λ b. touched b (contents.marks old key number)) (or_false (bytes_eq w.0 key)));
+    }
+    (write_leaves n i w at) (touch_leaves n i w at)
+
+-- one part has other bytes, and the same meaning
+pub same_one : {T : Type 0} (contents : Meaning T) (n i : ℕ) (before later : ℕ → Option T) (old new : T)
+    → before i ≡ Some old → later i ≡ Some new → ((j : ℕ) → j ≢ i → later j ≡ before j)
+    → ((k : Bytes) → contents.store new k ≡ contents.store old k)
+    → ((k : Bytes) (number : ℕ) → contents.marks new k number ≡ contents.marks old k number)
+    → Became contents n [] stays before later
+same_one contents n i before later old new was is others value marks =
+    became_one contents n i [] stays before later old new was is others
+    record { here = λ key here. value key; away = λ key ne. value key; marks = λ key number here. marks key number }
+    (λ key store ne. refl) (λ key number m ne. refl)

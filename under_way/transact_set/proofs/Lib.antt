@@ -1,0 +1,12 @@
+pub mod Watched
+pub mod Shards
+pub mod Stores
+pub mod Become
+pub mod Keys
+pub mod Begun
+pub mod Plans
+pub mod Installed
+pub mod Fit
+pub mod Submits
+pub mod Memory
+pub mod Sets

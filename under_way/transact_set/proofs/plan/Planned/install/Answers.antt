@@ -1,0 +1,16 @@
+use Rattle.std.proofs.Common.{ℕ, Option}
+use Rattle.transact.specs.declared.shard.Shard.{Shard}
+use Rattle.transact.specs.Shards.{shard_meaning}
+use Rattle.transact.specs.Plans.{keys_ended}
+use Rattle.transact.proofs.Become.{there_after}
+use Rattle.transact.proofs.Begun.{touched_cleared}
+use Rattle.transact.proofs.plan.Planned.install.Goals as goal
+
+pub end_watches-requires-clause-there : goal.end_watches-requires-clause-there
+end_watches-requires-clause-there g c =
+    there_after shard_meaning c.args.stripes (keys_ended c.args.call.now) (g.P.Parts.part_of c.args.parts.now) (g.P.Parts.part_of c.make_writes.new.parts) c.make_writes.ensures.became.there c.requires.there
+
+pub returns-clause-became : goal.returns-clause-became
+returns-clause-became g c =
+    touched_cleared shard_meaning c.args.stripes c.args.seat c.args.self.writes (keys_ended c.args.call.now)
+    (g.P.Parts.part_of c.args.parts.now) (g.P.Parts.part_of c.make_writes.new.parts) (g.P.Parts.part_of c.end_watches.new.parts) c.make_writes.ensures.became c.end_watches.ensures.became

@@ -1,0 +1,27 @@
+use Rattle.std.proofs.Common.{ℕ, List, [], ◌∷◌, Option, sym, subst, rules}
+use Rattle.words.specs.Store.{Bytes}
+use Rattle.transact.specs.declared.shard.Shard.{Shard}
+use Rattle.transact.specs.Shards.{shard_meaning}
+use Rattle.transact.specs.Tables.{AreThere, Became, clears}
+use Rattle.transact.proofs.Become.{there_after}
+use Rattle.transact.proofs.Begun.{cleared_more}
+use Rattle.transact.proofs.watches.+clear_all.Goals as goal
+
+pub clear_all-requires : goal.clear_all-requires
+clear_all-requires g t c κs within =
+    let n : ℕ = c.args.stripes in
+    let before : ℕ → Option Shard = g.P.Parts.part_of c.args.parts.now in
+    let later : ℕ → Option Shard = g.P.Parts.part_of c.clear.new.parts in
+    let all : AreThere n before (c.in-Some.key.now ∷ c.in-Some.others.now) = subst (AreThere n before) c.in-Some.ensures.cases.0 c.requires.there in
+    let rest : AreThere n later c.in-Some.others.now = there_after shard_meaning n c.in-Some.others.now before later c.clear.ensures.became.there all.1 in
+    search (rules, rest)
+
+pub returns-in-Some-clause-became : goal.returns-in-Some-clause-became
+returns-in-Some-clause-became g t c =
+    let n : ℕ = c.args.stripes in
+    let own : ℕ = c.args.seat in
+    let a : ℕ → Option Shard = g.P.Parts.part_of c.args.parts.now in
+    let b : ℕ → Option Shard = g.P.Parts.part_of c.clear.new.parts in
+    let d : ℕ → Option Shard = g.P.Parts.part_of c.clear_all.new.parts in
+    subst (λ (l : List Bytes). Became shard_meaning n [] (clears own l) a d) (sym c.in-Some.ensures.cases.0)
+    (cleared_more shard_meaning n own c.in-Some.key.now c.in-Some.others.now a b d c.clear.ensures.became c.clear_all.ensures.became)

@@ -1,0 +1,7 @@
+pub mod Calls
+pub mod Shards
+pub mod Tables
+pub mod Plans
+pub mod Plain
+pub mod Submits
+pub mod Memory

@@ -1,0 +1,133 @@
+//! One key of the parts that are held.
+
+ghost use Rattle.std.specs.Prelude.{◌≡◌, ◌≤◌, ℕ, List, [], ◌∷◌, None, IsSome, Some, IfOk, OnOk, OnErr, IsOk, is_none, length, unwrap_or, false};
+ghost use Rattle.words.specs.declared.word.TheConstants.{WORD_INLINE};
+ghost use Rattle.words.specs.Stripes as striping;
+ghost use Rattle.transact.specs.Shards.{shard_meaning};
+ghost use Rattle.transact.specs.Tables.{Became, IsReady, begins, clears, joined, joined_marks, stays, touches};
+
+use crate::shard::Shard;
+use gates::Parts;
+use words::hash::stripe_of;
+use words::word::{OutOfMemory, Word};
+
+/// A copy of the value of a key. It takes memory only for a value that is not held inline.
+pub(crate) fn value_of<P: Parts<Shard>>(
+    parts: &mut P,
+    stripes: usize,
+    key: &Word,
+) -> Result<Option<Word>, OutOfMemory>
+    requires open { P.is_open parts.old }
+    requires some { 1 ≤ stripes }
+    requires there { IsSome (P.part_of parts.old (striping.stripe_of stripes key.now)) }
+    ensures value { IfOk result (λ value. value ≡ joined shard_meaning stripes (P.part_of parts.old) key.now) }
+    ensures memory { length (unwrap_or (joined shard_meaning stripes (P.part_of parts.old) key.now) []) ≤ WORD_INLINE → IsOk result }
+    ensures same { P.part_of parts.new ≡ P.part_of parts.old }
+    ensures open { P.is_open parts.new }
+    ensures keeps { P.keeps parts.old parts.new }
+{
+    let stripe = stripe_of(key.as_slice(), stripes);
+    match parts.part(stripe).value(key) {
+        Some(value) => Ok(Some(value.clone()?)),
+        None => Ok(None),
+    }
+}
+
+/// Whether the mark that a session has of a key says that the key was written.
+pub(crate) fn is_marked<P: Parts<Shard>>(
+    parts: &mut P,
+    stripes: usize,
+    seat: u64,
+    key: &Word,
+) -> bool
+    requires open { P.is_open parts.old }
+    requires some { 1 ≤ stripes }
+    requires there { IsSome (P.part_of parts.old (striping.stripe_of stripes key.now)) }
+    ensures mark { result ≡ unwrap_or (joined_marks shard_meaning stripes (P.part_of parts.old) key.now seat) false }
+    ensures same { P.part_of parts.new ≡ P.part_of parts.old }
+    ensures open { P.is_open parts.new }
+    ensures keeps { P.keeps parts.old parts.new }
+{
+    let stripe = stripe_of(key.as_slice(), stripes);
+    parts.part(stripe).mark(key, seat).unwrap_or(false)
+}
+
+/// Makes a place for a key. All values stay. It takes no memory for a key that has a value.
+pub(crate) fn make_place<P: Parts<Shard>>(
+    parts: &mut P,
+    stripes: usize,
+    key: &Word,
+) -> Result<(), OutOfMemory>
+    requires open { P.is_open parts.old }
+    requires some { 1 ≤ stripes }
+    requires there { IsSome (P.part_of parts.old (striping.stripe_of stripes key.now)) }
+    ensures became { Became shard_meaning stripes [] stays (P.part_of parts.old) (P.part_of parts.new) }
+    ensures ready { OnOk result (IsReady stripes (P.part_of parts.new) key.now) }
+    ensures memory { IsSome (joined shard_meaning stripes (P.part_of parts.old) key.now) → IsOk result }
+    ensures kept { (k : List ℕ) → IsReady stripes (P.part_of parts.old) k → IsReady stripes (P.part_of parts.new) k }
+    ensures open { P.is_open parts.new }
+    ensures keeps { P.keeps parts.old parts.new }
+{
+    let stripe = stripe_of(key.as_slice(), stripes);
+    parts.part(stripe).make_place(key)
+}
+
+/// Writes a key that has a place.
+pub(crate) fn write<P: Parts<Shard>>(parts: &mut P, stripes: usize, key: Word, value: Option<Word>)
+    requires open { P.is_open parts.old }
+    requires some { 1 ≤ stripes }
+    requires ready { IsReady stripes (P.part_of parts.old) key }
+    ensures became { Became shard_meaning stripes ((key, value) ∷ []) (touches ((key, value) ∷ [])) (P.part_of parts.old) (P.part_of parts.new) }
+    ensures kept { (k : List ℕ) → IsReady stripes (P.part_of parts.old) k → IsReady stripes (P.part_of parts.new) k }
+    ensures open { P.is_open parts.new }
+    ensures keeps { P.keeps parts.old parts.new }
+{
+    let stripe = stripe_of(key.as_slice(), stripes);
+    parts.part(stripe).write(key, value)
+}
+
+/// Deletes a key, with its place.
+pub(crate) fn delete<P: Parts<Shard>>(parts: &mut P, stripes: usize, key: &Word)
+    requires open { P.is_open parts.old }
+    requires some { 1 ≤ stripes }
+    requires there { IsSome (P.part_of parts.old (striping.stripe_of stripes key.now)) }
+    ensures became { Became shard_meaning stripes ((key.now, None) ∷ []) (touches ((key.now, None) ∷ [])) (P.part_of parts.old) (P.part_of parts.new) }
+    ensures open { P.is_open parts.new }
+    ensures keeps { P.keeps parts.old parts.new }
+{
+    let stripe = stripe_of(key.as_slice(), stripes);
+    parts.part(stripe).delete(key)
+}
+
+/// A session watches a key from here on. It answers whether it did not watch the key.
+pub(crate) fn begin<P: Parts<Shard>>(
+    parts: &mut P,
+    stripes: usize,
+    seat: u64,
+    key: &Word,
+) -> Result<bool, OutOfMemory>
+    requires open { P.is_open parts.old }
+    requires some { 1 ≤ stripes }
+    requires there { IsSome (P.part_of parts.old (striping.stripe_of stripes key.now)) }
+    ensures ok { OnOk result (Became shard_meaning stripes [] (begins seat (key.now ∷ [])) (P.part_of parts.old) (P.part_of parts.new)) }
+    ensures err { OnErr result (Became shard_meaning stripes [] stays (P.part_of parts.old) (P.part_of parts.new)) }
+    ensures begun { IfOk result (λ begun. begun ≡ is_none (joined_marks shard_meaning stripes (P.part_of parts.old) key.now seat)) }
+    ensures open { P.is_open parts.new }
+    ensures keeps { P.keeps parts.old parts.new }
+{
+    let stripe = stripe_of(key.as_slice(), stripes);
+    parts.part(stripe).begin(key, seat)
+}
+
+/// A session does not watch a key any more.
+pub(crate) fn clear<P: Parts<Shard>>(parts: &mut P, stripes: usize, seat: u64, key: &Word)
+    requires open { P.is_open parts.old }
+    requires some { 1 ≤ stripes }
+    requires there { IsSome (P.part_of parts.old (striping.stripe_of stripes key.now)) }
+    ensures became { Became shard_meaning stripes [] (clears seat (key.now ∷ [])) (P.part_of parts.old) (P.part_of parts.new) }
+    ensures open { P.is_open parts.new }
+    ensures keeps { P.keeps parts.old parts.new }
+{
+    let stripe = stripe_of(key.as_slice(), stripes);
+    parts.part(stripe).clear(key, seat)
+}

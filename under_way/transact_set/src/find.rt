@@ -1,0 +1,207 @@
+//! What is found of the keys that commands name.
+
+ghost use Rattle.std.specs.Prelude.{◌≡◌, ◌≤◌, ℕ, ◌++◌, ◌∷◌, [], length, take, IfOk, OnOk};
+ghost use Rattle.words.specs.Store.{empty, written};
+ghost use Rattle.words.specs.Answers.{answer, answers};
+ghost use Rattle.words.specs.Commands.{keys_of, keys_of_all};
+ghost use Rattle.strings.specs.Overlays.{shown};
+ghost use Rattle.transact.specs.Shards.{shard_meaning};
+ghost use Rattle.transact.specs.Tables.{AreThere, joined, values_of};
+
+use crate::cells::value_of;
+use crate::shard::Shard;
+use gates::Parts;
+use std::alloc::Global;
+use strings::found::Findings;
+use strings::keys::{key_at, key_count};
+use strings::overlay::Overlay;
+use strings::run::run;
+use strings::writes::{Write, Writes};
+use words::command::Command;
+use words::reply::CommandReply;
+use words::word::{OutOfMemory, Word};
+
+/// Finds the value of a key.
+fn find_key<P: Parts<Shard>>(
+    parts: &mut P,
+    stripes: usize,
+    key: &Word,
+    found: &mut Writes,
+) -> Result<(), OutOfMemory>
+    requires open { P.is_open parts.old }
+    requires some { 1 ≤ stripes }
+    requires there { AreThere stripes (P.part_of parts.old) (key.now ∷ []) }
+    ensures found { OnOk result (found.new ≡ found.old ++ values_of (joined shard_meaning stripes (P.part_of parts.old)) (key.now ∷ [])) }
+    ensures same { P.part_of parts.new ≡ P.part_of parts.old }
+    ensures open { P.is_open parts.new }
+    ensures keeps { P.keeps parts.old parts.new }
+{
+    let value = value_of(parts, stripes, key)?;
+    let key = key.clone()?;
+    found.push(Write::new(key, value))
+}
+
+/// Finds the values of the first `count` keys of a command.
+fn find_keys<P: Parts<Shard>>(
+    parts: &mut P,
+    stripes: usize,
+    command: &Command,
+    count: usize,
+    found: &mut Writes,
+) -> Result<(), OutOfMemory>
+    requires open { P.is_open parts.old }
+    requires some { 1 ≤ stripes }
+    requires most { count ≤ length (keys_of command.now) }
+    requires there { AreThere stripes (P.part_of parts.old) (keys_of command.now) }
+    ensures found { OnOk result (found.new ≡ found.old ++ values_of (joined shard_meaning stripes (P.part_of parts.old)) (take count (keys_of command.now))) }
+    ensures same { P.part_of parts.new ≡ P.part_of parts.old }
+    ensures open { P.is_open parts.new }
+    ensures keeps { P.keeps parts.old parts.new }
+{
+    if count == 0 {
+        return Ok(());
+    }
+    find_keys(parts, stripes, command, count - 1, found)?;
+    find_key(parts, stripes, key_at(command, count - 1), found)
+}
+
+/// Finds the values of a command's keys.
+pub(crate) fn find_command<P: Parts<Shard>>(
+    parts: &mut P,
+    stripes: usize,
+    command: &Command,
+    found: &mut Writes,
+) -> Result<(), OutOfMemory>
+    requires open { P.is_open parts.old }
+    requires some { 1 ≤ stripes }
+    requires there { AreThere stripes (P.part_of parts.old) (keys_of command.now) }
+    ensures found { OnOk result (found.new ≡ found.old ++ values_of (joined shard_meaning stripes (P.part_of parts.old)) (keys_of command.now)) }
+    ensures same { P.part_of parts.new ≡ P.part_of parts.old }
+    ensures open { P.is_open parts.new }
+    ensures keeps { P.keeps parts.old parts.new }
+{
+    find_keys(parts, stripes, command, key_count(command), found)
+}
+
+/// Finds the values of the keys of these commands.
+pub(crate) fn find_commands<P: Parts<Shard>>(
+    parts: &mut P,
+    stripes: usize,
+    commands: &[Command],
+    found: &mut Writes,
+) -> Result<(), OutOfMemory>
+    requires open { P.is_open parts.old }
+    requires some { 1 ≤ stripes }
+    requires there { AreThere stripes (P.part_of parts.old) (keys_of_all commands.now) }
+    ensures found { OnOk result (found.new ≡ found.old ++ values_of (joined shard_meaning stripes (P.part_of parts.old)) (keys_of_all commands.now)) }
+    ensures same { P.part_of parts.new ≡ P.part_of parts.old }
+    ensures open { P.is_open parts.new }
+    ensures keeps { P.keeps parts.old parts.new }
+{
+    let Some((command, others)) = commands.split_first() else {
+        return Ok(());
+    };
+    find_command(parts, stripes, command, found)?;
+    find_commands(parts, stripes, others, found)
+}
+
+/// Shows what was found.
+fn show<'a>(found: &'a [Write], shown: &mut Findings<'a>) -> Result<(), OutOfMemory>
+    ensures { OnOk result (shown.new ≡ shown.old ++ found.entry.now) }
+{
+    match found {
+        [] => Ok(()),
+        [first, others @ ..] => {
+            let value = match first.value() {
+                Some(value) => Some(value.as_slice()),
+                None => None,
+            };
+            shown.push(first.key().as_slice(), value)?;
+            show(others, shown)
+        }
+    }
+}
+
+/// What a command answers and writes, where this was found of its keys.
+pub(crate) fn answer_one(
+    alloc: Global,
+    found: &Writes,
+    command: &Command,
+) -> Result<(CommandReply, Writes), OutOfMemory>
+    ensures { IfOk result (λ done. done ≡ answer (written empty found.now) command.now) }
+{
+    let mut overlay = Overlay::new(alloc);
+    match answer_on(alloc, found, command, &mut overlay) {
+        Ok(reply) => Ok((reply, overlay.writes)),
+        Err(refused) => Err(refused),
+    }
+}
+
+/// What a command answers, where this was found of its keys. The overlay gains what was found and what the
+/// command writes.
+fn answer_on<'a>(
+    alloc: Global,
+    found: &'a Writes,
+    command: &Command,
+    overlay: &mut Overlay<'a>,
+) -> Result<CommandReply, OutOfMemory>
+    requires none { overlay.old.found ≡ [] }
+    requires unwritten { overlay.old.writes ≡ [] }
+    ensures { IfOk result (λ reply. (reply, overlay.new.writes) ≡ answer (written empty found.entry.now) command.now) }
+{
+    show(found.as_slice(), &mut overlay.found)?;
+    run(alloc, command, overlay)
+}
+
+/// What commands answer and write that run one after the other, where this was found of their keys.
+pub(crate) fn answer_all(
+    alloc: Global,
+    found: &Writes,
+    commands: &[Command],
+) -> Result<(Vec<CommandReply>, Writes), OutOfMemory>
+    ensures { IfOk result (λ done. (done.0.items, done.1) ≡ answers (written empty found.now) commands.now) }
+{
+    let mut overlay = Overlay::new(alloc);
+    let mut replies = Vec::new(alloc);
+    match answer_all_on(alloc, found, commands, &mut overlay, &mut replies) {
+        Ok(()) => Ok((replies, overlay.writes)),
+        Err(refused) => Err(refused),
+    }
+}
+
+/// What commands answer that run one after the other, where this was found of their keys. The overlay
+/// gains what was found and what the commands write.
+fn answer_all_on<'a>(
+    alloc: Global,
+    found: &'a Writes,
+    commands: &[Command],
+    overlay: &mut Overlay<'a>,
+    replies: &mut Vec<CommandReply>,
+) -> Result<(), OutOfMemory>
+    requires none { overlay.old.found ≡ [] }
+    requires unwritten { overlay.old.writes ≡ [] }
+    requires unanswered { replies.old.items ≡ [] }
+    ensures { OnOk result ((replies.new.items, overlay.new.writes) ≡ answers (written empty found.entry.now) commands.now) }
+{
+    show(found.as_slice(), &mut overlay.found)?;
+    run_all(alloc, commands, overlay, replies)
+}
+
+/// What commands answer one after the other. The overlay gains their writes.
+fn run_all(
+    alloc: Global,
+    commands: &[Command],
+    overlay: &mut Overlay<'_>,
+    replies: &mut Vec<CommandReply>,
+) -> Result<(), OutOfMemory>
+    ensures replies { OnOk result (replies.new.items ≡ replies.old.items ++ (answers (shown overlay.old) commands.now).0) }
+    ensures writes { OnOk result (overlay.new.writes ≡ overlay.old.writes ++ (answers (shown overlay.old) commands.now).1) }
+    ensures found { overlay.new.found ≡ overlay.old.found }
+{
+    let Some((command, others)) = commands.split_first() else {
+        return Ok(());
+    };
+    let reply = run(alloc, command, overlay)?;
+    replies.push(reply)?;
+    run_all(alloc, others, overlay, replies)
+}
