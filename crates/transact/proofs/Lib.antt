@@ -9,3 +9,4 @@ pub mod Installed
 pub mod Fit
 pub mod Submits
 pub mod Memory
+pub mod Sets

@@ -1,8 +1,12 @@
 -- Calls that need no memory are not answered by want of it.
-use Rattle.std.proofs.Common.{◌≡◌, ◌≤◌, ℕ, length, List, unwrap_or, [], Option, Result, Ok, Err, IsOk, sym, subst}
+use Rattle.std.proofs.lemmas.Bool.{lt-ltb}
+use Rattle.std.proofs.Common.{◌≡◌, ◌≤◌, ◌<◌, ◌+◌, ◌⊎◌, ⊎_elim, ◌∙◌, ◌∷◌, nat_lt, true, false, IsSome, refl, ap, ℕ, length, List, unwrap_or, [], Option, Result, Ok, Err, IsOk, sym, subst}
 use Rattle.words.specs.declared.word.TheConstants.{WORD_INLINE}
 use Rattle.words.specs.declared.command.Command.{Command}
-use Rattle.words.specs.declared.command.Command.TheVariants.{Get}
+use Rattle.words.specs.declared.command.Command.TheVariants.{Get, Set}
+use Rattle.words.specs.declared.command.When.TheVariants.{Always}
+use Rattle.words.specs.declared.limits.TheConstants.{WEIGHT_MAX, WEIGHT_OF_KEY}
+use Rattle.words.specs.Store.{Store, Write, weight}
 use Rattle.words.specs.declared.reply.Fault.{Fault}
 use Rattle.words.specs.declared.reply.Fault.TheVariants as fault
 use Rattle.words.specs.Store.{Bytes}
@@ -16,15 +20,17 @@ use Rattle.transact.specs.declared.call.Call.TheVariants.{One, Watch, Exec, Forg
 use Rattle.transact.specs.declared.shard.Shard.{Shard}
 use Rattle.transact.specs.Shards.{shard_meaning}
 use Rattle.transact.specs.Calls.{call_keys}
-use Rattle.transact.specs.Memory.{AsksNoMemory, NeedsNoMemory, NeedsSome}
-use Rattle.transact.specs.Submits.{asked_for}
+use Rattle.transact.specs.Memory.{AsksNoMemory, AsksShortRead, NeedsSome, ReadsMore, set_call}
+use Rattle.transact.specs.Submits.{IfFault, asked_for}
+use Rattle.transact.specs.declared.call.Answer.{Answer}
+use Rattle.transact.specs.declared.call.Answer.TheVariants as answer
 use Rattle.transact.specs.Tables.{AllRead, AreThere, joined}
 use Rattle.transact.proofs.Keys.{joined_at}
 use Rattle.transact.proofs.Submits.{Fit, parts_of, stands}
 
 -- what a call needs on the store that a history leaves, it needs on the parts of that store
 asks_joined : (n : ℕ) (parts : ℕ → Option Shard) (seen : History) (call : Call) → AllRead shard_meaning n parts (after seen) → AreThere n parts (call_keys call)
-    → AsksNoMemory (after seen) (asked_for call) → AsksNoMemory (joined shard_meaning n parts) (asked_for call)
+    → AsksShortRead (after seen) (asked_for call) → AsksShortRead (joined shard_meaning n parts) (asked_for call)
 asks_joined n parts seen (One (Get key)) reads there asks =
     subst (λ (v : Option Bytes). length (unwrap_or v []) ≤ WORD_INLINE) (sym (joined_at shard_meaning n parts (after seen) key reads there.0)) asks
 asks_joined n parts seen (One _) reads there asks = absurd asks
@@ -37,24 +43,63 @@ refused_not {A} {E} r e is ok = absurd (cc (subst (λ (x : Result A E). IsOk x) 
 
 -- the plan of a call was refused, which needs memory then
 pub refused_plan : {A E : Type 0} (n seat : ℕ) (start : Held Shard) (call : Call) (r : Result A E) (e : E) → seat ≡ (known_to start).number → Fit n start → AreThere n (parts_of start) (call_keys call)
-    → r ≡ Err e → (AsksNoMemory (joined shard_meaning n (parts_of start)) (asked_for call) → IsOk r)
-    → NeedsSome fault.OutOfMemory (known_to start) (asked_for call)
+    → r ≡ Err e → (AsksShortRead (joined shard_meaning n (parts_of start)) (asked_for call) → IsOk r)
+    → ReadsMore fault.OutOfMemory (known_to start) (asked_for call)
 refused_plan n seat start call r e is fit there refused memory = record {
   needs = λ same asks. refused_not r e refused (memory (asks_joined n (parts_of start) (known_to start).seen call (stands n seat start is fit).read there asks));
 }
 
 -- where commits are worn out, it is not for want of memory
-pub worn_not : (knows : Knowledge) (asked : Asked) → NeedsSome fault.CommitsWornOut knows asked
+pub worn_not : (knows : Knowledge) (asked : Asked) → ReadsMore fault.CommitsWornOut knows asked
 worn_not knows asked = record { needs = λ is asks. absurd (cc is) }
 
 -- a transaction needs memory
-pub exec_needs : (answered : Fault) (knows : Knowledge) (call : Call) (commands : List Command) (watching : List Bytes) → call ≡ Exec commands watching → NeedsSome answered knows (asked_for call)
+pub exec_needs : (answered : Fault) (knows : Knowledge) (call : Call) (commands : List Command) (watching : List Bytes) → call ≡ Exec commands watching → ReadsMore answered knows (asked_for call)
 exec_needs answered knows call commands watching is = record {
-  needs = λ same asks. absurd (subst (λ (x : Call). AsksNoMemory (after knows.seen) (asked_for x)) is asks);
+  needs = λ same asks. absurd (subst (λ (x : Call). AsksShortRead (after knows.seen) (asked_for x)) is asks);
 }
 
 -- the same has been seen since
-pub needs_still : (answered : Fault) (one other : Knowledge) (asked : Asked) → other.seen ≡ one.seen → NeedsSome answered one asked → NeedsSome answered other asked
+pub needs_still : (answered : Fault) (one other : Knowledge) (asked : Asked) → other.seen ≡ one.seen → ReadsMore answered one asked → ReadsMore answered other asked
 needs_still answered one other asked same some = record {
+  needs = λ is asks. some.needs is (subst (λ (h : History). AsksShortRead (after h) asked) same asks);
+}
+
+reads_only : (store : Store) (call : Call) → ((key value : Bytes) → call ≡ set_call key value → ⊥) → AsksNoMemory store (asked_for call) → AsksShortRead store (asked_for call)
+reads_only store (One (Get key)) never asks = asks
+reads_only store (One (Set key value Always)) never asks = absurd (never key value refl)
+reads_only store (One _) never asks = absurd asks
+reads_only store (Watch keys) never asks = absurd asks
+reads_only store (Exec commands watching) never asks = absurd asks
+reads_only store (Forget watching) never asks = absurd asks
+
+-- a call that gives no key a value needs memory but where it reads one key
+pub needs_as : (a : Answer) (knows : Knowledge) (call : Call) → ((key value : Bytes) → call ≡ set_call key value → ⊥) → IfFault a (λ fault. ReadsMore fault knows (asked_for call)) → IfFault a (λ fault. NeedsSome fault knows (asked_for call))
+needs_as (answer.Reply reply) knows call never more = tt
+needs_as (answer.Fault fault) knows call never more = record { needs = λ is asks. more.needs is (reads_only (after knows.seen) call never asks) }
+
+not_heavy : (w : ℕ) → nat_lt WEIGHT_MAX w ≡ false → WEIGHT_MAX < w → ⊥
+not_heavy w is more = absurd (cc (sym is ∙ lt-ltb WEIGHT_MAX w more))
+
+not_some : (found other : Option Bytes) → other ≡ found → IsSome found → IsSome other
+not_some found other is some = subst (λ (v : Option Bytes). IsSome v) (sym is) some
+
+-- no place was made for the key of a SET that is light: it needs memory then
+pub refused_place : {A E : Type 0} (n seat : ℕ) (start : Held Shard) (key value : Bytes) (heavy : Rattle.std.proofs.Common.Bool) (r : Result A E) (e : E) → seat ≡ (known_to start).number → Fit n start
+    → AreThere n (parts_of start) (key ∷ []) → heavy ≡ nat_lt WEIGHT_MAX (WEIGHT_OF_KEY + length key + length value) → heavy ≡ false
+    → r ≡ Err e → (IsSome (joined shard_meaning n (parts_of start) key) → IsOk r)
+    → NeedsSome fault.OutOfMemory (known_to start) (asked_for (set_call key value))
+refused_place n seat start key value heavy r e is fit there weighs light refused memory = record {
+  needs = λ same asks. ⊎_elim
+      (λ some. refused_not r e refused (memory (not_some _ _ (joined_at shard_meaning n (parts_of start) (after (known_to start).seen) key (stands n seat start is fit).read there.0) some)))
+      (λ more. not_heavy (WEIGHT_OF_KEY + length key + length value) (sym weighs ∙ light) more) asks;
+}
+
+pub worn_set : (knows : Knowledge) (key value : Bytes) → NeedsSome fault.CommitsWornOut knows (asked_for (set_call key value))
+worn_set knows key value = record { needs = λ is asks. absurd (cc is) }
+
+-- the same has been seen since
+pub some_still : (answered : Fault) (one other : Knowledge) (asked : Asked) → other.seen ≡ one.seen → NeedsSome answered one asked → NeedsSome answered other asked
+some_still answered one other asked same some = record {
   needs = λ is asks. some.needs is (subst (λ (h : History). AsksNoMemory (after h) asked) same asks);
 }

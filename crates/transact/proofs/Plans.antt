@@ -17,6 +17,7 @@ use Rattle.words.specs.Numbers.{in_range}
 use Rattle.words.specs.Answers.{Answer, answer, answers, allows, is_some, any_there, item_of, grown, set_range_answer, changed, number_at, value_of, line, bulk}
 use Rattle.words.specs.History.{History, Pair, after, due, outcome, was_not_done, too_much, is_dirty, pairs_of, keys_named, writes_of, keys_of_pairs}
 use Rattle.words.specs.declared.reply.Line.TheVariants.{Done}
+use Rattle.words.specs.declared.command.When.TheVariants.{Always}
 use Rattle.words.specs.Locality.{AreSameAt, IsNoneOf}
 use Rattle.words.specs.Stripes.{stripe_of}
 use Rattle.strings.specs.declared.overlay.Overlay.{Overlay}
@@ -215,3 +216,9 @@ module _ (o0 o1 : Overlay) (command : Command) (others all : List Command) (writ
       ∙ append_assoc o0.writes (answer (shown o0) command).1 (answers (shown o1) others).1
       ∙ ap (λ (s : Store). o0.writes ++ ((answer (shown o0) command).1 ++ (answers s others).1)) shown_more
       ∙ ap (λ (l : List Command). o0.writes ++ (answers (shown o0) l).1) (sym are)
+
+-- a SET without an option is done where it is not too heavy
+pub plan_of_set : (seen : History) (key value : Bytes) (heavy : Bool) (planned_reply : Reply) (planned_writes : List Write) → heavy ≡ nat_lt WEIGHT_MAX (weight ((key, Some value) ∷ []))
+    → planned_reply ≡ cond heavy too_much (reply.Single (line Done)) → planned_writes ≡ cond heavy [] ((key, Some value) ∷ []) → IsPlan seen (Run (Set key value Always)) planned_reply planned_writes
+plan_of_set seen key value heavy planned_reply planned_writes heavy_is reply_is writes_are =
+    is_plan seen (Run (Set key value Always)) planned_reply (reply.Single (line Done)) planned_writes ((key, Some value) ∷ []) heavy refl refl heavy_is reply_is writes_are refl

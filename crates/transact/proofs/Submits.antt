@@ -241,3 +241,12 @@ refused_still fault.OutOfMemory stripes before mid later was notes = record { to
 refused_still fault.CommitsWornOut stripes before mid later was notes = (was.0, notes ∙ was.1, was.2)
 refused_still fault.DeviceFault stripes before mid later was notes = absurd was
 refused_still fault.StoreFull stripes before mid later was notes = absurd was
+
+-- the same of an answer, after the stripes were given back
+pub did_behind_as : (a : Answer) (before mid later last : Knowledge) (asked : Asked) (seat : ℕ) → seat ≡ mid.number → Learned before mid
+    → IfReply a (λ reply. Did (record { session = seat; operation = operation_of mid.watched asked; reply = reply }) mid later) → last ≡ later
+    → IfReply a (λ reply. Did (record { session = before.number; operation = operation_of before.watched asked; reply = reply }) before last)
+did_behind_as (answer.Reply reply) before mid later last asked seat seat_is learned did same =
+    subst (λ (k : Knowledge). Did (record { session = before.number; operation = operation_of before.watched asked; reply = reply }) before k) (sym same)
+    (did_behind before mid later asked reply seat seat_is learned did)
+did_behind_as (answer.Fault fault) before mid later last asked seat seat_is learned did same = tt

@@ -52,7 +52,7 @@ pub(crate) fn is_marked<P: Parts<Shard>>(
     parts.part(stripe).mark(key, seat).unwrap_or(false)
 }
 
-/// Makes a place for a key. All values stay.
+/// Makes a place for a key. All values stay. It takes no memory for a key that has a value.
 pub(crate) fn make_place<P: Parts<Shard>>(
     parts: &mut P,
     stripes: usize,
@@ -63,6 +63,7 @@ pub(crate) fn make_place<P: Parts<Shard>>(
     requires there { IsSome (P.part_of parts.old (striping.stripe_of stripes key.now)) }
     ensures became { Became shard_meaning stripes [] stays (P.part_of parts.old) (P.part_of parts.new) }
     ensures ready { OnOk result (IsReady stripes (P.part_of parts.new) key.now) }
+    ensures memory { IsSome (joined shard_meaning stripes (P.part_of parts.old) key.now) → IsOk result }
     ensures kept { (k : List ℕ) → IsReady stripes (P.part_of parts.old) k → IsReady stripes (P.part_of parts.new) k }
     ensures open { P.is_open parts.new }
     ensures keeps { P.keeps parts.old parts.new }

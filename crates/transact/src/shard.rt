@@ -82,6 +82,7 @@ impl Shard {
         ensures marks { shard_marks self.new ≡ shard_marks self.old }
         ensures kept { (k : List ℕ) → HasPlace self.old k → HasPlace self.new k }
         ensures place { OnOk result (HasPlace self.new key.now) }
+        ensures memory { HasPlace self.old key.now → IsOk result }
     {
         if self.has_place(key) {
             return Ok(());

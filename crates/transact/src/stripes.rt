@@ -44,7 +44,7 @@ pub(crate) fn stripes_of_keys(keys: &[Word], stripes: usize) -> Sorted
 }
 
 /// The set with the stripe of a key.
-fn with_key(set: Sorted, key: &Word, stripes: usize) -> Sorted
+pub(crate) fn with_key(set: Sorted, key: &Word, stripes: usize) -> Sorted
     requires some { 1 ≤ stripes }
     requires most { stripes ≤ 64 }
     requires below { AreBelow stripes set }

@@ -20,7 +20,7 @@ use Rattle.transact.specs.Tables.{AreThere}
 use Rattle.transact.proofs.Become.{there_after}
 use Rattle.transact.proofs.Keys.{taken_there, there_append}
 use Rattle.transact.proofs.Submits.{Fit, parts_of, did_behind, did_not_behind, ended_after, ended, ends_later, ends_still, fit_at, fit_forgot_at, forgot_held, refused_behind, refused_still, told_behind, unended}
-use Rattle.transact.specs.Memory.{NeedsSome}
+use Rattle.transact.specs.Memory.{ReadsMore}
 use Rattle.transact.proofs.Memory.{exec_needs, needs_still}
 use Rattle.transact.proofs.submit.submit_entry.Goals as goal
 
@@ -118,7 +118,7 @@ returns-in_default g c =
           (refused_behind c.in-Fault.fault c.keys_of-wanted.result _ before (known_to start) (known_to mid)
           (c.keys_of-wanted.ensures.exact ∙ ap (λ (n : ℕ). stripes_asked n c.args.call.now) c.stripes-stripes.ensures.count) t.told c.in-Fault.ensures.refused);
       memory =
-          subst (λ (k : Knowledge). NeedsSome c.in-Fault.fault k (asked_for c.args.call.now)) (sym (search (rules, last)))
+          subst (λ (k : Knowledge). ReadsMore c.in-Fault.fault k (asked_for c.args.call.now)) (sym (search (rules, last)))
           (needs_still c.in-Fault.fault (known_to start) (known_to mid) (asked_for c.args.call.now) c.in-Fault.ensures.seen c.in-Fault.ensures.memory);
     }
 
