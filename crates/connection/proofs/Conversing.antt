@@ -10,11 +10,13 @@ use Rattle.words.specs.Store.{Bytes}
 use Rattle.words.specs.Spelling.{spelling, spellings, header, AreRequests, IsRequest}
 use Rattle.words.specs.Stream.{front, Part, Faulty}
 use Rattle.words.specs.Encoding.{encoding, encodings}
+use Rattle.words.specs.declared.history.Operation.{Operation}
 use Rattle.words.specs.History.{Pair, Placed, keys_of_pairs}
-use Rattle.words.specs.Session.{Mode, Idle, Transcript}
+use Rattle.words.specs.Watches.{watched_after}
+use Rattle.words.specs.Session.{Mode, Idle, Turn, Says, Forgets, Tries, Calls, Never, Asked, operation_of, watched_at_fault, turn, Rest, TakesEntry, Follows, Transcript}
 use Rattle.gates.specs.declared.view.Knowledge.{Knowledge}
 use Rattle.connection.specs.Clients.{Progress, beginning, TakesOff, IsOpen, mode_of, watched_of, WantsMemory}
-use Rattle.connection.specs.Conversations.{Talk, Conversation, Answers, Went}
+use Rattle.connection.specs.Conversations.{Leads, Talk, Conversation, Answers, Went}
 use Rattle.connection.specs.declared.serving.Ended.{Ended}
 use Rattle.connection.specs.declared.serving.Ended.TheVariants as ended
 use Rattle.connection.specs.Served.{Answered, Conversing, Served, Turned, HasTaken, Attends, fault_line}
@@ -52,15 +54,52 @@ conversation_begins session = record {
   within = tt;
   ready = tt;
   watches = refl;
-  talk = λ others entries more goes. goes;
+  talk = λ others entries more last watched goes. goes;
   text = sym encodings-none;
 }
 
--- a talk that ends here is a transcript
+-- what follows a turn still follows where the rest is said otherwise
+entry_map : (session : ℕ) (operation : Operation) (said : Reply) (entries : List Placed) (one other : ℕ → List Placed → Type 0)
+    → ((position : ℕ) (later : List Placed) → one position later → other position later)
+    → TakesEntry session operation said entries one → TakesEntry session operation said entries other
+entry_map session operation said [] one other map takes = takes
+entry_map session operation said (placed ∷ entries) one other map takes = (takes.0, map placed.0 entries takes.1)
+
+follows_map : (session : ℕ) (pairs : List Pair) (t : Turn) (entries : List Placed) (replies : List Reply) (one other : Rest)
+    → ((mode : Mode) (now : List Pair) (later : List Placed) (more : List Reply) → one mode now later more → other mode now later more)
+    → Follows session pairs t entries replies one → Follows session pairs t entries replies other
+follows_map session pairs t entries [] one other map follows = follows
+follows_map session pairs (Says said next) entries (reply ∷ replies) one other map follows = (follows.0, map next pairs entries replies follows.1)
+follows_map session pairs (Forgets said next) entries (reply ∷ replies) one other map follows = (follows.0, map next [] entries replies follows.1)
+follows_map session pairs (Tries said done faulty) entries (reply ∷ replies) one other map (inl follows) =
+    inl (follows.0, map done pairs entries replies follows.1)
+follows_map session pairs (Tries said done faulty) entries (reply ∷ replies) one other map (inr follows) =
+    inr (follows.0, map faulty pairs entries replies follows.1)
+follows_map session pairs (Calls asked done faulty) entries (reply ∷ replies) one other map (inl takes) =
+    inl (entry_map session (operation_of pairs asked) reply entries _ _
+    (λ position later goes. map done (watched_after pairs (operation_of pairs asked) position) later replies goes) takes)
+follows_map session pairs (Calls asked done faulty) entries (reply ∷ replies) one other map (inr follows) =
+    inr (follows.0, follows.1, map faulty (watched_at_fault pairs asked) entries replies follows.2)
+follows_map session pairs Never entries (reply ∷ replies) one other map follows = absurd follows
+
+-- a transcript with its end is one
+pub leads_transcript : (session : ℕ) (mode : Mode) (pairs : List Pair) (requests : List (List Bytes)) (entries : List Placed) (replies : List Reply)
+    (last : Mode) (watched : List Pair) → Leads session mode pairs requests entries replies last watched → Transcript session mode pairs requests entries replies
+leads_transcript session mode pairs [] entries replies last watched leads = (leads.0, leads.1)
+leads_transcript session mode pairs (words ∷ requests) entries replies last watched leads =
+    follows_map session pairs (turn mode (keys_of_pairs pairs) words) entries replies _ _
+    (λ next now later more goes. leads_transcript session next now requests later more last watched goes) leads
+
+-- a talk that ends here
+pub closed_leads : (session : ℕ) (requests : List (List Bytes)) (own : List Placed) (replies : List Reply) (mode : Mode) (pairs : List Pair)
+    → Talk session requests own replies mode pairs → Leads session Idle [] requests own replies mode pairs
+closed_leads session requests own replies mode pairs talk =
+    rw (append-nil requests, append-nil own, append-nil replies) at (talk [] [] [] mode pairs (refl, refl, refl, refl))
+
 pub closed_transcript : (session : ℕ) (requests : List (List Bytes)) (own : List Placed) (replies : List Reply) (mode : Mode) (pairs : List Pair)
     → Talk session requests own replies mode pairs → Transcript session Idle [] requests own replies
 closed_transcript session requests own replies mode pairs talk =
-    rw (append-nil requests, append-nil own, append-nil replies) at (talk [] [] [] (refl, refl))
+    leads_transcript session Idle [] requests own replies mode pairs (closed_leads session requests own replies mode pairs talk)
 
 -- a conversation whose client is fed a piece
 pub conversation_fed : (session : ℕ) (own : List Placed) (pairs : List Pair) (fed said piece : Bytes) (at : Progress)
@@ -92,13 +131,13 @@ conversation_next session own entries pairs after fed said old new reply talk on
   within = AreRequests-more talk.requests one.words talk.within one.taken.request;
   ready = one.ready;
   watches = one.watches;
-  talk = λ others later more goes.
+  talk = λ others later more last watched goes.
       rw (
         append_assoc talk.requests (one.words ∷ []) others,
         append_assoc talk.replies (reply ∷ []) more,
         append_assoc own entries later,
       )
-      (talk.talk (one.words ∷ others) (entries ++ later) (reply ∷ more) (one.goes_on others later more goes));
+      (talk.talk (one.words ∷ others) (entries ++ later) (reply ∷ more) last watched (one.goes_on others later more last watched goes));
   text = ap (λ (t : Bytes). t ++ encoding reply) talk.text ∙ sym (encodings-more talk.replies reply);
 }
 
@@ -170,7 +209,7 @@ closed {was} {now} {fed} {at} {said} talk = record {
   within = talk.conversation.within;
   went = talk.went;
   transcript = closed_transcript was.number talk.conversation.requests talk.own talk.conversation.replies (mode_of at.stage) now.watched talk.conversation.talk;
-  talk = talk.conversation.talk;
+  leads = closed_leads was.number talk.conversation.requests talk.own talk.conversation.replies (mode_of at.stage) now.watched talk.conversation.talk;
 }
 
 -- a connection whose pass has gone on by no entry of its own since it ended
@@ -188,7 +227,7 @@ served_later was now then e bytes text served later = record {
     within = served.talk.within;
     went = rw (append-nil served.talk.own) at (went_then was now then served.talk.own [] served.talk.went later);
     transcript = served.talk.transcript;
-    talk = served.talk.talk;
+    leads = served.talk.leads;
   };
   ends = served.ends;
 }

@@ -170,7 +170,7 @@ answers_by session entries pairs after old new reply words then watches taken st
   taken = taken;
   ready = rw stands tt;
   watches = rw stands watches_then;
-  goes_on = λ others later more goes. follows later more _ (rw (ap mode_of stands) at goes);
+  goes_on = λ others later more last watched goes. follows later more _ (rw (ap mode_of stands) at goes);
 }
 
 -- a turn, seen by the pairs that are watched

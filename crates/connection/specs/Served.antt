@@ -22,11 +22,10 @@ use Rattle.connection.specs.declared.serving.Ended.TheVariants as ended
 use Rattle.connection.specs.declared.answering.Paused.{Paused}
 use Rattle.connection.specs.declared.answering.Paused.TheVariants as paused
 use Rattle.connection.specs.Clients.{Progress, IsReady, IsOpen, mode_of, watched_of, turn_at, TakesOff, WantsMemory}
-use Rattle.connection.specs.Conversations.{Went, Talk, Conversation, Answers}
+use Rattle.connection.specs.Conversations.{Went, Leads, Conversation, Answers}
 
 -- A connection that read these bytes, of a pass that knew the one and then knows the other: the bytes are the spellings of requests, in
--- order, and a rest; the requests, the entries that the pass made and the replies are a transcript, after which the session is in this
--- mode.
+-- order, and a rest; the requests, the entries that the pass made and the replies are a transcript, which leads the session to this mode.
 pub record Answered (was now : Knowledge) (bytes : Bytes) : Type 0 where
   pub requests : List (List Bytes)
   pub rest : Bytes
@@ -38,7 +37,7 @@ pub record Answered (was now : Knowledge) (bytes : Bytes) : Type 0 where
   pub within : AreRequests requests
   pub went : Went was now own
   pub transcript : Transcript was.number Idle [] requests own replies
-  pub talk : Talk was.number requests own replies mode pairs
+  pub leads : Leads was.number Idle [] requests own replies mode pairs
 
 -- A conversation of a pass that knew the one when it began and knows the other now.
 pub record Conversing (was now : Knowledge) (fed : Bytes) (at : Progress) (said : Bytes) : Type 0 where

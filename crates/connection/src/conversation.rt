@@ -17,8 +17,8 @@ ghost use Rattle.transact.specs.declared.call.Answer.{Answer};
 ghost use Rattle.transact.specs.declared.call.Answer.TheVariants as answer;
 ghost use Rattle.transact.specs.Calls.{asked_of};
 ghost use Rattle.connection.specs.declared.client.Next.TheVariants as next;
-ghost use Rattle.connection.specs.Clients.{Progress, beginning, watched_of, Gives, Resumes};
-ghost use Rattle.connection.specs.Conversations.{Conversation, Answers};
+ghost use Rattle.connection.specs.Clients.{Progress, beginning, watched_of, mode_of, Gives, Resumes};
+ghost use Rattle.connection.specs.Conversations.{Conversation, Answers, Leads};
 
 use session::watches_follow_entries;
 
@@ -84,8 +84,11 @@ pub fn goes_on()
         → Conversation session (own ++ entries) after fed new (said ++ encoding reply) }
 {}
 
-/// The requests that were answered, the entries and the replies of a conversation are a transcript.
+/// The requests that were answered, the entries and the replies of a conversation are a transcript, which
+/// leads the session to its mode.
 pub fn concludes()
-    ensures { (session : ℕ) (own : List Placed) (pairs : List Pair) (fed said : Bytes) (at : Progress)
+    ensures transcript { (session : ℕ) (own : List Placed) (pairs : List Pair) (fed said : Bytes) (at : Progress)
         → (talk : Conversation session own pairs fed at said) → Transcript session Idle [] talk.requests own talk.replies }
+    ensures leads { (session : ℕ) (own : List Placed) (pairs : List Pair) (fed said : Bytes) (at : Progress)
+        → (talk : Conversation session own pairs fed at said) → Leads session Idle [] talk.requests own talk.replies (mode_of at.stage) pairs }
 {}

@@ -11,6 +11,7 @@ pub mod part;
 mod rule;
 pub mod sorted;
 pub mod view;
+pub mod watch_laws;
 
 pub use asks::Asks;
 pub use gates::{CommitsWornOut, Gates, Pass};

@@ -11,4 +11,4 @@ pub mod plan;
 pub mod shard;
 pub mod stripes;
 pub mod submit;
-mod watches;
+pub mod watches;

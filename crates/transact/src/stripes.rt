@@ -34,7 +34,7 @@ pub fn keys_of(call: &Call, stripes: usize) -> Sorted
 }
 
 /// The stripes of these keys.
-pub(crate) fn stripes_of_keys(keys: &[Word], stripes: usize) -> Sorted
+pub fn stripes_of_keys(keys: &[Word], stripes: usize) -> Sorted
     requires some { 1 ≤ stripes }
     requires most { stripes ≤ 64 }
     ensures exact { result ≡ stripes_with stripes [] keys.now }

@@ -1,0 +1,14 @@
+pub mod Holding
+pub mod Standing
+pub mod Begins
+pub mod Telling
+pub mod Talking
+pub mod Marking
+pub mod Keeping
+pub mod Committing
+pub mod Soundness
+pub mod Installing
+pub mod Peering
+pub mod Worlds
+pub mod PeerSteps
+pub mod Settling
