@@ -8,28 +8,74 @@ ghost use Rattle.std.specs.Io.KnownBytes.{Consumes, IsAtEnd};
 use crate::client::Client;
 use crate::serving::Ended;
 use bytes::BytesMut;
+use std::alloc::Global;
 use std::io::Read;
+use std::marker::Model;
+use std::mem;
 use streams::{Input, Noted};
 use words::word::OutOfMemory;
 
 /// The most bytes that are read at a time.
 const PIECE_BYTES: usize = 16_384;
 /// The bytes of a block that pieces are cut from.
-const BLOCK_BYTES: usize = 65_536;
+const BLOCK_BYTES: usize = 32_768;
 /// The most bytes that are read at a time where there is no memory for a block.
 const FEW_BYTES: usize = 256;
 
-/// Makes room for a piece, and says whether there is. A block whose pieces are all let go is used again from
-/// its start. Else the next piece is cut from what is left of it, as long as that is enough, so small pieces
-/// share a block.
-fn make_room(room: &mut BytesMut) -> bool
-    ensures room { IsTrue result → PIECE_BYTES ≤ room.new.spare }
-    ensures block { PIECE_BYTES ≤ room.old.spare → IsTrue result }
-    ensures items { room.new.items ≡ room.old.items }
+/// What is read into: the block that pieces are cut from, and the one before it. Contracts see the first.
+#[derive(Drop)]
+pub(crate) struct Room {
+    block: BytesMut,
+    /// Nothing is in it. It is used again when the other is used up, if none of its pieces is kept by then.
+    other: BytesMut,
+}
+
+impl Model for Room {
+    ghost use Rattle.std.specs.Prelude.{◌≡◌, []};
+    ghost use Rattle.bytes.specs.Filled.{Filled};
+
+    ghost Value = { Filled };
+
+    ghost view = { λ room. room.block };
+
+    ghost invariant = { λ room. room.other.items ≡ [] };
+}
+
+impl Room {
+    /// No block. It takes no memory.
+    pub(crate) fn new(alloc: Global) -> Room
+        ensures { result.items ≡ [] }
+    {
+        Room {
+            block: BytesMut::new(alloc),
+            other: BytesMut::new(alloc),
+        }
+    }
+
+    /// Makes room for a piece, and says whether there is. A block whose pieces are all let go is used again
+    /// from its start. Else the next piece is cut from what is left of it, as long as that is enough, so small
+    /// pieces share a block. Else the other block takes its place.
+    fn make_room(&mut self) -> bool
+        requires { self.old.items ≡ [] }
+        ensures room { IsTrue result → PIECE_BYTES ≤ self.new.spare }
+        ensures block { PIECE_BYTES ≤ self.old.spare → IsTrue result }
+        ensures items { self.new.items ≡ [] }
+    {
+        if has_room(&mut self.block) {
+            return true;
+        }
+        mem::swap(&mut self.block, &mut self.other);
+        has_room(&mut self.block) || self.block.reserve(BLOCK_BYTES).is_ok()
+    }
+}
+
+/// Whether a block has room for a piece, from its start where its pieces are all let go.
+fn has_room(block: &mut BytesMut) -> bool
+    ensures room { IsTrue result → PIECE_BYTES ≤ block.new.spare }
+    ensures block { PIECE_BYTES ≤ block.old.spare → IsTrue result }
+    ensures items { block.new.items ≡ block.old.items }
 {
-    room.try_reclaim(BLOCK_BYTES)
-        || PIECE_BYTES <= room.capacity() - room.len()
-        || room.reserve(BLOCK_BYTES).is_ok()
+    block.try_reclaim(BLOCK_BYTES) || PIECE_BYTES <= block.capacity() - block.len()
 }
 
 /// Feeds the client what was read into the room, as one piece that is cut from its block.
@@ -47,7 +93,7 @@ fn feed_read(room: &mut BytesMut, client: &mut Client) -> Result<(), OutOfMemory
 /// goes on.
 pub(crate) fn take_piece<R: Read>(
     reader: &mut Noted<R>,
-    room: &mut BytesMut,
+    room: &mut Room,
     client: &mut Client,
 ) -> Option<Ended>
     requires { room.old.items ≡ [] }
@@ -59,9 +105,29 @@ pub(crate) fn take_piece<R: Read>(
     ensures fewer { IfNone result (reads_of reader.new < reads_of reader.old) }
     ensures empty { IfNone result (room.new.items ≡ []) }
 {
-    if !make_room(room) {
-        return take_few(reader, room, client);
+    if room.make_room() {
+        take_many(reader, &mut room.block, client)
+    } else {
+        take_few(reader, &mut room.block, client)
     }
+}
+
+/// Reads into a block with room for a piece.
+fn take_many<R: Read>(
+    reader: &mut Noted<R>,
+    room: &mut BytesMut,
+    client: &mut Client,
+) -> Option<Ended>
+    requires spare { PIECE_BYTES ≤ room.old.spare }
+    requires empty { room.old.items ≡ [] }
+    ensures taken { (bytes : List ℕ) × (length bytes ≤ 16384)
+        × Consumes (R.remaining (stream_of reader.old)) (R.remaining (stream_of reader.new)) bytes
+        × HasTaken result client.old bytes client.new }
+    ensures end { result ≡ Some Ended.EndOfInput → IsAtEnd (R.remaining (stream_of reader.new)) }
+    ensures told { told_of reader.new ≡ taken_told result (told_of reader.old) }
+    ensures fewer { IfNone result (reads_of reader.new < reads_of reader.old) }
+    ensures empty { IfNone result (room.new.items ≡ []) }
+{
     room.advance_mut(PIECE_BYTES);
     match reader.read(room.as_mut_slice()) {
         Input::Bytes(count) => {

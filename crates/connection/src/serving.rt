@@ -11,8 +11,7 @@ ghost use Rattle.std.specs.Io.KnownBytes.{Appends, Consumes, IsAtEnd};
 
 use crate::answering::answer_piece;
 use crate::client::Client;
-use crate::reading::take_piece;
-use bytes::BytesMut;
+use crate::reading::{Room, take_piece};
 use engine::{Engine, Pass};
 use gates::Latch;
 use std::alloc::Global;
@@ -66,7 +65,7 @@ fn converse<T: Wait, L: Latch, R: Read, W: Write>(
     rt: &T,
     latch: &L,
     client: &mut Client,
-    room: &mut BytesMut,
+    room: &mut Room,
     out: &mut Vec<u8>,
     reader: &mut Noted<R>,
     writer: &mut Noted<W>,
@@ -123,13 +122,14 @@ fn forget<T: Wait, L: Latch>(rt: &T, latch: &L, client: Client, engine: &Engine,
 ///
 /// # Memory
 ///
-/// Pieces are cut from blocks of 65,536 bytes, and a new block is taken only where the one before has room
-/// for less than a piece and some of its pieces are kept. Where no request waits none is kept. Of a waiting
+/// Pieces are cut from two blocks of 32,768 bytes in turn, each taken when it is first needed. The other one's
+/// turn comes where a block has room for less than a piece and some of its pieces are kept; a new one takes its
+/// place only where some of its pieces are kept too. Where no request waits none is kept. Of a waiting
 /// request the whole words are copied, 65,536 bytes at most, and what is left in the pieces is a part of
-/// one word: 8,200 bytes at most, so at most two blocks are held at a time. Each piece costs 40 bytes in the
+/// one word: 8,200 bytes at most, so it stands in at most two blocks. Each piece costs 40 bytes in the
 /// reader's list beside its own, so a client that sends one byte a piece costs 41 bytes a byte, or 81 just
 /// after the list has doubled. Only where memory was refused for a word do whole words stay in the pieces:
-/// then the request's 66,694 bytes stand in at most three blocks. The output buffer has 65,536 bytes. A
+/// then the request's 66,694 bytes stand in at most six blocks. The output buffer has 65,536 bytes. A
 /// transaction keeps at most 128 commands with 65,536 bytes of words, and a session at most 128 watched keys.
 pub fn serve<T: Wait, L: Latch, R: Read, W: Write>(
     rt: &T,
@@ -164,7 +164,7 @@ pub fn serve<T: Wait, L: Latch, R: Read, W: Write>(
     };
     // More room where memory serves: it saves writes.
     let _ = out.reserve(OUTPUT_BYTES);
-    let mut room = BytesMut::new(alloc);
+    let mut room = Room::new(alloc);
     let mut client = Client::new(alloc);
     let ended = converse(
         rt,

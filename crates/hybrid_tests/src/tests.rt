@@ -1,10 +1,12 @@
 ghost use Rattle.std.specs.Prelude.{◌≡◌, ◌≤◌, ◌+◌, length};
 ghost use Rattle.std.specs.Option.{option_copied};
 ghost use Rattle.records.specs.Records.{value_bytes};
+ghost use Rattle.hybrid.specs.HybridLog.{HasRoom};
+ghost use Rattle.hybrid.specs.declared.stripe.TheConstants.{CLEAN_WEIGHT};
 
 use device::{Device, MemoryDevice, MemoryReceipt, Shows};
 use hybrid::{
-    CLEAN_WEIGHT, Cleaned, Fault, Lookup, Staged, Stripe, VALUE_MAX, WRITE_WEIGHT, Write,
+    CLEAN_WEIGHT, Cleaned, Fault, Lookup, Room, Staged, Stripe, VALUE_MAX, WRITE_WEIGHT, Write,
 };
 use records::{KEY_BYTES_MAX, Page, Record, record_at};
 use std::alloc::Global;
@@ -58,11 +60,18 @@ impl Drop for Shelf {
     }
 }
 
+fn new_device(alloc: Global) -> Result<MemoryDevice, Fail> {
+    let mut openings = MemoryDevice::openings(alloc, 1)?;
+    match openings.pop() {
+        Some(device) => Ok(device),
+        None => Err(Fail::from("no opening")),
+    }
+}
+
 fn new_shelf(alloc: Global, buckets: usize, places: usize) -> Result<Shelf, Fail> {
     let limits = Limits::new(1, buckets, 12, places, 1).ok_or("the limits")?;
+    let device = new_device(alloc)?;
     let stripe = Stripe::new(alloc, &limits)?;
-    let mut openings = MemoryDevice::openings(alloc, 1)?;
-    let device = openings.pop().ok_or("no opening")?;
     Ok(Shelf { stripe, device })
 }
 
@@ -85,142 +94,186 @@ fn stage(
     device: &mut MemoryDevice,
     staged: &mut Staged<MemoryReceipt>,
     number: u64,
-) -> Result<(), Fail> {
-    let receipt = stripe.receipt(number).ok_or("a cold page has a receipt")?;
-    let copy = receipt.again()?;
+) -> Option<()> {
+    let copy = stripe.receipt(number)?.again().ok()?;
     let mut page = Page::new(0);
-    device.read(&copy, &mut page)?;
-    staged.add(copy, page)?;
-    Ok(())
+    device.read(&copy, &mut page).ok()?;
+    staged.add(copy, page).ok()
 }
 
+// Each answers `None` where something failed.
 impl Shelf {
     // Whether a key has this value, or none. Reads the pages that the lookup needs.
-    fn holds(&mut self, alloc: Global, key: &[u8], value: Option<&[u8]>) -> Result<bool, Fail> {
+    fn holds(&mut self, alloc: Global, key: &[u8], value: Option<&[u8]>) -> Option<bool> {
         let mut staged = Staged::new(alloc);
+        self.holds_with(&mut staged, key, value)
+    }
+
+    fn holds_with(
+        &mut self,
+        staged: &mut Staged<MemoryReceipt>,
+        key: &[u8],
+        value: Option<&[u8]>,
+    ) -> Option<bool> {
         for _ in 0..400 {
-            match self.stripe.find(key, &staged) {
-                Lookup::Found(found) => return Ok(value == Some(found)),
-                Lookup::Absent => return Ok(value.is_none()),
-                Lookup::Cold(number) => {
-                    stage(&self.stripe, &mut self.device, &mut staged, number)?;
-                }
+            match self.stripe.find(key, staged) {
+                Lookup::Found(found) => return Some(value == Some(found)),
+                Lookup::Absent => return Some(value.is_none()),
+                Lookup::Cold(number) => stage(&self.stripe, &mut self.device, staged, number)?,
             }
         }
-        Err(Fail::from("too many pages"))
+        None
+    }
+
+    // Writes this page to the device, and says whether it stays there.
+    fn write(&mut self, number: u64, page: &Page) -> Option<bool> {
+        let receipt = self.device.write(page).ok()?;
+        Some(self.stripe.take_place() && self.stripe.mark_flushed(number, page, receipt).is_ok())
     }
 
     // Writes a sealed page to the device, and says whether one was there.
-    fn flush(&mut self) -> Result<bool, Fail> {
+    fn flush(&mut self) -> Option<bool> {
         let Some(number) = self.stripe.sealed() else {
-            return Ok(false);
-        };
-        let Some(page) = self.stripe.page(number) else {
-            return Ok(false);
+            return Some(false);
         };
         let mut copy = Page::new(0);
-        copy.copy_from(page);
-        let receipt = self.device.write(&copy)?;
-        if !self.stripe.take_place() {
-            return Ok(false);
+        match self.stripe.page(number) {
+            Some(page) => copy.copy_from(page),
+            None => return Some(false),
         }
-        Ok(self.stripe.mark_flushed(number, &copy, receipt).is_ok())
+        self.write(number, &copy)
     }
 
     // Takes the oldest page out of the log, and says whether it did.
-    fn clean(&mut self, alloc: Global) -> Result<bool, Fail> {
+    fn clean(&mut self, alloc: Global) -> Option<bool> {
+        let room = self.stripe.reserve(CLEAN_WEIGHT, &mut self.device).ok()?;
         let mut staged = Staged::new(alloc);
-        let mut room = self.stripe.reserve(CLEAN_WEIGHT, &mut self.device)?;
-        for round in 0..400 {
-            match self.stripe.clean_oldest(&staged, room) {
+        self.clean_with(&mut staged, room)
+    }
+
+    fn clean_with(&mut self, staged: &mut Staged<MemoryReceipt>, mut room: Room) -> Option<bool>
+        requires room { HasRoom self.old.stripe room.weight }
+        requires enough { CLEAN_WEIGHT ≤ room.weight }
+    {
+        for _ in 0..400 {
+            match self.stripe.clean_oldest(staged, room) {
                 Cleaned::Unlinked(_receipt) => {
                     self.stripe.free_place();
-                    return Ok(true);
+                    return Some(true);
                 }
-                Cleaned::Nothing => return Ok(false),
+                Cleaned::Nothing => return Some(false),
                 Cleaned::Cold(number, same) => {
-                    stage(&self.stripe, &mut self.device, &mut staged, number)?;
+                    stage(&self.stripe, &mut self.device, staged, number)?;
                     room = same;
                 }
             }
         }
-        Err(Fail::from("too many pages"))
+        None
     }
 }
 
-fn shown<'a>(stripe: &'a Stripe<MemoryReceipt>, offset: usize) -> Result<Record<'a>, Fail> {
-    let page = stripe.page(0).ok_or("page 0 is resident")?;
-    Ok(record_at(page, offset)?)
+// Whether this record of page 0 has this link, room for so many bytes, and this value.
+fn shows(
+    stripe: &Stripe<MemoryReceipt>,
+    offset: usize,
+    link: u64,
+    capacity: usize,
+    value: &[u8],
+) -> bool {
+    let Some(page) = stripe.page(0) else {
+        return false;
+    };
+    match record_at(page, offset) {
+        Ok(record) => {
+            record.link == link && record.capacity == capacity && record.value == Some(value)
+        }
+        Err(_) => false,
+    }
 }
 
-fn used_end(stripe: &Stripe<MemoryReceipt>) -> Option<u32> {
-    stripe.page(0).map(|page| page.used_end())
+// Whether page 0 is used up to this place.
+fn ends_at(stripe: &Stripe<MemoryReceipt>, end: u32) -> bool {
+    match stripe.page(0) {
+        Some(page) => page.used_end() == end,
+        None => false,
+    }
+}
+
+// Gives a key a value, or none, and says whether it could.
+fn puts(shelf: &mut Shelf, key: &[u8], value: Option<&[u8]>) -> bool {
+    shelf.put(key, value).is_ok()
+}
+
+// Whether a key could be looked up, and has this value, or none.
+fn has(shelf: &mut Shelf, alloc: Global, key: &[u8], value: Option<&[u8]>) -> bool {
+    shelf.holds(alloc, key, value) == Some(true)
 }
 
 #[test]
 fn in_place_then_at_the_tail(rt: HostRuntime) -> Result<(), Fail> {
     let mut shelf = new_shelf(rt.alloc(), 4096, 64)?;
-    writes_in_place_and_at_the_tail(&mut shelf, &rt)
-}
-
-fn writes_in_place_and_at_the_tail(shelf: &mut Shelf, rt: &impl Abort) -> Result<(), Fail> {
-    shelf.put(b"a", Some(b"1"))?;
-    shelf.put(b"a", Some(b"1234567"))?;
-    assert_eq!(rt; used_end(&shelf.stripe), Some(48));
-    let first = shown(&shelf.stripe, 16)?;
-    assert_eq!(rt; (first.link, first.capacity), (0, 7));
-    assert!(rt; first.value == Some(b"1234567".as_slice()));
-    shelf.put(b"a", Some(b"12345678"))?;
-    assert_eq!(rt; used_end(&shelf.stripe), Some(88));
-    let second = shown(&shelf.stripe, 48)?;
-    assert_eq!(rt; (second.link, second.capacity), (16, 15));
-    assert!(rt; second.value == Some(b"12345678".as_slice()));
+    writes_in_place(&mut shelf, &rt);
+    writes_at_the_tail(&mut shelf, &rt);
     Ok(())
 }
 
-// The kind of the record at offset 48 of page 0.
-fn kind(stripe: &Stripe<MemoryReceipt>) -> Option<u8> {
-    stripe.page(0).map(|page| page.bytes()[70])
+fn writes_in_place(shelf: &mut Shelf, rt: &impl Abort) {
+    assert!(rt; puts(shelf, b"a", Some(b"1")));
+    assert!(rt; puts(shelf, b"a", Some(b"1234567")));
+    assert!(rt; ends_at(&shelf.stripe, 48));
+    assert!(rt; shows(&shelf.stripe, 16, 0, 7, b"1234567"));
+}
+
+fn writes_at_the_tail(shelf: &mut Shelf, rt: &impl Abort) {
+    assert!(rt; puts(shelf, b"a", Some(b"12345678")));
+    assert!(rt; ends_at(&shelf.stripe, 88));
+    assert!(rt; shows(&shelf.stripe, 48, 16, 15, b"12345678"));
+}
+
+// Whether the record at offset 48 of page 0 is of this kind.
+fn is_kind(stripe: &Stripe<MemoryReceipt>, kind: u8) -> bool {
+    match stripe.page(0) {
+        Some(page) => page.bytes()[70] == kind,
+        None => false,
+    }
 }
 
 #[test]
 fn a_tombstone_becomes_a_value_again(rt: HostRuntime) -> Result<(), Fail> {
     let mut shelf = new_shelf(rt.alloc(), 4096, 64)?;
-    writes_a_tombstone_and_a_value(&mut shelf, rt.alloc(), &rt)
+    writes_a_tombstone(&mut shelf, rt.alloc(), &rt);
+    writes_a_value_again(&mut shelf, rt.alloc(), &rt);
+    Ok(())
 }
 
-fn writes_a_tombstone_and_a_value(
-    shelf: &mut Shelf,
-    alloc: Global,
-    rt: &impl Abort,
-) -> Result<(), Fail> {
-    shelf.put(b"a", Some(b"1"))?;
-    shelf.put(b"a", Some(b"12345678"))?;
-    assert_eq!(rt; kind(&shelf.stripe), Some(1));
-    shelf.put(b"a", None)?;
-    assert_eq!(rt; kind(&shelf.stripe), Some(2));
-    assert!(rt; shelf.holds(alloc, b"a", None)?);
-    shelf.put(b"a", Some(b"x"))?;
-    assert_eq!(rt; kind(&shelf.stripe), Some(1));
-    assert_eq!(rt; used_end(&shelf.stripe), Some(88));
-    assert!(rt; shelf.holds(alloc, b"a", Some(b"x"))?);
-    Ok(())
+fn writes_a_tombstone(shelf: &mut Shelf, alloc: Global, rt: &impl Abort) {
+    assert!(rt; puts(shelf, b"a", Some(b"1")) && puts(shelf, b"a", Some(b"12345678")));
+    assert!(rt; is_kind(&shelf.stripe, 1));
+    assert!(rt; puts(shelf, b"a", None));
+    assert!(rt; is_kind(&shelf.stripe, 2));
+    assert!(rt; has(shelf, alloc, b"a", None));
+}
+
+fn writes_a_value_again(shelf: &mut Shelf, alloc: Global, rt: &impl Abort) {
+    assert!(rt; puts(shelf, b"a", Some(b"x")));
+    assert!(rt; is_kind(&shelf.stripe, 1));
+    assert!(rt; ends_at(&shelf.stripe, 88));
+    assert!(rt; has(shelf, alloc, b"a", Some(b"x")));
 }
 
 #[test]
 fn a_key_is_found_behind_others_of_its_bucket(rt: HostRuntime) -> Result<(), Fail> {
     let mut shelf = new_shelf(rt.alloc(), 1, 64)?;
-    finds_keys_of_one_bucket(&mut shelf, rt.alloc(), &rt)
+    finds_keys_of_one_bucket(&mut shelf, rt.alloc(), &rt);
+    Ok(())
 }
 
-fn finds_keys_of_one_bucket(shelf: &mut Shelf, alloc: Global, rt: &impl Abort) -> Result<(), Fail> {
-    shelf.put(b"a", Some(b"1"))?;
-    shelf.put(b"b", Some(b"2"))?;
-    shelf.put(b"a", Some(b"long enough"))?;
-    assert!(rt; shelf.holds(alloc, b"a", Some(b"long enough"))?);
-    assert!(rt; shelf.holds(alloc, b"b", Some(b"2"))?);
-    assert!(rt; shelf.holds(alloc, b"c", None)?);
-    Ok(())
+fn finds_keys_of_one_bucket(shelf: &mut Shelf, alloc: Global, rt: &impl Abort) {
+    assert!(rt; puts(shelf, b"a", Some(b"1")) && puts(shelf, b"b", Some(b"2")));
+    assert!(rt; puts(shelf, b"a", Some(b"long enough")));
+    assert!(rt; has(shelf, alloc, b"a", Some(b"long enough")));
+    assert!(rt; has(shelf, alloc, b"b", Some(b"2")));
+    assert!(rt; has(shelf, alloc, b"c", None));
 }
 
 // The key of a number.
@@ -242,52 +295,83 @@ fn fill(shelf: &mut Shelf, from: u16, to: u16) -> Result<u16, Fault> {
 }
 
 // Whether the keys below a number have their values.
-fn all_there(shelf: &mut Shelf, alloc: Global, count: u16) -> Result<bool, Fail> {
+fn are_there(shelf: &mut Shelf, alloc: Global, count: u16) -> bool {
     for number in 0..count {
         let value = [(number % 128) as u8; 1000];
-        if !shelf.holds(alloc, &key_of(number), Some(&value))? {
-            return Ok(false);
+        if !has(shelf, alloc, &key_of(number), Some(&value)) {
+            return false;
         }
     }
-    Ok(true)
+    true
+}
+
+// Whether the keys below a number could be put.
+fn fills(shelf: &mut Shelf, count: u16) -> bool {
+    matches!(fill(shelf, 0, count), Ok(reached) if reached == count)
 }
 
 #[test]
 fn three_thousand_keys_in_twelve_frames(rt: HostRuntime) -> Result<(), Fail> {
     let mut shelf = new_shelf(rt.alloc(), 4096, 4096)?;
-    assert_eq!(rt; fill(&mut shelf, 0, 3000)?, 3000);
-    assert!(rt; shelf.stripe.page(0).is_none());
-    assert!(rt; all_there(&mut shelf, rt.alloc(), 3000)?);
-    assert!(rt; shelf.holds(rt.alloc(), &key_of(3000), None)?);
+    keeps_three_thousand_keys(&mut shelf, rt.alloc(), &rt);
     Ok(())
+}
+
+fn keeps_three_thousand_keys(shelf: &mut Shelf, alloc: Global, rt: &impl Abort) {
+    assert!(rt; fills(shelf, 3000));
+    assert!(rt; shelf.stripe.page(0).is_none());
+    assert!(rt; are_there(shelf, alloc, 3000));
+    assert!(rt; has(shelf, alloc, &key_of(3000), None));
 }
 
 #[test]
 fn a_full_store_still_reads(rt: HostRuntime) -> Result<(), Fail> {
     let mut shelf = new_shelf(rt.alloc(), 4096, 64)?;
-    let count = fill(&mut shelf, 0, 2000)?;
-    assert_eq!(rt; shelf.stripe.unreleased(), 64);
+    reads_where_it_is_full(&mut shelf, rt.alloc(), &rt)
+}
+
+fn reads_where_it_is_full(shelf: &mut Shelf, alloc: Global, rt: &impl Abort) -> Result<(), Fail> {
+    let count = fill(shelf, 0, 2000)?;
+    assert!(rt; shelf.stripe.unreleased() == 64);
     assert!(rt; count > 64 * 15 && count < 2000);
-    assert!(rt; all_there(&mut shelf, rt.alloc(), count)?);
+    assert!(rt; are_there(shelf, alloc, count));
     Ok(())
+}
+
+// Whether this page is the next to be written.
+fn is_sealed(stripe: &Stripe<MemoryReceipt>, number: u64) -> bool {
+    matches!(stripe.sealed(), Some(page) if page == number)
 }
 
 #[test]
 fn a_page_that_differs_in_one_byte_is_not_kept(rt: HostRuntime) -> Result<(), Fail> {
     let mut shelf = new_shelf(rt.alloc(), 4096, 64)?;
+    seals_page_0(&mut shelf, &rt);
     refuses_another_page(&mut shelf, &rt)
 }
 
-fn refuses_another_page(shelf: &mut Shelf, rt: &impl Abort) -> Result<(), Fail> {
-    assert_eq!(rt; fill(shelf, 0, 150)?, 150);
-    assert_eq!(rt; shelf.stripe.sealed(), Some(0));
+fn seals_page_0(shelf: &mut Shelf, rt: &impl Abort) {
+    assert!(rt; fills(shelf, 150));
+    assert!(rt; is_sealed(&shelf.stripe, 0));
+    assert!(rt; shelf.stripe.page(0).is_some());
+}
+
+// Page 0 with another byte.
+fn another_page(stripe: &Stripe<MemoryReceipt>) -> Page {
     let mut other = Page::new(0);
-    other.copy_from(shelf.stripe.page(0).ok_or("page 0 is resident")?);
+    if let Some(page) = stripe.page(0) {
+        other.copy_from(page);
+    }
     other.bytes_mut()[1000] ^= 1;
+    other
+}
+
+fn refuses_another_page(shelf: &mut Shelf, rt: &impl Abort) -> Result<(), Fail> {
+    let other = another_page(&shelf.stripe);
     let receipt = shelf.device.write(&other)?;
     assert!(rt; shelf.stripe.take_place());
     assert!(rt; shelf.stripe.mark_flushed(0, &other, receipt).is_err());
-    assert_eq!(rt; shelf.stripe.sealed(), Some(0));
+    assert!(rt; is_sealed(&shelf.stripe, 0));
     assert!(rt; !shelf.stripe.drop_oldest());
     Ok(())
 }
@@ -295,36 +379,40 @@ fn refuses_another_page(shelf: &mut Shelf, rt: &impl Abort) -> Result<(), Fail> 
 #[test]
 fn a_flushed_page_leaves_its_frame_and_the_log(rt: HostRuntime) -> Result<(), Fail> {
     let mut shelf = new_shelf(rt.alloc(), 4096, 64)?;
-    flushes_drops_and_cleans(&mut shelf, rt.alloc(), &rt)
-}
-
-fn flushes_drops_and_cleans(shelf: &mut Shelf, alloc: Global, rt: &impl Abort) -> Result<(), Fail> {
-    assert_eq!(rt; fill(shelf, 0, 150)?, 150);
-    assert!(rt; shelf.flush()?);
-    assert_eq!(rt; shelf.stripe.sealed(), Some(1));
-    assert!(rt; shelf.stripe.receipt(0).is_some());
-    assert!(rt; shelf.stripe.drop_oldest());
-    assert!(rt; shelf.stripe.page(0).is_none());
-    assert!(rt; shelf.clean(alloc)?);
-    assert_eq!(rt; shelf.stripe.oldest(), 1);
-    assert!(rt; all_there(shelf, alloc, 150)?);
+    flushes_and_drops(&mut shelf, &rt);
+    cleans(&mut shelf, rt.alloc(), &rt);
     Ok(())
 }
 
-// One step of a random run: a write, a deletion, a flush, a drop or a clean.
+fn flushes_and_drops(shelf: &mut Shelf, rt: &impl Abort) {
+    assert!(rt; fills(shelf, 150));
+    assert!(rt; shelf.flush() == Some(true));
+    assert!(rt; is_sealed(&shelf.stripe, 1));
+    assert!(rt; shelf.stripe.receipt(0).is_some());
+    assert!(rt; shelf.stripe.drop_oldest());
+    assert!(rt; shelf.stripe.page(0).is_none());
+}
+
+fn cleans(shelf: &mut Shelf, alloc: Global, rt: &impl Abort) {
+    assert!(rt; shelf.clean(alloc) == Some(true));
+    assert!(rt; shelf.stripe.oldest() == 1);
+    assert!(rt; are_there(shelf, alloc, 150));
+}
+
+// One step of a random run: a write, a deletion, a flush, a drop or a clean. `None` where it failed.
 fn step(
     shelf: &mut Shelf,
     alloc: Global,
     known: &mut [Option<(usize, u8)>; 64],
     random: u64,
-) -> Result<(), Fail> {
+) -> Option<()> {
     let at = (random % 64) as usize;
     let key = key_of(at as u16);
     let length = (random / 64 % 1500) as usize;
     let byte = (random / 100_000 % 256) as u8;
     match random / 100_000_000 % 10 {
         0 => {
-            shelf.put(&key, None)?;
+            shelf.put(&key, None).ok()?;
             known[at] = None;
         }
         1 => {
@@ -338,52 +426,49 @@ fn step(
         }
         _ => {
             let value = [byte; 1500];
-            shelf.put(&key, Some(&value[..length]))?;
+            shelf.put(&key, Some(&value[..length])).ok()?;
             known[at] = Some((length, byte));
         }
     }
-    Ok(())
+    Some(())
 }
 
-// Whether each key has what it should.
-fn is_known(
-    shelf: &mut Shelf,
-    alloc: Global,
-    known: &[Option<(usize, u8)>; 64],
-) -> Result<bool, Fail> {
+// Whether each key could be looked up, and has what it should.
+fn is_known(shelf: &mut Shelf, alloc: Global, known: &[Option<(usize, u8)>; 64]) -> bool {
     for (at, entry) in known.iter().enumerate() {
         let key = key_of(at as u16);
         let same = match entry {
-            None => shelf.holds(alloc, &key, None)?,
+            None => has(shelf, alloc, &key, None),
             Some((length, byte)) => {
                 let value = [*byte; 1500];
-                *length <= 1500 && shelf.holds(alloc, &key, Some(&value[..*length]))?
+                *length <= 1500 && has(shelf, alloc, &key, Some(&value[..*length]))
             }
         };
         if !same {
-            return Ok(false);
+            return false;
         }
     }
-    Ok(true)
+    true
 }
 
 #[test]
 fn a_random_run_reads_as_a_map(rt: HostRuntime) -> Result<(), Fail> {
     let mut shelf = new_shelf(rt.alloc(), 4096, 64)?;
+    runs_at_random(&mut shelf, rt.alloc(), &rt);
+    Ok(())
+}
+
+fn runs_at_random(shelf: &mut Shelf, alloc: Global, rt: &impl Abort) {
     let mut known = [None; 64];
     let mut random: u64 = 7;
     for count in 0..6000 {
         random = random
             .wrapping_mul(6_364_136_223_846_793_005)
             .wrapping_add(1_442_695_040_888_963_407);
-        step(&mut shelf, rt.alloc(), &mut known, random >> 20)?;
+        assert!(rt; step(shelf, alloc, &mut known, random >> 20).is_some());
         if count % 500 == 499 {
-            assert!(rt;
-                is_known(&mut shelf, rt.alloc(), &known)?,
-                "after {count} steps"
-            );
+            assert!(rt; is_known(shelf, alloc, &known), "after {count} steps");
         }
     }
     assert!(rt; shelf.stripe.oldest() > 20);
-    Ok(())
 }

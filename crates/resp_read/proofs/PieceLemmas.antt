@@ -174,17 +174,15 @@ without-without m (suc n) (piece ∷ pieces) = by_test (nat_le (length piece) (s
 -- bytes that are gathered from pieces: what is gathered so far, and what is wanted of the pieces from this place on
 pub record IsGathering (target : Bytes) (later : List Bytes) (index : ℕ) (gathered : Bytes) (room wanted_from wanted : ℕ) : Type 0 where
   pub goes_on : gathered ++ take wanted (drop wanted_from (joined (drop index later))) ≡ target
-  pub count : length gathered + wanted ≡ length target
-  pub inline : length target ≤ 32 → room ≡ 32
+  pub fits : length gathered + wanted ≤ room
 
 pub length-part : (from count : ℕ) (bytes : Bytes) → from + count ≤ length bytes → length (take count (drop from bytes)) ≡ count
 length-part from count bytes within = length-take-le count (drop from bytes) (omega (arith, length-drop from bytes))
 
-pub gathering_next : (target : Bytes) (later : List Bytes) (index : ℕ) (piece : Bytes) (gathered more : Bytes) (room room' f f' c c' : ℕ) → IsGathering target later index gathered room f c → index < length later → piece ≡ get_or later index piece → ((rest : Bytes) → more ++ take c' (drop f' rest) ≡ gathered ++ take c (drop f (piece ++ rest))) → length more + c' ≡ length gathered + c → (length target ≤ 32 → room' ≡ 32) → IsGathering target later (index + 1) more room' f' c'
-gathering_next target later index piece gathered more room room' f f' c c' so_far lt is goes count inline = record {
+pub gathering_next : (target : Bytes) (later : List Bytes) (index : ℕ) (piece : Bytes) (gathered more : Bytes) (room room' f f' c c' : ℕ) → IsGathering target later index gathered room f c → index < length later → piece ≡ get_or later index piece → ((rest : Bytes) → more ++ take c' (drop f' rest) ≡ gathered ++ take c (drop f (piece ++ rest))) → length more + c' ≤ room' → IsGathering target later (index + 1) more room' f' c'
+gathering_next target later index piece gathered more room room' f f' c c' so_far lt is goes fits = record {
   goes_on = goes (joined (drop (index + 1) later)) ∙ (sym (ap (λ (l : List Bytes). gathered ++ take c (drop f (joined l))) (drop_more later index piece lt ∙ ap (λ (p : Bytes). p ∷ drop (index + 1) later) (sym is))) ∙ so_far.goes_on);
-  count = count ∙ so_far.count;
-  inline = inline;
+  fits = fits;
 }
 
 pub gathered_all : (target : Bytes) (later : List Bytes) (index : ℕ) (gathered : Bytes) (room f c : ℕ) → IsGathering target later index gathered room f c → length later ≤ index → gathered ≡ target

@@ -2,12 +2,12 @@
 use Rattle.std.proofs.Common.{ℕ, ◌≡◌, ◌+◌, ◌≤◌, List, [], ◌∷◌, ◌++◌, length, take, drop, refl, sym, ap, ◌∙◌, arith, append_assoc, length-drop}
 use Rattle.std.specs.List.{flat_map}
 use Rattle.std.proofs.lemmas.List.{append-nil, drop-drop, drop-append-le, length-take-le}
-use Rattle.words.specs.declared.limits.TheConstants.{WORDS_MAX, REQUEST_BYTES_MAX}
+use Rattle.words.specs.declared.limits.TheConstants.{WORDS_MAX}
 use Rattle.words.specs.Store.{Bytes}
-use Rattle.words.specs.Spelling.{header, bulk_string, spelling, bytes_of, AreShort}
+use Rattle.words.specs.Spelling.{header, bulk_string, spelling}
 use Rattle.resp_read.specs.declared.reader.Step.TheVariants.{Gives}
 use Rattle.resp_read.specs.Lines.{BeginsWithLine}
-use Rattle.resp_read.specs.Looks.{HasWord, BeginsWithWord, BeginsWithRequest}
+use Rattle.resp_read.specs.Looks.{HasWord, BeginsWithWord, BeginsWithWords, BeginsWithRequest}
 use Rattle.resp_read.specs.Pieces.{joined, without}
 use Rattle.resp_read.specs.Taking.{Takes}
 use Rattle.resp_read.specs.Unread.{Held, unread}
@@ -28,14 +28,7 @@ word_begins bytes word size start long has is = record {
     long_is = ap length is ∙ length-take-le long (drop start bytes) (omega (arith, has.within, length-drop start bytes))
 
 -- the line of a count and some words have been taken
-pub record AreTaken (bytes : Bytes) (count : ℕ) (words : List Bytes) (at size : ℕ) : Type 0 where
-  pub within : at ≤ length bytes
-  pub short : AreShort words
-  pub together : bytes_of words ≡ size
-  pub room : size ≤ REQUEST_BYTES_MAX
-  pub begins : bytes ≡ (header 42 count ++ flat_map bulk_string words) ++ drop at bytes
-
-pub none_taken : (bytes : Bytes) (count start : ℕ) → BeginsWithLine 42 count start bytes → AreTaken bytes count [] start 0
+pub none_taken : (bytes : Bytes) (count start : ℕ) → BeginsWithLine 42 count start bytes → BeginsWithWords bytes count [] start 0
 none_taken bytes count start line = record {
   within = line.within;
   short = tt;
@@ -44,7 +37,7 @@ none_taken bytes count start line = record {
   begins = line.begins ∙ ap (λ (b : Bytes). b ++ drop start bytes) (sym (append-nil (header 42 count)));
 }
 
-pub one_more : (bytes part word : Bytes) (count at size width : ℕ) (words : List Bytes) → AreTaken bytes count words at size → part ≡ drop at bytes → BeginsWithWord part size word width → AreTaken bytes count (words ++ word ∷ []) (at + width) (size + length word)
+pub one_more : (bytes part word : Bytes) (count at size width : ℕ) (words : List Bytes) → BeginsWithWords bytes count words at size → part ≡ drop at bytes → BeginsWithWord part size word width → BeginsWithWords bytes count (words ++ word ∷ []) (at + width) (size + length word)
 one_more bytes part word count at size width words taken is next = record {
   within = omega (arith, taken.within, next.within, ap length is, length-drop at bytes);
   short = AreShort-push words word taken.short next.short;
@@ -56,7 +49,7 @@ one_more bytes part word count at size width words taken is next = record {
     left_is : drop at bytes ≡ bulk_string word ++ drop (at + width) bytes
     left_is = sym is ∙ (next.begins ∙ ap (λ (b : Bytes). bulk_string word ++ b) (ap (drop width) is ∙ drop-drop width at bytes))
 
-pub all_taken : (bytes : Bytes) (count at size : ℕ) (words : List Bytes) → AreTaken bytes count words at size → length words ≡ count → 1 ≤ count → count ≤ WORDS_MAX → BeginsWithRequest bytes words at
+pub all_taken : (bytes : Bytes) (count at size : ℕ) (words : List Bytes) → BeginsWithWords bytes count words at size → length words ≡ count → 1 ≤ count → count ≤ WORDS_MAX → BeginsWithRequest bytes words at
 unfolding spelling
 all_taken bytes count at size words taken all some most = record {
   request = record { some = omega (arith, all); most = omega (arith, all); short = taken.short; together = omega (arith, taken.together, taken.room) };

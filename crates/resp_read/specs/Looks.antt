@@ -3,7 +3,7 @@ use Rattle.std.specs.Prelude.{ℕ, suc, ◌≡◌, ◌+◌, ◌≤◌, List, ◌
 use Rattle.std.specs.List.{flat_map}
 use Rattle.words.specs.declared.limits.TheConstants.{WORD_BYTES_MAX, REQUEST_BYTES_MAX}
 use Rattle.words.specs.Store.{Bytes}
-use Rattle.words.specs.Spelling.{bulk_string, spelling, bytes_of, AreShort, IsRequest}
+use Rattle.words.specs.Spelling.{header, bulk_string, spelling, bytes_of, AreShort, IsRequest}
 use Rattle.words.specs.Stream as stream
 use Rattle.resp_read.specs.declared.look.Look.{Look}
 use Rattle.resp_read.specs.declared.look.Look.TheVariants.{Whole, Part, Faulty}
@@ -24,6 +24,14 @@ pub record BeginsWithWord (bytes : Bytes) (size : ℕ) (word : Bytes) (width : �
   pub short : length word ≤ WORD_BYTES_MAX
   pub room : size + length word ≤ REQUEST_BYTES_MAX
   pub begins : bytes ≡ bulk_string word ++ drop width bytes
+
+-- the bytes begin with the line of this count and these words as bulk strings, of `at` bytes together; the words have `size`
+pub record BeginsWithWords (bytes : Bytes) (count : ℕ) (words : List Bytes) (at size : ℕ) : Type 0 where
+  pub within : at ≤ length bytes
+  pub short : AreShort words
+  pub together : bytes_of words ≡ size
+  pub room : size ≤ REQUEST_BYTES_MAX
+  pub begins : bytes ≡ (header 42 count ++ flat_map bulk_string words) ++ drop at bytes
 
 -- the bytes begin with the spelling of this request, of so many bytes
 pub record BeginsWithRequest (bytes : Bytes) (words : List Bytes) (width : ℕ) : Type 0 where

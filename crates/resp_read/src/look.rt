@@ -166,8 +166,8 @@ fn end_across(
     }
 }
 
-/// A word of `long` bytes past the first `start`. Where they stand in the oldest piece they are
-/// copied once.
+/// A word of `long` bytes past the first `start`, whichever pieces they stand in. They are copied once,
+/// into their place.
 #[inline]
 pub(crate) fn word_at(
     alloc: Global,
@@ -184,7 +184,7 @@ pub(crate) fn word_at(
         return Word::from_slice(alloc, &oldest[start..start + long]);
     }
     let gathered = pieces.gather(alloc, start, long)?;
-    Word::from_slice(alloc, gathered.as_slice())
+    Ok(Word::from_small_vec(gathered))
 }
 
 /// Looks at the `due` words past the first `at` bytes of the pieces, where those before them have

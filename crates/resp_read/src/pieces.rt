@@ -1,7 +1,7 @@
 //! The pieces in which the bytes of a client came.
 
 ghost use Rattle.std.specs.Prelude.{◌≡◌, ◌+◌, ◌≤◌, ◌<◌, ◌^◌, ◌⊎◌, ℕ, List, [], ◌++◌, length, take, drop, slice_get, option_copied, IsOk, IfOk, IfErr, OnOk, OnErr, IfSome};
-ghost use Rattle.smallvec.specs.SmallVec.{small_vec_len};
+ghost use Rattle.words.specs.declared.word.TheConstants.{WORD_INLINE};
 ghost use Rattle.resp_read.specs.Pieces.{joined, as_piece, without};
 
 use bytes::Bytes;
@@ -10,8 +10,8 @@ use std::alloc::{AllocError, Global};
 use std::collections::VecDeque;
 use std::marker::Model;
 
-/// Bytes from several pieces, copied into one run. Up to 32 take no memory.
-pub(crate) type Gathered = SmallVec<u8, 32>;
+/// Bytes from several pieces, copied into one run: what a word is made of.
+pub(crate) type Gathered = SmallVec<u8, 22>;
 
 /// The smaller of two numbers.
 #[inline]
@@ -32,22 +32,21 @@ struct Wanted {
 
 impl Wanted {
     /// Gathers what it wants of the next bytes.
-    fn gather(&mut self, gathered: &mut Gathered, bytes: &[u8]) -> Result<(), AllocError>
-        ensures goes_on { OnOk result ((more : List ℕ)
+    fn gather(&mut self, gathered: &mut Gathered, bytes: &[u8])
+        requires { length gathered.old.items + self.old.count ≤ gathered.old.capacity }
+        ensures goes_on { (more : List ℕ)
             → gathered.new.items ++ take self.new.count (drop self.new.from more)
-            ≡ gathered.old.items ++ take self.old.count (drop self.old.from (bytes.now ++ more))) }
-        ensures count { OnOk result (length gathered.new.items + self.new.count
-            ≡ length gathered.old.items + self.old.count) }
-        ensures inline { gathered.old.capacity ≡ 32 → length gathered.old.items + self.old.count ≤ 32
-            → IsOk result × (gathered.new.capacity ≡ 32) }
+            ≡ gathered.old.items ++ take self.old.count (drop self.old.from (bytes.now ++ more)) }
+        ensures room { length gathered.new.items + self.new.count ≤ gathered.new.capacity }
     {
         let start = least(self.from, bytes.len());
         let rest = &bytes[start..];
         let count = least(self.count, rest.len());
-        gathered.extend_from_slice(&rest[..count])?;
+        let Ok(()) = gathered.extend_from_slice(&rest[..count]) else {
+            unreachable!()
+        };
         self.from -= start;
         self.count -= count;
-        Ok(())
     }
 }
 
@@ -170,8 +169,8 @@ impl Pieces {
         self.oldest.advance(left);
     }
 
-    /// Copies `count` bytes, past the first `from`, whichever pieces they stand in. Up to 32 take no
-    /// memory.
+    /// Copies `count` bytes, past the first `from`, whichever pieces they stand in. It takes memory once, and
+    /// only where they are more than [`WORD_INLINE`].
     pub(crate) fn gather(
         &self,
         alloc: Global,
@@ -181,20 +180,28 @@ impl Pieces {
         requires { from + count ≤ length (joined self.now) }
         ensures bytes { IfOk result (λ gathered.
             gathered.items ≡ take count (drop from (joined self.now))) }
-        ensures inline { count ≤ 32 → IsOk result }
+        ensures inline { count ≤ WORD_INLINE → IsOk result }
     {
-        let mut gathered = SmallVec::new(alloc);
-        gathered.reserve(count)?;
+        let mut gathered = SmallVec::with_capacity(alloc, count)?;
+        self.gather_into(&mut gathered, from, count);
+        Ok(gathered)
+    }
+
+    /// Adds `count` bytes, past the first `from`, to what has room for them.
+    fn gather_into(&self, gathered: &mut Gathered, from: usize, count: usize)
+        requires within { from + count ≤ length (joined self.now) }
+        requires room { length gathered.old.items + count ≤ gathered.old.capacity }
+        ensures { gathered.new.items ≡ gathered.old.items ++ take count (drop from (joined self.now)) }
+    {
         let mut wanted = Wanted { from, count };
-        wanted.gather(&mut gathered, self.oldest.as_slice())?;
+        wanted.gather(gathered, self.oldest.as_slice());
         let mut index = 0;
         while let Some(piece) = self.later.get(index) {
             if wanted.count == 0 {
-                return Ok(gathered);
+                return;
             }
-            wanted.gather(&mut gathered, piece.as_slice())?;
+            wanted.gather(gathered, piece.as_slice());
             index += 1;
         }
-        Ok(gathered)
     }
 }

@@ -35,12 +35,11 @@ pub enum ReadFault {
 /// Contracts see the count and the words that were taken off, and the pieces that are left; `unread` is
 /// what they stand for.
 ///
-/// A request that stands whole in one piece is taken in one go. The bytes of a word are copied when it has
-/// come whole, and not looked at before: once into the word where they stand in one piece, else they are
-/// gathered first. What is looked at again each time
-/// [`next`] is asked is a line that has not come whole, of at most 6 bytes, the length line of a word that
-/// has not, of at most 7, and the first byte of its line end. Where memory was refused for a word of a
-/// request that has not come whole, the word stays in the pieces until it can be kept.
+/// A request that stands whole in one piece is taken in one go. The bytes of a word are copied once, into
+/// their place, when it has come whole in however many pieces, and not looked at before. What is looked at
+/// again each time [`next`] is asked is a line that has not come whole, of at most 6 bytes, the length line
+/// of a word that has not, of at most 7, and the first byte of its line end. Where memory was refused for a
+/// word of a request that has not come whole, the word stays in the pieces until it can be kept.
 ///
 /// # Memory
 ///

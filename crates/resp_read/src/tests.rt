@@ -86,20 +86,6 @@ fn feed_in_pieces(log: &mut Log, stream: &[u8], size: usize) -> Result<(), Fail>
     Ok(())
 }
 
-/// Asserts what a reader gives for the stream in pieces of this size.
-fn check_in_pieces(
-    rt: &impl Abort,
-    alloc: Global,
-    stream: &[u8],
-    size: usize,
-    given: &[u8],
-) -> Result<(), Fail> {
-    let mut log = Log::new(alloc);
-    feed_in_pieces(&mut log, stream, size)?;
-    assert!(rt; log.text.as_slice() == given, "in pieces of {size}");
-    Ok(())
-}
-
 /// Feeds the stream cut in two at this place.
 fn feed_in_two(log: &mut Log, stream: &[u8], at: usize) -> Result<(), Fail> {
     let at = at.min(stream.len());
@@ -107,28 +93,56 @@ fn feed_in_two(log: &mut Log, stream: &[u8], at: usize) -> Result<(), Fail> {
     log.feed(&stream[at..])
 }
 
-/// Asserts what a reader gives for the stream cut in two at this place.
-fn check_in_two(
+/// How a stream is cut.
+#[derive(Clone, Copy)]
+enum Cut {
+    /// In pieces of this size.
+    Pieces(usize),
+    /// In two at this place.
+    Two(usize),
+}
+
+/// Feeds the stream, and asserts what the reader has given.
+fn check_log(
+    rt: &impl Abort,
+    log: &mut Log,
+    stream: &[u8],
+    cut: Cut,
+    given: &[u8],
+) -> Result<(), Fail> {
+    match cut {
+        Cut::Pieces(size) => {
+            feed_in_pieces(log, stream, size)?;
+            assert!(rt; log.text.as_slice() == given, "in pieces of {size}");
+        }
+        Cut::Two(at) => {
+            feed_in_two(log, stream, at)?;
+            assert!(rt; log.text.as_slice() == given, "cut at {at}");
+        }
+    }
+    Ok(())
+}
+
+/// Asserts what a reader gives for the stream that is cut so.
+fn check_cut(
     rt: &impl Abort,
     alloc: Global,
     stream: &[u8],
-    at: usize,
+    cut: Cut,
     given: &[u8],
 ) -> Result<(), Fail> {
     let mut log = Log::new(alloc);
-    feed_in_two(&mut log, stream, at)?;
-    assert!(rt; log.text.as_slice() == given, "cut at {at}");
-    Ok(())
+    check_log(rt, &mut log, stream, cut, given)
 }
 
 /// Asserts what a reader gives for the stream as one piece, in pieces of 1, 2, 3 and 7 bytes, and cut in
 /// two at every place.
 fn check(rt: &impl Abort, alloc: Global, stream: &[u8], given: &[u8]) -> Result<(), Fail> {
     for size in [1, 2, 3, 7, stream.len()] {
-        check_in_pieces(rt, alloc, stream, size, given)?;
+        check_cut(rt, alloc, stream, Cut::Pieces(size), given)?;
     }
     for at in 0..stream.len() {
-        check_in_two(rt, alloc, stream, at, given)?;
+        check_cut(rt, alloc, stream, Cut::Two(at), given)?;
     }
     Ok(())
 }
@@ -248,11 +262,11 @@ fn nine_words(alloc: Global, last: &[u8]) -> Result<Vec<u8>, Fail> {
 /// and their neighbourhood and at some in between: one place among the bytes of a word is like another.
 fn check_long(rt: &impl Abort, alloc: Global, stream: &[u8], given: &[u8]) -> Result<(), Fail> {
     for size in [1, 2, 3, 7, 16_384] {
-        check_in_pieces(rt, alloc, stream, size, given)?;
+        check_cut(rt, alloc, stream, Cut::Pieces(size), given)?;
     }
     for at in 0..stream.len() {
         if at % 8_201 < 16 || at % 8_201 > 8_192 || at % 1_021 == 0 {
-            check_in_two(rt, alloc, stream, at, given)?;
+            check_cut(rt, alloc, stream, Cut::Two(at), given)?;
         }
     }
     Ok(())
@@ -276,7 +290,7 @@ fn nine_words_of_the_most_bytes(rt: HostRuntime) -> Result<(), Fail> {
     let word = repeated(alloc, b"", b"wwwwwwww", 1024, b",")?;
     let given = repeated(alloc, b"", &word, 8, b",;")?;
     let stream = nine_words(alloc, b"$0\r\n\r\n")?;
-    check_in_pieces(&rt, alloc, &stream, 16_384, &given)
+    check_cut(&rt, alloc, &stream, Cut::Pieces(16_384), &given)
 }
 
 /// Asserts which pieces a reader keeps, from the oldest on.
@@ -294,15 +308,20 @@ fn feed(reader: &mut Reader, piece: &'static [u8]) -> Result<(), Fail> {
         .map_err(|refused| Fail::from(refused.1))
 }
 
+/// Feeds four pieces, one of them empty.
+fn feed_four(rt: &impl Abort, reader: &mut Reader) -> Result<(), Fail> {
+    check_kept(rt, reader, &[]);
+    for piece in [b"*".as_slice(), b"2", b"", b"\r\n$3\r\nGET\r\n$1\r\nk\r"] {
+        feed(reader, piece)?;
+    }
+    check_kept(rt, reader, &[b"*", b"2", b"\r\n$3\r\nGET\r\n$1\r\nk\r"]);
+    Ok(())
+}
+
 #[test]
 fn pieces_stay_as_they_were_fed(rt: HostRuntime) -> Result<(), Fail> {
     let mut reader = Reader::new(rt.alloc());
-    check_kept(&rt, &reader, &[]);
-    for piece in [b"*".as_slice(), b"2", b"", b"\r\n$3\r\nGET\r\n$1\r\nk\r"] {
-        feed(&mut reader, piece)?;
-    }
-    check_kept(&rt, &reader, &[b"*", b"2", b"\r\n$3\r\nGET\r\n$1\r\nk\r"]);
-    Ok(())
+    feed_four(&rt, &mut reader)
 }
 
 /// Whether the reader waits for more.

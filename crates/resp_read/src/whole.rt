@@ -1,12 +1,12 @@
 //! A request that stands whole in one piece, which is taken in one go.
 
-ghost use Rattle.std.specs.Prelude.{◌≤◌, IfSome};
-ghost use Rattle.resp_read.specs.Looks.{BeginsWithWord, BeginsWithRequest};
+ghost use Rattle.std.specs.Prelude.{◌≡◌, ◌≤◌, length, IfSome, IsTrue};
+ghost use Rattle.resp_read.specs.Looks.{BeginsWithWord, BeginsWithWords, BeginsWithRequest};
 
 use crate::lines::{Line, count_line};
 use crate::look::{Look, look_in};
 use std::alloc::Global;
-use words::limits::REQUEST_BYTES_MAX;
+use words::limits::{REQUEST_BYTES_MAX, WORDS_MAX};
 use words::word::{Word, Words};
 
 /// The word at the front of some bytes, where those before it have `size` bytes, and how many bytes its
@@ -41,15 +41,40 @@ pub(crate) fn request_in(alloc: Global, bytes: &[u8], at: &mut usize) -> Option<
     };
     let (name, width) = word_in(alloc, 0, &bytes[start..])?;
     *at = start + width;
-    let mut size = name.len();
+    let size = name.len();
     let mut words = Words::one(alloc, name);
+    if more_in(alloc, bytes, count, size, at, &mut words) {
+        Some(words)
+    } else {
+        None
+    }
+}
+
+/// Takes the words of a request of `count` words past its first, which has `size` bytes and ends before `at`.
+/// It says whether they stand there whole, and there was memory for them; `at` is then where the last ends.
+#[inline(always)]
+fn more_in(
+    alloc: Global,
+    bytes: &[u8],
+    count: usize,
+    mut size: usize,
+    at: &mut usize,
+    words: &mut Words,
+) -> bool
+    requires count { (1 ≤ count) × (count ≤ WORDS_MAX) }
+    requires first { length words.old ≡ 1 }
+    requires taken { BeginsWithWords bytes.now count words.old at.old size }
+    ensures { IsTrue result → BeginsWithRequest bytes.now words.new at.new }
+{
     for _ in 1..count {
-        let (word, width) = word_in(alloc, size, &bytes[*at..])?;
+        let Some((word, width)) = word_in(alloc, size, &bytes[*at..]) else {
+            return false;
+        };
         *at += width;
         size += word.len();
         if let Err(_) = words.push(word) {
-            return None;
+            return false;
         }
     }
-    Some(words)
+    true
 }

@@ -88,13 +88,29 @@ fn overlaid(alloc: Global, old: &[u8], offset: usize, more: &[u8]) -> Result<Wor
 {
     let past = offset + more.len();
     let mut bytes: SmallVec<u8, 22> = SmallVec::with_capacity(alloc, past.max(old.len()))?;
+    overlay_on(&mut bytes, old, offset, more)?;
+    Ok(Word::from_small_vec(bytes))
+}
+
+/// Makes that value in an empty vector.
+fn overlay_on(
+    bytes: &mut SmallVec<u8, 22>,
+    old: &[u8],
+    offset: usize,
+    more: &[u8],
+) -> Result<(), OutOfMemory>
+    requires within { offset + length more.now ≤ VALUE_BYTES_MAX }
+    requires empty { bytes.old.items ≡ [] }
+    ensures { OnOk result (bytes.new.items ≡ answers.overlaid old.now offset more.now) }
+{
+    let past = offset + more.len();
     bytes.extend_from_slice(&old[..offset.min(old.len())])?;
-    pad(&mut bytes, offset)?;
+    pad(bytes, offset)?;
     bytes.extend_from_slice(more)?;
     if past < old.len() {
         bytes.extend_from_slice(&old[past..])?;
     }
-    Ok(Word::from_small_vec(bytes))
+    Ok(())
 }
 
 /// `SETRANGE`
