@@ -1,5 +1,5 @@
 -- What calls of a pass come to.
-use Rattle.std.proofs.Common.{◌≡◌, ℕ, List, [], ◌∷◌, ◌++◌, Option, Some, None, true, refl, ap, ◌∙◌, length}
+use Rattle.std.proofs.Common.{◌≡◌, ℕ, List, [], ◌∷◌, ◌++◌, Option, Some, None, Result, Ok, Err, IfOk, true, refl, ap, ◌∙◌, length}
 use Rattle.words.specs.declared.reply.Reply.{Reply}
 use Rattle.words.specs.declared.reply.Fault.{Fault}
 use Rattle.words.specs.declared.reply.Fault.TheVariants as fault
@@ -104,6 +104,18 @@ pub if_undone : (a : Answer) (stripes : List ℕ) (c : Call) (was now : Knowledg
     → submits.IfFault a (λ f. IsUndone stripes (asked_of c) f was now)
 if_undone (answer.Reply reply) stripes c was now failed refused needs = tt
 if_undone (answer.Fault f) stripes c was now failed refused needs = is_undone stripes c f was now failed refused needs
+
+-- the same of a call that was tried
+pub tried_done : {E : Type 0} (r : Result Answer E) (c : Call) (was now : Knowledge) → IfOk r (λ a. submits.IfReply a (λ reply. HasDone c reply was now))
+    → IfOk r (λ a. submits.IfReply a (λ reply. HeardBusy [] was now)) → IfOk r (λ a. submits.IfReply a (λ reply. IsDone [] (asked_of c) reply was now))
+tried_done (Ok a) c was now done heard = if_done a [] c was now done heard
+tried_done (Err e) c was now done heard = tt
+
+pub tried_undone : {E : Type 0} (r : Result Answer E) (c : Call) (was now : Knowledge) → IfOk r (λ a. submits.IfFault a (λ f. HasFailed c was now))
+    → IfOk r (λ a. submits.IfFault a (λ f. WasRefused f [] was now)) → IfOk r (λ a. submits.IfFault a (λ f. NeedsSome f now (asked_for c)))
+    → IfOk r (λ a. submits.IfFault a (λ f. IsUndone [] (asked_of c) f was now))
+tried_undone (Ok a) c was now failed refused needs = if_undone a [] c was now failed refused needs
+tried_undone (Err e) c was now failed refused needs = tt
 
 -- a pass that watched nothing watches one key alone
 pub watches_one : (stripes : List ℕ) (keys : List Bytes) (key : Bytes) (reply : Reply) (was now : Knowledge) → IsDone stripes (Some (Watch keys)) reply was now

@@ -2,7 +2,7 @@
 //! another in one history.
 #![tactic(auto)]
 
-ghost use Rattle.std.specs.Prelude.{◌≡◌, ◌+◌, ◌<◌, ℕ, IfOk, vec_len, slice_index_or};
+ghost use Rattle.std.specs.Prelude.{◌≡◌, ◌+◌, ◌<◌, [], ℕ, IfOk, IfErr, vec_len, slice_index_or};
 ghost use Rattle.gates.specs.Plays.{AreEmpty};
 ghost use Rattle.gates.specs.declared.gates.Pass as gates_pass;
 ghost use Rattle.transact.specs.Shards.{shard_meaning};
@@ -10,15 +10,16 @@ ghost use Rattle.transact.specs.Calls.{asked_of};
 ghost use Rattle.transact.specs.Plans.{EndsAll};
 ghost use Rattle.engine.specs.Passes.{knows, Rests, IsNew, stripe_count};
 ghost use Rattle.transact.specs.Submits.{IfReply, IfFault, stripes_asked};
-ghost use Rattle.gates.specs.Passes.{Learned};
+ghost use Rattle.gates.specs.Sets.{times};
+ghost use Rattle.gates.specs.Passes.{Learned, WasBusy};
 ghost use Rattle.engine.specs.Calls.{HasItsPlace, IsDone, IsUndone};
 
 use gates::{Gates, Latch, Open, Point};
 use std::alloc::Global;
 use std::sync::Wait;
-use transact::call::{Answer, Call};
+use transact::call::{Answer, Busy, Call};
 use transact::shard::Shard;
-use transact::submit::submit;
+use transact::submit::{submit, try_submit};
 use words::limits::Limits;
 use words::word::OutOfMemory;
 
@@ -96,6 +97,27 @@ impl Engine {
         let answer = submit(rt, self.alloc, &self.gates, pass, call, latch);
         latch.at(number, Point::After);
         answer
+    }
+
+    /// The same as [`submit`](Engine::submit) without waiting: each stripe of the call is tried once. A call
+    /// that is answered was told of no stripe that it was another pass's.
+    ///
+    /// # Errors
+    ///
+    /// [`Busy`] with a stripe of the call's keys whose word was read as another pass's, and the call. Nothing
+    /// is held and nothing was changed then; what the pass has seen may have grown.
+    pub fn try_submit(&self, pass: &mut Pass, call: Call) -> Result<Answer, (Busy, Call)>
+        requires rests { Rests self.now pass.old }
+        requires place { HasItsPlace (knows pass.old).watched (asked_of call) }
+        requires watching { EndsAll call (knows pass.old).watched }
+        ensures rests { Rests self.now pass.new }
+        ensures done { IfOk result (λ answer. IfReply answer (λ reply. IsDone [] (asked_of call) reply (knows pass.old) (knows pass.new))) }
+        ensures undone { IfOk result (λ answer. IfFault answer (λ fault. IsUndone [] (asked_of call) fault (knows pass.old) (knows pass.new))) }
+        ensures stripe { IfErr result (λ refusal. 0 < times refusal.0.stripe (stripes_asked (stripe_count self.now) call)) }
+        ensures busy { IfErr result (λ refusal. WasBusy refusal.0.stripe (knows pass.old) (knows pass.new)) }
+        ensures back { IfErr result (λ refusal. refusal.1 ≡ call) }
+    {
+        try_submit(self.alloc, &self.gates, pass, call)
     }
 
     /// Both passes have then seen one legal history, which begins with what each had seen and has the

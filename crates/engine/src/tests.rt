@@ -22,6 +22,9 @@ use words::number;
 use words::reply::{CommandReply, Fault, Item, Reply};
 use words::word::{OutOfMemory, Word, Words};
 
+mod moving;
+mod trying;
+
 /// How often each of two threads adds to a key.
 const TIMES: u64 = 1_000;
 
@@ -599,26 +602,54 @@ fn is_due<R: Wait, L: Latch>(
     }
 }
 
-/// Adds one to the key `n` so many times, and says how often it was done.
-fn count_up<R: Wait>(rt: &R, alloc: Global, engine: &Engine, mut pass: Pass) -> (Pass, u64)
+/// Makes these requests, which are set apart by commas, and says how many were answered by a reply.
+fn replies_to<R: Wait>(
+    rt: &R,
+    alloc: Global,
+    engine: &Engine,
+    pass: &mut Pass,
+    requests: &str,
+) -> u64
+    requires { Rests engine.now pass.old }
+    ensures { Rests engine.now pass.new }
+{
+    let mut done = 0u64;
+    for request in requests.split(',') {
+        let answer = answer_of(rt, alloc, &Open, engine, pass, request);
+        if let Some(Answer::Reply(_)) = answer {
+            done = done.saturating_add(1);
+        }
+    }
+    done
+}
+
+/// Makes these requests over and over, until so many were made, and says how many were answered by a reply.
+fn count_up<R: Wait>(
+    rt: &R,
+    alloc: Global,
+    engine: &Engine,
+    mut pass: Pass,
+    requests: &str,
+) -> (Pass, u64)
     requires { Rests engine.now pass }
     ensures { Rests engine.now result.0 }
 {
     let mut done = 0u64;
     for _n in 0..TIMES {
-        let answer = answer_of(rt, alloc, &Open, engine, &mut pass, "INCR n");
-        if let Some(Answer::Reply(_)) = answer {
-            done = done.saturating_add(1);
-        }
+        let replies = replies_to(rt, alloc, engine, &mut pass, requests);
+        done = done.saturating_add(replies);
     }
     (pass, done)
 }
 
-/// Whether no addition is lost where two threads add to one key.
+/// Whether no addition is lost where two threads make these requests, of which there are `count`: the
+/// reading is answered as is due then.
 fn counts_to<R: Threads + Wait + Sync>(
     rt: &R,
     alloc: Global,
-    due: &str,
+    requests: &str,
+    count: u64,
+    reading: Exchange<'_>,
 ) -> Result<bool, OutOfMemory> {
     let (engine, one, two) = with_two(alloc)?;
     let shared = &engine;
@@ -627,22 +658,33 @@ fn counts_to<R: Threads + Wait + Sync>(
         move || -> (Pass, u64)
             requires { Rests shared.now one }
             ensures { Rests shared.entry.now result.0 }
-        { count_up(rt, alloc, shared, one) },
+        { count_up(rt, alloc, shared, one, requests) },
         move || -> (Pass, u64)
             requires { Rests shared.now two }
             ensures { Rests shared.entry.now result.0 }
-        { count_up(rt, alloc, shared, two) },
+        { count_up(rt, alloc, shared, two, requests) },
     );
     drop(second);
-    let request = "GET n";
-    let exchange = Exchange { request, due };
-    let is_all = is_due(rt, alloc, &Open, &engine, &mut first, exchange);
-    Ok(a == TIMES && b == TIMES && is_all)
+    let is_all = is_due(rt, alloc, &Open, &engine, &mut first, reading);
+    Ok(a == b && a.checked_div(count) == Some(TIMES) && is_all)
 }
 
 #[test]
 fn two_threads_add_to_one_key(rt: HostRuntime) -> Result<(), Fail> {
-    assert!(rt; counts_to(&rt, rt.alloc(), "$2000")?);
+    let request = "MGET n";
+    let due = "$2000";
+    let reading = Exchange { request, due };
+    assert!(rt; counts_to(&rt, rt.alloc(), "INCR n", 1, reading)?);
+    Ok(())
+}
+
+#[test]
+fn two_threads_add_to_several_keys(rt: HostRuntime) -> Result<(), Fail> {
+    let request = "MGET a b n z";
+    let due = "$2000 $2000 $2000 $2000";
+    let reading = Exchange { request, due };
+    let requests = "INCR a,INCR b,INCR n,INCR z";
+    assert!(rt; counts_to(&rt, rt.alloc(), requests, 4, reading)?);
     Ok(())
 }
 

@@ -120,9 +120,12 @@ fit_undone n start mid told last same taken number seen watched same_last fit be
     (ap (λ (k : Knowledge). k.watched) same_last.known ∙ watched ∙ ap (λ (k : Knowledge). k.watched) same.known)
     (subst (λ (l : List (ℕ × (ℕ × Shard))). AllFit shard_meaning n (known_to start) l (held_parts start)) (sym (same_last.taken ∙ taken ∙ same.taken)) fit) became
 
--- said of the gates of what is held
-pub fit_at : (n : ℕ) (held : Held Shard) (gates : Gates Shard) → n ≡ stripes_of gates → gates_of held ≡ gates → Fit n held → Fit (stripes_of (gates_of held)) held
-fit_at n held gates n_is same fit = subst (λ (m : ℕ). Fit m held) (n_is ∙ ap (λ (g : Gates Shard). stripes_of g) (sym same)) fit
+-- what fits is said of the gates of what is held
+pub fit_given : (n : ℕ) (ends : Bool) (held : Held Shard) (gates : Gates Shard) → n ≡ stripes_of gates → gates_of held ≡ gates
+    → AllFit shard_meaning n (kept ends (known_to held)) (held_taken held) (held_parts held)
+    → AllFit shard_meaning (stripes_of (gates_of held)) (kept ends (known_to held)) (held_taken held) (held_parts held)
+fit_given n ends held gates n_is same fit =
+    subst (λ (m : ℕ). AllFit shard_meaning m (kept ends (known_to held)) (held_taken held) (held_parts held)) (n_is ∙ ap (λ (g : Gates Shard). stripes_of g) (sym same)) fit
 
 -- a call was done behind what was learned before it
 pub did_behind : (before mid later : Knowledge) (asked : Asked) (reply : Reply) (seat : ℕ) → seat ≡ mid.number → Learned before mid
@@ -153,9 +156,6 @@ did_not_behind before mid later watched learned did = record {
 }
 
 -- only watches ended
-pub ended : (knows : Knowledge) → DidNot [] knows (kept true knows)
-ended knows = record { number = refl; seen = ([], refl); mine = refl; watched_is = refl }
-
 pub ended_after : (watched : List Pair) (before mid : Knowledge) → DidNot watched before mid → DidNot [] before (kept true mid)
 ended_after watched before mid did = record { number = did.number; seen = did.seen; mine = did.mine; watched_is = refl }
 
@@ -168,26 +168,14 @@ fit_forgot n seat keys start last seat_is keys_are fit same became =
     (subst (λ (l : List (ℕ × (ℕ × Shard))). AllFit shard_meaning n (known_to start) l (held_parts start)) (sym same.taken) fit) became)
 
 -- the stripes of all that is watched are held
-pub forgot_held : (n : ℕ) (keys : List Bytes) (last : Held Shard) (gates : Gates Shard) → n ≡ stripes_of gates → gates_of last ≡ gates → keys ≡ keys_of_pairs (known_to last).watched
-    → AreThere n (parts_of last) keys → KeysHeld (stripes_of (gates_of last)) (held_parts last) (keys_of_pairs (known_to last).watched)
-forgot_held n keys last gates n_is same keys_are there =
-    subst (λ (m : ℕ). KeysHeld m (held_parts last) (keys_of_pairs (known_to last).watched)) (n_is ∙ ap (λ (g : Gates Shard). stripes_of g) (sym same))
-    (subst (λ (l : List Bytes). KeysHeld n (held_parts last) l) keys_are (keys_held shard_meaning n (held_parts last) keys there))
-
--- the same, said of the gates of what is held
-pub fit_forgot_at : (n : ℕ) (seat : ℕ) (keys : List Bytes) (start last : Held Shard) (gates : Gates Shard) → n ≡ stripes_of gates → gates_of last ≡ gates → seat ≡ (known_to start).number
-    → keys ≡ keys_of_pairs (known_to start).watched → Fit n start → SameHold start last → Became shard_meaning n [] (clears seat keys) (parts_of start) (parts_of last)
-    → AllFit shard_meaning (stripes_of (gates_of last)) (kept true (known_to last)) (held_taken last) (held_parts last)
-fit_forgot_at n seat keys start last gates n_is same_gates seat_is keys_are fit same became =
-    subst (λ (m : ℕ). AllFit shard_meaning m (kept true (known_to last)) (held_taken last) (held_parts last)) (n_is ∙ ap (λ (g : Gates Shard). stripes_of g) (sym same_gates))
-    (fit_forgot n seat keys start last seat_is keys_are fit same became)
+pub forgot_held : (n : ℕ) (keys : List Bytes) (last : Held Shard) → keys ≡ keys_of_pairs (known_to last).watched → AreThere n (parts_of last) keys
+    → KeysHeld n (held_parts last) (keys_of_pairs (known_to last).watched)
+forgot_held n keys last keys_are there =
+    subst (λ (l : List Bytes). KeysHeld n (held_parts last) l) keys_are (keys_held shard_meaning n (held_parts last) keys there)
 
 -- all that a call ends is what was watched, also by what is known later
 pub ends_still : (keys : List Bytes) (before mid : Knowledge) → mid.watched ≡ before.watched → keys ≡ keys_of_pairs before.watched → keys ≡ keys_of_pairs mid.watched
 ends_still keys before mid same is = is ∙ ap keys_of_pairs (sym same)
-
-pub ends_later : (call : Call) (before mid : Knowledge) → mid.watched ≡ before.watched → EndsAll call before.watched → EndsAll call mid.watched
-ends_later call before mid same ends = subst (EndsAll call) (sym same) ends
 
 -- what is still watched after a fault, where the call is no transaction
 pub unended : (call : Call) (watched : List Pair) → HasEntry call → ((commands : List Command) (watching : List Bytes) → call ≡ Exec commands watching → ⊥)
@@ -197,30 +185,13 @@ unended (Watch keys) watched has never = refl
 unended (Exec commands watching) watched has never = absurd (never commands watching refl)
 unended (Forget watching) watched has never = absurd has
 
--- a call that does not end the watches comes to an entry
-pub has_entry : (call : Call) → MayBeSubmitted call → ((watching : List Bytes) → call ≡ Forget watching → ⊥) → HasEntry call
-has_entry (One command) may never = may
-has_entry (Watch keys) may never = tt
-has_entry (Exec commands watching) may never = may
-has_entry (Forget watching) may never = absurd (never watching refl)
-
+-- a call that comes to an entry was done where the entry was made
 pub has_done : (call : Call) (reply : Reply) (before later : Knowledge) → HasEntry call
     → Did (record { session = before.number; operation = operation_of before.watched (asked_for call); reply = reply }) before later → HasDone call reply before later
 has_done (One command) reply before later has did = did
 has_done (Watch keys) reply before later has did = did
 has_done (Exec commands watching) reply before later has did = did
 has_done (Forget watching) reply before later has did = absurd has
-
-pub done_as : (a : Answer) (call : Call) (before later : Knowledge) → HasEntry call
-    → IfReply a (λ reply. Did (record { session = before.number; operation = operation_of before.watched (asked_for call); reply = reply }) before later)
-    → IfReply a (λ reply. HasDone call reply before later)
-done_as (answer.Reply reply) call before later has did = has_done call reply before later has did
-done_as (answer.Fault fault) call before later has did = tt
-
-pub failed_as : (a : Answer) (call : Call) (before later : Knowledge) → HasEntry call
-    → IfFault a (λ fault. DidNot (watched_at_fault before.watched (asked_for call)) before later) → IfFault a (λ fault. HasFailed call before later)
-failed_as (answer.Reply reply) call before later has did = tt
-failed_as (answer.Fault fault) call before later has did = record { entry = has; did_not = did }
 
 -- what was told where the stripes were taken, and nothing since
 pub told_behind : (one other : List ℕ) (before mid later : Knowledge) → one ≡ other → ToldBusy one before mid → later.notes ≡ mid.notes → HeardBusy other before later
@@ -235,18 +206,43 @@ refused_behind fault.CommitsWornOut one other before mid later same told notes =
 refused_behind fault.DeviceFault one other before mid later same told is = absurd is
 refused_behind fault.StoreFull one other before mid later same told is = absurd is
 
--- the same after the pass was told nothing more
-pub refused_still : (f : Fault) (stripes : List ℕ) (before mid later : Knowledge) → WasRefused f stripes before mid → later.notes ≡ mid.notes → WasRefused f stripes before later
-refused_still fault.OutOfMemory stripes before mid later was notes = record { told = was.told; notes = notes ∙ was.notes; busy = was.busy }
-refused_still fault.CommitsWornOut stripes before mid later was notes = (was.0, notes ∙ was.1, was.2)
-refused_still fault.DeviceFault stripes before mid later was notes = absurd was
-refused_still fault.StoreFull stripes before mid later was notes = absurd was
+-- why a call was not done stays why, where the pass was told nothing more
+pub refused_still : (f : Fault) (before mid later : Knowledge) → IsRefused f before mid → later.notes ≡ mid.notes → IsRefused f before later
+refused_still fault.OutOfMemory before mid later is notes = notes ∙ is
+refused_still fault.CommitsWornOut before mid later is notes = notes ∙ is
+refused_still fault.DeviceFault before mid later is notes = absurd is
+refused_still fault.StoreFull before mid later is notes = absurd is
 
--- the same of an answer, after the stripes were given back
-pub did_behind_as : (a : Answer) (before mid later last : Knowledge) (asked : Asked) (seat : ℕ) → seat ≡ mid.number → Learned before mid
-    → IfReply a (λ reply. Did (record { session = seat; operation = operation_of mid.watched asked; reply = reply }) mid later) → last ≡ later
-    → IfReply a (λ reply. Did (record { session = before.number; operation = operation_of before.watched asked; reply = reply }) before last)
-did_behind_as (answer.Reply reply) before mid later last asked seat seat_is learned did same =
-    subst (λ (k : Knowledge). Did (record { session = before.number; operation = operation_of before.watched asked; reply = reply }) before k) (sym same)
-    (did_behind before mid later asked reply seat seat_is learned did)
-did_behind_as (answer.Fault fault) before mid later last asked seat seat_is learned did same = tt
+-- What a call came to from where its stripes were taken, it came to from before that.
+done_behind : (call : Call) (reply : Reply) (before mid later : Knowledge) → Learned before mid → HasDone call reply mid later → HasDone call reply before later
+done_behind (One command) reply before mid later learned done = did_behind before mid later (asked_for (One command)) reply mid.number refl learned done
+done_behind (Watch keys) reply before mid later learned done = did_behind before mid later (asked_for (Watch keys)) reply mid.number refl learned done
+done_behind (Exec commands watching) reply before mid later learned done =
+    did_behind before mid later (asked_for (Exec commands watching)) reply mid.number refl learned done
+done_behind (Forget watching) reply before mid later learned done = did_not_behind before mid later [] learned done
+
+pub done_behind_as : (a : Answer) (call : Call) (before mid later : Knowledge) → Learned before mid → IfReply a (λ reply. HasDone call reply mid later)
+    → IfReply a (λ reply. HasDone call reply before later)
+done_behind_as (answer.Reply reply) call before mid later learned done = done_behind call reply before mid later learned done
+done_behind_as (answer.Fault fault) call before mid later learned done = tt
+
+pub failed_behind_as : (a : Answer) (call : Call) (before mid later : Knowledge) → Learned before mid → IfFault a (λ fault. HasFailed call mid later)
+    → IfFault a (λ fault. HasFailed call before later)
+failed_behind_as (answer.Reply reply) call before mid later learned failed = tt
+failed_behind_as (answer.Fault fault) call before mid later learned failed = record {
+  entry = failed.entry;
+  did_not =
+      did_not_behind before mid later (watched_at_fault before.watched (asked_for call)) learned
+      (subst (λ (w : List Pair). DidNot (watched_at_fault w (asked_for call)) mid later) learned.watched failed.did_not);
+}
+
+pub told_behind_as : (a : Answer) (one other : List ℕ) (before mid later : Knowledge) → one ≡ other → ToldBusy one before mid → IfReply a (λ reply. later.notes ≡ mid.notes)
+    → IfReply a (λ reply. HeardBusy other before later)
+told_behind_as (answer.Reply reply) one other before mid later same told notes = told_behind one other before mid later same told notes
+told_behind_as (answer.Fault fault) one other before mid later same told notes = tt
+
+pub refused_behind_as : (a : Answer) (one other : List ℕ) (before mid entered later : Knowledge) → one ≡ other → ToldBusy one before mid
+    → IfFault a (λ fault. IsRefused fault mid entered) → later.notes ≡ entered.notes → IfFault a (λ fault. WasRefused fault other before later)
+refused_behind_as (answer.Reply reply) one other before mid entered later same told is notes = tt
+refused_behind_as (answer.Fault fault) one other before mid entered later same told is notes =
+    refused_behind fault one other before mid later same told (refused_still fault mid entered later is notes)

@@ -2,6 +2,5 @@ pub mod Calls
 pub mod Shards
 pub mod Tables
 pub mod Plans
-pub mod Plain
 pub mod Submits
 pub mod Memory

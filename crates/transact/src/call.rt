@@ -35,6 +35,13 @@ pub enum Answer {
     Fault(Fault),
 }
 
+/// A stripe of a call's keys that another pass held when the call was tried.
+#[derive(Clone, Copy, Debug, PartialEq, Eq)]
+pub struct Busy {
+    /// The stripe.
+    pub stripe: usize,
+}
+
 /// The keys that a session watches, each once. It is no value that can be dropped: it is spent by the
 /// call that ends the watches, so that none is forgotten. Contracts see the keys, the newest first.
 #[derive(Debug)]

@@ -6,7 +6,6 @@ pub mod call;
 mod cells;
 mod find;
 mod install;
-pub mod plain;
 pub mod plan;
 pub mod shard;
 pub mod stripes;

@@ -1,28 +1,29 @@
 //! Calls over gates.
 
-ghost use Rattle.std.specs.Prelude.{◌≡◌, ◌≤◌, ◌+◌, [], length, nat_lt, true, false};
+ghost use Rattle.std.specs.Prelude.{◌≡◌, ◌≤◌, ◌<◌, ◌+◌, [], length, nat_lt, true, false, IfOk, IfErr};
 ghost use Rattle.words.specs.declared.history.Entry.{Entry};
 ghost use Rattle.words.specs.Store.{Bytes};
 ghost use Rattle.words.specs.Session.{Run, line_reply, operation_of, watched_at_fault};
 ghost use Rattle.words.specs.History.{HasPlace, due, keys_named, keys_of_pairs};
-ghost use Rattle.gates.specs.Sets.{part_at};
-ghost use Rattle.gates.specs.Passes.{AllFit, AreWatched, IsResting, KeysHeld, known, stripes_of};
+ghost use Rattle.gates.specs.Sets.{part_at, times};
+ghost use Rattle.gates.specs.Passes.{AllFit, AreWatched, IsResting, KeysHeld, MayEnd, WasBusy, known, stripes_of};
+ghost use Rattle.gates.specs.Plays.{kept};
 ghost use Rattle.words.specs.declared.limits.TheConstants.{WEIGHT_MAX, WEIGHT_OF_KEY};
 ghost use Rattle.gates.specs.Helds.{HasCommitted, IsOpen, operation_asked, borrow_of, gates_of, has_committed, held_parts, held_taken, known_to};
 ghost use Rattle.transact.specs.Shards.{shard_meaning};
 ghost use Rattle.transact.specs.Tables.{AreThere};
 ghost use Rattle.transact.specs.Calls.{call_keys};
-ghost use Rattle.transact.specs.Plans.{EndsAll, stripes_with};
+ghost use Rattle.transact.specs.Plans.{EndsAll};
 ghost use Rattle.transact.specs.Memory.{IsSet, NeedsSome, ReadsMore, set_call};
 ghost use Rattle.transact.specs.Submits.{HasDone, HasEntry, HasFailed, IfFault, IfReply, Did, DidNot, HeardBusy, IsRefused, MayBeSubmitted, WasRefused, asked_for, stripes_asked};
 
-use crate::call::{Answer, Call, Watching};
+use crate::call::{Answer, Busy, Call, Watching};
 use crate::cells::{make_place, write};
 use crate::plan::plan;
 use crate::shard::Shard;
-use crate::stripes::{keys_of, stripes_of_keys, with_key};
+use crate::stripes::keys_of;
 use crate::watches::forget;
-use gates::{Asks, CommitsWornOut, Gates, Held, Latch, Pass, Point, Sorted};
+use gates::{Asks, CommitsWornOut, Gates, Held, Latch, Pass, Point};
 use std::alloc::Global;
 use std::sync::Wait;
 use words::command::{Command, When};
@@ -197,99 +198,202 @@ fn weighs_too_much(key: &Word, value: &Word) -> bool
     key.len() > room || value.len() > room - key.len()
 }
 
-/// Runs a call that comes to an entry: takes the stripes of its keys, in rising order, and waits where
-/// others hold them; enters the call; and gives the stripes back. A transaction leaves nothing watched,
-/// whatever it is answered.
-fn submit_entry<R: Wait, L: Latch>(
-    rt: &R,
+/// What a call came to whose stripes are still held.
+struct Entered {
+    /// What it is answered.
+    answer: Answer,
+    /// Whether the watches of its pass end where the stripes are given back.
+    ends: bool,
+}
+
+/// Enters a call that comes to an entry. The watches of a transaction end also where it is answered by a
+/// fault.
+fn enter_entry(
     alloc: Global,
-    gates: &Gates<Shard>,
-    pass: &mut Pass<Shard>,
+    held: &mut Held<'_, Shard>,
+    stripes: usize,
+    seat: u64,
     call: &Call,
-    latch: &L,
-) -> Answer
-    requires own { IsResting gates.now pass.old }
+) -> Entered
+    requires open { IsOpen held.old }
+    requires fresh { has_committed held.old ≡ false }
+    requires some { 1 ≤ stripes }
+    requires stripes { stripes ≡ stripes_of (gates_of held.old) }
+    requires seat { seat ≡ (known_to held.old).number }
+    requires fit { AllFit shard_meaning stripes (known_to held.old) (held_taken held.old) (held_parts held.old) }
     requires entry { HasEntry call.now }
-    requires ends { EndsAll call.now (known pass.old).watched }
-    ensures own { IsResting gates.now pass.new }
-    ensures did { IfReply result (λ reply. let entry : Entry = record { session = (known pass.old).number; operation = operation_of (known pass.old).watched (asked_for call.now); reply = reply } in Did entry (known pass.old) (known pass.new)) }
-    ensures fault { IfFault result (λ fault. DidNot (watched_at_fault (known pass.old).watched (asked_for call.now)) (known pass.old) (known pass.new)) }
-    ensures told { IfReply result (λ reply. HeardBusy (stripes_asked (stripes_of gates.now) call.now) (known pass.old) (known pass.new)) }
-    ensures refused { IfFault result (λ fault. WasRefused fault (stripes_asked (stripes_of gates.now) call.now) (known pass.old) (known pass.new)) }
-    ensures memory { IfFault result (λ fault. ReadsMore fault (known pass.new) (asked_for call.now)) }
+    requires there { AreThere stripes (part_at (held_parts held.old)) (call_keys call.now) }
+    requires ends { EndsAll call.now (known_to held.old).watched }
+    requires once { AreWatched (known_to held.old).watched (known_to held.old).watched }
+    ensures open { IsOpen held.new }
+    ensures gates { gates_of held.new ≡ gates_of held.old }
+    ensures pass { borrow_of held.new ≡ borrow_of held.old }
+    ensures keys { MayEnd result.ends stripes (held_parts held.new) (known_to held.new).watched }
+    ensures fit { AllFit shard_meaning stripes (kept result.ends (known_to held.new)) (held_taken held.new) (held_parts held.new) }
+    ensures did { IfReply result.answer (λ reply. HasDone call.now reply (known_to held.old) (kept result.ends (known_to held.new))) }
+    ensures fault { IfFault result.answer (λ fault. HasFailed call.now (known_to held.old) (kept result.ends (known_to held.new))) }
+    ensures told { IfReply result.answer (λ reply. (known_to held.new).notes ≡ (known_to held.old).notes) }
+    ensures refused { IfFault result.answer (λ fault. IsRefused fault (known_to held.old) (known_to held.new)) }
+    ensures memory { IfFault result.answer (λ fault. ReadsMore fault (known_to held.new) (asked_for call.now)) }
 {
-    let stripes = gates.stripes();
-    let seat = pass.number();
-    let wanted = keys_of(call, stripes);
-    let mut held = gates.take(rt, pass, &wanted);
-    latch.at(seat, Point::Holding);
-    match enter(alloc, &mut held, stripes, seat, call) {
-        Answer::Reply(reply) => {
-            held.give();
-            Answer::Reply(reply)
-        }
+    match enter(alloc, held, stripes, seat, call) {
+        Answer::Reply(reply) => Entered {
+            answer: Answer::Reply(reply),
+            ends: false,
+        },
         Answer::Fault(fault) => {
             if let Call::Exec(_, watching) = call {
-                forget(&mut held, stripes, seat, watching);
-                held.forget();
-                return Answer::Fault(fault);
+                forget(held, stripes, seat, watching);
+                return Entered {
+                    answer: Answer::Fault(fault),
+                    ends: true,
+                };
             }
-            held.give();
-            Answer::Fault(fault)
+            Entered {
+                answer: Answer::Fault(fault),
+                ends: false,
+            }
         }
     }
 }
 
-/// Runs a SET without an option: takes the stripe of its key, and waits where another holds it; enters the
-/// call; and gives the stripe back.
-fn submit_set<R: Wait, L: Latch>(
-    rt: &R,
-    gates: &Gates<Shard>,
-    pass: &mut Pass<Shard>,
-    key: Word,
-    value: Word,
-    latch: &L,
-) -> Answer
-    requires own { IsResting gates.now pass.old }
-    ensures own { IsResting gates.now pass.new }
-    ensures did { IfReply result (λ reply. let entry : Entry = record { session = (known pass.old).number; operation = operation_of (known pass.old).watched (asked_for (set_call key value)); reply = reply } in Did entry (known pass.old) (known pass.new)) }
-    ensures fault { IfFault result (λ fault. DidNot (watched_at_fault (known pass.old).watched (asked_for (set_call key value))) (known pass.old) (known pass.new)) }
-    ensures told { IfReply result (λ reply. HeardBusy (stripes_asked (stripes_of gates.now) (set_call key value)) (known pass.old) (known pass.new)) }
-    ensures refused { IfFault result (λ fault. WasRefused fault (stripes_asked (stripes_of gates.now) (set_call key value)) (known pass.old) (known pass.new)) }
-    ensures memory { IfFault result (λ fault. NeedsSome fault (known pass.new) (asked_for (set_call key value))) }
+/// Enters a call that comes to an entry and is no SET without an option, and lets it go.
+fn enter_spent(
+    alloc: Global,
+    held: &mut Held<'_, Shard>,
+    stripes: usize,
+    seat: u64,
+    call: Call,
+) -> Entered
+    requires open { IsOpen held.old }
+    requires fresh { has_committed held.old ≡ false }
+    requires some { 1 ≤ stripes }
+    requires stripes { stripes ≡ stripes_of (gates_of held.old) }
+    requires seat { seat ≡ (known_to held.old).number }
+    requires fit { AllFit shard_meaning stripes (known_to held.old) (held_taken held.old) (held_parts held.old) }
+    requires entry { HasEntry call }
+    requires there { AreThere stripes (part_at (held_parts held.old)) (call_keys call) }
+    requires ends { EndsAll call (known_to held.old).watched }
+    requires once { AreWatched (known_to held.old).watched (known_to held.old).watched }
+    requires other { (key value : Bytes) → call ≡ set_call key value → ⊥ }
+    ensures open { IsOpen held.new }
+    ensures gates { gates_of held.new ≡ gates_of held.old }
+    ensures pass { borrow_of held.new ≡ borrow_of held.old }
+    ensures keys { MayEnd result.ends stripes (held_parts held.new) (known_to held.new).watched }
+    ensures fit { AllFit shard_meaning stripes (kept result.ends (known_to held.new)) (held_taken held.new) (held_parts held.new) }
+    ensures did { IfReply result.answer (λ reply. HasDone call reply (known_to held.old) (kept result.ends (known_to held.new))) }
+    ensures fault { IfFault result.answer (λ fault. HasFailed call (known_to held.old) (kept result.ends (known_to held.new))) }
+    ensures told { IfReply result.answer (λ reply. (known_to held.new).notes ≡ (known_to held.old).notes) }
+    ensures refused { IfFault result.answer (λ fault. IsRefused fault (known_to held.old) (known_to held.new)) }
+    ensures memory { IfFault result.answer (λ fault. NeedsSome fault (known_to held.new) (asked_for call)) }
 {
-    let stripes = gates.stripes();
-    let seat = pass.number();
-    let wanted = with_key(Sorted::none(), &key, stripes);
-    let mut held = gates.take(rt, pass, &wanted);
-    latch.at(seat, Point::Holding);
-    let answer = enter_set(&mut held, stripes, seat, key, value);
-    held.give();
-    answer
+    let entered = enter_entry(alloc, held, stripes, seat, &call);
+    spend(call);
+    entered
 }
 
-/// Ends the watches of a pass, which are of these keys, without an entry. It takes no memory, and cannot
-/// fail.
-fn submit_forget<R: Wait>(rt: &R, gates: &Gates<Shard>, pass: &mut Pass<Shard>, watching: &Watching)
-    requires own { IsResting gates.now pass.old }
-    requires all { watching.now ≡ keys_of_pairs (known pass.old).watched }
-    ensures own { IsResting gates.now pass.new }
-    ensures left { DidNot [] (known pass.old) (known pass.new) }
-    ensures told { HeardBusy (stripes_with (stripes_of gates.now) [] watching.now) (known pass.old) (known pass.new) }
+/// Enters a command. SET without an option moves its words into the stripe.
+fn enter_one(
+    alloc: Global,
+    held: &mut Held<'_, Shard>,
+    stripes: usize,
+    seat: u64,
+    command: Command,
+) -> Entered
+    requires open { IsOpen held.old }
+    requires fresh { has_committed held.old ≡ false }
+    requires some { 1 ≤ stripes }
+    requires stripes { stripes ≡ stripes_of (gates_of held.old) }
+    requires seat { seat ≡ (known_to held.old).number }
+    requires fit { AllFit shard_meaning stripes (known_to held.old) (held_taken held.old) (held_parts held.old) }
+    requires entry { HasEntry (Call.One command) }
+    requires there { AreThere stripes (part_at (held_parts held.old)) (call_keys (Call.One command)) }
+    requires ends { EndsAll (Call.One command) (known_to held.old).watched }
+    requires once { AreWatched (known_to held.old).watched (known_to held.old).watched }
+    ensures open { IsOpen held.new }
+    ensures gates { gates_of held.new ≡ gates_of held.old }
+    ensures pass { borrow_of held.new ≡ borrow_of held.old }
+    ensures keys { MayEnd result.ends stripes (held_parts held.new) (known_to held.new).watched }
+    ensures fit { AllFit shard_meaning stripes (kept result.ends (known_to held.new)) (held_taken held.new) (held_parts held.new) }
+    ensures did { IfReply result.answer (λ reply. HasDone (Call.One command) reply (known_to held.old) (kept result.ends (known_to held.new))) }
+    ensures fault { IfFault result.answer (λ fault. HasFailed (Call.One command) (known_to held.old) (kept result.ends (known_to held.new))) }
+    ensures told { IfReply result.answer (λ reply. (known_to held.new).notes ≡ (known_to held.old).notes) }
+    ensures refused { IfFault result.answer (λ fault. IsRefused fault (known_to held.old) (known_to held.new)) }
+    ensures memory { IfFault result.answer (λ fault. NeedsSome fault (known_to held.new) (asked_for (Call.One command))) }
 {
-    let stripes = gates.stripes();
-    let seat = pass.number();
-    let wanted = stripes_of_keys(watching.keys(), stripes);
-    let mut held = gates.take(rt, pass, &wanted);
-    forget(&mut held, stripes, seat, watching);
-    held.forget();
+    match command {
+        Command::Set(key, value, When::Always) => Entered {
+            answer: enter_set(held, stripes, seat, key, value),
+            ends: false,
+        },
+        command => enter_spent(alloc, held, stripes, seat, Call::One(command)),
+    }
 }
 
-/// Runs a call of a pass over the gates, whole or not at all. With a reply, the pass's own entries grow by
-/// the call's one entry with that reply, and by none where the call ends the watches. With a fault they
-/// grow by none. After a transaction, and after a call that ends the watches, nothing is watched; the latter
-/// takes no memory and cannot fail. The latch is told where the stripes of a call are held whose commit is
-/// next.
+/// Does what a call asks whose stripes are held, and lets the call go. One that ends the watches makes no
+/// entry, takes no memory and cannot fail.
+fn enter_call(
+    alloc: Global,
+    held: &mut Held<'_, Shard>,
+    stripes: usize,
+    seat: u64,
+    call: Call,
+) -> Entered
+    requires open { IsOpen held.old }
+    requires fresh { has_committed held.old ≡ false }
+    requires some { 1 ≤ stripes }
+    requires stripes { stripes ≡ stripes_of (gates_of held.old) }
+    requires seat { seat ≡ (known_to held.old).number }
+    requires fit { AllFit shard_meaning stripes (known_to held.old) (held_taken held.old) (held_parts held.old) }
+    requires entry { MayBeSubmitted call }
+    requires there { AreThere stripes (part_at (held_parts held.old)) (call_keys call) }
+    requires ends { EndsAll call (known_to held.old).watched }
+    requires once { AreWatched (known_to held.old).watched (known_to held.old).watched }
+    ensures open { IsOpen held.new }
+    ensures gates { gates_of held.new ≡ gates_of held.old }
+    ensures pass { borrow_of held.new ≡ borrow_of held.old }
+    ensures keys { MayEnd result.ends stripes (held_parts held.new) (known_to held.new).watched }
+    ensures fit { AllFit shard_meaning stripes (kept result.ends (known_to held.new)) (held_taken held.new) (held_parts held.new) }
+    ensures did { IfReply result.answer (λ reply. HasDone call reply (known_to held.old) (kept result.ends (known_to held.new))) }
+    ensures fault { IfFault result.answer (λ fault. HasFailed call (known_to held.old) (kept result.ends (known_to held.new))) }
+    ensures told { IfReply result.answer (λ reply. (known_to held.new).notes ≡ (known_to held.old).notes) }
+    ensures refused { IfFault result.answer (λ fault. IsRefused fault (known_to held.old) (known_to held.new)) }
+    ensures memory { IfFault result.answer (λ fault. NeedsSome fault (known_to held.new) (asked_for call)) }
+{
+    match call {
+        Call::Forget(watching) => {
+            forget(held, stripes, seat, &watching);
+            drop(watching.into_keys());
+            Entered {
+                answer: Answer::Reply(Reply::line(Line::Done)),
+                ends: true,
+            }
+        }
+        Call::One(command) => enter_one(alloc, held, stripes, seat, command),
+        call => enter_spent(alloc, held, stripes, seat, call),
+    }
+}
+
+/// Gives all stripes back, and the pass watches nothing more where its watches end.
+fn give_back(held: Held<'_, Shard>, ends: bool)
+    requires open { IsOpen held }
+    requires keys { MayEnd ends (stripes_of (gates_of held)) (held_parts held) (known_to held).watched }
+    requires fit { AllFit shard_meaning (stripes_of (gates_of held)) (kept ends (known_to held)) (held_taken held) (held_parts held) }
+    ensures own { IsResting (gates_of held.entry) held.exit.1.0.now }
+    ensures known { known held.exit.1.0.now ≡ kept ends (known_to held.entry) }
+{
+    if ends {
+        held.forget();
+    } else {
+        held.give();
+    }
+}
+
+/// Runs a call of a pass over the gates, whole or not at all, and waits where others hold its stripes.
+/// With a reply, the pass's own entries grow by the call's one entry with that reply, and by none where
+/// the call ends the watches. With a fault they grow by none. After a transaction, and after a call that
+/// ends the watches, nothing is watched; the latter takes no memory and cannot fail. The latch is told
+/// where the stripes of a call are held whose commit is next.
 pub fn submit<R: Wait, L: Latch>(
     rt: &R,
     alloc: Global,
@@ -308,65 +412,58 @@ pub fn submit<R: Wait, L: Latch>(
     ensures refused { IfFault result (λ fault. WasRefused fault (stripes_asked (stripes_of gates.now) call) (known pass.old) (known pass.new)) }
     ensures memory { IfFault result (λ fault. NeedsSome fault (known pass.new) (asked_for call)) }
 {
-    match call {
-        Call::Forget(watching) => {
-            submit_forget(rt, gates, pass, &watching);
-            drop(watching.into_keys());
-            Answer::Reply(Reply::line(Line::Done))
-        }
-        Call::One(command) => submit_one(rt, alloc, gates, pass, command, latch),
-        call => submit_spent(rt, alloc, gates, pass, call, latch),
+    let stripes = gates.stripes();
+    let seat = pass.number();
+    let wanted = keys_of(&call, stripes);
+    let mut held = gates.take(rt, pass, &wanted);
+    if !matches!(&call, Call::Forget(_)) {
+        latch.at(seat, Point::Holding);
     }
+    let Entered { answer, ends } = enter_call(alloc, &mut held, stripes, seat, call);
+    give_back(held, ends);
+    answer
 }
 
-/// Runs a command: SET without an option moves its words into the stripe.
-fn submit_one<R: Wait, L: Latch>(
-    rt: &R,
-    alloc: Global,
-    gates: &Gates<Shard>,
-    pass: &mut Pass<Shard>,
-    command: Command,
-    latch: &L,
-) -> Answer
-    requires own { IsResting gates.now pass.old }
-    requires entry { HasEntry (Call.One command) }
-    requires ends { EndsAll (Call.One command) (known pass.old).watched }
-    ensures own { IsResting gates.now pass.new }
-    ensures did { IfReply result (λ reply. HasDone (Call.One command) reply (known pass.old) (known pass.new)) }
-    ensures fault { IfFault result (λ fault. HasFailed (Call.One command) (known pass.old) (known pass.new)) }
-    ensures told { IfReply result (λ reply. HeardBusy (stripes_asked (stripes_of gates.now) (Call.One command)) (known pass.old) (known pass.new)) }
-    ensures refused { IfFault result (λ fault. WasRefused fault (stripes_asked (stripes_of gates.now) (Call.One command)) (known pass.old) (known pass.new)) }
-    ensures memory { IfFault result (λ fault. NeedsSome fault (known pass.new) (asked_for (Call.One command))) }
-{
-    match command {
-        Command::Set(key, value, When::Always) => submit_set(rt, gates, pass, key, value, latch),
-        command => submit_spent(rt, alloc, gates, pass, Call::One(command), latch),
-    }
-}
-
-/// Runs a call that comes to an entry and is no SET without an option, and lets it go.
-fn submit_spent<R: Wait, L: Latch>(
-    rt: &R,
+/// The same as [`submit`], with one try of each stripe in place of waiting. Where all are free, the pass is
+/// told of none that it was another's.
+///
+/// # Errors
+///
+/// [`Busy`] with a stripe of the call whose word was read as another pass's, and the call. Nothing is held
+/// and nothing was changed then; what the pass has seen may have grown.
+pub fn try_submit(
     alloc: Global,
     gates: &Gates<Shard>,
     pass: &mut Pass<Shard>,
     call: Call,
-    latch: &L,
-) -> Answer
+) -> Result<Answer, (Busy, Call)>
     requires own { IsResting gates.now pass.old }
-    requires entry { HasEntry call }
+    requires may { MayBeSubmitted call }
     requires ends { EndsAll call (known pass.old).watched }
-    requires other { (key value : Bytes) → call ≡ set_call key value → ⊥ }
     ensures own { IsResting gates.now pass.new }
-    ensures did { IfReply result (λ reply. HasDone call reply (known pass.old) (known pass.new)) }
-    ensures fault { IfFault result (λ fault. HasFailed call (known pass.old) (known pass.new)) }
-    ensures told { IfReply result (λ reply. HeardBusy (stripes_asked (stripes_of gates.now) call) (known pass.old) (known pass.new)) }
-    ensures refused { IfFault result (λ fault. WasRefused fault (stripes_asked (stripes_of gates.now) call) (known pass.old) (known pass.new)) }
-    ensures memory { IfFault result (λ fault. NeedsSome fault (known pass.new) (asked_for call)) }
+    ensures did { IfOk result (λ answer. IfReply answer (λ reply. HasDone call reply (known pass.old) (known pass.new))) }
+    ensures fault { IfOk result (λ answer. IfFault answer (λ fault. HasFailed call (known pass.old) (known pass.new))) }
+    ensures told { IfOk result (λ answer. IfReply answer (λ reply. HeardBusy [] (known pass.old) (known pass.new))) }
+    ensures refused { IfOk result (λ answer. IfFault answer (λ fault. WasRefused fault [] (known pass.old) (known pass.new))) }
+    ensures memory { IfOk result (λ answer. IfFault answer (λ fault. NeedsSome fault (known pass.new) (asked_for call))) }
+    ensures stripe { IfErr result (λ refusal. 0 < times refusal.0.stripe (stripes_asked (stripes_of gates.now) call)) }
+    ensures busy { IfErr result (λ refusal. WasBusy refusal.0.stripe (known pass.old) (known pass.new)) }
+    ensures back { IfErr result (λ refusal. refusal.1 ≡ call) }
 {
-    let answer = submit_entry(rt, alloc, gates, pass, &call, latch);
-    spend(call);
-    answer
+    let stripes = gates.stripes();
+    let seat = pass.number();
+    let wanted = keys_of(&call, stripes);
+    match gates.try_take(pass, &wanted) {
+        Ok(mut held) => {
+            let Entered { answer, ends } = enter_call(alloc, &mut held, stripes, seat, call);
+            give_back(held, ends);
+            Ok(answer)
+        }
+        Err(refused) => {
+            let stripe = refused.stripe;
+            Err((Busy { stripe }, call))
+        }
+    }
 }
 
 /// Lets a call go that was answered.
