@@ -13,6 +13,7 @@ use std::net::{Net, TcpListener, TcpStream};
 use std::process::ExitCode;
 use std::rt::{Clock, Env};
 use std::sync::Wait;
+use std::thread::Threads;
 
 /// The exit status where the server stopped before its time.
 const STOPPED: u8 = 1;
@@ -45,7 +46,8 @@ fn words_of<R: Env + AllocGlobal>(rt: &R) -> Option<Vec<String>> {
 /// Listens, says where, and serves until the last connection has ended.
 fn serve<R>(rt: &R, options: &Options) -> Result<(), ServerFault>
 where
-    R: AllocGlobal + Print + Clock + Wait + Net<Listener = TcpListener, Stream = TcpStream>,
+    R: AllocGlobal + Print + Clock + Threads + Wait + Sync,
+    R: Net<Listener = TcpListener, Stream = TcpStream>,
 {
     let listener = listen(rt, options)?;
     let address = listener
@@ -53,7 +55,7 @@ where
         .map_err(|_| ServerFault::CannotListen)?;
     // Nobody has to read where the server listens.
     let _ = println!(rt; "listening on {address}");
-    let endings = Endings::new(rt.alloc()).map_err(|_| ServerFault::OutOfMemory)?;
+    let endings = Endings::new(rt.alloc())?;
     run_workers(rt, listener, options, &Open, &endings)
 }
 

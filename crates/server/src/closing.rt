@@ -1,48 +1,122 @@
-//! How a connection is closed, so that the client can read the last reply.
+//! How connections are closed, so that their clients can read the last reply.
+//!
+//! Where the server ends a connection, the client may still be sending. If the socket were closed with
+//! bytes unread, the kernel would reset the connection, and the client would lose the last reply. So the
+//! server says that it sends no more, and then reads and drops what comes, within bounds. One thread does
+//! so for all such connections, and never waits for any of them: a client that stays keeps neither a
+//! worker nor another client waiting.
 
-use connection::Ended;
-use std::io;
-use std::io::Read;
+use crossbeam_channel::{Receiver, RecvTimeoutError, Sender};
+use std::alloc::Global;
+use std::io::{ErrorKind, Read};
 use std::net::{Shutdown, TcpStream};
 use std::rt::Clock;
+use std::sync::Wait;
 use std::time::{Duration, Instant};
+use std::{io, thread};
 
 /// The most bytes that are read and dropped from a client that still sends.
 const DROPPED_BYTES_MAX: usize = 1_048_576;
-/// How many seconds a client that still sends is waited for.
-const DROPPED_SECONDS_MAX: u64 = 1;
+/// How many milliseconds a client that does not close is waited for.
+const LEAVING_MILLISECONDS_MAX: u64 = 1_000;
+/// How many clients are waited for at one time. A further one takes the place of the one that came first.
+pub(crate) const LEAVING_MAX: usize = 64;
+/// How many milliseconds pass between two looks at the clients that are waited for.
+const LOOK_MILLISECONDS: u64 = 5;
 /// How many bytes are read at once.
 const PIECE: usize = 16_384;
 
-/// Closes a connection that ended so.
-///
-/// Where the server ends it, the client may still be sending. If the socket were closed with bytes
-/// unread, the kernel would reset the connection, and the client would lose the last reply. So the
-/// server says that it sends no more, and then reads and drops what comes, within bounds.
-pub(crate) fn close(clock: &impl Clock, stream: TcpStream, ended: Ended) {
-    match ended {
-        Ended::Quit | Ended::ProtocolFault | Ended::NoMemory => {
-            let _ = drop_input(clock, &stream);
+/// A connection whose client was sent the last byte, and has not closed it yet.
+#[derive(Drop)]
+pub(crate) struct Leaving {
+    stream: TcpStream,
+    since: Instant,
+    /// How many bytes may still be read and dropped.
+    left: usize,
+}
+
+impl Leaving {
+    /// Says that the server sends no more.
+    fn new(clock: &impl Clock, stream: TcpStream) -> io::Result<Leaving> {
+        stream.shutdown(Shutdown::Write)?;
+        stream.set_nonblocking(true)?;
+        Ok(Leaving {
+            stream,
+            since: Instant::now(clock)?,
+            left: DROPPED_BYTES_MAX,
+        })
+    }
+
+    /// Drops what the client has sent so far, and tells whether it is waited for any longer.
+    fn is_awaited(&mut self, clock: &impl Clock) -> bool {
+        let most = Duration::from_millis(LEAVING_MILLISECONDS_MAX);
+        match self.since.elapsed(clock) {
+            Ok(time) if time < most => self.drop_input(),
+            _ => false,
         }
-        Ended::EndOfInput | Ended::ReadFailed | Ended::WriteFailed => {}
+    }
+
+    /// Drops what the client has sent so far. Tells whether it may send more, which is then dropped too.
+    fn drop_input(&mut self) -> bool {
+        let mut piece = [0; PIECE];
+        while self.left > 0 {
+            match (&self.stream).read(&mut piece) {
+                Ok(0) => return false,
+                Ok(count) => self.left = self.left.saturating_sub(count),
+                Err(error) => return error.kind() == ErrorKind::WouldBlock,
+            }
+        }
+        false
     }
 }
 
-/// Sends no more, and reads and drops what the client sends until it sends no more either, or the
-/// bounds are reached.
-fn drop_input(clock: &impl Clock, mut stream: &TcpStream) -> io::Result<()> {
-    stream.shutdown(Shutdown::Write)?;
-    let most = Duration::from_secs(DROPPED_SECONDS_MAX);
-    let start = Instant::now(clock)?;
-    let mut piece = [0; PIECE];
-    let mut left = DROPPED_BYTES_MAX;
-    while left > 0 {
-        let time = most.saturating_sub(start.elapsed(clock)?);
-        stream.set_read_timeout(Some(time))?;
-        match stream.read(&mut piece)? {
-            0 => return Ok(()),
-            count => left = left.saturating_sub(count),
-        }
+/// Closes a connection once its client has done so, and does not wait for that here. The last byte was
+/// sent.
+pub(crate) fn close_later<R: Clock + Wait>(rt: &R, stream: TcpStream, closer: &Sender<Leaving>) {
+    if let Ok(leaving) = Leaving::new(rt, stream) {
+        // Where it cannot be handed over, it is closed at once.
+        let _ = closer.send(rt, leaving);
     }
-    Ok(())
+}
+
+/// Closes connections as they are handed over, until nobody can hand over another and the last is closed.
+pub(crate) fn close_all<R: Clock + Wait>(
+    rt: &R,
+    handed: &Receiver<Leaving>,
+    mut all: Vec<Leaving>,
+) {
+    for _ in rt.forever() {
+        match next(rt, handed, all.is_empty()) {
+            Ok(leaving) => add(&mut all, leaving),
+            Err(RecvTimeoutError::Timeout) => {}
+            Err(RecvTimeoutError::Disconnected) if all.is_empty() => return,
+            Err(RecvTimeoutError::Disconnected) => {
+                thread::sleep(rt, Duration::from_millis(LOOK_MILLISECONDS));
+            }
+        }
+        all.retain_mut(|leaving| leaving.is_awaited(rt));
+    }
+}
+
+/// Adds a connection, in place of the first where there are as many as may be waited for.
+fn add(all: &mut Vec<Leaving>, leaving: Leaving) {
+    if all.len() >= LEAVING_MAX {
+        drop(all.remove(0));
+    }
+    // There is room, so that no memory is asked for.
+    let _ = all.push(leaving);
+}
+
+/// The next connection that is handed over. It is waited for as long as it takes where there is no
+/// other, and else until the next look at these.
+fn next<R: Clock + Wait>(
+    rt: &R,
+    handed: &Receiver<Leaving>,
+    is_only: bool,
+) -> Result<Leaving, RecvTimeoutError> {
+    if is_only {
+        handed.recv(rt).map_err(|_| RecvTimeoutError::Disconnected)
+    } else {
+        handed.recv_timeout(rt, Duration::from_millis(LOOK_MILLISECONDS))
+    }
 }

@@ -1,5 +1,9 @@
 //! Why a server stops before its time.
 
+ghost use Rattle.std.specs.Prelude.{◌≡◌};
+
+use std::alloc::AllocError;
+use std::thread::SpawnError;
 use thiserror::Error;
 
 /// Why a server stops before its time. Its text is what `garnetd` prints on standard error.
@@ -11,7 +15,28 @@ pub enum ServerFault {
     /// The system gives no further connection, as where the process has too many files open.
     #[error("garnetd: cannot accept")]
     CannotAccept,
-    /// The allocator refused a growth that the server needs before it serves.
+    /// The allocator refused a growth that the server needs before it serves, or the system a thread.
     #[error("garnetd: out of memory")]
     OutOfMemory,
+}
+
+impl From<AllocError> for ServerFault {
+    ghost use Rattle.server.specs.declared.fault.ServerFault.{ServerFault};
+
+    ghost from_gives = { λ error fault. fault ≡ ServerFault.OutOfMemory };
+
+    fn from(_error: AllocError) -> ServerFault {
+        ServerFault::OutOfMemory
+    }
+}
+
+/// A thread that can't be made is want of memory.
+impl<F: Drop> From<SpawnError<F>> for ServerFault {
+    ghost use Rattle.server.specs.declared.fault.ServerFault.{ServerFault};
+
+    ghost from_gives = { λ error fault. fault ≡ ServerFault.OutOfMemory };
+
+    fn from(_refused: SpawnError<F>) -> ServerFault {
+        ServerFault::OutOfMemory
+    }
 }

@@ -1,16 +1,17 @@
-//! The server behind `garnetd`: it accepts connections on a loopback port and serves each until it
-//! ends.
+//! The server behind `garnetd`: it accepts connections on a loopback port, and its workers serve each
+//! until it ends.
 #![tactic(auto)]
 
+mod accepting;
 mod closing;
 mod ending_list;
 mod fault;
 mod setting;
-#[cfg(test)]
-mod tests;
 mod workers;
+mod working;
 
+pub use accepting::listen;
 pub use ending_list::Endings;
 pub use fault::ServerFault;
 pub use setting::{ACCEPT_MAX, Options};
-pub use workers::{listen, run_workers};
+pub use workers::run_workers;

@@ -1,43 +1,34 @@
-//! Accepting connections and serving them.
+//! A server: the thread that accepts, one for each worker, and one that closes.
 
-ghost use Rattle.std.specs.Prelude.{◌≡◌, ◌≢◌, [], IfErr};
+ghost use Rattle.std.specs.Prelude.{◌≡◌, ◌≢◌, [], IfErr, All};
 ghost use Rattle.engine.specs.Passes.{knows, Rests};
 
-use crate::closing::close;
+use crate::accepting::accept_all;
+use crate::closing::{LEAVING_MAX, Leaving, close_all};
 use crate::ending_list::Endings;
 use crate::fault::ServerFault;
 use crate::setting::Options;
-use connection::{Ended, serve};
+use crate::working::work;
+use crossbeam_channel::{Receiver, Sender, bounded};
 use engine::{Engine, Pass};
 use gates::Latch;
-use std::io::ErrorKind;
-use std::net::{Ipv4Addr, Net, SocketAddrV4, TcpListener, TcpStream};
+use std::net::{TcpListener, TcpStream};
 use std::rt::Clock;
 use std::sync::Wait;
-use streams::Noted;
-use words::limits::Limits;
+use std::thread;
+use std::thread::{Scope, Threads};
 
-/// Listens on the port of the options, at 127.0.0.1.
+/// Serves connections over one store: as many as the options say are accepted, and each is served by a
+/// worker until it ends. One for which no worker is free, or comes free within 100 milliseconds, reads
+/// `-ERR max number of clients reached` and is closed; it counts too. The latch is told where each call is.
+/// How each connection that was served ended goes to `endings`. It answers `Ok` when the last has ended.
 ///
 /// # Errors
 ///
-/// [`ServerFault::CannotListen`].
-pub fn listen<R: Net>(net: &R, options: &Options) -> Result<R::Listener, ServerFault>
-    ensures { IfErr result (λ fault. fault ≡ ServerFault.CannotListen) }
-{
-    let address = SocketAddrV4::new(Ipv4Addr::LOCALHOST, options.port);
-    TcpListener::bind(net, address).map_err(|_| ServerFault::CannotListen)
-}
-
-/// Serves connections over one store, one after the other: as many as the options say, each until it
-/// ends. The latch is told where each call is. How each connection ended goes to `endings`. It answers
-/// `Ok` when the last has ended.
-///
-/// # Errors
-///
-/// [`ServerFault::CannotAccept`] where the listener gives no further connection, and
-/// [`ServerFault::OutOfMemory`] where there is no memory for the store, before the first is accepted.
-pub fn run_workers<R: AllocGlobal + Clock + Wait, L: Latch>(
+/// [`ServerFault::CannotAccept`] where the listener gives no further connection, once those that were
+/// accepted have ended, and [`ServerFault::OutOfMemory`] where there is no memory for the store or for the
+/// threads, before the first is accepted.
+pub fn run_workers<R: AllocGlobal + Clock + Threads + Wait + Sync, L: Latch + Sync>(
     rt: &R,
     listener: TcpListener,
     options: &Options,
@@ -46,76 +37,118 @@ pub fn run_workers<R: AllocGlobal + Clock + Wait, L: Latch>(
 ) -> Result<(), ServerFault>
     ensures { IfErr result (λ fault. fault ≢ ServerFault.CannotListen) }
 {
-    let (engine, mut passes) = Engine::new(rt.alloc(), &Limits::default()).map_err(
-        |_| ServerFault::OutOfMemory,
-    )?;
-    let pass = passes.swap_remove(0);
-    work(rt, &listener, options.accept, latch, endings, &engine, pass)
+    let (engine, passes) = Engine::new(rt.alloc(), &options.limits())?;
+    serve_all(rt, listener, options, latch, endings, &engine, passes)
 }
 
-/// Serves so many connections with one pass, one after the other.
-fn work<R: AllocGlobal + Clock + Wait, L: Latch>(
+/// Starts the threads, and accepts connections for them. It returns when all have ended.
+fn serve_all<R: AllocGlobal + Clock + Threads + Wait + Sync, L: Latch + Sync>(
     rt: &R,
-    listener: &TcpListener,
-    count: u32,
+    listener: TcpListener,
+    options: &Options,
     latch: &L,
     endings: &Endings,
     engine: &Engine,
-    pass: Pass,
+    passes: Vec<Pass>,
 ) -> Result<(), ServerFault>
-    requires rests { Rests engine.now pass }
-    requires watches { (knows pass).watched ≡ [] }
+    requires rest { All (Rests engine.now) passes.items }
+    requires watch { All (λ pass. (knows pass).watched ≡ []) passes.items }
     ensures { IfErr result (λ fault. fault ≢ ServerFault.CannotListen) }
 {
-    let mut pass = pass;
-    for _ in 0..count {
-        let stream = accept(rt, listener)?;
-        let (back, ended) = serve_stream(rt, latch, &stream, engine, pass);
-        pass = back;
-        let _ = endings.push(rt, ended);
-        close(rt, stream, ended);
+    let (to_workers, for_workers) = bounded(rt.alloc(), 0)?;
+    let for_workers = &for_workers;
+    thread::scope(
+        thread::scope_env(),
+        rt,
+        move |scope| -> Result<(), ServerFault>
+            requires rest { All (Rests engine.now) passes.items }
+            requires watch { All (λ pass. (knows pass).watched ≡ []) passes.items }
+            ensures { IfErr result (λ fault. fault ≢ ServerFault.CannotListen) }
+        {
+            let to_closer = start_closer(rt, scope)?;
+            start_workers(
+                rt,
+                scope,
+                latch,
+                endings,
+                engine,
+                passes,
+                options.workers,
+                for_workers,
+                &to_closer,
+            )?;
+            accept_all(rt, listener, options.accept, to_workers, to_closer)
+        },
+    )
+}
+
+/// Starts the thread that closes connections, and gives what they are handed over by.
+fn start_closer<'s, 'e, R: AllocGlobal + Clock + Wait + Sync>(
+    rt: &'s R,
+    scope: &Scope<'s, &'e ()>,
+) -> Result<Sender<Leaving>, ServerFault>
+    ensures { IfErr result (λ fault. fault ≡ ServerFault.OutOfMemory) }
+{
+    let all = Vec::with_capacity(rt.alloc(), LEAVING_MAX)?;
+    let (closer, handed) = bounded(rt.alloc(), LEAVING_MAX)?;
+    scope.spawn(move || close_all(rt, &handed, all))?;
+    Ok(closer)
+}
+
+/// Starts so many workers, each with a pass of its own. Further passes are dropped.
+fn start_workers<'s, 'e, R: AllocGlobal + Clock + Wait + Sync, L: Latch + Sync>(
+    rt: &'s R,
+    scope: &Scope<'s, &'e ()>,
+    latch: &'s L,
+    endings: &'s Endings,
+    engine: &'s Engine,
+    mut passes: Vec<Pass>,
+    count: usize,
+    handed: &'s Receiver<TcpStream>,
+    closer: &Sender<Leaving>,
+) -> Result<(), ServerFault>
+    requires rest { All (Rests engine.now) passes.items }
+    requires watch { All (λ pass. (knows pass).watched ≡ []) passes.items }
+    ensures { IfErr result (λ fault. fault ≡ ServerFault.OutOfMemory) }
+{
+    passes.truncate(count);
+    while let Some(pass) = passes.pop() {
+        start_worker(
+            rt,
+            scope,
+            latch,
+            endings,
+            engine,
+            pass,
+            handed,
+            closer.clone()?,
+        )?;
     }
     Ok(())
 }
 
-/// The next connection. One that its client gave up before it was accepted is passed over.
-fn accept(rt: &impl Wait, listener: &TcpListener) -> Result<TcpStream, ServerFault>
-    ensures { IfErr result (λ fault. fault ≡ ServerFault.CannotAccept) }
-{
-    for _ in rt.forever() {
-        match listener.accept() {
-            Ok((stream, _)) => return Ok(stream),
-            Err(error) if error.kind() == ErrorKind::ConnectionAborted => {}
-            Err(_) => return Err(ServerFault::CannotAccept),
-        }
-    }
-    unreachable!()
-}
-
-/// Serves one connection until it ends.
-fn serve_stream<R: AllocGlobal + Wait, L: Latch>(
-    rt: &R,
-    latch: &L,
-    stream: &TcpStream,
-    engine: &Engine,
+/// Starts one worker.
+fn start_worker<'s, 'e, R: AllocGlobal + Clock + Wait + Sync, L: Latch + Sync>(
+    rt: &'s R,
+    scope: &Scope<'s, &'e ()>,
+    latch: &'s L,
+    endings: &'s Endings,
+    engine: &'s Engine,
     pass: Pass,
-) -> (Pass, Ended)
+    handed: &'s Receiver<TcpStream>,
+    closer: Sender<Leaving>,
+) -> Result<(), ServerFault>
     requires rests { Rests engine.now pass }
     requires watches { (knows pass).watched ≡ [] }
-    ensures rests { Rests engine.now result.0 }
-    ensures watches { (knows result.0).watched ≡ [] }
+    ensures { IfErr result (λ fault. fault ≡ ServerFault.OutOfMemory) }
 {
-    // Without this a short reply may wait for the client's acknowledgement of the one before.
-    let _ = stream.set_nodelay(true);
-    let mut reader = Noted::new(stream);
-    let mut writer = Noted::new(stream);
-    serve(
-        rt,
-        rt.alloc(),
-        &mut reader,
-        &mut writer,
-        engine,
-        pass,
-        latch,
-    )
+    scope.spawn(
+        move ||
+            requires rests { Rests engine.now pass }
+            requires watches { (knows pass).watched ≡ [] }
+        {
+            let _ = work(rt, latch, endings, engine, pass, handed, &closer);
+        },
+    )?;
+    Ok(())
 }

@@ -1,6 +1,6 @@
 use Rattle.std.proofs.Common.{◌≡◌, []}
 use Rattle.engine.specs.Passes.{knows, Rests}
-use Rattle.server.proofs.workers.work.Given as goal
+use Rattle.server.proofs.working.work.Given as goal
 
 abbrev pub invariant-loop : goal.invariant-loop
 invariant-loop g l = record {

@@ -1,0 +1,80 @@
+//! Listening, and handing each connection to a worker.
+
+ghost use Rattle.std.specs.Prelude.{◌≡◌, ◌≢◌, IfErr};
+
+use crate::closing::{Leaving, close_later};
+use crate::fault::ServerFault;
+use crate::setting::Options;
+use crossbeam_channel::Sender;
+use std::io;
+use std::io::{ErrorKind, Write};
+use std::net::{Ipv4Addr, Net, SocketAddrV4, TcpListener, TcpStream};
+use std::rt::Clock;
+use std::sync::Wait;
+use std::time::Duration;
+
+/// How many milliseconds a connection waits for a worker to come free, before it is turned away.
+const PATIENCE_MILLISECONDS: u64 = 100;
+/// What a client reads that is turned away.
+const TURNED_AWAY: &[u8] = b"-ERR max number of clients reached\r\n";
+
+/// Listens on the port of the options, at 127.0.0.1.
+///
+/// # Errors
+///
+/// [`ServerFault::CannotListen`].
+pub fn listen<R: Net>(net: &R, options: &Options) -> Result<R::Listener, ServerFault>
+    ensures { IfErr result (λ fault. fault ≡ ServerFault.CannotListen) }
+{
+    let address = SocketAddrV4::new(Ipv4Addr::LOCALHOST, options.port);
+    TcpListener::bind(net, address).map_err(|_| ServerFault::CannotListen)
+}
+
+/// Accepts so many connections and no more, and hands each to a worker that is free or comes free soon. One
+/// for which there is none is turned away. Once it returns nothing can be handed over.
+pub(crate) fn accept_all<R: Clock + Wait>(
+    rt: &R,
+    listener: TcpListener,
+    count: u32,
+    workers: Sender<TcpStream>,
+    closer: Sender<Leaving>,
+) -> Result<(), ServerFault>
+    ensures { IfErr result (λ fault. fault ≡ ServerFault.CannotAccept) }
+{
+    for _ in 0..count {
+        let stream = accept(rt, &listener)?;
+        let patience = Duration::from_millis(PATIENCE_MILLISECONDS);
+        if let Err(refused) = workers.send_timeout(rt, stream, patience) {
+            turn_away(rt, refused.into_inner(), &closer);
+        }
+    }
+    Ok(())
+}
+
+/// The next connection. One that its client gave up before it was accepted is passed over.
+fn accept(rt: &impl Wait, listener: &TcpListener) -> Result<TcpStream, ServerFault>
+    ensures { IfErr result (λ fault. fault ≡ ServerFault.CannotAccept) }
+{
+    for _ in rt.forever() {
+        match listener.accept() {
+            Ok((stream, _)) => return Ok(stream),
+            Err(error) if error.kind() == ErrorKind::ConnectionAborted => {}
+            Err(_) => return Err(ServerFault::CannotAccept),
+        }
+    }
+    unreachable!()
+}
+
+/// Tells a client that there is no worker for it, and has its connection closed. It waits for nothing.
+fn turn_away<R: Clock + Wait>(rt: &R, stream: TcpStream, closer: &Sender<Leaving>) {
+    if tell(&stream).is_ok() {
+        close_later(rt, stream, closer);
+    }
+}
+
+/// Writes the line of a client that is turned away. A connection that nothing was written to has room for
+/// it.
+fn tell(mut stream: &TcpStream) -> io::Result<()> {
+    stream.set_nonblocking(true)?;
+    stream.write_all(TURNED_AWAY)
+}

@@ -1,0 +1,81 @@
+//! A worker, who serves one connection after the other.
+
+ghost use Rattle.std.specs.Prelude.{◌≡◌, []};
+ghost use Rattle.engine.specs.Passes.{knows, Rests};
+
+use crate::closing::{Leaving, close_later};
+use crate::ending_list::Endings;
+use connection::{Ended, serve};
+use crossbeam_channel::{Receiver, Sender};
+use engine::{Engine, Pass};
+use gates::Latch;
+use std::net::TcpStream;
+use std::rt::Clock;
+use std::sync::Wait;
+use streams::Noted;
+
+/// Serves connections as they are handed over, one after the other, until nobody can hand over another.
+/// The pass is kept from one to the next.
+pub(crate) fn work<R: AllocGlobal + Clock + Wait, L: Latch>(
+    rt: &R,
+    latch: &L,
+    endings: &Endings,
+    engine: &Engine,
+    pass: Pass,
+    handed: &Receiver<TcpStream>,
+    closer: &Sender<Leaving>,
+) -> Pass
+    requires rests { Rests engine.now pass }
+    requires watches { (knows pass).watched ≡ [] }
+    ensures rests { Rests engine.now result }
+    ensures watches { (knows result).watched ≡ [] }
+{
+    let mut pass = pass;
+    for _ in rt.forever() {
+        let Ok(stream) = handed.recv(rt) else {
+            return pass;
+        };
+        let (back, ended) = serve_stream(rt, latch, &stream, engine, pass);
+        pass = back;
+        let _ = endings.push(rt, ended);
+        close(rt, stream, ended, closer);
+    }
+    unreachable!()
+}
+
+/// Serves one connection until it ends.
+fn serve_stream<R: AllocGlobal + Wait, L: Latch>(
+    rt: &R,
+    latch: &L,
+    stream: &TcpStream,
+    engine: &Engine,
+    pass: Pass,
+) -> (Pass, Ended)
+    requires rests { Rests engine.now pass }
+    requires watches { (knows pass).watched ≡ [] }
+    ensures rests { Rests engine.now result.0 }
+    ensures watches { (knows result.0).watched ≡ [] }
+{
+    // Without this a short reply may wait for the client's acknowledgement of the one before.
+    let _ = stream.set_nodelay(true);
+    let mut reader = Noted::new(stream);
+    let mut writer = Noted::new(stream);
+    serve(
+        rt,
+        rt.alloc(),
+        &mut reader,
+        &mut writer,
+        engine,
+        pass,
+        latch,
+    )
+}
+
+/// Closes a connection that ended so: at once where its client has gone, and else once the client has had
+/// time to read the last reply.
+fn close<R: Clock + Wait>(rt: &R, stream: TcpStream, ended: Ended, closer: &Sender<Leaving>) {
+    match ended {
+        Ended::Quit | Ended::ProtocolFault | Ended::NoMemory => close_later(rt, stream, closer),
+        Ended::EndOfInput | Ended::ReadFailed | Ended::WriteFailed => {}
+    }
+}

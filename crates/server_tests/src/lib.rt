@@ -1,0 +1,16 @@
+//! Tests of the server over real loopback sockets, through its public items alone.
+//! They stand apart from `server`, so that it is not proved a second time with them.
+#![tactic(auto)]
+
+#[cfg(test)]
+mod client;
+#[cfg(test)]
+mod conversations;
+#[cfg(test)]
+mod counters;
+#[cfg(test)]
+mod crowds;
+#[cfg(test)]
+mod refusals;
+#[cfg(test)]
+mod starting;
