@@ -1,0 +1,6 @@
+//! Tests of the simulated world, through its public items alone. They stand apart from `world`, so that it
+//! is not proved a second time with them.
+#![tactic(auto)]
+
+#[cfg(test)]
+mod tests;

@@ -1,0 +1,429 @@
+//! Schedules of the simulated world, in text. A text is lines, set apart by a semicolon and a space. A line
+//! is an event, or says what must hold there:
+//!
+//! - `ask C WORDS` feeds client C a request of these words, and `raw C TEXT` these bytes, where `|` stands
+//!   for CR LF, `<` for CR and `>` for LF;
+//! - `close C`, `take C I`, `commit C`, `give C I`, and `fetch C`, `copy I` .. `release I BYTE` are the other
+//!   events, and `turn C I` is a take, a commit and a give;
+//! - `told C TEXT` says what was written to client C since the start, and `silent C` that it is nothing;
+//! - `entries C C ..` says which client's each entry of the history is, and `no entries` that there is none.
+//!
+//! Of 16 stripes, the keys a and q lie in stripe 12, and b lies in stripe 5.
+
+ghost use Rattle.std.specs.Prelude.{IfSome};
+ghost use Rattle.world.specs.Tables.{IsWorld};
+
+use bytes::Bytes;
+use std::alloc::Global;
+use std::process::Abort;
+use words::history::Entry;
+use words::limits::Limits;
+use world::{Event, World};
+
+/// Adds bytes to a text. `None` where there was no memory.
+fn add(text: &mut Vec<u8>, bytes: &[u8]) -> Option<()> {
+    match text.extend_from_slice(bytes) {
+        Ok(()) => Some(()),
+        Err(_) => None,
+    }
+}
+
+/// Adds a byte, the last digit of a count, and CR LF.
+fn add_count(text: &mut Vec<u8>, first: u8, count: usize) -> Option<()> {
+    add(text, &[first, b'0' + (count % 10) as u8, b'\r', b'\n'])
+}
+
+/// Adds what a byte stands for: `|` for CR LF, `<` for CR, `>` for LF, and each other for itself.
+fn add_raw(text: &mut Vec<u8>, byte: u8) -> Option<()> {
+    match byte {
+        b'|' => add(text, b"\r\n"),
+        b'<' => add(text, b"\r"),
+        b'>' => add(text, b"\n"),
+        other => add(text, &[other]),
+    }
+}
+
+/// The bytes of a text, where `|` stands for CR LF, `<` for CR and `>` for LF.
+fn raw_of(alloc: Global, text: &str) -> Option<Vec<u8>> {
+    let mut bytes = Vec::new(alloc);
+    for byte in text.as_bytes() {
+        add_raw(&mut bytes, *byte)?;
+    }
+    Some(bytes)
+}
+
+/// Adds one word of a request, of at most 9 bytes.
+fn add_word(text: &mut Vec<u8>, word: &str) -> Option<()> {
+    add_count(text, b'$', word.len())?;
+    add(text, word.as_bytes())?;
+    add(text, b"\r\n")
+}
+
+/// The bytes of a request of at most 9 words.
+fn request_of(alloc: Global, words: &str) -> Option<Vec<u8>> {
+    let mut bytes = Vec::new(alloc);
+    add_count(&mut bytes, b'*', words.split(' ').count())?;
+    for word in words.split(' ') {
+        add_word(&mut bytes, word)?;
+    }
+    Some(bytes)
+}
+
+/// Feeds these bytes to a client.
+fn piece_of(client: &str, bytes: Option<Vec<u8>>) -> Option<Event> {
+    let client = client.parse::<usize>().ok()?;
+    let bytes = Bytes::from_vec(bytes?).ok()?;
+    Some(Event::Piece(client, bytes))
+}
+
+/// Two numbers.
+fn pair_of(first: &str, second: &str) -> Option<(usize, usize)> {
+    let first = first.parse::<usize>().ok()?;
+    let second = second.parse::<usize>().ok()?;
+    Some((first, second))
+}
+
+/// The event of a client and a stripe, or of a stripe and a byte.
+fn event_of_two(verb: &str, first: &str, second: &str) -> Option<Event> {
+    let (client, stripe) = pair_of(first, second)?;
+    match verb {
+        "take" => Some(Event::Take(client, stripe)),
+        "give" => Some(Event::Give(client, stripe)),
+        "release" => Some(Event::Release(client, u8::try_from(stripe).ok()?)),
+        _ => None,
+    }
+}
+
+/// The event of a client or a stripe.
+fn event_of_one(verb: &str, actor: usize) -> Option<Event> {
+    match verb {
+        "close" => Some(Event::Close(actor)),
+        "commit" => Some(Event::Commit(actor)),
+        "fetch" => Some(Event::Fetch(actor)),
+        "copy" => Some(Event::Copy(actor)),
+        "write" => Some(Event::Write(actor)),
+        "install" => Some(Event::Install(actor)),
+        "drop" => Some(Event::Drop(actor)),
+        "unlink" => Some(Event::Unlink(actor)),
+        "retire" => Some(Event::Retire(actor)),
+        "drain" => Some(Event::Drain(actor)),
+        _ => None,
+    }
+}
+
+/// The event of a line, if it is one.
+fn event_of(alloc: Global, line: &str) -> Option<Event> {
+    let (verb, rest) = line.split_once(' ')?;
+    let Some((first, second)) = rest.split_once(' ') else {
+        return event_of_one(verb, rest.parse::<usize>().ok()?);
+    };
+    match verb {
+        "ask" => piece_of(first, request_of(alloc, second)),
+        "raw" => piece_of(first, raw_of(alloc, second)),
+        _ => event_of_two(verb, first, second),
+    }
+}
+
+/// Whether this is what was written to a client.
+fn is_told(alloc: Global, world: &World, client: usize, text: &str) -> bool {
+    let Some(due) = raw_of(alloc, text) else {
+        return false;
+    };
+    client < world.clients() && world.output(client) == due.as_slice()
+}
+
+/// Whether entries are those of these clients.
+fn are_by(entries: &[Entry], clients: &str) -> bool {
+    let mut others = entries;
+    for client in clients.split(' ') {
+        let Some((entry, rest)) = others.split_first() else {
+            return false;
+        };
+        if client.parse::<u64>() != Ok(entry.session) {
+            return false;
+        }
+        others = rest;
+    }
+    others.is_empty()
+}
+
+/// Whether what a line says of a client's output holds.
+fn tells(alloc: Global, world: &World, rest: &str) -> bool {
+    let (client, text) = rest.split_once(' ').unwrap_or((rest, ""));
+    match client.parse::<usize>() {
+        Ok(client) => is_told(alloc, world, client, text),
+        Err(_) => false,
+    }
+}
+
+/// Whether what a line says holds in the world.
+fn holds(alloc: Global, world: &World, line: &str) -> bool {
+    match line.split_once(' ') {
+        Some(("no", "entries")) => world.history().is_empty(),
+        Some(("entries", clients)) => are_by(world.history(), clients),
+        Some(("told" | "silent", rest)) => tells(alloc, world, rest),
+        _ => false,
+    }
+}
+
+/// The client and the stripe of a line that is a take, a commit and a give.
+fn turn_of(line: &str) -> Option<(usize, usize)> {
+    let (client, stripe) = line.strip_prefix("turn ")?.split_once(' ')?;
+    pair_of(client, stripe)
+}
+
+/// The world after a take, a commit and a give.
+fn after_turn(world: World, client: usize, stripe: usize) -> Option<World>
+    requires { IsWorld world }
+    ensures { IfSome result IsWorld }
+{
+    let take = Event::Take(client, stripe);
+    let give = Event::Give(client, stripe);
+    world.run(&[take, Event::Commit(client), give]).ok()
+}
+
+/// The world after a line. `None` where the line does not hold, or where there was no memory.
+fn after(alloc: Global, world: World, line: &str) -> Option<World>
+    requires { IsWorld world }
+    ensures { IfSome result IsWorld }
+{
+    if let Some((client, stripe)) = turn_of(line) {
+        return after_turn(world, client, stripe);
+    }
+    if let Some(event) = event_of(alloc, line) {
+        return world.run(&[event]).ok();
+    }
+    if holds(alloc, &world, line) {
+        return Some(world);
+    }
+    world.end();
+    None
+}
+
+/// The world after the lines of a text, each of which holds.
+fn follow<R: Abort>(rt: &R, alloc: Global, world: World, text: &str) -> World
+    requires { IsWorld world }
+    ensures { IsWorld result }
+{
+    let (line, others) = match text.split_once("; ") {
+        Some((line, others)) => (line, Some(others)),
+        None => (text, None),
+    };
+    let Some(world) = after(alloc, world, line) else {
+        panic!(rt; "{line}")
+    };
+    match others {
+        Some(others) => follow(rt, alloc, world, others),
+        None => world,
+    }
+}
+
+/// A world of so many stripes and clients, where nothing was done.
+fn new_world(alloc: Global, stripes: usize, clients: usize) -> Option<World>
+    ensures { IfSome result IsWorld }
+{
+    let limits = Limits::new(stripes, 4_096, 32, 4_096, clients)?;
+    World::new(alloc, &limits).ok()
+}
+
+/// Follows two texts in a new world, one after the other.
+fn follow_both<R: Abort>(rt: &R, alloc: Global, world: Option<World>, first: &str, second: &str)
+    requires { IfSome world IsWorld }
+{
+    let Some(world) = world else {
+        panic!(rt; "no world")
+    };
+    let world = follow(rt, alloc, world, first);
+    let world = follow(rt, alloc, world, second);
+    world.end();
+}
+
+/// Follows a text in a new world of 16 stripes and two clients.
+fn schedule<R: Abort>(rt: &R, alloc: Global, text: &str) {
+    follow_both(rt, alloc, new_world(alloc, 16, 2), "no entries", text);
+}
+
+#[test]
+fn two_clients_one_after_the_other(rt: HostRuntime) {
+    let text = "ask 0 SET a 1; ask 1 GET a; take 0 12; take 1 12; commit 1; silent 0; no entries; \
+        commit 0; told 0 +OK|; entries 0; commit 1; silent 1; give 0 12; \
+        take 1 12; silent 1; commit 1; told 1 $1|1|; entries 0 1; give 1 12";
+    schedule(&rt, rt.alloc(), text);
+}
+
+#[test]
+fn a_watched_key_is_written(rt: HostRuntime) {
+    let text = "ask 0 WATCH a; turn 0 12; told 0 +OK|; ask 1 SET a 1; turn 1 12; told 1 +OK|; \
+        raw 0 *1|$5|MULTI|*1|$4|EXEC|; told 0 +OK|+OK|; commit 0; told 0 +OK|+OK|; \
+        take 0 12; commit 0; told 0 +OK|+OK|*-1|; give 0 12; entries 0 1 0; \
+        ask 0 MULTI; ask 0 EXEC; commit 0; told 0 +OK|+OK|*-1|+OK|*0|; entries 0 1 0 0";
+    schedule(&rt, rt.alloc(), text);
+}
+
+#[test]
+fn watches_and_writes(rt: HostRuntime) {
+    let texts = [
+        // Its own write counts.
+        "ask 0 WATCH a; turn 0 12; ask 0 SET a 1; turn 0 12; ask 0 MULTI; ask 0 GET a; ask 0 EXEC; \
+            turn 0 12; told 0 +OK|+OK|+OK|+QUEUED|*-1|; entries 0 0 0",
+        // Nothing is written by a DEL of a missing key.
+        "ask 0 WATCH a; turn 0 12; ask 1 DEL a; turn 1 12; told 1 :0|; ask 0 MULTI; ask 0 EXEC; \
+            turn 0 12; told 0 +OK|+OK|*0|; entries 0 1 0",
+        // Another key of the same stripe is written.
+        "ask 0 WATCH a; turn 0 12; ask 1 SET q 1; turn 1 12; ask 0 MULTI; ask 0 GET q; ask 0 EXEC; \
+            turn 0 12; told 0 +OK|+OK|+QUEUED|*1|$1|1|; entries 0 1 0",
+        // The same in a transaction, whose watch of two keys is for one position.
+        "ask 0 WATCH b a; take 0 5; turn 0 12; give 0 5; told 0 +OK|; ask 1 MULTI; ask 1 SET q 1; \
+            ask 1 EXEC; turn 1 12; told 1 +OK|+QUEUED|*1|+OK|; ask 0 MULTI; ask 0 EXEC; \
+            take 0 5; turn 0 12; give 0 5; told 0 +OK|+OK|*0|; entries 0 1 0",
+        // Another client forgets the key that both watch.
+        "ask 0 WATCH a; turn 0 12; ask 1 WATCH a; turn 1 12; ask 0 SET a 1; turn 0 12; \
+            ask 0 QUIT; turn 0 12; ask 1 MULTI; ask 1 EXEC; turn 1 12; told 1 +OK|+OK|*-1|; \
+            entries 0 1 0 1",
+    ];
+    for text in texts {
+        schedule(&rt, rt.alloc(), text);
+    }
+}
+
+#[test]
+fn a_call_without_stripes(rt: HostRuntime) {
+    let text = "ask 0 MULTI; ask 0 EXEC; ask 0 PING; told 0 +OK|; take 0 0; give 0 0; no entries; \
+        commit 0; told 0 +OK|*0|+PONG|; entries 0; commit 0; entries 0";
+    schedule(&rt, rt.alloc(), text);
+}
+
+#[test]
+fn a_call_of_two_stripes(rt: HostRuntime) {
+    let first = "ask 0 MULTI; ask 0 SET a 1; ask 0 SET b 2; ask 0 EXEC; ask 0 PING; ask 1 GET a; \
+        take 0 12; commit 0; told 0 +OK|+QUEUED|+QUEUED|; turn 1 12; told 1 $-1|; entries 1; \
+        take 0 5; take 0 5; commit 0; told 0 +OK|+QUEUED|+QUEUED|; ask 1 GET a; turn 1 12; \
+        told 1 $-1|$-1|; entries 1 1; ask 1 GET b; turn 1 5; told 1 $-1|$-1|";
+    let second = "take 0 12; told 0 +OK|+QUEUED|+QUEUED|; commit 0; \
+        told 0 +OK|+QUEUED|+QUEUED|*2|+OK|+OK|; entries 1 1 0; turn 1 5; told 1 $-1|$-1|; \
+        give 0 5; turn 1 5; told 1 $-1|$-1|$1|2|; entries 1 1 0 1; \
+        told 0 +OK|+QUEUED|+QUEUED|*2|+OK|+OK|; give 0 12; \
+        told 0 +OK|+QUEUED|+QUEUED|*2|+OK|+OK|+PONG|";
+    follow_both(&rt, rt.alloc(), new_world(rt.alloc(), 16, 2), first, second);
+}
+
+#[test]
+fn events_that_are_not_enabled_at_the_start(rt: HostRuntime) {
+    let first =
+        "take 0 12; commit 0; give 0 12; take 0 16; give 0 16; ask 2 SET a 1; close 2; take 2 12; \
+        commit 2; give 2 12; fetch 0; copy 12; write 12; install 12; drop 12; unlink 12; retire 12; \
+        drain 12; release 12 255; fetch 2; copy 16; release 16 0; take 0 18446744073709551615; give 0 18446744073709551615; \
+        ask 18446744073709551615 SET a 1; silent 0; silent 1; no entries";
+    let second = "ask 0 SET a 1; ask 1 GET a; turn 1 12; told 1 $-1|; turn 0 12; told 0 +OK|; \
+        entries 1 0; ask 1 GET a; turn 1 12; told 1 $-1|$1|1|; entries 1 0 1";
+    follow_both(&rt, rt.alloc(), new_world(rt.alloc(), 16, 2), first, second);
+}
+
+#[test]
+fn events_that_are_not_enabled_within_a_call(rt: HostRuntime) {
+    let first = "ask 0 MULTI; ask 0 SET a 1; ask 0 SET b 2; ask 0 EXEC; take 0 5; \
+        take 0 16; take 0 7; give 0 5; commit 0; give 1 5; take 1 5; commit 1; give 0 12; give 0 16; \
+        fetch 0; copy 5; write 5; install 5; drop 5; unlink 5; retire 5; drain 5; release 5 0; \
+        told 0 +OK|+QUEUED|+QUEUED|; silent 1; no entries; take 0 12; give 0 12; give 0 5";
+    let second = "commit 0; told 0 +OK|+QUEUED|+QUEUED|*2|+OK|+OK|; entries 0; commit 0; \
+        ask 1 GET a; give 1 12; give 1 5; turn 1 12; silent 1; entries 0; \
+        give 0 12; give 0 12; take 0 12; turn 1 12; told 1 $1|1|; entries 0 1; \
+        ask 0 PING; told 0 +OK|+QUEUED|+QUEUED|*2|+OK|+OK|; give 0 5; \
+        told 0 +OK|+QUEUED|+QUEUED|*2|+OK|+OK|+PONG|";
+    follow_both(&rt, rt.alloc(), new_world(rt.alloc(), 16, 2), first, second);
+}
+
+#[test]
+fn events_after_the_end(rt: HostRuntime) {
+    let texts = [
+        "ask 0 QUIT; told 0 +OK|; ask 0 PING; close 0; take 0 12; commit 0; give 0 12; told 0 +OK|",
+        "close 0; ask 0 PING; close 0; commit 0; silent 0; no entries",
+        "raw 0 *1|$4|PI; silent 0; close 0; raw 0 NG|; silent 0",
+        "ask 0 SET a 1; close 0; ask 0 PING; close 0; turn 0 12; told 0 +OK|; ask 0 PING; \
+            told 0 +OK|; entries 0; commit 0; entries 0",
+        "raw 0 *1|$4|PING|*1|$04|; told 0 +PONG|-ERR Protocol error: bad length|; ask 0 PING; close 0; \
+            told 0 +PONG|-ERR Protocol error: bad length|; no entries",
+    ];
+    for text in texts {
+        schedule(&rt, rt.alloc(), text);
+    }
+}
+
+#[test]
+fn a_session_ends_with_watches(rt: HostRuntime) {
+    let starts = [
+        "ask 0 WATCH a; turn 0 12; ask 0 QUIT; told 0 +OK|+OK|; ask 0 PING; told 0 +OK|+OK|",
+        "ask 0 WATCH a; turn 0 12; close 0; ask 0 PING; told 0 +OK|",
+        "ask 0 WATCH a; turn 0 12; raw 0 *1|$04|; told 0 +OK|-ERR Protocol error: bad length|; \
+            ask 0 PING; close 0; told 0 +OK|-ERR Protocol error: bad length|",
+        "ask 0 WATCH a; turn 0 12; ask 0 MULTI; ask 0 SET a 1; ask 0 QUIT; \
+            told 0 +OK|+OK|+QUEUED|+OK|; commit 0",
+    ];
+    let ending =
+        "entries 0; ask 1 GET a; take 0 5; give 0 12; turn 1 12; told 1 $-1|; entries 0 1; \
+        take 0 12; give 0 12; ask 1 GET a; turn 1 12; told 1 $-1|; commit 0; turn 1 12; told 1 $-1|; \
+        entries 0 1; give 0 12; turn 1 12; told 1 $-1|$-1|; entries 0 1 1; \
+        take 0 12; commit 0; ask 0 SET a 1; turn 0 12; close 0; ask 1 GET a; turn 1 12; \
+        told 1 $-1|$-1|$-1|; entries 0 1 1 1";
+    for start in starts {
+        follow_both(&rt, rt.alloc(), new_world(rt.alloc(), 16, 2), start, ending);
+    }
+}
+
+#[test]
+fn calls_that_only_forget(rt: HostRuntime) {
+    let texts = [
+        "ask 0 WATCH a; turn 0 12; ask 0 UNWATCH; told 0 +OK|; commit 0; take 0 12; told 0 +OK|; \
+            commit 0; told 0 +OK|+OK|; entries 0; give 0 12; ask 1 SET a 1; turn 1 12; ask 0 MULTI; \
+            ask 0 EXEC; commit 0; told 0 +OK|+OK|+OK|*0|; entries 0 1 0",
+        "ask 0 UNWATCH; told 0 +OK|; no entries; ask 0 MULTI; ask 0 DISCARD; told 0 +OK|+OK|+OK|; \
+            commit 0; no entries",
+        "ask 0 WATCH a b; take 0 5; turn 0 12; give 0 5; ask 0 MULTI; ask 0 SET a 1; ask 0 DISCARD; \
+            told 0 +OK|+OK|+QUEUED|; take 0 12; take 0 5; commit 0; told 0 +OK|+OK|+QUEUED|; \
+            take 0 12; commit 0; told 0 +OK|+OK|+QUEUED|+OK|; entries 0; give 0 12; give 0 5; \
+            ask 0 GET a; turn 0 12; told 0 +OK|+OK|+QUEUED|+OK|$-1|; entries 0 0",
+    ];
+    for text in texts {
+        schedule(&rt, rt.alloc(), text);
+    }
+}
+
+#[test]
+fn requests_in_pieces(rt: HostRuntime) {
+    let texts = [
+        "raw 0 *3|$3|SET|$1|a|$1; take 0 12; commit 0; silent 0; raw 0 <; raw 0 >1<; take 0 12; commit 0; \
+            silent 0; raw 0 >*2|$3|GE; take 0 12; silent 0; commit 0; told 0 +OK|; raw 0 T|$1|a|*1|$4|PING|; \
+            told 0 +OK|; give 0 12; told 0 +OK|; take 0 12; commit 0; told 0 +OK|$1|1|; give 0 12; \
+            told 0 +OK|$1|1|+PONG|; entries 0 0",
+        "raw 0 *1|$4|PING|*1|$4|PING|*2|$4|INCR|$1|a|*1|$4|PING|*2|$4|INCR|$1|a|*1|$4|PI; \
+            told 0 +PONG|+PONG|; turn 0 12; told 0 +PONG|+PONG|:1|+PONG|; turn 0 12; \
+            told 0 +PONG|+PONG|:1|+PONG|:2|; raw 0 NG|; told 0 +PONG|+PONG|:1|+PONG|:2|+PONG|; \
+            entries 0 0; ask 0 NONE; told 0 +PONG|+PONG|:1|+PONG|:2|+PONG|-ERR unknown command|",
+    ];
+    for text in texts {
+        schedule(&rt, rt.alloc(), text);
+    }
+}
+
+#[test]
+fn the_smallest_world_and_the_largest(rt: HostRuntime) {
+    let small = "ask 0 MULTI; ask 0 SET a 1; ask 0 GET b; ask 0 EXEC; take 0 1; turn 0 0; \
+        told 0 +OK|+QUEUED|+QUEUED|*2|+OK|$-1|; entries 0; ask 0 GET a; turn 0 0; entries 0 0; \
+        told 0 +OK|+QUEUED|+QUEUED|*2|+OK|$-1|$1|1|";
+    let large = "ask 63 SET a 1; turn 63 12; told 63 +OK|; ask 0 SET b 1; turn 0 37; told 0 +OK|; \
+        silent 1; silent 62; ask 64 PING; entries 63 0";
+    follow_both(
+        &rt,
+        rt.alloc(),
+        new_world(rt.alloc(), 1, 1),
+        "no entries",
+        small,
+    );
+    follow_both(
+        &rt,
+        rt.alloc(),
+        new_world(rt.alloc(), 64, 64),
+        "no entries",
+        large,
+    );
+}
