@@ -1,0 +1,10 @@
+use Rattle.std.proofs.Common.{◌++◌, take}
+use Rattle.streams.specs.Laws.{Consumes-then}
+use Rattle.schedules.proofs.run.read_all.Goals as goal
+
+pub returns-then-is_err-clause-read : goal.returns-then-is_err-clause-read
+returns-then-is_err-clause-read g c = (
+  c.loop-count.text.items ++ take c.in-Bytes.count c.read.new.buffer,
+  Consumes-then _ _ _ c.loop-count.text.items (take c.in-Bytes.count c.read.new.buffer) c.loop-count.invariant.read c.in-Bytes.ensures.read.2,
+  tt,
+)

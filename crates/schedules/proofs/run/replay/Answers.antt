@@ -1,0 +1,4 @@
+use Rattle.schedules.proofs.run.replay.Goals as goal
+
+pub returns-in-BadLine : goal.returns-in-BadLine
+returns-in-BadLine c = c.in-Err.ensures.bad c.in-BadLine.number c.in-BadLine.is

@@ -1,0 +1,5 @@
+pub mod Schedules
+pub mod Lines
+pub mod Reports
+pub mod Runs
+pub mod Statuses

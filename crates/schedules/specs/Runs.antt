@@ -1,0 +1,67 @@
+-- What running a schedule comes to.
+use Rattle.std.specs.Prelude.{ℕ, ◌≡◌, ◌⊎◌, ⊤, List, [], ◌++◌, Result, Ok, Err}
+use Rattle.words.specs.declared.limits.Limits.{Limits}
+use Rattle.words.specs.Store.{Bytes}
+use Rattle.streams.specs.declared.observed.Told.{Told}
+use Rattle.streams.specs.declared.observed.Told.TheVariants as told
+use Rattle.world.specs.declared.event.Event.{Event}
+use Rattle.world.specs.States.{State, start}
+use Rattle.world.specs.Turns.{Turns}
+use Rattle.world.specs.Told.{Headline}
+use Rattle.schedules.specs.declared.fault.ReplayFault.{ReplayFault}
+use Rattle.schedules.specs.declared.fault.ReplayFault.TheVariants.{CannotRead, BadLine, OutOfMemory, CannotWrite}
+use Rattle.schedules.specs.Schedules.{IsSchedule, IsBadLine}
+use Rattle.schedules.specs.Reports.{report_of}
+
+-- The events, in order, lead a world of these limits from its beginning to a state of which the headline holds, and this is its report.
+pub record IsOutcome (limits : Limits) (events : List Event) (report : Bytes) : Type 0 where
+  pub state : State
+  pub turns : Turns (start limits.stripes limits.clients) events state
+  pub headline : Headline state
+  pub told : report ≡ report_of state
+
+-- the text is a schedule, and this is the report of its run
+pub record IsReport (text report : Bytes) : Type 0 where
+  pub limits : Limits
+  pub events : List Event
+  pub schedule : IsSchedule text limits events
+  pub outcome : IsOutcome limits events report
+
+-- why a text has no report: its first bad line, or want of memory
+abbrev pub IsFault : Bytes → ReplayFault → Type 0
+IsFault text (BadLine number) = IsBadLine text number
+IsFault text OutOfMemory = ⊤
+IsFault text CannotRead = ⊥
+IsFault text CannotWrite = ⊥
+
+-- What was written of a text that was read: its report; at a failed write a beginning of that; at any other fault nothing.
+abbrev pub IsRun : Bytes → (written : Bytes) → Result ⊤ ReplayFault → Type 0
+IsRun text written (Ok done) = IsReport text written
+IsRun text written (Err (BadLine number)) = IsBadLine text number × (written ≡ [])
+IsRun text written (Err OutOfMemory) = written ≡ []
+IsRun text written (Err CannotRead) = written ≡ []
+IsRun text written (Err CannotWrite) = (more : Bytes) × IsReport text (written ++ more)
+
+-- All that the reader had left was read, but where it failed or memory was wanted.
+abbrev pub IsWhole : Result ⊤ ReplayFault → (at_end : Type 0) → Type 0
+IsWhole (Err CannotRead) at_end = ⊤
+IsWhole (Err OutOfMemory) at_end = ⊤
+IsWhole _ at_end = at_end
+
+-- what a reader has told after all was read of it: its end; where it failed, that; where memory was wanted, nothing more
+abbrev pub ReadTold : {T : Type 0} → Result T ReplayFault → (before after : Told) → Type 0
+ReadTold (Ok whole) before after = after ≡ told.End
+ReadTold (Err CannotRead) before after = after ≡ told.Failure
+ReadTold (Err OutOfMemory) before after = after ≡ before
+ReadTold (Err _) before after = ⊥
+
+-- What a reader has told after a run: its end, but where it failed. Memory may be wanted before the end.
+abbrev pub ReaderTold : Result ⊤ ReplayFault → (before after : Told) → Type 0
+ReaderTold (Err CannotRead) before after = after ≡ told.Failure
+ReaderTold (Err OutOfMemory) before after = (after ≡ before) ⊎ (after ≡ told.End)
+ReaderTold _ before after = after ≡ told.End
+
+-- what a writer has told after a run: nothing more, but where it failed
+abbrev pub writer_told : Result ⊤ ReplayFault → Told → Told
+writer_told (Err CannotWrite) before = told.Failure
+writer_told _ before = before
