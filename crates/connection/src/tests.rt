@@ -15,6 +15,8 @@ use std::test::Fail;
 use streams::{Noted, Told};
 use words::limits::Limits;
 
+mod refused;
+
 /// A reader over bytes in memory.
 #[derive(Drop)]
 struct Source<'a> {
