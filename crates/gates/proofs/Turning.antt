@@ -152,6 +152,12 @@ module _ {T : Type 0} where
   none_has i [] e h = cc
   none_has i (x ∷ xs) e h = cc
 
+  -- where one stripe alone is held, no other has its part
+  pub held_alone : (s i : ℕ) (parts : List (ℕ × T)) → stripes_among parts ≡ s ∷ [] → IsSome (part_at parts i) → i ≡ s
+  held_alone s i parts alone there =
+      let stands : 0 < times i (s ∷ []) = subst (λ (l : List ℕ). 0 < times i l) alone (part_some parts i there) in
+      ⊎_elim (λ same. sym same) (λ ne. absurd (omega (arith, stands, times_else i s [] ne))) (cases_eq s i)
+
   -- what is held once the part in front was written
   pub lent : (h later : Held T) (i : ℕ) (w : T) → later ≡ held_with h (brought i (held_parts h)) → IsSome (part_at (held_parts h) i)
       → record later {

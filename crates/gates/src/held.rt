@@ -294,4 +294,8 @@ impl<'a, T: Part> Parts<T> for Held<'a, T> {
     fn part(&mut self, stripe: usize) -> &mut T {
         self.lend(stripe)
     }
+
+    fn only(&self) -> Option<usize> {
+        self.order.only()
+    }
 }

@@ -7,6 +7,7 @@ pub mod Begun
 pub mod Plans
 pub mod Installed
 pub mod Fit
+pub mod Gets
 pub mod Submits
 pub mod Memory
 pub mod Sets

@@ -1,21 +1,18 @@
 -- A SET without an option, from its plan to what is held after it.
-use Rattle.std.proofs.Common.{◌≡◌, ◌∙◌, ◌+◌, ℕ, Bool, true, false, List, [], ◌∷◌, length, nat_lt, Some, None, refl, sym, ap, subst}
+use Rattle.std.proofs.Common.{◌≡◌, ◌∙◌, ◌+◌, ℕ, Bool, true, false, List, [], ◌∷◌, length, nat_lt, Some, refl, sym, ap}
 use Rattle.std.proofs.Math.Nat.{add-zero}
 use Rattle.words.specs.declared.limits.TheConstants.{WEIGHT_MAX, WEIGHT_OF_KEY}
 use Rattle.words.specs.declared.reply.Reply.{Reply}
 use Rattle.words.specs.declared.reply.Line.TheVariants.{Done}
 use Rattle.words.specs.Answers.{line}
 use Rattle.words.specs.declared.reply.Reply.TheVariants as reply
-use Rattle.words.specs.Store.{Bytes, Write, weight}
+use Rattle.words.specs.Store.{Bytes, weight}
 use Rattle.words.specs.History.{History, too_much}
 use Rattle.words.specs.Session.{operation_of}
 use Rattle.gates.specs.declared.held.Held.{Held}
 use Rattle.gates.specs.Passes.{Committed, stripes_of}
 use Rattle.gates.specs.Helds.{SameHold, same_as_it, gates_of, held_parts, held_taken, known_to, operation_asked}
 use Rattle.transact.specs.declared.shard.Shard.{Shard}
-use Rattle.transact.specs.declared.call.Call.{Call}
-use Rattle.transact.specs.declared.call.Call.TheVariants.{One}
-use Rattle.words.specs.declared.command.Command.TheVariants.{Set}
 use Rattle.transact.specs.Shards.{shard_meaning}
 use Rattle.transact.specs.Plans.{IsPlan}
 use Rattle.transact.specs.Memory.{set_call}
@@ -25,10 +22,6 @@ use Rattle.transact.proofs.Become.{became_same, became_unwritten}
 use Rattle.transact.proofs.Begun.{begins_none, touched_only}
 use Rattle.transact.proofs.Plans.{plan_of_set}
 use Rattle.transact.proofs.Submits.{Fit, parts_of, fit_done, fit_undone}
-
-abbrev pub taken_of : Call → Write
-taken_of (One (Set key value when)) = (key, Some value)
-taken_of _ = ([], None)
 
 -- the entry of a SET by the pass whose parts are held
 abbrev pub SetDone : ℕ → Bytes → Bytes → Reply → (mid done : Held Shard) → Type 0
@@ -53,9 +46,3 @@ set_made n seat place key value start mid done last n_is seat_is light fit same 
     (plan_of_set (known_to start).seen key value false (reply.Single (line Done)) ((key, Some value) ∷ []) (sym (ap (nat_lt WEIGHT_MAX) (add-zero _) ∙ light)) refl refl) fit same
     (begins_none shard_meaning n seat (parts_of start) (parts_of mid) became) parts taken did
     (touched_only shard_meaning n seat ((key, Some value) ∷ []) (parts_of done) (parts_of last) wrote) same_last
-
--- what was taken out of the call is what it was made of
-pub set_wrote : (n : ℕ) (key value key2 value2 : Bytes) (a b : ℕ → Rattle.std.proofs.Common.Option Shard) → set_call key2 value2 ≡ set_call key value
-    → Became shard_meaning n ((key2, Some value2) ∷ []) (touches ((key2, Some value2) ∷ [])) a b → Became shard_meaning n ((key, Some value) ∷ []) (touches ((key, Some value) ∷ [])) a b
-set_wrote n key value key2 value2 a b same became =
-    subst (λ (w : Write). Became shard_meaning n (w ∷ []) (touches (w ∷ [])) a b) (ap taken_of same) became

@@ -32,14 +32,13 @@ NeedsNoMemory store (Get key) = length (unwrap_or (store key) []) ≤ WORD_INLIN
 NeedsNoMemory store (Set key value Always) = IsSome (store key) ⊎ (WEIGHT_MAX < WEIGHT_OF_KEY + length key + length value)
 NeedsNoMemory store _ = ⊥
 
--- a command that gives a key a value, without an option
-abbrev pub IsSet : Command → Type 0
-IsSet (Set key value Always) = Unit {0}
-IsSet _ = ⊥
-
 -- a call that gives a key a value, without an option
 abbrev pub set_call : Bytes → Bytes → Call
 set_call key value = One (Set key value Always)
+
+-- a call that reads a key
+abbrev pub get_call : Bytes → Call
+get_call key = One (Get key)
 
 -- the same of what a session asks
 abbrev pub AsksNoMemory : Store → Asked → Type 0

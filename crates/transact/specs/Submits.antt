@@ -13,6 +13,9 @@ use Rattle.gates.specs.declared.view.Note.{Note}
 use Rattle.gates.specs.declared.view.Note.TheVariants.{Worn}
 use Rattle.gates.specs.Passes.{AreBusy}
 use Rattle.transact.specs.Calls.{call_keys}
+use Rattle.transact.specs.Memory.{get_call, set_call}
+use Rattle.transact.specs.declared.submit.Getting.{Getting}
+use Rattle.transact.specs.declared.submit.Setting.{Setting}
 use Rattle.transact.specs.Plans.{stripes_with}
 use Rattle.gates.specs.declared.view.Knowledge.{Knowledge}
 use Rattle.transact.specs.declared.call.Answer.{Answer}
@@ -26,6 +29,14 @@ asked_for (One command) = asked.Run command
 asked_for (Watch keys) = asked.Watch keys
 asked_for (Exec commands watching) = asked.Exec commands
 asked_for (Forget watching) = asked.Exec []
+
+-- what a SET without an option asks
+abbrev pub setting_asked : Setting → Asked
+setting_asked setting = asked_for (set_call setting.key setting.value)
+
+-- what a GET asks
+abbrev pub getting_asked : Getting → Asked
+getting_asked getting = asked_for (get_call getting.key.now)
 
 -- a call that has a place in the history: a command that reads or writes keys, a watch, or a transaction of commands that may be queued
 abbrev pub HasEntry : Call → Type 0

@@ -11,6 +11,20 @@ use gates::Parts;
 use words::hash::stripe_of;
 use words::word::{OutOfMemory, Word};
 
+/// The stripe of a key that is held. Where one stripe alone is held, the key is not hashed.
+#[inline]
+fn stripe_in<P: Parts<Shard>>(parts: &P, stripes: usize, key: &Word) -> usize
+    requires open { P.is_open parts.now }
+    requires some { 1 ≤ stripes }
+    requires there { IsSome (P.part_of parts.now (striping.stripe_of stripes key.now)) }
+    ensures { result ≡ striping.stripe_of stripes key.now }
+{
+    match parts.only() {
+        Some(stripe) => stripe,
+        None => stripe_of(key.as_slice(), stripes),
+    }
+}
+
 /// A copy of the value of a key. It takes memory only for a value that is not held inline.
 pub(crate) fn value_of<P: Parts<Shard>>(
     parts: &mut P,
@@ -26,7 +40,7 @@ pub(crate) fn value_of<P: Parts<Shard>>(
     ensures open { P.is_open parts.new }
     ensures keeps { P.keeps parts.old parts.new }
 {
-    let stripe = stripe_of(key.as_slice(), stripes);
+    let stripe = stripe_in(&*parts, stripes, key);
     match parts.part(stripe).value(key) {
         Some(value) => Ok(Some(value.clone()?)),
         None => Ok(None),
@@ -48,7 +62,7 @@ pub(crate) fn is_marked<P: Parts<Shard>>(
     ensures open { P.is_open parts.new }
     ensures keeps { P.keeps parts.old parts.new }
 {
-    let stripe = stripe_of(key.as_slice(), stripes);
+    let stripe = stripe_in(&*parts, stripes, key);
     parts.part(stripe).mark(key, seat).unwrap_or(false)
 }
 
@@ -68,7 +82,7 @@ pub(crate) fn make_place<P: Parts<Shard>>(
     ensures open { P.is_open parts.new }
     ensures keeps { P.keeps parts.old parts.new }
 {
-    let stripe = stripe_of(key.as_slice(), stripes);
+    let stripe = stripe_in(&*parts, stripes, key);
     parts.part(stripe).make_place(key)
 }
 
@@ -82,7 +96,7 @@ pub(crate) fn write<P: Parts<Shard>>(parts: &mut P, stripes: usize, key: Word, v
     ensures open { P.is_open parts.new }
     ensures keeps { P.keeps parts.old parts.new }
 {
-    let stripe = stripe_of(key.as_slice(), stripes);
+    let stripe = stripe_in(&*parts, stripes, &key);
     parts.part(stripe).write(key, value)
 }
 
@@ -95,7 +109,7 @@ pub(crate) fn delete<P: Parts<Shard>>(parts: &mut P, stripes: usize, key: &Word)
     ensures open { P.is_open parts.new }
     ensures keeps { P.keeps parts.old parts.new }
 {
-    let stripe = stripe_of(key.as_slice(), stripes);
+    let stripe = stripe_in(&*parts, stripes, key);
     parts.part(stripe).delete(key)
 }
 
@@ -115,7 +129,7 @@ pub(crate) fn begin<P: Parts<Shard>>(
     ensures open { P.is_open parts.new }
     ensures keeps { P.keeps parts.old parts.new }
 {
-    let stripe = stripe_of(key.as_slice(), stripes);
+    let stripe = stripe_in(&*parts, stripes, key);
     parts.part(stripe).begin(key, seat)
 }
 
@@ -128,6 +142,6 @@ pub(crate) fn clear<P: Parts<Shard>>(parts: &mut P, stripes: usize, seat: u64, k
     ensures open { P.is_open parts.new }
     ensures keeps { P.keeps parts.old parts.new }
 {
-    let stripe = stripe_of(key.as_slice(), stripes);
+    let stripe = stripe_in(&*parts, stripes, key);
     parts.part(stripe).clear(key, seat)
 }

@@ -137,7 +137,7 @@ fn plan_get<P: Parts<Shard>>(
 }
 
 /// The reply to a GET that found this.
-fn found(value: Option<Word>) -> Reply
+pub(crate) fn found(value: Option<Word>) -> Reply
     ensures { result ≡ Reply.Single (bulk value) }
 {
     Reply::Single(CommandReply::bulk(value))

@@ -14,12 +14,12 @@ ghost use Rattle.transact.specs.Shards.{shard_meaning};
 ghost use Rattle.transact.specs.Tables.{AreThere};
 ghost use Rattle.transact.specs.Calls.{call_keys};
 ghost use Rattle.transact.specs.Plans.{EndsAll};
-ghost use Rattle.transact.specs.Memory.{IsSet, NeedsSome, ReadsMore, set_call};
-ghost use Rattle.transact.specs.Submits.{HasDone, HasEntry, HasFailed, IfFault, IfReply, Did, DidNot, HeardBusy, IsRefused, MayBeSubmitted, WasRefused, asked_for, stripes_asked};
+ghost use Rattle.transact.specs.Memory.{NeedsSome, ReadsMore, get_call, set_call};
+ghost use Rattle.transact.specs.Submits.{HasDone, HasEntry, HasFailed, IfFault, IfReply, Did, DidNot, HeardBusy, IsRefused, MayBeSubmitted, WasRefused, asked_for, setting_asked, stripes_asked};
 
 use crate::call::{Answer, Busy, Call, Watching};
-use crate::cells::{make_place, write};
-use crate::plan::plan;
+use crate::cells::{make_place, value_of, write};
+use crate::plan::{found, plan};
 use crate::shard::Shard;
 use crate::stripes::keys_of;
 use crate::watches::forget;
@@ -35,6 +35,31 @@ impl Asks for Call {
     ghost use Rattle.transact.specs.Submits.{asked_for};
 
     ghost asked = { asked_for };
+}
+
+/// A GET.
+#[derive(Drop)]
+struct Getting<'a> {
+    key: &'a Word,
+}
+
+impl Asks for Getting<'_> {
+    ghost use Rattle.transact.specs.Submits.{getting_asked};
+
+    ghost asked = { getting_asked };
+}
+
+/// A SET without an option.
+#[derive(Drop)]
+struct Setting {
+    key: Word,
+    value: Word,
+}
+
+impl Asks for Setting {
+    ghost use Rattle.transact.specs.Submits.{setting_asked};
+
+    ghost asked = { setting_asked };
 }
 
 /// Runs a call over the parts that are held: plans it, commits its one entry, and installs what it
@@ -80,6 +105,37 @@ pub fn enter(
     }
 }
 
+/// Runs a GET over the parts that are held: its reply is the one copy that is made of the value. It takes
+/// memory only for a value that is not held inline.
+fn enter_get(held: &mut Held<'_, Shard>, stripes: usize, seat: u64, key: &Word) -> Answer
+    requires open { IsOpen held.old }
+    requires fresh { has_committed held.old ≡ false }
+    requires some { 1 ≤ stripes }
+    requires stripes { stripes ≡ stripes_of (gates_of held.old) }
+    requires seat { seat ≡ (known_to held.old).number }
+    requires fit { AllFit shard_meaning stripes (known_to held.old) (held_taken held.old) (held_parts held.old) }
+    requires there { AreThere stripes (part_at (held_parts held.old)) (call_keys (get_call key.now)) }
+    ensures open { IsOpen held.new }
+    ensures gates { gates_of held.new ≡ gates_of held.old }
+    ensures pass { borrow_of held.new ≡ borrow_of held.old }
+    ensures fit { AllFit shard_meaning stripes (known_to held.new) (held_taken held.new) (held_parts held.new) }
+    ensures did { IfReply result (λ reply. let entry : Entry = record { session = seat; operation = operation_of (known_to held.old).watched (asked_for (get_call key.now)); reply = reply } in Did entry (known_to held.old) (known_to held.new)) }
+    ensures fault { IfFault result (λ fault. DidNot (known_to held.old).watched (known_to held.old) (known_to held.new)) }
+    ensures told { IfReply result (λ reply. (known_to held.new).notes ≡ (known_to held.old).notes) }
+    ensures refused { IfFault result (λ fault. IsRefused fault (known_to held.old) (known_to held.new)) }
+    ensures seen { IfFault result (λ fault. (known_to held.new).seen ≡ (known_to held.old).seen) }
+    ensures memory { IfFault result (λ fault. NeedsSome fault (known_to held.old) (asked_for (get_call key.now))) }
+{
+    let Ok(value) = value_of(held, stripes, key) else {
+        return Answer::Fault(Fault::OutOfMemory);
+    };
+    let reply = found(value);
+    match held.commit(&Getting { key }, &reply) {
+        Ok(_) => Answer::Reply(reply),
+        Err(_) => Answer::Fault(Fault::CommitsWornOut),
+    }
+}
+
 /// Runs a SET without an option over the parts that are held: makes a place for its key, commits its one
 /// entry, and moves the key and the value to the place. A value that weighs too much is refused by the
 /// reply. It takes memory only for a key that has no value.
@@ -87,8 +143,7 @@ fn enter_set(
     held: &mut Held<'_, Shard>,
     stripes: usize,
     seat: u64,
-    key: Word,
-    value: Word,
+    setting: Setting,
 ) -> Answer
     requires open { IsOpen held.old }
     requires fresh { has_committed held.old ≡ false }
@@ -96,29 +151,27 @@ fn enter_set(
     requires stripes { stripes ≡ stripes_of (gates_of held.old) }
     requires seat { seat ≡ (known_to held.old).number }
     requires fit { AllFit shard_meaning stripes (known_to held.old) (held_taken held.old) (held_parts held.old) }
-    requires there { AreThere stripes (part_at (held_parts held.old)) (call_keys (set_call key value)) }
+    requires there { AreThere stripes (part_at (held_parts held.old)) (call_keys (set_call setting.key setting.value)) }
     ensures open { IsOpen held.new }
     ensures gates { gates_of held.new ≡ gates_of held.old }
     ensures pass { borrow_of held.new ≡ borrow_of held.old }
-    ensures there { AreThere stripes (part_at (held_parts held.new)) (call_keys (set_call key value)) }
     ensures fit { AllFit shard_meaning stripes (known_to held.new) (held_taken held.new) (held_parts held.new) }
-    ensures did { IfReply result (λ reply. let entry : Entry = record { session = seat; operation = operation_of (known_to held.old).watched (asked_for (set_call key value)); reply = reply } in Did entry (known_to held.old) (known_to held.new)) }
+    ensures did { IfReply result (λ reply. let entry : Entry = record { session = seat; operation = operation_of (known_to held.old).watched (asked_for (set_call setting.key setting.value)); reply = reply } in Did entry (known_to held.old) (known_to held.new)) }
     ensures fault { IfFault result (λ fault. DidNot (known_to held.old).watched (known_to held.old) (known_to held.new)) }
     ensures told { IfReply result (λ reply. (known_to held.new).notes ≡ (known_to held.old).notes) }
     ensures refused { IfFault result (λ fault. IsRefused fault (known_to held.old) (known_to held.new)) }
     ensures seen { IfFault result (λ fault. (known_to held.new).seen ≡ (known_to held.old).seen) }
-    ensures memory { IfFault result (λ fault. NeedsSome fault (known_to held.old) (asked_for (set_call key value))) }
+    ensures memory { IfFault result (λ fault. NeedsSome fault (known_to held.old) (asked_for (set_call setting.key setting.value))) }
 {
-    if weighs_too_much(&key, &value) {
-        return refuse_set(held, stripes, seat, key, value);
+    if weighs_too_much(&setting.key, &setting.value) {
+        return refuse_set(held, stripes, seat, setting);
     }
-    if let Err(_) = make_place(held, stripes, &key) {
+    if let Err(_) = make_place(held, stripes, &setting.key) {
         return Answer::Fault(Fault::OutOfMemory);
     }
-    let command = Command::Set(key, value, When::Always);
-    match commit_line(held, &command, Line::Done) {
+    match commit_line(held, &setting, Line::Done) {
         Ok(_) => {
-            let (key, value) = setting_of(command);
+            let Setting { key, value } = setting;
             write(held, stripes, key, Some(value));
             Answer::Reply(Reply::line(Line::Done))
         }
@@ -126,32 +179,21 @@ fn enter_set(
     }
 }
 
-/// The key and the value of a SET without an option.
-fn setting_of(command: Command) -> (Word, Word)
-    requires { IsSet command }
-    ensures { set_call result.0 result.1 ≡ Call.One command }
-{
-    match command {
-        Command::Set(key, value, When::Always) => (key, value),
-        _ => unreachable!(),
-    }
-}
-
-/// Commits a command that is answered by a line.
+/// Commits a SET that is answered by a line.
 fn commit_line(
     held: &mut Held<'_, Shard>,
-    command: &Command,
+    setting: &Setting,
     line: Line,
 ) -> Result<u64, CommitsWornOut>
     requires open { IsOpen held.old }
     requires once { has_committed held.old ≡ false }
-    requires place { HasPlace (operation_asked held.old (Run command.now)) }
-    requires due { line_reply line ≡ due (known_to held.old).seen (operation_asked held.old (Run command.now)) }
-    requires keys { KeysHeld (stripes_of (gates_of held.old)) (held_parts held.old) (keys_named (operation_asked held.old (Run command.now))) }
-    ensures { HasCommitted held.old (operation_asked held.old (Run command.now)) (line_reply line) held.new result }
+    requires place { HasPlace (operation_asked held.old (setting_asked setting.now)) }
+    requires due { line_reply line ≡ due (known_to held.old).seen (operation_asked held.old (setting_asked setting.now)) }
+    requires keys { KeysHeld (stripes_of (gates_of held.old)) (held_parts held.old) (keys_named (operation_asked held.old (setting_asked setting.now))) }
+    ensures { HasCommitted held.old (operation_asked held.old (setting_asked setting.now)) (line_reply line) held.new result }
 {
     let reply = Reply::line(line);
-    held.commit(command, &reply)
+    held.commit(setting, &reply)
 }
 
 /// Commits a SET whose value weighs too much: it writes nothing.
@@ -159,32 +201,29 @@ fn refuse_set(
     held: &mut Held<'_, Shard>,
     stripes: usize,
     seat: u64,
-    key: Word,
-    value: Word,
+    setting: Setting,
 ) -> Answer
     requires open { IsOpen held.old }
     requires fresh { has_committed held.old ≡ false }
-    requires heavy { nat_lt WEIGHT_MAX (WEIGHT_OF_KEY + length key + length value) ≡ true }
+    requires heavy { nat_lt WEIGHT_MAX (WEIGHT_OF_KEY + length setting.key + length setting.value) ≡ true }
     requires some { 1 ≤ stripes }
     requires stripes { stripes ≡ stripes_of (gates_of held.old) }
     requires seat { seat ≡ (known_to held.old).number }
     requires fit { AllFit shard_meaning stripes (known_to held.old) (held_taken held.old) (held_parts held.old) }
-    requires there { AreThere stripes (part_at (held_parts held.old)) (call_keys (set_call key value)) }
+    requires there { AreThere stripes (part_at (held_parts held.old)) (call_keys (set_call setting.key setting.value)) }
     ensures open { IsOpen held.new }
     ensures gates { gates_of held.new ≡ gates_of held.old }
     ensures pass { borrow_of held.new ≡ borrow_of held.old }
-    ensures there { AreThere stripes (part_at (held_parts held.new)) (call_keys (set_call key value)) }
     ensures fit { AllFit shard_meaning stripes (known_to held.new) (held_taken held.new) (held_parts held.new) }
-    ensures did { IfReply result (λ reply. let entry : Entry = record { session = seat; operation = operation_of (known_to held.old).watched (asked_for (set_call key value)); reply = reply } in Did entry (known_to held.old) (known_to held.new)) }
+    ensures did { IfReply result (λ reply. let entry : Entry = record { session = seat; operation = operation_of (known_to held.old).watched (asked_for (set_call setting.key setting.value)); reply = reply } in Did entry (known_to held.old) (known_to held.new)) }
     ensures fault { IfFault result (λ fault. DidNot (known_to held.old).watched (known_to held.old) (known_to held.new)) }
     ensures told { IfReply result (λ reply. (known_to held.new).notes ≡ (known_to held.old).notes) }
     ensures refused { IfFault result (λ fault. IsRefused fault (known_to held.old) (known_to held.new)) }
     ensures seen { IfFault result (λ fault. (known_to held.new).seen ≡ (known_to held.old).seen) }
-    ensures memory { IfFault result (λ fault. NeedsSome fault (known_to held.old) (asked_for (set_call key value))) }
+    ensures memory { IfFault result (λ fault. NeedsSome fault (known_to held.old) (asked_for (set_call setting.key setting.value))) }
 {
-    let command = Command::Set(key, value, When::Always);
     let line = Line::Refused(Refusal::WritesTooMuch);
-    match commit_line(held, &command, line) {
+    match commit_line(held, &setting, line) {
         Ok(_) => Answer::Reply(Reply::line(line)),
         Err(_) => Answer::Fault(Fault::CommitsWornOut),
     }
@@ -292,7 +331,7 @@ fn enter_spent(
     entered
 }
 
-/// Enters a command. SET without an option moves its words into the stripe.
+/// Enters a command. GET and SET without an option need no plan: SET moves its words into the stripe.
 fn enter_one(
     alloc: Global,
     held: &mut Held<'_, Shard>,
@@ -323,7 +362,11 @@ fn enter_one(
 {
     match command {
         Command::Set(key, value, When::Always) => Entered {
-            answer: enter_set(held, stripes, seat, key, value),
+            answer: enter_set(held, stripes, seat, Setting { key, value }),
+            ends: false,
+        },
+        Command::Get(key) => Entered {
+            answer: enter_get(held, stripes, seat, &key),
             ends: false,
         },
         command => enter_spent(alloc, held, stripes, seat, Call::One(command)),

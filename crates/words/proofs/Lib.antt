@@ -20,4 +20,5 @@ mod TranscriptRows
 mod StripeRows
 mod EncodingRows
 mod StreamRows
+pub mod Beginnings
 pub mod Decimals

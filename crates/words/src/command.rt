@@ -12,6 +12,8 @@ use crate::shapes::{
 };
 use crate::word::{OutOfMemory, Word, Words};
 use std::alloc::Global;
+use std::fmt;
+use std::fmt::{Debug, Formatter};
 
 /// A list of keys.
 pub type Keys = Sequence<Word>;
@@ -49,7 +51,7 @@ pub enum SessionCommand {
 
 /// A command, with its arguments. Keys have at most `KEY_BYTES_MAX` bytes but for those of WATCH, and
 /// lists have at least one item, where [`Command::of`] made it.
-#[derive(Debug, Drop)]
+#[derive(Drop)]
 pub enum Command {
     /// `PING [text]`
     Ping(Option<Word>),
@@ -91,6 +93,39 @@ pub enum Command {
     Session(SessionCommand),
     /// A command that its words show to be refused when it runs.
     Bad(Refusal),
+}
+
+/// The command's name alone: its words may be long, and they are a user's.
+impl Debug for Command {
+    fn fmt<W: fmt::Write>(&self, f: &mut Formatter<W>) -> fmt::Result {
+        f.write_str(name_of(self))
+    }
+}
+
+/// The name of a command's variant.
+fn name_of(command: &Command) -> &'static str {
+    match command {
+        Command::Ping(_) => "Ping",
+        Command::Echo(_) => "Echo",
+        Command::Get(_) => "Get",
+        Command::Set(..) => "Set",
+        Command::SetNx(..) => "SetNx",
+        Command::GetSet(..) => "GetSet",
+        Command::GetDel(_) => "GetDel",
+        Command::StrLen(_) => "StrLen",
+        Command::Exists(_) => "Exists",
+        Command::Del(_) => "Del",
+        Command::Append(..) => "Append",
+        Command::SetRange(..) => "SetRange",
+        Command::GetRange(..) => "GetRange",
+        Command::Add(..) => "Add",
+        Command::Subtract(..) => "Subtract",
+        Command::MGet(_) => "MGet",
+        Command::MSet(_) => "MSet",
+        Command::MSetNx(_) => "MSetNx",
+        Command::Session(_) => "Session",
+        Command::Bad(_) => "Bad",
+    }
 }
 
 impl Command {

@@ -3,6 +3,8 @@
 ghost use Rattle.std.specs.Prelude.{◌≡◌, ◌<◌};
 ghost use Rattle.words.specs.Stripes as stripes;
 
+use crate::limits::STRIPES_DEFAULT;
+
 /// The offset basis of FNV-1a of 64 bits.
 const OFFSET_BASIS: u64 = 14_695_981_039_346_656_037;
 /// The prime of FNV-1a of 64 bits.
@@ -25,5 +27,12 @@ pub fn stripe_of(key: &[u8], count: usize) -> usize
     ensures stripe { result ≡ stripes.stripe_of count key.now }
     ensures below { result < count }
 {
-    (hash_of(key) % count as u64) as usize
+    let hash = hash_of(key);
+    // A remainder by the number that is usual here is a mask; one by a number that is read is a division.
+    let stripe = if count == STRIPES_DEFAULT {
+        hash % STRIPES_DEFAULT as u64
+    } else {
+        hash % count as u64
+    };
+    stripe as usize
 }

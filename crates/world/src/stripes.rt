@@ -53,6 +53,10 @@ impl Parts<Shard> for Stripes {
     fn part(&mut self, stripe: usize) -> &mut Shard {
         &mut self.parts[stripe]
     }
+
+    fn only(&self) -> Option<usize> {
+        None
+    }
 }
 
 impl Stripes {

@@ -7,7 +7,7 @@ use Rattle.transact.specs.Shards.{shard_meaning}
 use Rattle.transact.specs.Tables.{Became, stays, touches}
 use Rattle.transact.proofs.Submits.{fit_kept, fit_undone, parts_of}
 use Rattle.transact.proofs.Memory.{refused_place}
-use Rattle.transact.proofs.Sets.{set_made, set_wrote}
+use Rattle.transact.proofs.Sets.{set_made}
 use Rattle.transact.proofs.submit.enter_set.Goals as goal
 
 pub returns-in-Err-clause-fit : goal.returns-in-Err-clause-fit
@@ -15,14 +15,14 @@ returns-in-Err-clause-fit c = fit_kept c.args.stripes c.args.held.now c.make_pla
 
 pub returns-in-Err-clause-memory : goal.returns-in-Err-clause-memory
 returns-in-Err-clause-memory c =
-    refused_place c.args.stripes c.args.seat c.args.held.now c.args.key c.args.value c.weighs_too_much.result c.make_place.result c.in-Err.field-0 c.requires.seat c.requires.fit c.requires.there
+    refused_place c.args.stripes c.args.seat c.args.held.now c.args.setting.key c.args.setting.value c.weighs_too_much.result c.make_place.result c.in-Err.field-0 c.requires.seat c.requires.fit c.requires.there
     c.weighs_too_much.ensures c.if-weighs_too_much.false c.in-Err.is c.make_place.ensures.memory
 
 pub returns-in-Ok-clause-fit : goal.returns-in-Ok-clause-fit
 returns-in-Ok-clause-fit c =
-    set_made c.args.stripes c.args.seat c.in-Ok.field-0 c.args.key c.args.value c.args.held.now c.make_place.new.parts c.commit_line.new.held c.write.new.parts c.requires.stripes c.requires.seat
+    set_made c.args.stripes c.args.seat c.in-Ok.field-0 c.args.setting.key c.args.setting.value c.args.held.now c.make_place.new.parts c.commit_line.new.held c.write.new.parts c.requires.stripes c.requires.seat
     (sym c.weighs_too_much.ensures ∙ c.if-weighs_too_much.false) c.requires.fit c.make_place.ensures.keeps c.make_place.ensures.became c.commit_line.ensures.parts c.commit_line.ensures.taken c.in-Ok.ensures.ok
-    (set_wrote c.args.stripes c.args.key c.args.value c.setting_of-key.result.0 c.setting_of-key.result.1 (parts_of c.commit_line.new.held) (parts_of c.write.new.parts) c.setting_of-key.ensures c.write.ensures.became)
+    c.write.ensures.became
     c.write.ensures.keeps
 
 pub returns-in-Err-commit_line-clause-fit : goal.returns-in-Err-commit_line-clause-fit
