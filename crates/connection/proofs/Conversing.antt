@@ -1,5 +1,5 @@
 -- A conversation, from one turn to the next.
-use Rattle.std.proofs.Common.{◌≡◌, ℕ, ◌<◌, List, [], ◌∷◌, ◌++◌, length, reverse, Option, Some, None, refl, sym, ap, ◌∙◌, append_assoc, append-nil, length-append, arith, inl, inr}
+use Rattle.std.proofs.Common.{◌≡◌, ℕ, ◌<◌, List, [], ◌∷◌, ◌++◌, length, reverse, Option, Some, None, IfNone, refl, sym, ap, subst, ◌∙◌, append_assoc, append-nil, length-append, arith, inl, inr}
 use Rattle.std.specs.List.{flat_map}
 use Rattle.std.proofs.lemmas.List.Concat.{flat_map-append}
 use Rattle.std.proofs.lemmas.Grind.{common_steps}
@@ -19,7 +19,9 @@ use Rattle.connection.specs.Clients.{Progress, beginning, TakesOff, IsOpen, mode
 use Rattle.connection.specs.Conversations.{Leads, Talk, Conversation, Answers, Went}
 use Rattle.connection.specs.declared.serving.Ended.{Ended}
 use Rattle.connection.specs.declared.serving.Ended.TheVariants as ended
-use Rattle.connection.specs.Served.{Answered, Conversing, Served, Turned, HasTaken, Attends, fault_line}
+use Rattle.connection.specs.declared.answering.Paused.{Paused}
+use Rattle.connection.specs.declared.answering.Paused.TheVariants as paused
+use Rattle.connection.specs.Served.{Answered, Conversing, Served, Turned, HasTaken, HasPaused, HasAnswered, StandsAt, LeavesAt, GoesOn, Attends, fault_line}
 
 -- spellings, requests and encodings, with one more
 spellings-more : (requests : List (List Bytes)) (words : List Bytes) → spellings (requests ++ words ∷ []) ≡ spellings requests ++ spelling words
@@ -279,12 +281,20 @@ served_no_memory text talk wants is_open is = record {
   ends = (inr (some_unread _ wants), is_open, sym is ∙ talk.conversation.text);
 }
 
+-- a connection that found no memory to feed what was read
+pub served_unfed : {was now : Knowledge} {fed : Bytes} {at : Progress} {said : Bytes} (text : Bytes)
+    → Conversing was now fed at said → 0 < length at.unread → IsOpen (mode_of at.stage) → said ≡ text → Served was now ended.NoMemory fed text
+served_unfed text talk some is_open is = record {
+  talk = closed talk;
+  ends = (inr some, is_open, sym is ∙ talk.conversation.text);
+}
+
 -- nothing is a part of a request
 pub front-none : front [] ≡ Part
 unfolding front
 front-none = refl
 
-longer : (unread piece : Bytes) → 0 < length piece → 0 < length (unread ++ piece)
+pub longer : (unread piece : Bytes) → 0 < length piece → 0 < length (unread ++ piece)
 longer unread piece some = omega (arith, length-append unread piece)
 
 -- it goes on with a piece, of a client that stands as before but for that
@@ -331,3 +341,51 @@ attends_taken knows (Some ended.NoMemory) piece at after attends taken = rw take
 -- a client at the beginning watches what its pass does, which is nothing
 pub attends_begins : (knows : Knowledge) (at : Progress) → knows.watched ≡ [] → at ≡ beginning → Attends knows at
 attends_begins knows at none begins = rw begins (record { ready = tt; watches = ap keys_of_pairs (sym none) })
+
+-- it goes on where no piece was read
+pub conversing_none : (was now : Knowledge) (fed said piece : Bytes) (at after : Progress) → Conversing was now fed at said
+    → piece ≡ [] → after ≡ at → Conversing was now (fed ++ piece) after said
+conversing_none was now fed said piece at after talk none is = rw (none, is, append-nil fed) talk
+
+-- the same of bytes and a text that are grouped another way
+pub conversing_grouped : (was now : Knowledge) (at : Progress) (a b c d e f held : Bytes)
+    → Conversing was now ((a ++ b) ++ c) at (((d ++ e) ++ f) ++ held) → Conversing was now (a ++ (b ++ c)) at ((d ++ (e ++ f)) ++ held)
+conversing_grouped was now at a b c d e f held talk = rw (append_assoc a b c, append_assoc d e f) at talk
+
+-- the same of a pause
+pub paused_says : (was now : Knowledge) (fed : Bytes) (pause : Paused) (at : Progress) (held : Bytes) {written text : Bytes}
+    → HasPaused was now fed pause at written held → written ≡ text → HasPaused was now fed pause at text held
+paused_says was now fed pause at held {written} {text} talk is =
+    let P : Bytes → Type 0 = λ t. HasPaused was now fed pause at t held in subst P is talk
+
+-- a room in which nothing is
+pub leaves_at : (pause : Paused) (held : Bytes) → held ≡ [] → LeavesAt pause held
+leaves_at paused.Input held none = none
+leaves_at (paused.Malformed fault) held none = tt
+leaves_at paused.NoMemory held none = tt
+leaves_at paused.Unfed held none = tt
+leaves_at paused.WriteFailed held none = tt
+leaves_at paused.Closed held none = tt
+
+-- a conversation with an empty buffer
+pub conversing_empty : (was now : Knowledge) (fed before held : Bytes) (at : Progress) → held ≡ []
+    → Conversing was now fed at before → Conversing was now fed at (before ++ held)
+conversing_empty was now fed before held at none talk = rw (none, append-nil before) talk
+
+-- the same of what an answering came to
+pub answered_says : (was now : Knowledge) (fed : Bytes) (ends : Option Ended) (at : Progress) {written text : Bytes}
+    → HasAnswered was now fed ends at written → written ≡ text → HasAnswered was now fed ends at text
+answered_says was now fed ends at {written} {text} talk is =
+    let P : Bytes → Type 0 = λ t. HasAnswered was now fed ends at t in subst P is talk
+
+-- a connection goes on where the answering paused for input
+pub goes_on_at : (pause : Paused) (ends : Option Ended) (at : Progress) (held : Bytes)
+    → IfNone ends ((pause ≡ paused.Input) × (held ≡ [])) → StandsAt pause at → GoesOn ends at held
+goes_on_at pause None at held goes stands = let stood = rw goes.0 at stands in (stood.0, stood.1, goes.1)
+goes_on_at pause (Some ended) at held goes stands = tt
+
+-- nothing is in the room then
+pub room_at : (pause : Paused) (ends : Option Ended) (held room : Bytes)
+    → IfNone ends ((pause ≡ paused.Input) × (held ≡ [])) → LeavesAt pause room → IfNone ends (room ≡ [])
+room_at pause None held room goes leaves = rw goes.0 at leaves
+room_at pause (Some ended) held room goes leaves = tt

@@ -21,6 +21,8 @@ use Rattle.connection.specs.declared.serving.Ended.{Ended}
 use Rattle.connection.specs.declared.serving.Ended.TheVariants as ended
 use Rattle.connection.specs.declared.answering.Paused.{Paused}
 use Rattle.connection.specs.declared.answering.Paused.TheVariants as paused
+use Rattle.connection.specs.declared.reading.Waiting.{Waiting}
+use Rattle.connection.specs.declared.reading.Waiting.TheVariants as waiting
 use Rattle.connection.specs.Clients.{Progress, IsReady, IsOpen, mode_of, watched_of, turn_at, TakesOff, WantsMemory}
 use Rattle.connection.specs.Conversations.{Went, Leads, Conversation, Answers}
 
@@ -111,6 +113,8 @@ HasPaused was now fed paused.Closed standing written held =
     (mode_of standing.stage ≡ Closed) × Conversing was now fed standing (written ++ held)
 HasPaused was now fed paused.NoMemory standing written held =
     (at : Progress) × WantsMemory at.unread × IsOpen (mode_of at.stage) × Conversing was now fed at (written ++ held)
+HasPaused was now fed paused.Unfed standing written held =
+    (at : Progress) × (0 < length at.unread) × IsOpen (mode_of at.stage) × Conversing was now fed at (written ++ held)
 HasPaused was now fed paused.WriteFailed standing written held =
     (at : Progress) × (whole more : Bytes) × Conversing was now fed at whole × (whole ≡ written ++ more)
 
@@ -120,12 +124,18 @@ paused_told paused.Input old = old
 paused_told (paused.Malformed fault) old = old
 paused_told paused.Closed old = old
 paused_told paused.NoMemory old = old
+paused_told paused.Unfed old = old
 paused_told paused.WriteFailed old = told.Failure
 
 -- how a client stands where the answering of what it was fed paused
 abbrev pub StandsAt : Paused → Progress → Type 0
 StandsAt paused.Input standing = (front standing.unread ≡ Part) × IsOpen (mode_of standing.stage)
 StandsAt _ standing = Unit {0}
+
+-- nothing is in the room that is read into where the answering paused for input
+abbrev pub LeavesAt : Paused → Bytes → Type 0
+LeavesAt paused.Input held = held ≡ []
+LeavesAt _ held = Unit {0}
 
 -- how a client stands, and what the output buffer holds, where a connection goes on
 abbrev pub GoesOn : Option Ended → Progress → (held : Bytes) → Type 0
@@ -166,6 +176,24 @@ HasTaken (Some ended.NoMemory) old piece new = (0 < length piece) × (new ≡ ol
 abbrev pub taken_told : Option Ended → Told → Told
 taken_told None old = old
 taken_told (Some ended) old = reader_told ended old
+
+-- What asking for a piece that is there already came to: the client was fed it, or nothing was read, or there was no memory to feed it.
+abbrev pub HasWaited : Waiting → Progress → Bytes → Progress → Type 0
+HasWaited waiting.Fed old piece new = (0 < length piece) × (new ≡ record old { unread = old.unread ++ piece })
+HasWaited waiting.Nothing old piece new = (piece ≡ []) × (new ≡ old)
+HasWaited waiting.NoMemory old piece new = (0 < length piece) × (new ≡ old)
+
+-- how often the reader gave bytes then
+abbrev pub waited_count : Waiting → ℕ
+waited_count waiting.Fed = 1
+waited_count waiting.Nothing = 0
+waited_count waiting.NoMemory = 1
+
+-- nothing is in the room after that, unless there was no memory
+abbrev pub LeavesRoom : Waiting → Bytes → Type 0
+LeavesRoom waiting.Fed held = held ≡ []
+LeavesRoom waiting.Nothing held = held ≡ []
+LeavesRoom waiting.NoMemory held = Unit {0}
 
 -- How far a client has come after its next turn: it took a request off the front, or no whole request is left, or a fault stands at the
 -- front, or memory was asked for, or its session has ended.

@@ -1,22 +1,25 @@
 //! The answering of what a client was fed: its requests are put to the engine, one after the other, and
 //! their replies are said.
 
-ghost use Rattle.std.specs.Prelude.{◌≡◌, ℕ, [], ◌++◌, List};
-ghost use Rattle.streams.specs.Streams.{stream_of, told_of};
+ghost use Rattle.std.specs.Prelude.{◌≡◌, ◌≤◌, ℕ, [], ◌++◌, List, IfNone, is_ok};
+ghost use Rattle.streams.specs.Streams.{IsPut, stream_of, told_of, told_when, reads_of};
+ghost use Rattle.streams.specs.declared.observed.Told.{Told as HasTold};
 ghost use Rattle.gates.specs.declared.view.Knowledge.{Knowledge};
 ghost use Rattle.engine.specs.Passes.{knows, Rests};
-ghost use Rattle.connection.specs.Served.{HasTurned, IsDue, Attends, Conversing, HasPaused, StandsAt, paused_told, HasAnswered, GoesOn, EndsAnswering, answered_told};
-ghost use Rattle.std.specs.Io.KnownBytes.{Appends};
+ghost use Rattle.connection.specs.Clients.{Progress};
+ghost use Rattle.connection.specs.Served.{HasTurned, IsDue, Attends, Conversing, HasPaused, StandsAt, LeavesAt, paused_told, HasAnswered, GoesOn, EndsAnswering, answered_told, fault_line};
+ghost use Rattle.std.specs.Io.KnownBytes.{Appends, Consumes};
 
 use crate::client::{Client, Next};
 use crate::output::{flush, say};
+use crate::reading::{Room, Waiting, take_waiting};
 use crate::serving::Ended;
 use engine::{Engine, Pass};
 use gates::Latch;
 use session::watches_follow_entries;
 use std::io::Write;
 use std::sync::Wait;
-use streams::Noted;
+use streams::{Noted, ReadReady, WriteFault};
 use words::reply::{Fault, Line, ProtocolFault, Reply};
 
 /// What the next turn of a client comes to.
@@ -73,6 +76,8 @@ pub(crate) enum Paused {
     Malformed(ProtocolFault),
     /// There was no memory for the next request.
     NoMemory,
+    /// There was no memory to feed the client what was read.
+    Unfed,
     /// A write failed.
     WriteFailed,
     /// The session has ended.
@@ -81,7 +86,7 @@ pub(crate) enum Paused {
 
 /// Answers all whole requests that the client was fed. The replies go into the output buffer, and to
 /// the writer where it is full.
-fn answer_all<T: Wait, L: Latch, W: Write>(
+pub(crate) fn answer_all<T: Wait, L: Latch, W: Write>(
     rt: &T,
     latch: &L,
     client: &mut Client,
@@ -118,32 +123,86 @@ fn answer_all<T: Wait, L: Latch, W: Write>(
     }
 }
 
-/// Answers all whole requests that the client was fed, and writes the replies. `None` where the
-/// connection goes on.
-pub(crate) fn answer_piece<T: Wait, L: Latch, W: Write>(
+/// Answers all whole requests that the client was fed, and of what is there already: it is read and fed
+/// where no whole request is left. The replies go into the output buffer, and to the writer where it is
+/// full.
+fn answer_waiting<T: Wait, L: Latch, R: ReadReady, W: Write>(
     rt: &T,
     latch: &L,
     client: &mut Client,
+    room: &mut Room,
     out: &mut Vec<u8>,
+    reader: &mut Noted<R>,
     writer: &mut Noted<W>,
     engine: &Engine,
     pass: &mut Pass,
-) -> Option<Ended>
+) -> Paused
     requires rests { Rests engine.now pass.old }
     requires attends { Attends (knows pass.old) client.old }
-    requires empty { out.old.items ≡ [] }
-    ensures answered { (was : Knowledge) (fed before : List ℕ)
-        → Conversing was (knows pass.old) fed client.old before
-        → (sent : List ℕ)
+    requires room { room.old.items ≡ [] }
+    ensures paused { (was : Knowledge) (fed before : List ℕ)
+        → Conversing was (knows pass.old) fed client.old (before ++ out.old.items)
+        → (bytes sent : List ℕ)
+        × Consumes (R.remaining (stream_of reader.old)) (R.remaining (stream_of reader.new)) bytes
         × Appends (W.contents (stream_of writer.old)) (W.contents (stream_of writer.new)) sent
-        × HasAnswered was (knows pass.new) fed result client.new (before ++ sent) }
-    ensures goes_on { GoesOn result client.new out.new.items }
-    ensures ends { EndsAnswering result }
-    ensures told { told_of writer.new ≡ answered_told result (told_of writer.old) }
+        × HasPaused was (knows pass.new) (fed ++ bytes) result client.new (before ++ sent)
+        out.new.items }
+    ensures stands { StandsAt result client.new }
+    ensures told { told_of writer.new ≡ paused_told result (told_of writer.old) }
+    ensures reader_told { told_of reader.new ≡ told_of reader.old }
+    ensures reads { reads_of reader.new ≤ reads_of reader.old }
+    ensures room { LeavesAt result room.new.items }
     ensures rests { Rests engine.now pass.new }
     ensures attends { Attends (knows pass.new) client.new }
 {
-    match answer_all(rt, latch, client, out, writer, engine, pass) {
+    loop {
+        match answer_all(rt, latch, client, out, writer, engine, pass) {
+            Paused::Input => {}
+            paused => return paused,
+        }
+        match take_waiting(reader, room, client) {
+            Waiting::Fed => {}
+            Waiting::Nothing => return Paused::Input,
+            Waiting::NoMemory => return Paused::Unfed,
+        }
+    }
+}
+
+/// Says the line of a protocol fault, as a reply is said.
+fn say_fault<W: Write>(
+    fault: ProtocolFault,
+    out: &mut Vec<u8>,
+    writer: &mut Noted<W>,
+) -> Result<(), WriteFault>
+    ensures put { IsPut (W.contents (stream_of writer.old)) (W.contents (stream_of writer.new))
+        out.old.items out.new.items result (fault_line fault) }
+    ensures told { told_of writer.new ≡ told_when (is_ok result) (told_of writer.old) }
+{
+    let line = Reply::line(Line::Malformed(fault));
+    let said = say(&line, out, writer);
+    drop(line);
+    said
+}
+
+/// Writes what is held back where the answering paused so, after it the line of a fault that was met.
+/// `None` where the connection goes on.
+pub(crate) fn conclude<W: Write>(
+    paused: Paused,
+    out: &mut Vec<u8>,
+    writer: &mut Noted<W>,
+) -> Option<Ended>
+    ensures answered { (was now : Knowledge) (fed before : List ℕ) (standing : Progress)
+        → HasPaused was now fed paused standing before out.old.items
+        → (sent : List ℕ)
+        × Appends (W.contents (stream_of writer.old)) (W.contents (stream_of writer.new)) sent
+        × HasAnswered was now fed result standing (before ++ sent) }
+    ensures goes_on { IfNone result ((paused ≡ Paused.Input) × (out.new.items ≡ [])) }
+    ensures ends { EndsAnswering result }
+    ensures told { (told : HasTold)
+        → told_of writer.old ≡ paused_told paused told
+        → told_of writer.new ≡ answered_told result told }
+{
+    match paused {
         Paused::Input => {
             if let Err(_) = flush(out, writer) {
                 return Some(Ended::WriteFailed);
@@ -151,10 +210,7 @@ pub(crate) fn answer_piece<T: Wait, L: Latch, W: Write>(
             None
         }
         Paused::Malformed(fault) => {
-            let line = Reply::line(Line::Malformed(fault));
-            let said = say(&line, out, writer);
-            drop(line);
-            if let Err(_) = said {
+            if let Err(_) = say_fault(fault, out, writer) {
                 return Some(Ended::WriteFailed);
             }
             if let Err(_) = flush(out, writer) {
@@ -168,6 +224,12 @@ pub(crate) fn answer_piece<T: Wait, L: Latch, W: Write>(
             }
             Some(Ended::NoMemory)
         }
+        Paused::Unfed => {
+            if let Err(_) = flush(out, writer) {
+                return Some(Ended::WriteFailed);
+            }
+            Some(Ended::NoMemory)
+        }
         Paused::Closed => {
             if let Err(_) = flush(out, writer) {
                 return Some(Ended::WriteFailed);
@@ -176,4 +238,40 @@ pub(crate) fn answer_piece<T: Wait, L: Latch, W: Write>(
         }
         Paused::WriteFailed => Some(Ended::WriteFailed),
     }
+}
+
+/// Answers all whole requests that the client was fed, and of what is there already, and writes the
+/// replies. `None` where the connection goes on.
+pub(crate) fn answer_piece<T: Wait, L: Latch, R: ReadReady, W: Write>(
+    rt: &T,
+    latch: &L,
+    client: &mut Client,
+    room: &mut Room,
+    out: &mut Vec<u8>,
+    reader: &mut Noted<R>,
+    writer: &mut Noted<W>,
+    engine: &Engine,
+    pass: &mut Pass,
+) -> Option<Ended>
+    requires rests { Rests engine.now pass.old }
+    requires attends { Attends (knows pass.old) client.old }
+    requires room { room.old.items ≡ [] }
+    requires empty { out.old.items ≡ [] }
+    ensures answered { (was : Knowledge) (fed before : List ℕ)
+        → Conversing was (knows pass.old) fed client.old before
+        → (bytes sent : List ℕ)
+        × Consumes (R.remaining (stream_of reader.old)) (R.remaining (stream_of reader.new)) bytes
+        × Appends (W.contents (stream_of writer.old)) (W.contents (stream_of writer.new)) sent
+        × HasAnswered was (knows pass.new) (fed ++ bytes) result client.new (before ++ sent) }
+    ensures goes_on { GoesOn result client.new out.new.items }
+    ensures ends { EndsAnswering result }
+    ensures told { told_of writer.new ≡ answered_told result (told_of writer.old) }
+    ensures reader_told { told_of reader.new ≡ told_of reader.old }
+    ensures reads { reads_of reader.new ≤ reads_of reader.old }
+    ensures room { IfNone result (room.new.items ≡ []) }
+    ensures rests { Rests engine.now pass.new }
+    ensures attends { Attends (knows pass.new) client.new }
+{
+    let paused = answer_waiting(rt, latch, client, room, out, reader, writer, engine, pass);
+    conclude(paused, out, writer)
 }

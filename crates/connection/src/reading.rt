@@ -1,8 +1,8 @@
 //! What is read of a client: pieces that are cut from blocks, and fed to it.
 
-ghost use Rattle.std.specs.Prelude.{◌≡◌, ◌<◌, ◌≤◌, ℕ, [], ◌++◌, List, length, OnOk, OnErr, IfNone, IsTrue, Some};
+ghost use Rattle.std.specs.Prelude.{◌≡◌, ◌<◌, ◌≤◌, ◌+◌, ℕ, [], ◌++◌, List, length, OnOk, OnErr, IfNone, IsTrue, Some};
 ghost use Rattle.streams.specs.Streams.{stream_of, told_of, reads_of};
-ghost use Rattle.connection.specs.Served.{HasTaken, taken_told};
+ghost use Rattle.connection.specs.Served.{HasTaken, HasWaited, LeavesRoom, taken_told, waited_count};
 ghost use Rattle.std.specs.Io.KnownBytes.{Consumes, IsAtEnd};
 
 use crate::client::Client;
@@ -12,7 +12,7 @@ use std::alloc::Global;
 use std::io::Read;
 use std::marker::Model;
 use std::mem;
-use streams::{Input, Noted};
+use streams::{Input, Noted, ReadReady};
 use words::word::OutOfMemory;
 
 /// The most bytes that are read at a time.
@@ -22,12 +22,18 @@ const BLOCK_BYTES: usize = 32_768;
 /// The most bytes that are read at a time where there is no memory for a block.
 const FEW_BYTES: usize = 256;
 
+/// The most pieces that are read after one before the replies are written.
+const MORE_PIECES: u8 = 15;
+
 /// What is read into: the block that pieces are cut from, and the one before it. Contracts see the first.
 #[derive(Drop)]
 pub(crate) struct Room {
     block: BytesMut,
     /// Nothing is in it. It is used again when the other is used up, if none of its pieces is kept by then.
     other: BytesMut,
+    /// How many pieces may be read before the replies are written: none, where the last read did not fill what
+    /// it was given, so that hardly more is there already.
+    more: u8,
 }
 
 impl Model for Room {
@@ -49,6 +55,7 @@ impl Room {
         Room {
             block: BytesMut::new(alloc),
             other: BytesMut::new(alloc),
+            more: 0,
         }
     }
 
@@ -106,18 +113,15 @@ pub(crate) fn take_piece<R: Read>(
     ensures empty { IfNone result (room.new.items ≡ []) }
 {
     if room.make_room() {
-        take_many(reader, &mut room.block, client)
+        take_many(reader, room, client)
     } else {
+        room.more = 0;
         take_few(reader, &mut room.block, client)
     }
 }
 
 /// Reads into a block with room for a piece.
-fn take_many<R: Read>(
-    reader: &mut Noted<R>,
-    room: &mut BytesMut,
-    client: &mut Client,
-) -> Option<Ended>
+fn take_many<R: Read>(reader: &mut Noted<R>, room: &mut Room, client: &mut Client) -> Option<Ended>
     requires spare { PIECE_BYTES ≤ room.old.spare }
     requires empty { room.old.items ≡ [] }
     ensures taken { (bytes : List ℕ) × (length bytes ≤ 16384)
@@ -128,11 +132,12 @@ fn take_many<R: Read>(
     ensures fewer { IfNone result (reads_of reader.new < reads_of reader.old) }
     ensures empty { IfNone result (room.new.items ≡ []) }
 {
-    room.advance_mut(PIECE_BYTES);
-    match reader.read(room.as_mut_slice()) {
+    room.block.advance_mut(PIECE_BYTES);
+    match reader.read(room.block.as_mut_slice()) {
         Input::Bytes(count) => {
-            room.truncate(count);
-            match feed_read(room, client) {
+            room.block.truncate(count);
+            room.more = if count == PIECE_BYTES { MORE_PIECES } else { 0 };
+            match feed_read(&mut room.block, client) {
                 Ok(()) => None,
                 Err(_) => Some(Ended::NoMemory),
             }
@@ -170,5 +175,64 @@ fn take_few<R: Read>(
     match feed_read(room, client) {
         Ok(()) => None,
         Err(_) => Some(Ended::NoMemory),
+    }
+}
+
+/// What came of asking for a piece that is there already.
+#[derive(Clone, Copy, Debug, PartialEq, Eq)]
+pub(crate) enum Waiting {
+    /// The client was fed a piece.
+    Fed,
+    /// Nothing was read: nothing is there, or it cannot be told.
+    Nothing,
+    /// There was no memory to feed the piece that was read.
+    NoMemory,
+}
+
+/// Reads a piece of at most [`PIECE_BYTES`] bytes that is there already, and feeds it to the client. The
+/// reader is asked only where its last read filled what it was given, at most [`MORE_PIECES`] times, and
+/// where there is room for a piece.
+pub(crate) fn take_waiting<R: ReadReady>(
+    reader: &mut Noted<R>,
+    room: &mut Room,
+    client: &mut Client,
+) -> Waiting
+    requires { room.old.items ≡ [] }
+    ensures taken { (bytes : List ℕ) × (length bytes ≤ 16384)
+        × Consumes (R.remaining (stream_of reader.old)) (R.remaining (stream_of reader.new)) bytes
+        × HasWaited result client.old bytes client.new }
+    ensures told { told_of reader.new ≡ told_of reader.old }
+    ensures reads { reads_of reader.old ≡ reads_of reader.new + waited_count result }
+    ensures empty { LeavesRoom result room.new.items }
+{
+    if room.more > 0 && room.make_room() {
+        take_ready(reader, room, client)
+    } else {
+        Waiting::Nothing
+    }
+}
+
+/// Reads what is there already into a block with room for a piece.
+fn take_ready<R: ReadReady>(reader: &mut Noted<R>, room: &mut Room, client: &mut Client) -> Waiting
+    requires spare { PIECE_BYTES ≤ room.old.spare }
+    requires empty { room.old.items ≡ [] }
+    ensures taken { (bytes : List ℕ) × (length bytes ≤ 16384)
+        × Consumes (R.remaining (stream_of reader.old)) (R.remaining (stream_of reader.new)) bytes
+        × HasWaited result client.old bytes client.new }
+    ensures told { told_of reader.new ≡ told_of reader.old }
+    ensures reads { reads_of reader.old ≡ reads_of reader.new + waited_count result }
+    ensures empty { LeavesRoom result room.new.items }
+{
+    room.block.advance_mut(PIECE_BYTES);
+    let Some(count) = reader.read_ready(room.block.as_mut_slice()) else {
+        room.block.clear();
+        room.more = 0;
+        return Waiting::Nothing;
+    };
+    room.block.truncate(count);
+    room.more = if count == PIECE_BYTES { room.more.saturating_sub(1) } else { 0 };
+    match feed_read(&mut room.block, client) {
+        Ok(()) => Waiting::Fed,
+        Err(_) => Waiting::NoMemory,
     }
 }

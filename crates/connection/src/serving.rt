@@ -15,9 +15,9 @@ use crate::reading::{Room, take_piece};
 use engine::{Engine, Pass};
 use gates::Latch;
 use std::alloc::Global;
-use std::io::{Read, Write};
+use std::io::Write;
 use std::sync::Wait;
-use streams::Noted;
+use streams::{Noted, ReadReady};
 
 /// The room that the output buffer has at least, in bytes: every line fits.
 const LINE_ROOM: usize = 128;
@@ -61,7 +61,7 @@ impl Ended {
 }
 
 /// Reads, answers and writes, until the connection ends.
-fn converse<T: Wait, L: Latch, R: Read, W: Write>(
+fn converse<T: Wait, L: Latch, R: ReadReady, W: Write>(
     rt: &T,
     latch: &L,
     client: &mut Client,
@@ -91,14 +91,22 @@ fn converse<T: Wait, L: Latch, R: Read, W: Write>(
         if let Some(ended) = take_piece(reader, room, client) {
             return ended;
         }
-        if let Some(ended) = answer_piece(rt, latch, client, out, writer, engine, pass) {
+        if let Some(ended) = answer_piece(
+            rt, latch, client, room, out, reader, writer, engine, pass,
+        ) {
             return ended;
         }
     }
 }
 
 /// Ends a client, and what it watches.
-fn forget<T: Wait, L: Latch>(rt: &T, latch: &L, client: Client, engine: &Engine, pass: &mut Pass)
+pub(crate) fn forget<T: Wait, L: Latch>(
+    rt: &T,
+    latch: &L,
+    client: Client,
+    engine: &Engine,
+    pass: &mut Pass,
+)
     requires rests { Rests engine.now pass.old }
     requires attends { Attends (knows pass.old) client }
     ensures rests { Rests engine.now pass.new }
@@ -114,24 +122,26 @@ fn forget<T: Wait, L: Latch>(rt: &T, latch: &L, client: Client, engine: &Engine,
 /// the connection ends. It gives the pass back, which watches nothing, and says how the connection ended.
 /// It may wait for calls of other passes.
 ///
-/// It reads pieces of at most 16,384 bytes. The replies of all complete requests are written before
-/// the next read, in one write where they fit into 65,536 bytes and the writer takes them. No memory
-/// is asked for once a call has changed the store: a reply that does not fit into the output buffer is
-/// written after what the buffer holds, piece by piece. However the connection ends, what its session
-/// watched is forgotten.
+/// It reads pieces of at most 16,384 bytes. Where a piece has that many, and all of its complete requests are
+/// answered, the reader is asked for what is there already, and that is answered too, up to 15 pieces. The
+/// replies of all complete requests are written before the next read that waits, in one write where they fit
+/// into 65,536 bytes and the writer takes them. No memory is asked for from when a call has changed the store until its
+/// reply is said: a reply that does not fit into the output buffer is written after what the buffer holds,
+/// piece by piece. However the connection ends, what its session watched is forgotten.
 ///
 /// # Memory
 ///
 /// Pieces are cut from two blocks of 32,768 bytes in turn, each taken when it is first needed. The other one's
 /// turn comes where a block has room for less than a piece and some of its pieces are kept; a new one takes its
-/// place only where some of its pieces are kept too. Where no request waits none is kept. Of a waiting
-/// request the whole words are copied, 65,536 bytes at most, and what is left in the pieces is a part of
-/// one word: 8,200 bytes at most, so it stands in at most two blocks. Each piece costs 40 bytes in the
-/// reader's list beside its own, so a client that sends one byte a piece costs 41 bytes a byte, or 81 just
-/// after the list has doubled. Only where memory was refused for a word do whole words stay in the pieces:
-/// then the request's 66,694 bytes stand in at most six blocks. The output buffer has 65,536 bytes. A
-/// transaction keeps at most 128 commands with 65,536 bytes of words, and a session at most 128 watched keys.
-pub fn serve<T: Wait, L: Latch, R: Read, W: Write>(
+/// place only where some of its pieces are kept too. A piece is read only once no whole request is left of those
+/// before it. Where no request waits none is kept. Of a waiting request the whole words are copied, 65,536
+/// bytes at most, and what is left in the pieces is a part of one word: 8,200 bytes at most, so it stands in
+/// at most two blocks. Each piece costs 40 bytes in the reader's list beside its own, so a client that sends
+/// one byte a piece costs 41 bytes a byte, or 81 just after the list has doubled. Only where memory was
+/// refused for a word do whole words stay in the pieces: then the request's 66,694 bytes stand in at most six
+/// blocks. The output buffer has 65,536 bytes. A transaction keeps at most 128 commands with 65,536 bytes of
+/// words, and a session at most 128 watched keys.
+pub fn serve<T: Wait, L: Latch, R: ReadReady, W: Write>(
     rt: &T,
     alloc: Global,
     reader: &mut Noted<R>,

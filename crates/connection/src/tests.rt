@@ -12,9 +12,10 @@ use std::io::{ErrorKind, Read, Write};
 use std::process::Abort;
 use std::sync::Wait;
 use std::test::Fail;
-use streams::{Noted, Told};
+use streams::{Noted, ReadReady, Told};
 use words::limits::Limits;
 
+mod ready;
 mod refused;
 
 /// A reader over bytes in memory.
@@ -28,6 +29,8 @@ struct Source<'a> {
     /// Whether each other read is interrupted.
     interrupts: bool,
     interrupted: bool,
+    /// Whether it tells what is there already. Then all bytes are.
+    tells_ready: bool,
 }
 
 impl Source<'_> {
@@ -39,6 +42,7 @@ impl Source<'_> {
             fails_after: None,
             interrupts: false,
             interrupted: false,
+            tells_ready: false,
         }
     }
 }
@@ -62,6 +66,18 @@ impl Read for Source<'_> {
         buffer[..count].copy_from_slice(front);
         self.bytes = back;
         Ok(count)
+    }
+}
+
+impl ReadReady for Source<'_> {
+    fn read_ready(&mut self, buffer: &mut [u8]) -> Option<usize> {
+        if !self.tells_ready {
+            return None;
+        }
+        match self.read(buffer) {
+            Ok(0) | Err(_) => None,
+            Ok(count) => Some(count),
+        }
     }
 }
 

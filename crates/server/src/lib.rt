@@ -7,6 +7,7 @@ mod closing;
 mod ending_list;
 mod fault;
 mod setting;
+mod stream_reader;
 mod workers;
 mod working;
 

@@ -5,6 +5,7 @@ ghost use Rattle.engine.specs.Passes.{knows, Rests};
 
 use crate::closing::{Leaving, close_later};
 use crate::ending_list::Endings;
+use crate::stream_reader::StreamReader;
 use connection::{Ended, serve};
 use crossbeam_channel::{Receiver, Sender};
 use engine::{Engine, Pass};
@@ -58,7 +59,7 @@ fn serve_stream<R: AllocGlobal + Wait, L: Latch>(
 {
     // Without this a short reply may wait for the client's acknowledgement of the one before.
     let _ = stream.set_nodelay(true);
-    let mut reader = Noted::new(stream);
+    let mut reader = Noted::new(StreamReader::new(stream));
     let mut writer = Noted::new(stream);
     serve(
         rt,

@@ -25,6 +25,17 @@ IsRead old new buffer (Bytes count) = (0 < count) × (count ≤ length buffer) �
 IsRead old new buffer End = Keeps old new × IsAtEnd new
 IsRead old new buffer Failure = Keeps old new
 
+-- What a read of what is there already gave, where the bytes that the stream has left are known before and after it: those at the start of
+-- the buffer, or nothing.
+abbrev pub IsReadReady : Option (List ℕ) → Option (List ℕ) → List ℕ → Option ℕ → Type 0
+IsReadReady old new buffer (Some count) = (0 < count) × (count ≤ length buffer) × Consumes old new (take count buffer)
+IsReadReady old new buffer None = Keeps old new
+
+-- how often such a read gave bytes: once, or not
+abbrev pub ready_count : Option ℕ → ℕ
+ready_count (Some count) = 1
+ready_count None = 0
+
 -- how often a read gave bytes: once, or not
 abbrev pub bytes_count : Input → ℕ
 bytes_count (Bytes count) = 1

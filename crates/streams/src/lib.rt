@@ -4,8 +4,10 @@
 
 mod noted;
 mod observed;
+mod ready;
 #[cfg(test)]
 mod tests;
 
 pub use noted::Noted;
 pub use observed::{Input, Told, WriteFault};
+pub use ready::ReadReady;

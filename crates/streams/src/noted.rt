@@ -3,6 +3,7 @@
 ghost use Rattle.std.specs.Prelude.{◌≡◌, ◌<◌, ◌+◌, length, is_ok};
 
 use crate::observed::{Input, Observed, Told, WriteFault};
+use crate::ready::ReadReady;
 use std::io::{Read, Write};
 
 /// A stream, and what it has told. A call that was interrupted is tried again. Since nothing may go on
@@ -58,6 +59,23 @@ impl<S: Read> Noted<S> {
                 return input;
             }
         }
+    }
+}
+
+impl<S: ReadReady> Noted<S> {
+    ghost use Rattle.streams.specs.Streams.{stream_of, told_of, reads_of, IsReadReady, ready_count};
+
+    /// Reads some of the bytes that are there already into the buffer, which has room, and says how many:
+    /// at least one. `None` where the stream gives none without waiting, or has given bytes as often as it
+    /// may. The stream tells nothing by it.
+    pub fn read_ready(&mut self, buffer: &mut [u8]) -> Option<usize>
+        requires { 0 < length buffer.old }
+        ensures read { IsReadReady (S.remaining (stream_of self.old)) (S.remaining (stream_of self.new))
+            buffer.new result }
+        ensures told { told_of self.new ≡ told_of self.old }
+        ensures reads { reads_of self.old ≡ reads_of self.new + ready_count result }
+    {
+        self.observed.read_ready(buffer)
     }
 }
 

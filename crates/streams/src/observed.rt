@@ -3,9 +3,10 @@
 
 ghost use Rattle.std.specs.Prelude.{◌≡◌, ◌<◌, ◌^◌, ◌-◌, ◌+◌, length, IfSome, IfNone, IsTrue, is_ok};
 ghost use Rattle.std.specs.Io.KnownBytes.{Keeps};
-ghost use Rattle.streams.specs.Streams.{IsRead, IsWritten, bytes_count, told_after, told_when};
+ghost use Rattle.streams.specs.Streams.{IsRead, IsReadReady, IsWritten, bytes_count, ready_count, told_after, told_when};
 ghost use Rattle.streams.specs.Observations.{AsBefore};
 
+use crate::ready::ReadReady;
 use std::io;
 use std::io::{ErrorKind, Read, Write};
 
@@ -122,6 +123,29 @@ impl<S: Read> Observed<S> {
                 }
                 Some(Input::Failure)
             }
+        }
+    }
+}
+
+impl<S: ReadReady> Observed<S> {
+    /// Reads some of the bytes that are there already into the buffer, which has room, and says how many:
+    /// at least one. The stream tells nothing by it, and is not asked where it may give no more bytes.
+    pub(crate) fn read_ready(&mut self, buffer: &mut [u8]) -> Option<usize>
+        requires { 0 < length buffer.old }
+        ensures read { IsReadReady (S.remaining self.old.stream) (S.remaining self.new.stream)
+            buffer.new result }
+        ensures told { self.new.told ≡ self.old.told }
+        ensures reads { self.old.reads ≡ self.new.reads + ready_count result }
+    {
+        if self.reads == 0 {
+            return None;
+        }
+        match self.stream.read_ready(buffer) {
+            Some(count) => {
+                self.reads -= 1;
+                Some(count)
+            }
+            None => None,
         }
     }
 }

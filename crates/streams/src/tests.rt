@@ -1,6 +1,6 @@
 //! Streams in memory: what no contract sees of their calls.
 
-use crate::{Input, Noted, Told, WriteFault};
+use crate::{Input, Noted, ReadReady, Told, WriteFault};
 use std::alloc::Global;
 use std::io;
 use std::io::{ErrorKind, Read, Write};
@@ -62,6 +62,15 @@ impl Read for Scripted<'_> {
     }
 }
 
+impl ReadReady for Scripted<'_> {
+    fn read_ready(&mut self, buffer: &mut [u8]) -> Option<usize> {
+        match self.read(buffer) {
+            Ok(0) | Err(_) => None,
+            Ok(count) => Some(count),
+        }
+    }
+}
+
 impl Write for Scripted<'_> {
     fn write(&mut self, bytes: &[u8]) -> io::Result<usize> {
         let count = bytes.len().min(self.step()?);
@@ -87,6 +96,17 @@ fn gives(alloc: Global, steps: &[Step], wanted: Input, told: Told) -> bool {
         Input::End | Input::Failure => true,
     };
     given && input == wanted && reader.told() == told
+}
+
+/// Whether a stream of five bytes, asked for what is there already, gives so many of them, into a buffer of
+/// eight, and has then told nothing.
+fn has_ready(alloc: Global, step: Step, wanted: Option<usize>) -> bool {
+    let mut buffer = [0u8; 8];
+    let steps = [step];
+    let mut reader = Noted::new(Scripted::new(alloc, b"hello", &steps));
+    let ready = reader.read_ready(&mut buffer);
+    let given = buffer.starts_with(&b"hello"[..ready.unwrap_or(0).min(5)]);
+    given && ready == wanted && reader.told() == Told::Nothing
 }
 
 /// Whether a stream takes this much of five bytes and has told this.
@@ -140,6 +160,21 @@ fn a_read_takes_one_call(rt: HostRuntime) {
     ];
     for (steps, input, told) in rows {
         assert!(rt; gives(rt.alloc(), &steps, input, told), "{steps:?}");
+    }
+}
+
+/// What is there already is read, and a stream that gives nothing so has told nothing.
+#[test]
+fn what_is_there_is_read(rt: HostRuntime) {
+    let rows = [
+        (Step::Works(8), Some(5)),
+        (Step::Works(2), Some(2)),
+        (Step::Works(0), None),
+        (Step::Interrupted, None),
+        (Step::Fails, None),
+    ];
+    for (step, ready) in rows {
+        assert!(rt; has_ready(rt.alloc(), step, ready), "{step:?}");
     }
 }
 

@@ -1,6 +1,14 @@
 //! Transactions where an allocation is refused.
 
+ghost use Rattle.std.specs.Prelude.{◌≡◌, [], IfOk};
+ghost use Rattle.engine.specs.Passes.{knows, Rests};
+ghost use Rattle.connection.specs.Served.{Attends};
+
 use super::*;
+use crate::answering::{answer_all, conclude};
+use crate::client::Client;
+use crate::serving::forget;
+use bytes::Bytes;
 
 /// Requests of transactions and watches, and what may be said to them where one allocation is refused at
 /// most: each request has its reply or the line of want of memory, and what follows goes by that. A command
@@ -97,4 +105,121 @@ fn transactions_with_each_allocation_refused(rt: HostRuntime) {
     for &(input, texts) in ROWS {
         check_row(&rt, alloc, input, texts);
     }
+}
+
+/// What may be said to a session that watches a missing key, runs an empty transaction, and has another session
+/// delete the key in between: never a null.
+const WATCHER: &[&[u8]] = &[
+    b"+OK\r\n+OK\r\n*0\r\n",
+    b"-OOM out of memory\r\n+OK\r\n*0\r\n",
+    b"+OK\r\n+OK\r\n-OOM out of memory\r\n",
+];
+
+/// What may be said to the other session.
+const DELETER: &[&[u8]] = &[b":0\r\n", b"-OOM out of memory\r\n"];
+
+/// An empty engine, and two of its passes.
+fn engine_for_two(alloc: Global) -> Result<(Engine, Pass, Pass), AllocError>
+    ensures rests { IfOk result (λ made. Rests made.0 made.1 × Rests made.0 made.2) }
+    ensures watches { IfOk result (λ made. ((knows made.1).watched ≡ []) × ((knows made.2).watched ≡ [])) }
+{
+    let (engine, mut passes) = Engine::new(alloc, &Limits::default())?;
+    let second = passes.swap_remove(1);
+    let first = passes.swap_remove(0);
+    Ok((engine, first, second))
+}
+
+/// Feeds a client a piece, and writes the answers. How its connection ended, where it did.
+fn say<R: Wait>(
+    rt: &R,
+    alloc: Global,
+    client: &mut Client,
+    writer: &mut Noted<Sink>,
+    engine: &Engine,
+    pass: &mut Pass,
+    piece: &'static [u8],
+) -> Option<Ended>
+    requires rests { Rests engine.now pass.old }
+    requires attends { Attends (knows pass.old) client.old }
+    ensures rests { Rests engine.now pass.new }
+    ensures attends { Attends (knows pass.new) client.new }
+{
+    if let Err(_) = client.feed(Bytes::from_static(piece)) {
+        return Some(Ended::NoMemory);
+    }
+    let mut out = Vec::new(alloc);
+    let paused = answer_all(rt, &Open, client, &mut out, writer, engine, pass);
+    conclude(paused, &mut out, writer)
+}
+
+/// Whether one of these texts was said, or a beginning of one where the connection ended for want of memory.
+fn was_said(writer: Noted<Sink>, ended: Option<Ended>, texts: &[&[u8]]) -> bool {
+    let sink = writer.into_inner();
+    let text = sink.text.as_slice();
+    match ended {
+        None => texts.iter().any(|whole| *whole == text),
+        Some(Ended::NoMemory) => texts.iter().any(|whole| whole.starts_with(text)),
+        Some(_) => false,
+    }
+}
+
+/// The end of what the watcher says, unless its connection has ended.
+fn say_last<R: Wait>(
+    rt: &R,
+    alloc: Global,
+    client: &mut Client,
+    writer: &mut Noted<Sink>,
+    engine: &Engine,
+    pass: &mut Pass,
+    ended: Option<Ended>,
+) -> Option<Ended>
+    requires rests { Rests engine.now pass.old }
+    requires attends { Attends (knows pass.old) client.old }
+    ensures rests { Rests engine.now pass.new }
+    ensures attends { Attends (knows pass.new) client.new }
+{
+    if ended.is_some() {
+        return ended;
+    }
+    let last = b"*1\r\n$5\r\nMULTI\r\n*1\r\n$4\r\nEXEC\r\n";
+    say(rt, alloc, client, writer, engine, pass, last)
+}
+
+/// Whether each of the two is answered as it may be, of an engine of theirs.
+fn both_are_answered<R: Wait>(
+    rt: &R,
+    alloc: Global,
+    engine: &Engine,
+    mut passes: (Pass, Pass),
+    sinks: (Sink, Sink),
+) -> bool
+    requires rests { Rests engine.now passes.0 × Rests engine.now passes.1 }
+    requires watches { ((knows passes.0).watched ≡ []) × ((knows passes.1).watched ≡ []) }
+{
+    let mut to_watcher = Noted::new(sinks.0);
+    let mut to_deleter = Noted::new(sinks.1);
+    let mut watcher = Client::new(alloc);
+    let mut deleter = Client::new(alloc);
+    let watch = b"*2\r\n$5\r\nWATCH\r\n$1\r\nk\r\n";
+    let ended = say(rt, alloc, &mut watcher, &mut to_watcher, engine, &mut passes.0, watch);
+    let delete = b"*2\r\n$3\r\nDEL\r\n$1\r\nk\r\n";
+    let other = say(rt, alloc, &mut deleter, &mut to_deleter, engine, &mut passes.1, delete);
+    let ended = say_last(rt, alloc, &mut watcher, &mut to_watcher, engine, &mut passes.0, ended);
+    forget(rt, &Open, watcher, engine, &mut passes.0);
+    forget(rt, &Open, deleter, engine, &mut passes.1);
+    was_said(to_watcher, ended, WATCHER) && was_said(to_deleter, other, DELETER)
+}
+
+/// The same of a new engine.
+fn are_answered<R: Wait>(rt: &R, alloc: Global) -> Result<bool, AllocError> {
+    let sinks = (Sink::new(alloc, 16_384)?, Sink::new(alloc, 16_384)?);
+    let (engine, first, second) = engine_for_two(alloc)?;
+    Ok(both_are_answered(rt, alloc, &engine, (first, second), sinks))
+}
+
+/// With each allocation refused in turn, a watched key that was missing and is deleted by another session
+/// does not make the transaction null.
+#[test]
+fn a_missing_key_that_another_session_deletes_with_each_allocation_refused(rt: HostRuntime) {
+    assert!(rt; are_answered(&rt, rt.alloc()) != Ok(false));
 }

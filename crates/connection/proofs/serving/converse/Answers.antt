@@ -36,11 +36,11 @@ returns-in-Some-answer_piece-clause-served g c =
     let taken = c.in_default.ensures.taken in
     let talk = conversing_fed _ _ _ _ taken.0 _ _ so_far.4 taken.3 in
     let answered = c.in-Some-answer_piece.ensures.answered _ _ _ talk in (
-      so_far.0 ++ taken.0,
-      so_far.1 ++ answered.0,
-      Consumes-then _ _ _ so_far.0 taken.0 so_far.2 taken.2,
-      Appends-then _ _ _ so_far.1 answered.0 so_far.3 answered.1,
-      answered.2,
+      (so_far.0 ++ taken.0) ++ answered.0,
+      so_far.1 ++ answered.1,
+      Consumes-then _ _ _ _ answered.0 (Consumes-then _ _ _ so_far.0 taken.0 so_far.2 taken.2) answered.2,
+      Appends-then _ _ _ so_far.1 answered.1 so_far.3 answered.3,
+      answered.4,
     )
 
 pub loop-ended-preserved : goal.loop-ended-preserved
@@ -51,17 +51,17 @@ loop-ended-preserved g c =
     let answered = c.in_default-answer_piece.ensures.answered _ _ _ talk in
     record {
       talk = (
-        so_far.0 ++ taken.0,
-        so_far.1 ++ answered.0,
-        Consumes-then _ _ _ so_far.0 taken.0 so_far.2 taken.2,
-        Appends-then _ _ _ so_far.1 answered.0 so_far.3 answered.1,
-        answered.2,
+        (so_far.0 ++ taken.0) ++ answered.0,
+        so_far.1 ++ answered.1,
+        Consumes-then _ _ _ _ answered.0 (Consumes-then _ _ _ so_far.0 taken.0 so_far.2 taken.2) answered.2,
+        Appends-then _ _ _ so_far.1 answered.1 so_far.3 answered.3,
+        answered.4,
       );
       waits = c.in_default-answer_piece.ensures.goes_on.0;
       is_open = c.in_default-answer_piece.ensures.goes_on.1;
       empty = c.in_default-answer_piece.ensures.goes_on.2;
-      room = c.in_default.ensures.empty;
-      reader_told = c.in_default.ensures.told ∙ c.loop-ended.invariant.reader_told;
+      room = c.in_default-answer_piece.ensures.room;
+      reader_told = c.in_default-answer_piece.ensures.reader_told ∙ c.in_default.ensures.told ∙ c.loop-ended.invariant.reader_told;
       writer_told = c.in_default-answer_piece.ensures.told ∙ c.loop-ended.invariant.writer_told;
       rests = c.answer_piece.ensures.rests;
       attends = c.answer_piece.ensures.attends;

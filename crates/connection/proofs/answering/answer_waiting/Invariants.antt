@@ -1,0 +1,26 @@
+use Rattle.std.proofs.Common.{◌≡◌, ◌≤◌, ℕ, List, [], ◌++◌}
+use Rattle.std.specs.Io.KnownBytes.{Appends, Consumes}
+use Rattle.gates.specs.declared.view.Knowledge.{Knowledge}
+use Rattle.engine.specs.Passes.{knows, Rests}
+use Rattle.streams.specs.Streams.{stream_of, told_of, reads_of}
+use Rattle.connection.specs.Served.{Attends, Conversing}
+use Rattle.connection.proofs.answering.answer_waiting.Given as goal
+
+abbrev pub invariant-loop-paused : goal.invariant-loop-paused
+invariant-loop-paused g l = record {
+  talk :
+      (was : Knowledge) (fed before : List ℕ)
+      → Conversing was (knows l.initial.pass) fed l.initial.client (before ++ l.initial.out.items)
+      → (bytes sent : List ℕ) × Consumes (g.R.Read.remaining (stream_of l.initial.reader)) (g.R.Read.remaining (stream_of l.reader)) bytes
+      × Appends (g.W.Write.contents (stream_of l.initial.writer)) (g.W.Write.contents (stream_of l.writer)) sent
+      × Conversing was (knows l.pass) (fed ++ bytes) l.client ((before ++ sent) ++ l.out.items);
+  told : told_of l.writer ≡ told_of l.initial.writer;
+  reader_told : told_of l.reader ≡ told_of l.initial.reader;
+  reads : reads_of l.reader ≤ reads_of l.initial.reader;
+  room : l.room.items ≡ [];
+  rests : Rests l.initial.engine l.pass;
+  attends : Attends (knows l.pass) l.client;
+}
+
+abbrev pub decreases-loop-paused : goal.decreases-loop-paused
+decreases-loop-paused g l = reads_of l.reader

@@ -1,0 +1,160 @@
+//! Connections whose next input is there already when the one before is answered.
+
+use super::*;
+
+/// SET of 8,000 bytes.
+const LONG_SET: &[(&[u8], usize)] = &[
+    (b"*3\r\n$3\r\nSET\r\n$1\r\nk\r\n$8000\r\n", 8_000),
+    (b"\r\n", 0),
+];
+
+/// Ten requests of 8,000 bytes, and a part of another: more than four pieces.
+fn ten_sets(alloc: Global) -> Result<Vec<u8>, AllocError> {
+    let set = filled(alloc, LONG_SET)?;
+    repeated(alloc, &set, 10, b"*1\r\n$4\r\nPI")
+}
+
+/// What a connection comes to whose input is there already, or is not told to be.
+fn run_ready(
+    rt: &impl Wait,
+    alloc: Global,
+    input: &[u8],
+    ready: (bool, Option<usize>),
+    written: Option<usize>,
+) -> Result<Outcome, AllocError> {
+    let mut source = Source::new(input, 16_384);
+    source.tells_ready = ready.0;
+    source.fails_after = ready.1;
+    let mut sink = Sink::new(alloc, 100_000)?;
+    sink.fails_after = written;
+    run(rt, alloc, source, sink)
+}
+
+/// Asserts how many writes the replies to ten requests take.
+fn check_writes<R: Abort + Wait>(rt: &R, alloc: Global, tells: bool, writes: u64) -> Result<(), Fail> {
+    let input = ten_sets(alloc)?;
+    let outcome = run_ready(rt, alloc, &input, (tells, None), None)?;
+    let text = b"+OK\r\n+OK\r\n+OK\r\n+OK\r\n+OK\r\n+OK\r\n+OK\r\n+OK\r\n+OK\r\n+OK\r\n";
+    check_outcome(rt, &outcome, text, Ended::EndOfInput);
+    assert!(rt; outcome.writes == writes);
+    assert!(rt; outcome.told == (Told::End, Told::Nothing));
+    Ok(())
+}
+
+/// Replies are written before a read that waits, and before no other.
+#[test]
+fn one_write_for_the_pieces_that_are_there(rt: HostRuntime) -> Result<(), Fail> {
+    check_writes(&rt, rt.alloc(), true, 1)?;
+    check_writes(&rt, rt.alloc(), false, 5)
+}
+
+/// A read that fails after pieces that were there: what was complete is answered, and it is written.
+#[test]
+fn a_read_that_fails_after_ready_pieces(rt: HostRuntime) -> Result<(), Fail> {
+    let alloc = rt.alloc();
+    let input = ten_sets(alloc)?;
+    for (given, count) in [(16_384, 2), (32_768, 4), (40_000, 4), (49_151, 6)] {
+        let text = repeated(alloc, b"+OK\r\n", count, b"")?;
+        let outcome = run_ready(&rt, alloc, &input, (true, Some(given)), None)?;
+        check_outcome(&rt, &outcome, &text, Ended::ReadFailed);
+        assert!(rt; outcome.told == (Told::Failure, Told::Nothing));
+    }
+    Ok(())
+}
+
+/// A write that fails after pieces that were there: the reader has told nothing, though it is at its end.
+#[test]
+fn a_write_that_fails_after_ready_pieces(rt: HostRuntime) -> Result<(), Fail> {
+    let alloc = rt.alloc();
+    let input = ten_sets(alloc)?;
+    let text = repeated(alloc, b"+OK\r\n", 10, b"")?;
+    for room in 0..text.len() {
+        let outcome = run_ready(&rt, alloc, &input, (true, None), Some(room))?;
+        check_outcome(&rt, &outcome, &text[..room], Ended::WriteFailed);
+        assert!(rt; outcome.told == (Told::Nothing, Told::Failure));
+    }
+    Ok(())
+}
+
+/// Asserts what replies of more than the output buffer holds come to, where a write fails after so many bytes
+/// or none does.
+fn check_long<R: Abort + Wait>(
+    rt: &R,
+    alloc: Global,
+    written: Option<usize>,
+    ended: Ended,
+) -> Result<(), Fail> {
+    let input = long_words(alloc)?;
+    let text = long_replies(alloc, b"-ERR key is too long\r\n+OK\r\n", 20)?;
+    let outcome = run_ready(rt, alloc, &input, (true, None), written)?;
+    let count = text.len().min(written.unwrap_or(text.len()));
+    check_outcome(rt, &outcome, &text[..count], ended);
+    Ok(())
+}
+
+/// Replies that do not fit into the output buffer are written while more pieces are there, whether a write
+/// fails or not.
+#[test]
+fn long_replies_to_pieces_that_are_there(rt: HostRuntime) -> Result<(), Fail> {
+    check_long(&rt, rt.alloc(), None, Ended::EndOfInput)?;
+    check_long(&rt, rt.alloc(), Some(100_000), Ended::WriteFailed)
+}
+
+/// The last of the requests that fill a piece to its last byte, behind a thousand PINGs.
+const LAST_OF_PIECE: &[(&[u8], usize)] = &[(b"*2\r\n$4\r\nPING\r\n$2361\r\n", 2_361), (b"\r\n", 0)];
+
+/// The reply to it.
+const LAST_REPLY: &[(&[u8], usize)] = &[(b"$2361\r\n", 2_361), (b"\r\n", 0)];
+
+/// A thousand times the one, and then the other.
+fn thousand(alloc: Global, each: &[u8], last: &[(&[u8], usize)]) -> Result<Vec<u8>, AllocError> {
+    let last = filled(alloc, last)?;
+    repeated(alloc, each, 1_000, &last)
+}
+
+/// Whole requests that end where a piece ends, and nothing after them.
+#[test]
+fn requests_that_end_where_a_piece_ends(rt: HostRuntime) -> Result<(), Fail> {
+    let alloc = rt.alloc();
+    let input = thousand(alloc, PING, LAST_OF_PIECE)?;
+    let text = thousand(alloc, b"+PONG\r\n", LAST_REPLY)?;
+    let outcome = run_ready(&rt, alloc, &input, (true, None), None)?;
+    assert!(rt; input.len() == 16_384);
+    check_outcome(&rt, &outcome, &text, Ended::EndOfInput);
+    Ok(())
+}
+
+/// How many requests are answered, each by OK or by the line of want of memory; `None` where the text is
+/// none of these.
+fn answered_in(text: &[u8]) -> Option<usize> {
+    let mut rest = text;
+    for count in 0..11 {
+        if rest.is_empty() {
+            return Some(count);
+        }
+        let (_, after) = after_reply(rest, b"+OK\r\n")?;
+        rest = after;
+    }
+    None
+}
+
+/// With each allocation refused in turn (`rt try --test --fail-alloc`), the requests before the one that found
+/// no memory are answered, and their replies are written.
+#[test]
+fn ready_pieces_with_each_allocation_refused(rt: HostRuntime) -> Result<(), Fail> {
+    let alloc = rt.alloc();
+    let Ok(input) = ten_sets(alloc) else {
+        return Ok(());
+    };
+    let Ok(outcome) = run_ready(&rt, alloc, &input, (true, None), None) else {
+        return Ok(());
+    };
+    let ended = match answered_in(&outcome.text) {
+        Some(10) => Ended::EndOfInput,
+        Some(_) => Ended::NoMemory,
+        None => return Err(Fail::from("another text")),
+    };
+    assert_eq!(rt; outcome.ended, ended);
+    assert_eq!(rt; outcome.flushed, outcome.text.len());
+    Ok(())
+}
