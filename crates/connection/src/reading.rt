@@ -230,7 +230,11 @@ fn take_ready<R: ReadReady>(reader: &mut Noted<R>, room: &mut Room, client: &mut
         return Waiting::Nothing;
     };
     room.block.truncate(count);
-    room.more = if count == PIECE_BYTES { room.more.saturating_sub(1) } else { 0 };
+    room.more = if count == PIECE_BYTES {
+        room.more.saturating_sub(1)
+    } else {
+        0
+    };
     match feed_read(&mut room.block, client) {
         Ok(()) => Waiting::Fed,
         Err(_) => Waiting::NoMemory,

@@ -139,12 +139,7 @@ fn enter_get(held: &mut Held<'_, Shard>, stripes: usize, seat: u64, key: &Word) 
 /// Runs a SET without an option over the parts that are held: makes a place for its key, commits its one
 /// entry, and moves the key and the value to the place. A value that weighs too much is refused by the
 /// reply. It takes memory only for a key that has no value.
-fn enter_set(
-    held: &mut Held<'_, Shard>,
-    stripes: usize,
-    seat: u64,
-    setting: Setting,
-) -> Answer
+fn enter_set(held: &mut Held<'_, Shard>, stripes: usize, seat: u64, setting: Setting) -> Answer
     requires open { IsOpen held.old }
     requires fresh { has_committed held.old ≡ false }
     requires some { 1 ≤ stripes }
@@ -197,12 +192,7 @@ fn commit_line(
 }
 
 /// Commits a SET whose value weighs too much: it writes nothing.
-fn refuse_set(
-    held: &mut Held<'_, Shard>,
-    stripes: usize,
-    seat: u64,
-    setting: Setting,
-) -> Answer
+fn refuse_set(held: &mut Held<'_, Shard>, stripes: usize, seat: u64, setting: Setting) -> Answer
     requires open { IsOpen held.old }
     requires fresh { has_committed held.old ≡ false }
     requires heavy { nat_lt WEIGHT_MAX (WEIGHT_OF_KEY + length setting.key + length setting.value) ≡ true }

@@ -31,7 +31,12 @@ fn run_ready(
 }
 
 /// Asserts how many writes the replies to ten requests take.
-fn check_writes<R: Abort + Wait>(rt: &R, alloc: Global, tells: bool, writes: u64) -> Result<(), Fail> {
+fn check_writes<R: Abort + Wait>(
+    rt: &R,
+    alloc: Global,
+    tells: bool,
+    writes: u64,
+) -> Result<(), Fail> {
     let input = ten_sets(alloc)?;
     let outcome = run_ready(rt, alloc, &input, (tells, None), None)?;
     let text = b"+OK\r\n+OK\r\n+OK\r\n+OK\r\n+OK\r\n+OK\r\n+OK\r\n+OK\r\n+OK\r\n+OK\r\n";

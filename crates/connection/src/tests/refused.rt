@@ -201,10 +201,34 @@ fn both_are_answered<R: Wait>(
     let mut watcher = Client::new(alloc);
     let mut deleter = Client::new(alloc);
     let watch = b"*2\r\n$5\r\nWATCH\r\n$1\r\nk\r\n";
-    let ended = say(rt, alloc, &mut watcher, &mut to_watcher, engine, &mut passes.0, watch);
+    let ended = say(
+        rt,
+        alloc,
+        &mut watcher,
+        &mut to_watcher,
+        engine,
+        &mut passes.0,
+        watch,
+    );
     let delete = b"*2\r\n$3\r\nDEL\r\n$1\r\nk\r\n";
-    let other = say(rt, alloc, &mut deleter, &mut to_deleter, engine, &mut passes.1, delete);
-    let ended = say_last(rt, alloc, &mut watcher, &mut to_watcher, engine, &mut passes.0, ended);
+    let other = say(
+        rt,
+        alloc,
+        &mut deleter,
+        &mut to_deleter,
+        engine,
+        &mut passes.1,
+        delete,
+    );
+    let ended = say_last(
+        rt,
+        alloc,
+        &mut watcher,
+        &mut to_watcher,
+        engine,
+        &mut passes.0,
+        ended,
+    );
     forget(rt, &Open, watcher, engine, &mut passes.0);
     forget(rt, &Open, deleter, engine, &mut passes.1);
     was_said(to_watcher, ended, WATCHER) && was_said(to_deleter, other, DELETER)
