@@ -3,7 +3,7 @@
 ghost use Rattle.std.specs.Prelude.{◌≡◌, ◌≤◌, ◌<◌, ◌+◌, [], length, nat_lt, true, false, IfOk, IfErr};
 ghost use Rattle.words.specs.declared.history.Entry.{Entry};
 ghost use Rattle.words.specs.Store.{Bytes};
-ghost use Rattle.words.specs.Session.{Run, line_reply, operation_of, watched_at_fault};
+ghost use Rattle.words.specs.Session.{line_reply, operation_of, watched_at_fault};
 ghost use Rattle.words.specs.History.{HasPlace, due, keys_named, keys_of_pairs};
 ghost use Rattle.gates.specs.Sets.{part_at, times};
 ghost use Rattle.gates.specs.Passes.{AllFit, AreWatched, IsResting, KeysHeld, MayEnd, WasBusy, known, stripes_of};
