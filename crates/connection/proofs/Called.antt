@@ -9,7 +9,7 @@ use Rattle.words.specs.declared.reply.Fault.TheVariants as fault
 use Rattle.words.specs.declared.reply.Line.TheVariants as line
 use Rattle.words.specs.Store.{Bytes, Store}
 use Rattle.words.specs.History.{Pair, Placed, after, keys_of_pairs}
-use Rattle.words.specs.Session.{Turn, Says, Forgets, Tries, Calls, Never, Asked, Run, Watch, Exec, operation_of, line_reply}
+use Rattle.words.specs.Session.{Turn, Says, Forgets, Tries, Calls, Never, Asked, Run, Watch, Exec, line_reply}
 use Rattle.gates.specs.declared.view.Knowledge.{Knowledge}
 use Rattle.gates.specs.declared.view.Note.{Note}
 use Rattle.transact.specs.declared.call.Call.{Call}
@@ -24,7 +24,7 @@ use Rattle.session.specs.Steps as steps
 use Rattle.session.specs.Laws.{WatchesPairsOfEntry, WatchesPairsOfFault}
 use Rattle.transact.specs.Memory.{AsksNoMemory}
 use Rattle.transact.specs.Submits.{IfReply, IfFault}
-use Rattle.engine.specs.Calls.{HasItsPlace, IsDone, IsUndone, IsCause, Did, DidNot, Forgot, entry_of}
+use Rattle.engine.specs.Calls.{HasItsPlace, IsDone, IsUndone, IsCause, Forgot, entry_of}
 use Rattle.connection.specs.declared.client.Next.TheVariants as next
 use Rattle.connection.specs.Clients.{Progress, Stage, watched_of, turn_at, TakesOff, TakesUp, Resumes, WantsMemory}
 use Rattle.connection.specs.Conversations.{Went}
@@ -63,6 +63,19 @@ watches_none knows at attends none = no_pairs knows.watched (sym attends.watches
 pub forget_some : (watched : List Bytes) (call : Call) → forget_of watched ≡ Some call → call ≡ Forget watched
 forget_some [] call is = absurd (cc is)
 forget_some (key ∷ keys) call is = cc is
+
+-- the end of watches makes no entry
+went_answered : (stripes : List ℕ) (given : Answer) (was now : Knowledge) → IfReply given (λ reply. Forgot stripes was now) → IfFault given (λ f. ⊥)
+    → Went was now []
+went_answered stripes (answer.Reply reply) was now done undone = record { number = done.number; more = done.others; seen = done.seen; mine = done.mine }
+went_answered stripes (answer.Fault f) was now done undone = absurd undone
+
+pub went_forgot : (watched : List Bytes) (call : Call) (stripes : List ℕ) (given : Answer) (was now : Knowledge) → forget_of watched ≡ Some call
+    → IfReply given (λ reply. IsDone stripes (asked_of call) reply was now) → IfFault given (λ f. IsUndone stripes (asked_of call) f was now)
+    → Went was now []
+went_forgot watched call stripes given was now is done undone =
+    let forgets : call ≡ Forget watched = forget_some watched call is in
+    went_answered stripes given was now (rw forgets at done) (rw forgets at undone)
 
 -- a turn that asks the store for nothing spares it
 spares_said : (t : Turn) (watched : List Bytes) (store : Store) (reply : Reply) (then : Standing) → IsSaid t watched reply then → Spares t store [] reply

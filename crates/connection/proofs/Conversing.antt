@@ -13,9 +13,9 @@ use Rattle.words.specs.Encoding.{encoding, encodings}
 use Rattle.words.specs.declared.history.Operation.{Operation}
 use Rattle.words.specs.History.{Pair, Placed, keys_of_pairs}
 use Rattle.words.specs.Watches.{watched_after}
-use Rattle.words.specs.Session.{Mode, Idle, Turn, Says, Forgets, Tries, Calls, Never, Asked, operation_of, watched_at_fault, turn, Rest, TakesEntry, Follows, Transcript}
+use Rattle.words.specs.Session.{Mode, Idle, Turn, Says, Forgets, Tries, Calls, Never, operation_of, watched_at_fault, turn, Rest, TakesEntry, Follows, Transcript}
 use Rattle.gates.specs.declared.view.Knowledge.{Knowledge}
-use Rattle.connection.specs.Clients.{Progress, beginning, TakesOff, IsOpen, mode_of, watched_of, WantsMemory}
+use Rattle.connection.specs.Clients.{Progress, beginning, TakesOff, IsOpen, mode_of, WantsMemory}
 use Rattle.connection.specs.Conversations.{Leads, Talk, Conversation, Answers, Went}
 use Rattle.connection.specs.declared.serving.Ended.{Ended}
 use Rattle.connection.specs.declared.serving.Ended.TheVariants as ended

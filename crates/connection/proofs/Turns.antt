@@ -1,25 +1,23 @@
 -- One turn of a session, as a step of its transcript.
-use Rattle.std.proofs.Common.{◌≡◌, ℕ, List, [], ◌∷◌, ◌++◌, length, Option, Some, None, refl, sym, ap, ◌∙◌, inl, inr}
+use Rattle.std.proofs.Common.{◌≡◌, ℕ, List, [], ◌∷◌, ◌++◌, Option, Some, None, refl, sym, ap, ◌∙◌, inl, inr}
 use Rattle.words.specs.declared.reply.Reply.{Reply}
 use Rattle.words.specs.declared.reply.Fault.{Fault}
 use Rattle.words.specs.declared.reply.Fault.TheVariants as fault
 use Rattle.words.specs.declared.reply.Line.TheVariants as line
-use Rattle.words.specs.declared.history.Entry.{Entry}
 use Rattle.words.specs.Store.{Bytes}
 use Rattle.words.specs.History.{Pair, Placed, keys_of_pairs}
 use Rattle.words.specs.Watches.{watched_after}
-use Rattle.words.specs.Session.{Mode, Turn, Says, Forgets, Tries, Calls, Never, Asked, Run, Watch, Exec, operation_of, watched_at_fault, turn, line_reply, Rest, Follows, Transcript}
+use Rattle.words.specs.Session.{Turn, Says, Forgets, Tries, Calls, Never, Asked, Run, Watch, Exec, operation_of, watched_at_fault, turn, line_reply, Rest, Follows}
 use Rattle.transact.specs.declared.call.Call.{Call}
-use Rattle.transact.specs.declared.call.Call.TheVariants.{Forget}
 use Rattle.transact.specs.declared.call.Answer.{Answer}
 use Rattle.transact.specs.declared.call.Answer.TheVariants as answer
 use Rattle.transact.specs.Calls.{asked_of, call_of}
 use Rattle.session.specs.Standings.{Standing, Wait, ForAnswer, ForEnd, stands, watched_done, watched_faulty}
 use Rattle.session.specs.Standings as standings
-use Rattle.session.specs.Steps.{IsSaid, IsAsked, IsOutOfMemory, BringsKey}
+use Rattle.session.specs.Steps.{IsSaid, IsAsked, IsOutOfMemory}
 use Rattle.session.specs.Laws.{WatchesPairsOfEntry, WatchesPairsOfFault}
 use Rattle.connection.specs.declared.client.Next.TheVariants as next
-use Rattle.connection.specs.Clients.{Progress, Stage, Ready, Called, Stepping, IsReady, mode_of, watched_of, turn_at, TakesOff, TakesUp, Steps, Resumes}
+use Rattle.connection.specs.Clients.{Progress, Stage, Ready, Called, Stepping, mode_of, watched_of, turn_at, TakesOff, TakesUp, Resumes}
 use Rattle.connection.specs.Conversations.{Answers}
 
 -- pairs of no key are none

@@ -1,5 +1,5 @@
 -- What a client does: the core of a connection, between the bytes that it is fed and the calls and replies that it gives.
-use Rattle.std.specs.Prelude.{ℕ, ◌≡◌, ◌⊎◌, List, [], ◌++◌, Option}
+use Rattle.std.specs.Prelude.{◌≡◌, ◌⊎◌, List, [], ◌++◌}
 use Rattle.words.specs.declared.reply.Reply.{Reply}
 use Rattle.words.specs.Store.{Bytes}
 use Rattle.words.specs.Spelling.{IsRequest, spelling}
@@ -7,7 +7,6 @@ use Rattle.words.specs.Stream as stream
 use Rattle.words.specs.Commands.{command_of, AsksNoMemory}
 use Rattle.words.specs.Session.{Mode, Idle, Queueing, Spoiled, Closed, Turn, turn}
 use Rattle.resp_read.specs.Memory.{FitInline}
-use Rattle.transact.specs.declared.call.Call.{Call}
 use Rattle.transact.specs.declared.call.Answer.{Answer}
 use Rattle.session.specs.Standings.{Standing, Wait, stands, standing_of, closed_of, wait_of, start}
 use Rattle.session.specs.Standings as standings

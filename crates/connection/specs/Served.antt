@@ -1,5 +1,5 @@
 -- What serving one connection did, for each way in which it ends.
-use Rattle.std.specs.Prelude.{ℕ, ◌≡◌, ◌<◌, ◌≤◌, ◌⊎◌, List, [], ◌∷◌, ◌++◌, length, Option, Some, None}
+use Rattle.std.specs.Prelude.{ℕ, ◌≡◌, ◌<◌, ◌⊎◌, List, [], ◌++◌, length, Option, Some, None}
 use Rattle.words.specs.declared.reply.ProtocolFault.{ProtocolFault}
 use Rattle.words.specs.declared.reply.Reply.{Reply}
 use Rattle.words.specs.declared.reply.Fault.TheVariants as fault
@@ -10,7 +10,7 @@ use Rattle.words.specs.Stream.{front, Part, Faulty}
 use Rattle.words.specs.Stream as stream
 use Rattle.words.specs.Encoding.{encoding, encodings}
 use Rattle.words.specs.History.{Pair, Placed, after, keys_of_pairs}
-use Rattle.words.specs.Session.{Mode, Idle, Closed, Turn, Calls, Asked, Transcript, line_reply}
+use Rattle.words.specs.Session.{Mode, Idle, Closed, Turn, Calls, Transcript, line_reply}
 use Rattle.gates.specs.declared.view.Knowledge.{Knowledge}
 use Rattle.streams.specs.declared.observed.Told.{Told}
 use Rattle.streams.specs.declared.observed.Told.TheVariants as told

@@ -11,7 +11,7 @@ use std::marker::Model;
 use transact::call::{Answer, Call};
 use words::command::Command;
 use words::reply::{ProtocolFault, Reply};
-use words::word::OutOfMemory;
+use words::word::{OutOfMemory, Word, Words};
 
 /// What a client does next.
 #[derive(Debug)]
@@ -38,6 +38,9 @@ pub enum Next {
 pub struct Client {
     alloc: Global,
     reader: Reader,
+    /// The words of the request that is being answered. Between requests they are one empty word, so
+    /// that no long word is kept.
+    words: Words,
     state: State,
 }
 
@@ -61,6 +64,7 @@ impl Client {
         Client {
             alloc,
             reader: Reader::new(alloc),
+            words: Words::one(alloc, Word::empty(alloc)),
             state: State::Ready(AnySession::Idle(Session::<Idle>::new(alloc))),
         }
     }
@@ -82,19 +86,29 @@ impl Client {
         requires { IsReady self.old.stage }
         ensures { Gives self.old result self.new }
     {
+        let next = self.take_up();
+        self.words.restart(Word::empty(self.alloc));
+        next
+    }
+
+    /// The same as [`next`](Client::next). The words of the request are kept.
+    fn take_up(&mut self) -> Next
+        requires { IsReady self.old.stage }
+        ensures { Gives self.old result self.new }
+    {
         if let State::Closed(_) = &self.state {
             return Next::Closed;
         }
-        let words = match self.reader.next() {
-            Ok(Some(words)) => words,
-            Ok(None) => return Next::Input,
+        match self.reader.next_into(&mut self.words) {
+            Ok(true) => {}
+            Ok(false) => return Next::Input,
             Err(ReadFault::Protocol(fault)) => return Next::Malformed(fault),
             Err(ReadFault::OutOfMemory) => return Next::OutOfMemory,
-        };
-        let Ok(command) = Command::of(self.alloc, &words) else {
+        }
+        let Ok(command) = Command::of(self.alloc, &self.words) else {
             return Next::OutOfMemory;
         };
-        self.state.step(words, command)
+        self.state.step(&self.words, command)
     }
 
     /// Takes the answer to the open call, and tells the reply that the client says to it. It takes
@@ -116,6 +130,7 @@ impl Client {
         let Client {
             alloc: _,
             reader: _,
+            words: _,
             state,
         } = self;
         match state {

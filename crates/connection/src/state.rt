@@ -29,14 +29,14 @@ pub(crate) enum State {
 
 impl State {
     /// What a request does, whose words are these and make this command.
-    pub(crate) fn step(&mut self, words: Words, command: Result<Command, Refusal>) -> Next
+    pub(crate) fn step(&mut self, words: &Words, command: Result<Command, Refusal>) -> Next
         requires ready { IsReady (stage_of self.old) }
         requires is_open { IsOpen (mode_of (stage_of self.old)) }
-        requires command { command ≡ command_of words }
-        ensures { Steps (stage_of self.old) words result (stage_of self.new) }
+        requires command { command ≡ command_of words.now }
+        ensures { Steps (stage_of self.old) words.now result (stage_of self.new) }
     {
         let session = self.take_ready();
-        match session.step(words, command) {
+        match session.step_of(words, command) {
             Step::Says(reply, session) => {
                 self.put(State::Ready(session));
                 Next::Says(reply)

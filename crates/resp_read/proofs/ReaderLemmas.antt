@@ -1,6 +1,7 @@
 -- What the reader holds, and how a count or a word is taken off.
-use Rattle.std.proofs.Common.{ℕ, zero, suc, ◌≡◌, ◌+◌, ◌-◌, ◌<◌, ◌≤◌, ◌⊎◌, inl, inr, List, [], ◌∷◌, ◌++◌, length, take, drop, refl, sym, ap, subst, ◌∙◌, arith, append_assoc, length-append, length-drop, Result, Ok, Err, OnOk}
+use Rattle.std.proofs.Common.{ℕ, zero, suc, ◌≡◌, ◌+◌, ◌-◌, ◌<◌, ◌≤◌, ◌⊎◌, inl, inr, List, [], ◌∷◌, ◌++◌, length, take, drop, refl, sym, ap, subst, ◌∙◌, arith, append_assoc, length-append, length-drop, Bool, true, false, IsTrue, Result, Ok, Err, OnOk, IfOk}
 use Rattle.std.specs.List.{flat_map}
+use Rattle.std.proofs.lemmas.Bool.{false≢true}
 use Rattle.std.proofs.lemmas.List.Concat.{flat_map-append}
 use Rattle.std.proofs.lemmas.List.{drop-drop, length-take-le, length_push, append-nil}
 use Rattle.words.specs.declared.limits.TheConstants.{REQUEST_BYTES_MAX}
@@ -8,12 +9,13 @@ use Rattle.words.specs.Store.{Bytes}
 use Rattle.words.specs.Spelling.{header, bulk_string, spelling, bytes_of, AreShort, IsRequest}
 use Rattle.words.specs.declared.word.TheConstants.{WORD_INLINE, WORDS_INLINE}
 use Rattle.words.specs.Stream.{Word, Front, Whole, Part, front, front_from}
-use Rattle.resp_read.specs.declared.reader.Step.TheVariants.{Goes}
+use Rattle.resp_read.specs.declared.reader.ReadFault.{ReadFault}
+use Rattle.resp_read.specs.declared.reader.Step.TheVariants.{Goes, Gives}
 use Rattle.resp_read.specs.Lines.{BeginsWithLine}
 use Rattle.resp_read.specs.Looks.{HasWord, HasWords}
 use Rattle.resp_read.specs.Memory.{AreInline, FitInline, NeedsMemory}
 use Rattle.resp_read.specs.Pieces.{joined, as_piece, without}
-use Rattle.resp_read.specs.Taking.{Takes, GoesOn}
+use Rattle.resp_read.specs.Taking.{Takes, TakesNext, GoesOn}
 use Rattle.resp_read.specs.Unread.{Held, taken_off, unread, HasTakenOff, KeepsWords, IsPartOfOne, IsTakenUp, IsBetween, IsBegun}
 use Rattle.resp_read.proofs.PieceLemmas.{joined-push, joined-without, without-without}
 use Rattle.resp_read.proofs.RequestLemmas.{words_lead, bulk_leads, begun_leads, AreShort-push, AreShort-append, bytes_of-push, bytes_of-append, flat_map-push, request_front}
@@ -339,6 +341,14 @@ goes_after old now new first second = record {
   kept = keeps_after old now new first.kept second.kept;
 }
 
--- a request that is given stands at the front
-pub given_front : (old now new : Held) (words : List Bytes) → GoesOn old now → IsRequest words → unread now ≡ spelling words ++ unread new → front (unread old) ≡ Whole (unread new)
-given_front old now new words so_far request e = ap front (sym so_far.same ∙ e) ∙ request_front words (unread new) request
+pub gives_after : (old now new : Held) (words : List Bytes) → GoesOn old now → Takes now (Gives words) new → Takes old (Gives words) new
+gives_after old now new words so_far gives = (gives.0, sym so_far.same ∙ gives.1, taken_off_after old now new so_far.taken gives.2, gives.3)
+
+-- a request that is given stood at the front
+pub given_front : (old new : Held) (words : List Bytes) → Takes old (Gives words) new → front (unread old) ≡ Whole (unread new)
+given_front old new words gives = ap front gives.1 ∙ request_front words (unread new) gives.0
+
+pub next_front : (old new : Held) (words : List Bytes) (result : Result Bool ReadFault) → TakesNext old result words new → IfOk result (λ given. IsTrue given → front (unread old) ≡ Whole (unread new))
+next_front old new words (Ok true) takes = λ _. given_front old new words takes
+next_front old new words (Ok false) takes = λ is. absurd (false≢true is)
+next_front old new words (Err fault) takes = tt

@@ -7,25 +7,13 @@ use Rattle.words.specs.Store.{Bytes}
 use Rattle.words.specs.Spelling.{header, bulk_string, spelling}
 use Rattle.resp_read.specs.declared.reader.Step.TheVariants.{Gives}
 use Rattle.resp_read.specs.Lines.{BeginsWithLine}
-use Rattle.resp_read.specs.Looks.{HasWord, BeginsWithWord, BeginsWithWords, BeginsWithRequest}
+use Rattle.resp_read.specs.Looks.{HasWord, BeginsWithWords, BeginsWithRequest}
 use Rattle.resp_read.specs.Pieces.{joined, without}
 use Rattle.resp_read.specs.Taking.{Takes}
 use Rattle.resp_read.specs.Unread.{Held, unread}
 use Rattle.resp_read.proofs.PieceLemmas.{joined-without}
 use Rattle.resp_read.proofs.RequestLemmas.{AreShort-push, bytes_of-push, flat_map-push}
 use Rattle.resp_read.proofs.ReaderLemmas.{regroup, unread_between}
-
--- the word that stands at the front
-pub word_begins : (bytes word : Bytes) (size start long : ℕ) → HasWord bytes size start long → word ≡ take long (drop start bytes) → BeginsWithWord bytes size word (start + long + 2)
-word_begins bytes word size start long has is = record {
-  within = has.within;
-  short = omega (arith, long_is, has.short);
-  room = omega (arith, long_is, has.room);
-  begins = has.begins ∙ ap (λ (w : Bytes). bulk_string w ++ drop (start + long + 2) bytes) (sym is);
-}
-  where
-    long_is : length word ≡ long
-    long_is = ap length is ∙ length-take-le long (drop start bytes) (omega (arith, has.within, length-drop start bytes))
 
 -- the line of a count and some words have been taken
 pub none_taken : (bytes : Bytes) (count start : ℕ) → BeginsWithLine 42 count start bytes → BeginsWithWords bytes count [] start 0
@@ -37,17 +25,23 @@ none_taken bytes count start line = record {
   begins = line.begins ∙ ap (λ (b : Bytes). b ++ drop start bytes) (sym (append-nil (header 42 count)));
 }
 
-pub one_more : (bytes part word : Bytes) (count at size width : ℕ) (words : List Bytes) → BeginsWithWords bytes count words at size → part ≡ drop at bytes → BeginsWithWord part size word width → BeginsWithWords bytes count (words ++ word ∷ []) (at + width) (size + length word)
-one_more bytes part word count at size width words taken is next = record {
-  within = omega (arith, taken.within, next.within, ap length is, length-drop at bytes);
-  short = AreShort-push words word taken.short next.short;
-  together = bytes_of-push words word ∙ ap (λ (k : ℕ). k + length word) taken.together;
+pub one_more : (bytes rest word : Bytes) (count at size start long : ℕ) (words : List Bytes) → BeginsWithWords bytes count words at size → rest ≡ drop at bytes → HasWord rest size start long → word ≡ take long (drop start rest) → BeginsWithWords bytes count (words ++ word ∷ []) (at + (start + long + 2)) (size + long)
+one_more bytes rest word count at size start long words taken rest_is next word_is = record {
+  within = omega (arith, taken.within, next.within, ap length rest_is, length-drop at bytes);
+  short = AreShort-push words word taken.short (omega (arith, long_is, next.short));
+  together = bytes_of-push words word ∙ omega (arith, taken.together, long_is);
   room = next.room;
-  begins = taken.begins ∙ (ap (λ (b : Bytes). (header 42 count ++ flat_map bulk_string words) ++ b) left_is ∙ (regroup (header 42 count) (flat_map bulk_string words) (bulk_string word) (drop (at + width) bytes) ∙ ap (λ (b : Bytes). (header 42 count ++ b) ++ drop (at + width) bytes) (sym (flat_map-push words word))));
+  begins = taken.begins ∙ (ap (λ (b : Bytes). (header 42 count ++ flat_map bulk_string words) ++ b) left_is ∙ (regroup (header 42 count) (flat_map bulk_string words) (bulk_string word) (drop (at + (start + long + 2)) bytes) ∙ ap (λ (b : Bytes). (header 42 count ++ b) ++ drop (at + (start + long + 2)) bytes) (sym (flat_map-push words word))));
 }
   where
-    left_is : drop at bytes ≡ bulk_string word ++ drop (at + width) bytes
-    left_is = sym is ∙ (next.begins ∙ ap (λ (b : Bytes). bulk_string word ++ b) (ap (drop width) is ∙ drop-drop width at bytes))
+    long_is : length word ≡ long
+    long_is = ap length word_is ∙ length-take-le long (drop start rest) (omega (arith, next.within, length-drop start rest))
+
+    left_is : drop at bytes ≡ bulk_string word ++ drop (at + (start + long + 2)) bytes
+    left_is =
+        sym rest_is
+        ∙ (next.begins
+        ∙ (ap (λ (w : Bytes). bulk_string w ++ drop (start + long + 2) rest) (sym word_is) ∙ ap (λ (b : Bytes). bulk_string word ++ b) (ap (drop (start + long + 2)) rest_is ∙ drop-drop (start + long + 2) at bytes)))
 
 pub all_taken : (bytes : Bytes) (count at size : ℕ) (words : List Bytes) → BeginsWithWords bytes count words at size → length words ≡ count → 1 ≤ count → count ≤ WORDS_MAX → BeginsWithRequest bytes words at
 unfolding spelling

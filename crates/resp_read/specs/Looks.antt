@@ -18,13 +18,6 @@ pub record HasWord (bytes : Bytes) (size start long : ℕ) : Type 0 where
   pub room : size + long ≤ REQUEST_BYTES_MAX
   pub begins : bytes ≡ bulk_string (take long (drop start bytes)) ++ drop (start + long + 2) bytes
 
--- the bytes begin with this word as a bulk string, of so many bytes, and the words before it have `size`
-pub record BeginsWithWord (bytes : Bytes) (size : ℕ) (word : Bytes) (width : ℕ) : Type 0 where
-  pub within : width ≤ length bytes
-  pub short : length word ≤ WORD_BYTES_MAX
-  pub room : size + length word ≤ REQUEST_BYTES_MAX
-  pub begins : bytes ≡ bulk_string word ++ drop width bytes
-
 -- the bytes begin with the line of this count and these words as bulk strings, of `at` bytes together; the words have `size`
 pub record BeginsWithWords (bytes : Bytes) (count : ℕ) (words : List Bytes) (at size : ℕ) : Type 0 where
   pub within : at ≤ length bytes

@@ -1,11 +1,12 @@
 -- What one step of the reader takes off the front.
-use Rattle.std.specs.Prelude.{◌≡◌, ◌<◌, List, ◌++◌, Option, Some, None, length}
+use Rattle.std.specs.Prelude.{◌≡◌, ◌<◌, List, ◌++◌, Bool, true, false, Result, Ok, Err, length}
 use Rattle.words.specs.Store.{Bytes}
 use Rattle.words.specs.Spelling.{spelling, IsRequest}
 use Rattle.words.specs.Stream as stream
 use Rattle.resp_read.specs.Pieces.{joined}
 use Rattle.resp_read.specs.Unread.{Held, unread, HasTakenOff, KeepsWords, IsTakenUp, IsBetween}
 use Rattle.resp_read.specs.Faults.{TellsFault}
+use Rattle.resp_read.specs.declared.reader.ReadFault.{ReadFault}
 use Rattle.resp_read.specs.declared.reader.Step.{Step}
 use Rattle.resp_read.specs.declared.reader.Step.TheVariants.{Goes, Gives, Waits, Fails}
 
@@ -22,7 +23,13 @@ Takes old (Gives words) new = IsRequest words × (unread old ≡ spelling words 
 Takes old Waits new = (stream.front (unread old) ≡ stream.Part) × (new ≡ old) × IsTakenUp new
 Takes old (Fails fault) new = TellsFault (unread old) fault × (new ≡ old)
 
--- a request that stood whole at the front is taken off, or nothing is
-abbrev pub TakesWhole : Held → Option (List Bytes) → Held → Type 0
-TakesWhole old None new = new ≡ old
-TakesWhole old (Some words) new = Takes old (Gives words) new
+-- a request that stood whole at the front is taken off and its words given, or nothing is
+abbrev pub TakesWhole : Held → Bool → List Bytes → Held → Type 0
+TakesWhole old false words new = new ≡ old
+TakesWhole old true words new = Takes old (Gives words) new
+
+-- what the steps up to an answer take
+abbrev pub TakesNext : Held → Result Bool ReadFault → List Bytes → Held → Type 0
+TakesNext old (Ok true) words new = Takes old (Gives words) new
+TakesNext old (Ok false) words new = GoesOn old new × (stream.front (unread old) ≡ stream.Part) × IsTakenUp new
+TakesNext old (Err fault) words new = GoesOn old new × TellsFault (unread old) fault

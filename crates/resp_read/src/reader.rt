@@ -1,6 +1,6 @@
 //! A client's bytes on their way to requests.
 
-ghost use Rattle.std.specs.Prelude.{◌≡◌, ◌≤◌, ◌<◌, ◌⊎◌, [], ◌∷◌, ◌++◌, length, slice_get, option_copied, OnOk, OnErr, IsOk, IfOk, IfErr, IfSome, IfNone, OnSome};
+ghost use Rattle.std.specs.Prelude.{◌≡◌, ◌≤◌, ◌<◌, ◌⊎◌, [], ◌∷◌, ◌++◌, length, slice_get, option_copied, OnOk, OnErr, IsOk, IfOk, IfErr, IfSome, IfNone, OnSome, IsTrue, IsFalse};
 ghost use Rattle.words.specs.Spelling.{spelling, bytes_of, IsRequest};
 ghost use Rattle.words.specs.Stream.{front, Part, Whole};
 ghost use Rattle.resp_read.specs.Pieces.{as_piece, joined};
@@ -91,7 +91,7 @@ enum Step {
 impl Reader {
     ghost use Rattle.resp_read.specs.Faults.{TellsFault};
     ghost use Rattle.resp_read.specs.Looks.{HasWord};
-    ghost use Rattle.resp_read.specs.Taking.{Takes, TakesWhole};
+    ghost use Rattle.resp_read.specs.Taking.{Takes, TakesWhole, TakesNext};
 
     /// A reader with nothing fed. It takes no memory.
     pub fn new(alloc: Global) -> Reader
@@ -155,16 +155,63 @@ impl Reader {
         ensures keeps { IfOk result (λ given. IfNone given (KeepsWords self.old self.new)) }
         ensures err_keeps { OnErr result (KeepsWords self.old self.new) }
     {
-        if let Some(words) = self.take_whole() {
-            return Ok(Some(words));
+        let mut words = Words::one(self.alloc, Word::empty(self.alloc));
+        match self.next_into(&mut words) {
+            Ok(true) => Ok(Some(words)),
+            Ok(false) => Ok(None),
+            Err(fault) => Err(fault),
         }
+    }
+
+    /// Takes the first request as [`next`] does, into the words of the caller, which serve from request to
+    /// request, and answers true; or false where more bytes are due. With false or a fault the words are
+    /// then not told.
+    ///
+    /// [`next`]: Reader::next
+    #[inline]
+    pub fn next_into(&mut self, words: &mut Words) -> Result<bool, ReadFault>
+        ensures request { IfOk result (λ given. IsTrue given → IsRequest words.new) }
+        ensures words { IfOk result (λ given. IsTrue given →
+            unread self.old ≡ spelling words.new ++ unread self.new) }
+        ensures whole { IfOk result (λ given. IsTrue given →
+            front (unread self.old) ≡ Whole (unread self.new)) }
+        ensures none { IfOk result (λ given. IsFalse given → front (unread self.old) ≡ Part) }
+        ensures waits { IfOk result (λ given. IsFalse given → unread self.new ≡ unread self.old) }
+        ensures bounded { IfOk result (λ given. IsFalse given →
+            length (unread self.new) ≤ PART_BYTES_MAX) }
+        ensures fault { IfErr result (λ fault. TellsFault (unread self.old) fault) }
+        ensures err { OnErr result (unread self.new ≡ unread self.old) }
+
+        // What is taken off the pieces, and what is kept, as by `next`.
+        ensures pieces { HasTakenOff self.old self.new }
+        ensures between { IfOk result (λ given. IsTrue given → IsBetween self.new) }
+        ensures takes_up { IfOk result (λ given. IsFalse given → IsTakenUp self.new) }
+        ensures keeps { IfOk result (λ given. IsFalse given → KeepsWords self.old self.new) }
+        ensures err_keeps { OnErr result (KeepsWords self.old self.new) }
+    {
+        if self.take_whole(words) {
+            return Ok(true);
+        }
+        self.next_by_steps(words)
+    }
+
+    /// Takes the first request step by step.
+    #[inline(never)]
+    fn next_by_steps(&mut self, words: &mut Words) -> Result<bool, ReadFault>
+        ensures takes { TakesNext self.old result words.new self.new }
+        ensures bounded { IfOk result (λ given. IsFalse given →
+            length (unread self.new) ≤ PART_BYTES_MAX) }
+    {
         loop {
             match self.step() {
                 Step::Goes => {}
-                Step::Gives(words) => return Ok(Some(words)),
+                Step::Gives(given) => {
+                    *words = given;
+                    return Ok(true);
+                }
                 Step::Waits => {
                     part_is_a_beginning();
-                    return Ok(None);
+                    return Ok(false);
                 }
                 Step::Fails(fault) => return Err(fault),
             }
@@ -172,18 +219,20 @@ impl Reader {
     }
 
     /// Takes the first request, if nothing of it has been taken off, it stands whole in the oldest piece
-    /// and there is memory for its words.
+    /// and there is memory for its words. It says whether it did; else the words are not told.
     #[inline(always)]
-    fn take_whole(&mut self) -> Option<Words>
-        ensures { TakesWhole self.old result self.new }
+    fn take_whole(&mut self, words: &mut Words) -> bool
+        ensures { TakesWhole self.old result words.new self.new }
     {
         if self.due > 0 {
-            return None;
+            return false;
         }
         let mut width = 0;
-        let words = request_in(self.alloc, self.pieces.oldest(), &mut width)?;
+        if !request_in(self.alloc, self.pieces.oldest(), &mut width, words) {
+            return false;
+        }
         self.pieces.skip(width);
-        Some(words)
+        true
     }
 
     /// Takes a count, or a word, off the front.

@@ -6,7 +6,7 @@ use std::alloc::Global;
 use std::process::Abort;
 use std::test::Fail;
 use words::reply::ProtocolFault;
-use words::word::Words;
+use words::word::{Word, Words};
 
 /// What a reader gave: each request as its words with a `,` after each and then a `;`, and the text of
 /// the first fault.
@@ -497,4 +497,49 @@ fn a_refused_allocation_of_a_whole_request(rt: HostRuntime) -> Result<(), Fail> 
     check_given(&rt, &mut reader);
     check_waits(&rt, &mut reader, &[]);
     Ok(())
+}
+
+/// Asserts that these are the words.
+fn check_words(rt: &impl Abort, words: &Words, wanted: &[&[u8]]) {
+    assert!(rt; words.as_slice().len() == wanted.len());
+    for (word, &bytes) in words.as_slice().iter().zip(wanted) {
+        assert!(rt; word.as_slice() == bytes);
+    }
+}
+
+/// Feeds a piece and asks the reader with these words, which are used again.
+fn feed_into(reader: &mut Reader, words: &mut Words, piece: &'static [u8]) -> Result<bool, Fail> {
+    feed_again(reader, piece)?;
+    match reader.next_into(words) {
+        Ok(given) => Ok(given),
+        Err(_) => Err(Fail::from("a fault")),
+    }
+}
+
+/// A request of many words, then one of few, a part, and its rest, each into the same words.
+fn feed_one_after_another(
+    rt: &impl Abort,
+    reader: &mut Reader,
+    words: &mut Words,
+) -> Result<(), Fail> {
+    let long =
+        b"*6\r\n$1\r\na\r\n$26\r\nabcdefghijklmnopqrstuvwxyz\r\n$1\r\nc\r\n$0\r\n\r\n$1\r\ne\r\n$30\r\n012345678901234567890123456789\r\n";
+    assert!(rt; feed_into(reader, words, long)?);
+    check_words(rt, words, CUT_WORDS);
+    assert!(rt; feed_into(reader, words, b"*2\r\n$3\r\nGET\r\n$1\r\nk\r\n")?);
+    check_words(rt, words, &[b"GET", b"k"]);
+    assert!(rt; !feed_into(reader, words, b"*3\r\n$3\r\nSET\r\n$1\r\nk")?);
+    assert!(rt; feed_into(reader, words, b"\r\n$2\r\nvw\r\n*1\r\n$4\r\nPING\r\n")?);
+    check_words(rt, words, &[b"SET", b"k", b"vw"]);
+    assert!(rt; feed_into(reader, words, b"*1\r\n")?);
+    check_words(rt, words, &[b"PING"]);
+    Ok(())
+}
+
+#[test]
+fn words_are_used_again(rt: HostRuntime) -> Result<(), Fail> {
+    let alloc = rt.alloc();
+    let mut reader = Reader::new(alloc);
+    let mut words = Words::one(alloc, Word::empty(alloc));
+    feed_one_after_another(&rt, &mut reader, &mut words)
 }

@@ -41,6 +41,40 @@ pub(crate) struct Outcome<T> {
     pub(crate) count: usize,
 }
 
+impl<T: Copy + PartialEq> Outcome<T> {
+    /// Whether the server ended well, its clients told this, and so many connections were served.
+    pub(crate) fn is_well(&self, told: T, count: usize) -> bool {
+        self.served.is_ok() && self.told == Some(told) && self.count == count
+    }
+}
+
+impl Outcome<bool> {
+    /// Whether the server ended well, its clients told yes, and the first four connections ended so.
+    pub(crate) fn ended(&self, numbers: [Option<u8>; 4]) -> bool {
+        self.served.is_ok() && self.told == Some(true) && self.numbers == numbers
+    }
+}
+
+/// How the first four connections ended.
+fn first_numbers(endings: &Endings) -> [Option<u8>; 4] {
+    [
+        endings.get(0),
+        endings.get(1),
+        endings.get(2),
+        endings.get(3),
+    ]
+}
+
+/// A listener, and its port.
+fn listening<R>(rt: &R, options: &Options) -> Result<(TcpListener, u16), Fail>
+where
+    R: Net<Listener = TcpListener, Stream = TcpStream>,
+{
+    let listener = listen(rt, options)?;
+    let port = listener.local_addr()?.port();
+    Ok((listener, port))
+}
+
 /// A server with so many stripes and workers that accepts so many connections, while its clients talk, who
 /// are given its port.
 pub(crate) fn with_server<R, T: Copy, F: FnOnce(u16) -> io::Result<T>>(
@@ -61,8 +95,7 @@ where
 {
     let options = Options::new(0, accept, stripes, workers).ok_or("options")?;
     let endings = Endings::new(rt.alloc())?;
-    let listener = listen(rt, &options)?;
-    let port = listener.local_addr()?.port();
+    let (listener, port) = listening(rt, &options)?;
     let (served, told) = thread::join(
         rt,
         || run_workers(rt, listener, &options, &Open, &endings),
@@ -71,12 +104,7 @@ where
     Ok(Outcome {
         served,
         told: told.ok(),
-        numbers: [
-            endings.get(0),
-            endings.get(1),
-            endings.get(2),
-            endings.get(3),
-        ],
+        numbers: first_numbers(&endings),
         count: endings.count(),
     })
 }

@@ -31,9 +31,7 @@ fn one_sets_and_gets(rt: &HostRuntime, port: u16) -> io::Result<bool> {
 #[test]
 fn replies_before_input_ends(rt: HostRuntime) -> Result<(), Fail> {
     let outcome = with_server(&rt, 1, 16, 1, |port| one_sets_and_gets(&rt, port))?;
-    assert_eq!(rt; outcome.served, Ok(()));
-    assert_eq!(rt; outcome.told, Some(true));
-    assert_eq!(rt; outcome.numbers, [Some(1), None, None, None]);
+    assert!(rt; outcome.ended([Some(1), None, None, None]));
     Ok(())
 }
 
@@ -49,9 +47,7 @@ fn one_sets_another_gets(rt: &HostRuntime, port: u16) -> io::Result<bool> {
 #[test]
 fn a_later_connection_reads_what_an_earlier_one_set(rt: HostRuntime) -> Result<(), Fail> {
     let outcome = with_server(&rt, 2, 16, 1, |port| one_sets_another_gets(&rt, port))?;
-    assert_eq!(rt; outcome.served, Ok(()));
-    assert_eq!(rt; outcome.told, Some(true));
-    assert_eq!(rt; outcome.numbers, [Some(2), Some(1), None, None]);
+    assert!(rt; outcome.ended([Some(2), Some(1), None, None]));
     Ok(())
 }
 
@@ -97,9 +93,7 @@ fn two_have_transactions(rt: &HostRuntime, port: u16) -> io::Result<bool> {
 #[test]
 fn transactions_over_connections(rt: HostRuntime) -> Result<(), Fail> {
     let outcome = with_server(&rt, 2, 16, 1, |port| two_have_transactions(&rt, port))?;
-    assert_eq!(rt; outcome.served, Ok(()));
-    assert_eq!(rt; outcome.told, Some(true));
-    assert_eq!(rt; outcome.numbers, [Some(2), Some(1), None, None]);
+    assert!(rt; outcome.ended([Some(2), Some(1), None, None]));
     Ok(())
 }
 
@@ -139,9 +133,7 @@ fn is_refused(client: &TcpStream) -> io::Result<bool> {
 #[test]
 fn a_client_that_goes_away_ends_its_own_connection_alone(rt: HostRuntime) -> Result<(), Fail> {
     let outcome = with_server(&rt, 4, 16, 1, |port| three_go_and_a_fourth_comes(&rt, port))?;
-    assert_eq!(rt; outcome.served, Ok(()));
-    assert_eq!(rt; outcome.told, Some(true));
-    assert_eq!(rt; outcome.numbers, [Some(1), Some(5), Some(3), Some(1)]);
+    assert!(rt; outcome.ended([Some(1), Some(5), Some(3), Some(1)]));
     Ok(())
 }
 
@@ -170,8 +162,6 @@ fn one_sends_on_and_one_stays(rt: &HostRuntime, port: u16) -> io::Result<bool> {
 #[test]
 fn a_client_that_sends_on_reads_the_last_line(rt: HostRuntime) -> Result<(), Fail> {
     let outcome = with_server(&rt, 3, 16, 1, |port| one_sends_on_and_one_stays(&rt, port))?;
-    assert_eq!(rt; outcome.served, Ok(()));
-    assert_eq!(rt; outcome.told, Some(true));
-    assert_eq!(rt; outcome.numbers, [Some(3), Some(3), Some(1), None]);
+    assert!(rt; outcome.ended([Some(3), Some(3), Some(1), None]));
     Ok(())
 }

@@ -44,9 +44,7 @@ fn sixty_four_and_one(rt: &HostRuntime, port: u16) -> io::Result<bool> {
 #[test]
 fn sixty_four_workers_serve_sixty_four_clients(rt: HostRuntime) -> Result<(), Fail> {
     let outcome = with_server(&rt, 65, 64, 64, |port| sixty_four_and_one(&rt, port))?;
-    assert_eq!(rt; outcome.served, Ok(()));
-    assert_eq!(rt; outcome.told, Some(true));
-    assert_eq!(rt; outcome.count, 64);
+    assert!(rt; outcome.is_well(true, 64));
     Ok(())
 }
 
@@ -66,9 +64,7 @@ fn one_crowd_after_the_other(rt: &HostRuntime, port: u16) -> io::Result<bool> {
 #[test]
 fn new_clients_come_as_others_end(rt: HostRuntime) -> Result<(), Fail> {
     let outcome = with_server(&rt, 40, 16, 4, |port| one_crowd_after_the_other(&rt, port))?;
-    assert_eq!(rt; outcome.served, Ok(()));
-    assert_eq!(rt; outcome.told, Some(true));
-    assert_eq!(rt; outcome.count, 40);
+    assert!(rt; outcome.is_well(true, 40));
     Ok(())
 }
 
@@ -143,8 +139,6 @@ where
 #[test]
 fn sixteen_clients_at_once_read_their_own_replies(rt: HostRuntime) -> Result<(), Fail> {
     let outcome = with_server(&rt, 16, 4, 16, |port| sixteen(&rt, port))?;
-    assert_eq!(rt; outcome.served, Ok(()));
-    assert_eq!(rt; outcome.told, Some(16));
-    assert_eq!(rt; outcome.count, 16);
+    assert!(rt; outcome.is_well(16, 16));
     Ok(())
 }

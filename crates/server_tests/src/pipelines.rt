@@ -46,9 +46,7 @@ fn two_hundred_sets(rt: &HostRuntime, port: u16) -> io::Result<bool> {
 #[test]
 fn long_requests_in_a_row_are_answered_in_order(rt: HostRuntime) -> Result<(), Fail> {
     let outcome = with_server(&rt, 1, 16, 1, |port| two_hundred_sets(&rt, port))?;
-    assert_eq!(rt; outcome.served, Ok(()));
-    assert_eq!(rt; outcome.told, Some(true));
-    assert_eq!(rt; outcome.numbers, [Some(1), None, None, None]);
+    assert!(rt; outcome.ended([Some(1), None, None, None]));
     Ok(())
 }
 
@@ -63,9 +61,7 @@ fn ten_sets_and_the_end(rt: &HostRuntime, port: u16) -> io::Result<bool> {
 #[test]
 fn long_requests_before_the_end_of_the_input_are_answered(rt: HostRuntime) -> Result<(), Fail> {
     let outcome = with_server(&rt, 1, 16, 1, |port| ten_sets_and_the_end(&rt, port))?;
-    assert_eq!(rt; outcome.served, Ok(()));
-    assert_eq!(rt; outcome.told, Some(true));
-    assert_eq!(rt; outcome.numbers, [Some(1), None, None, None]);
+    assert!(rt; outcome.ended([Some(1), None, None, None]));
     Ok(())
 }
 
@@ -113,8 +109,6 @@ fn no_reply_hangs_where_a_read_was_filled(rt: HostRuntime) -> Result<(), Fail> {
     let outcome = with_server(&rt, 1, 16, 1, |port| {
         whole_pieces_one_after_the_other(&rt, port)
     })?;
-    assert_eq!(rt; outcome.served, Ok(()));
-    assert_eq!(rt; outcome.told, Some(true));
-    assert_eq!(rt; outcome.numbers, [Some(1), None, None, None]);
+    assert!(rt; outcome.ended([Some(1), None, None, None]));
     Ok(())
 }

@@ -19,9 +19,7 @@ fn a_second_is_turned_away(rt: &HostRuntime, port: u16) -> io::Result<bool> {
 #[test]
 fn a_connection_beyond_the_workers_is_turned_away(rt: HostRuntime) -> Result<(), Fail> {
     let outcome = with_server(&rt, 2, 16, 1, |port| a_second_is_turned_away(&rt, port))?;
-    assert_eq!(rt; outcome.served, Ok(()));
-    assert_eq!(rt; outcome.told, Some(true));
-    assert_eq!(rt; outcome.count, 1);
+    assert!(rt; outcome.is_well(true, 1));
     Ok(())
 }
 
@@ -50,9 +48,7 @@ fn some_stay(rt: &HostRuntime, port: u16) -> io::Result<bool> {
 #[test]
 fn clients_that_are_turned_away_keep_nobody_waiting(rt: HostRuntime) -> Result<(), Fail> {
     let outcome = with_server(&rt, 5, 16, 1, |port| some_stay(&rt, port))?;
-    assert_eq!(rt; outcome.served, Ok(()));
-    assert_eq!(rt; outcome.told, Some(true));
-    assert_eq!(rt; outcome.count, 2);
+    assert!(rt; outcome.is_well(true, 2));
     Ok(())
 }
 
@@ -74,9 +70,7 @@ fn all_quit_and_stay(rt: &HostRuntime, port: u16) -> io::Result<bool> {
 #[test]
 fn clients_that_quit_and_stay_keep_no_worker(rt: HostRuntime) -> Result<(), Fail> {
     let outcome = with_server(&rt, 80, 16, 1, |port| all_quit_and_stay(&rt, port))?;
-    assert_eq!(rt; outcome.served, Ok(()));
-    assert_eq!(rt; outcome.told, Some(true));
-    assert_eq!(rt; outcome.count, 80);
+    assert!(rt; outcome.is_well(true, 80));
     Ok(())
 }
 
@@ -89,20 +83,30 @@ fn one_is_served_beside_them(rt: &HostRuntime, port: u16) -> io::Result<bool> {
     floods.set_nonblocking(true)?;
     floods_with_requests(&floods);
     connect(rt, port)?.shutdown(Shutdown::Both)?;
-    let mut slow = &connect(rt, port)?;
+    one_is_served_beside_a_slow_one(rt, port)
+}
+
+/// One that sends byte by byte, while another is served.
+fn one_is_served_beside_a_slow_one(rt: &HostRuntime, port: u16) -> io::Result<bool> {
+    let slow = connect(rt, port)?;
     let served = connect(rt, port)?;
     for _ in 0..10 {
-        for byte in PING {
-            slow.write_all(&[*byte])?;
-            if !answers(&served, PING, PONG)? {
-                return Ok(false);
-            }
-        }
-        if !reads(slow, PONG)? {
+        if !are_answered(&slow, &served)? {
             return Ok(false);
         }
     }
     Ok(true)
+}
+
+/// Whether one that sends byte by byte is answered, and another after each byte.
+fn are_answered(mut slow: &TcpStream, served: &TcpStream) -> io::Result<bool> {
+    for byte in PING {
+        slow.write_all(&[*byte])?;
+        if !answers(served, PING, PONG)? {
+            return Ok(false);
+        }
+    }
+    reads(slow, PONG)
 }
 
 /// Sends requests and reads no reply, until the server takes no more of them.
@@ -117,8 +121,6 @@ fn floods_with_requests(mut client: &TcpStream) {
 #[test]
 fn a_client_costs_its_own_worker_alone(rt: HostRuntime) -> Result<(), Fail> {
     let outcome = with_server(&rt, 5, 16, 4, |port| one_is_served_beside_them(&rt, port))?;
-    assert_eq!(rt; outcome.served, Ok(()));
-    assert_eq!(rt; outcome.told, Some(true));
-    assert_eq!(rt; outcome.count, 5);
+    assert!(rt; outcome.is_well(true, 5));
     Ok(())
 }

@@ -13,14 +13,21 @@ impl Called {
         ensures { Resumes (wait_of self) answer result.0 (idle_of result.1) }
     {
         let Called { mut session, then } = self;
-        match (then, answer) {
-            (Then::Says(line), _) => (Reply::line(line), session),
-            (_, Answer::Reply(reply)) => (reply, session),
-            (Then::Answers, Answer::Fault(fault)) => (Reply::line(Line::Faulty(fault)), session),
-            (Then::AnswersOrTakesBack(count), Answer::Fault(fault)) => {
-                session.watching.take_back(count);
-                (Reply::line(Line::Faulty(fault)), session)
+        match then {
+            Then::Answers => {}
+            Then::AnswersOrTakesBack(count) => {
+                if let Answer::Fault(_) = &answer {
+                    session.watching.take_back(count);
+                }
             }
+            Then::Says(line) => {
+                drop(answer);
+                return (Reply::line(line), session);
+            }
+        }
+        match answer {
+            Answer::Reply(reply) => (reply, session),
+            Answer::Fault(fault) => (Reply::line(Line::Faulty(fault)), session),
         }
     }
 }

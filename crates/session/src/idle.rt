@@ -6,7 +6,7 @@ use std::alloc::Global;
 use transact::call::{Call, Watching};
 use words::command::{Command, Keys, SessionCommand};
 use words::reply::{CommandReply, Item, Line, Refusal, Reply, TransactionError};
-use words::word::Words;
+use words::word::{Word, Words};
 
 impl Session<Idle> {
     ghost use Rattle.std.specs.Prelude.{◌≡◌, Ok, []};
@@ -32,7 +32,16 @@ impl Session<Idle> {
         requires { command ≡ command_of words }
         ensures { IsStep (idle_of self) words result }
     {
+        let step = self.step_of(&words, command);
         drop(words);
+        step
+    }
+
+    /// The same as [`step`](Session::step), of words that stay the caller's.
+    pub fn step_of(self, words: &Words, command: Result<Command, Refusal>) -> Step
+        requires { command ≡ command_of words.now }
+        ensures { IsStep (idle_of self) words.now result }
+    {
         self.take(command)
     }
 
@@ -43,10 +52,7 @@ impl Session<Idle> {
         match command {
             Err(refusal) => self.say(Line::Refused(refusal)),
             Ok(Command::Ping(None)) => self.say(Line::Pong),
-            Ok(Command::Ping(Some(text)) | Command::Echo(text)) => {
-                let reply = Reply::Single(CommandReply::One(Item::Bulk(text)));
-                Step::Says(reply, AnySession::Idle(self))
-            }
+            Ok(Command::Ping(Some(text)) | Command::Echo(text)) => self.say_text(text),
             Ok(Command::Bad(refusal)) => self.say(Line::Refused(refusal)),
             Ok(Command::Session(command)) => self.obey(command),
             Ok(command) => Step::Calls(
@@ -82,6 +88,14 @@ impl Session<Idle> {
         ensures { Gives (says line mode.Idle) self.watching result }
     {
         Step::Says(Reply::line(line), AnySession::Idle(self))
+    }
+
+    /// It says a text, and stays as it is.
+    fn say_text(self, text: Word) -> Step
+        ensures { Gives (mode.Tries (Reply.Single (CommandReply.One (Item.Bulk text))) mode.Idle mode.Idle) self.watching result }
+    {
+        let reply = Reply::Single(CommandReply::One(Item::Bulk(text)));
+        Step::Says(reply, AnySession::Idle(self))
     }
 
     /// It opens a transaction.

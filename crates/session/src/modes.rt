@@ -185,10 +185,20 @@ impl AnySession {
         requires { command ≡ command_of words }
         ensures { IsStep (standing_of self) words result }
     {
+        let step = self.step_of(&words, command);
+        drop(words);
+        step
+    }
+
+    /// The same as [`step`](AnySession::step), of words that stay the caller's.
+    pub fn step_of(self, words: &Words, command: Result<Command, Refusal>) -> Step
+        requires { command ≡ command_of words.now }
+        ensures { IsStep (standing_of self) words.now result }
+    {
         match self {
-            AnySession::Idle(session) => session.step(words, command),
-            AnySession::Queueing(session) => session.step(words, command),
-            AnySession::Spoiled(session) => session.step(words, command),
+            AnySession::Idle(session) => session.step_of(words, command),
+            AnySession::Queueing(session) => session.step_of(words, command),
+            AnySession::Spoiled(session) => session.step_of(words, command),
         }
     }
 

@@ -24,9 +24,17 @@ impl Session<Queueing> {
         requires { command ≡ command_of words }
         ensures { IsStep (queueing_of self) words result }
     {
-        let step = self.take(words.as_slice(), command);
+        let step = self.step_of(&words, command);
         drop(words);
         step
+    }
+
+    /// The same as [`step`](Session::step), of words that stay the caller's.
+    pub fn step_of(self, words: &Words, command: Result<Command, Refusal>) -> Step
+        requires { command ≡ command_of words.now }
+        ensures { IsStep (queueing_of self) words.now result }
+    {
+        self.take(words.as_slice(), command)
     }
 
     /// What a request of these words gives that is this command, or is refused so.

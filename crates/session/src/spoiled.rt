@@ -18,7 +18,16 @@ impl Session<Spoiled> {
         requires { command ≡ command_of words }
         ensures { IsStep (spoiled_of self) words result }
     {
+        let step = self.step_of(&words, command);
         drop(words);
+        step
+    }
+
+    /// The same as [`step`](Session::step), of words that stay the caller's.
+    pub fn step_of(self, words: &Words, command: Result<Command, Refusal>) -> Step
+        requires { command ≡ command_of words.now }
+        ensures { IsStep (spoiled_of self) words.now result }
+    {
         self.take(command)
     }
 

@@ -9,7 +9,7 @@ use Rattle.gates.specs.Passes.{ToldBusy}
 use Rattle.words.specs.declared.history.Operation.{Operation}
 use Rattle.words.specs.declared.history.Entry.{Entry}
 use Rattle.words.specs.Store.{Bytes, Write}
-use Rattle.words.specs.Commands.{keys_of_all}
+use Rattle.words.specs.Commands.{keys_of_all, touches_keys}
 use Rattle.words.specs.History.{History, Pair, due, keys_named, keys_of_pairs}
 use Rattle.words.specs.Watches.{watched_after}
 use Rattle.gates.specs.Plays.{kept}
@@ -234,6 +234,21 @@ failed_behind_as (answer.Fault fault) call before mid later learned failed = rec
   did_not =
       did_not_behind before mid later (watched_at_fault before.watched (asked_for call)) learned
       (subst (λ (w : List Pair). DidNot (watched_at_fault w (asked_for call)) mid later) learned.watched failed.did_not);
+}
+
+-- What a command alone came to, known by the number of its pass, it came to from before its stripes were taken.
+pub done_alone : (a : Answer) (command : Command) (seat : ℕ) (before mid later : Knowledge) → seat ≡ mid.number → Learned before mid
+    → IfReply a (λ reply. Did (record { session = seat; operation = operation_of mid.watched (asked_for (One command)); reply = reply }) mid later)
+    → IfReply a (λ reply. HasDone (One command) reply before later)
+done_alone (answer.Reply reply) command seat before mid later is learned did = did_behind before mid later (asked_for (One command)) reply seat is learned did
+done_alone (answer.Fault fault) command seat before mid later is learned did = tt
+
+pub failed_alone : (a : Answer) (command : Command) (before mid later : Knowledge) → touches_keys command ≡ true → Learned before mid
+    → IfFault a (λ fault. DidNot mid.watched mid later) → IfFault a (λ fault. HasFailed (One command) before later)
+failed_alone (answer.Reply reply) command before mid later touches learned did_not = tt
+failed_alone (answer.Fault fault) command before mid later touches learned did_not = record {
+  entry = touches;
+  did_not = did_not_behind before mid later before.watched learned (subst (λ (w : List Pair). DidNot w mid later) learned.watched did_not);
 }
 
 pub told_behind_as : (a : Answer) (one other : List ℕ) (before mid later : Knowledge) → one ≡ other → ToldBusy one before mid → IfReply a (λ reply. later.notes ≡ mid.notes)

@@ -76,6 +76,18 @@ impl Shard {
         }
     }
 
+    /// Gives a key that has a place this value, or none, at its place. It takes no memory.
+    #[tactic(auto, unfolding(crate::specs::Shards::place_of))]
+    fn replace(&mut self, key: &Word, value: Option<Word>)
+        requires place { HasPlace self.old key.now }
+        ensures places { (k : List ℕ) → place_of self.new k ≡ update bytes_eq (place_of self.old) key.now (Some value) k }
+        ensures marks { self.new.marks ≡ self.old.marks }
+    {
+        if let Some(place) = self.map.get_mut(key) {
+            *place = value;
+        }
+    }
+
     /// Makes a place for a key that has none. It takes no memory where the key has one.
     pub fn make_place(&mut self, key: &Word) -> Result<(), OutOfMemory>
         ensures same { (k : List ℕ) → shard_store self.new k ≡ shard_store self.old k }
@@ -100,7 +112,7 @@ impl Shard {
         ensures kept { (k : List ℕ) → HasPlace self.old k → HasPlace self.new k }
     {
         self.touch(&key);
-        let _ = self.put(key, value);
+        self.replace(&key, value);
     }
 
     /// Deletes a key, with its place, and touches its marks. It takes no memory.

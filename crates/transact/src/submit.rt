@@ -21,9 +21,9 @@ use crate::call::{Answer, Busy, Call, Watching};
 use crate::cells::{make_place, value_of, write};
 use crate::plan::{found, plan};
 use crate::shard::Shard;
-use crate::stripes::keys_of;
+use crate::stripes::{keys_of, with_key};
 use crate::watches::forget;
-use gates::{Asks, CommitsWornOut, Gates, Held, Latch, Pass, Point};
+use gates::{Asks, CommitsWornOut, Gates, Held, Latch, Pass, Point, Sorted};
 use std::alloc::Global;
 use std::sync::Wait;
 use words::command::{Command, When};
@@ -422,12 +422,61 @@ fn give_back(held: Held<'_, Shard>, ends: bool)
     }
 }
 
-/// Runs a call of a pass over the gates, whole or not at all, and waits where others hold its stripes.
-/// With a reply, the pass's own entries grow by the call's one entry with that reply, and by none where
-/// the call ends the watches. With a fault they grow by none. After a transaction, and after a call that
-/// ends the watches, nothing is watched; the latter takes no memory and cannot fail. The latch is told
-/// where the stripes of a call are held whose commit is next.
-pub fn submit<R: Wait, L: Latch>(
+/// Runs a GET of a pass over the gates.
+fn submit_get<R: Wait, L: Latch>(
+    rt: &R,
+    gates: &Gates<Shard>,
+    pass: &mut Pass<Shard>,
+    key: &Word,
+    latch: &L,
+) -> Answer
+    requires own { IsResting gates.now pass.old }
+    ensures own { IsResting gates.now pass.new }
+    ensures did { IfReply result (λ reply. HasDone (get_call key.now) reply (known pass.old) (known pass.new)) }
+    ensures fault { IfFault result (λ fault. HasFailed (get_call key.now) (known pass.old) (known pass.new)) }
+    ensures told { IfReply result (λ reply. HeardBusy (stripes_asked (stripes_of gates.now) (get_call key.now)) (known pass.old) (known pass.new)) }
+    ensures refused { IfFault result (λ fault. WasRefused fault (stripes_asked (stripes_of gates.now) (get_call key.now)) (known pass.old) (known pass.new)) }
+    ensures memory { IfFault result (λ fault. NeedsSome fault (known pass.new) (asked_for (get_call key.now))) }
+{
+    let stripes = gates.stripes();
+    let seat = pass.number();
+    let wanted = with_key(Sorted::none(), key, stripes);
+    let mut held = gates.take(rt, pass, &wanted);
+    latch.at(seat, Point::Holding);
+    let answer = enter_get(&mut held, stripes, seat, key);
+    held.give();
+    answer
+}
+
+/// Runs a SET without an option of a pass over the gates.
+fn submit_set<R: Wait, L: Latch>(
+    rt: &R,
+    gates: &Gates<Shard>,
+    pass: &mut Pass<Shard>,
+    setting: Setting,
+    latch: &L,
+) -> Answer
+    requires own { IsResting gates.now pass.old }
+    ensures own { IsResting gates.now pass.new }
+    ensures did { IfReply result (λ reply. HasDone (set_call setting.key setting.value) reply (known pass.old) (known pass.new)) }
+    ensures fault { IfFault result (λ fault. HasFailed (set_call setting.key setting.value) (known pass.old) (known pass.new)) }
+    ensures told { IfReply result (λ reply. HeardBusy (stripes_asked (stripes_of gates.now) (set_call setting.key setting.value)) (known pass.old) (known pass.new)) }
+    ensures refused { IfFault result (λ fault. WasRefused fault (stripes_asked (stripes_of gates.now) (set_call setting.key setting.value)) (known pass.old) (known pass.new)) }
+    ensures memory { IfFault result (λ fault. NeedsSome fault (known pass.new) (asked_for (set_call setting.key setting.value))) }
+{
+    let stripes = gates.stripes();
+    let seat = pass.number();
+    let wanted = with_key(Sorted::none(), &setting.key, stripes);
+    let mut held = gates.take(rt, pass, &wanted);
+    latch.at(seat, Point::Holding);
+    let answer = enter_set(&mut held, stripes, seat, setting);
+    held.give();
+    answer
+}
+
+/// Runs any call of a pass over the gates.
+#[inline(never)]
+fn submit_any<R: Wait, L: Latch>(
     rt: &R,
     alloc: Global,
     gates: &Gates<Shard>,
@@ -455,6 +504,38 @@ pub fn submit<R: Wait, L: Latch>(
     let Entered { answer, ends } = enter_call(alloc, &mut held, stripes, seat, call);
     give_back(held, ends);
     answer
+}
+
+/// Runs a call of a pass over the gates, whole or not at all, and waits where others hold its stripes.
+/// With a reply, the pass's own entries grow by the call's one entry with that reply, and by none where
+/// the call ends the watches. With a fault they grow by none. After a transaction, and after a call that
+/// ends the watches, nothing is watched; the latter takes no memory and cannot fail. The latch is told
+/// where the stripes of a call are held whose commit is next.
+pub fn submit<R: Wait, L: Latch>(
+    rt: &R,
+    alloc: Global,
+    gates: &Gates<Shard>,
+    pass: &mut Pass<Shard>,
+    call: Call,
+    latch: &L,
+) -> Answer
+    requires own { IsResting gates.now pass.old }
+    requires may { MayBeSubmitted call }
+    requires ends { EndsAll call (known pass.old).watched }
+    ensures own { IsResting gates.now pass.new }
+    ensures did { IfReply result (λ reply. HasDone call reply (known pass.old) (known pass.new)) }
+    ensures fault { IfFault result (λ fault. HasFailed call (known pass.old) (known pass.new)) }
+    ensures told { IfReply result (λ reply. HeardBusy (stripes_asked (stripes_of gates.now) call) (known pass.old) (known pass.new)) }
+    ensures refused { IfFault result (λ fault. WasRefused fault (stripes_asked (stripes_of gates.now) call) (known pass.old) (known pass.new)) }
+    ensures memory { IfFault result (λ fault. NeedsSome fault (known pass.new) (asked_for call)) }
+{
+    match call {
+        Call::One(Command::Get(key)) => submit_get(rt, gates, pass, &key, latch),
+        Call::One(Command::Set(key, value, When::Always)) => {
+            submit_set(rt, gates, pass, Setting { key, value }, latch)
+        }
+        call => submit_any(rt, alloc, gates, pass, call, latch),
+    }
 }
 
 /// The same as [`submit`], with one try of each stripe in place of waiting. Where all are free, the pass is

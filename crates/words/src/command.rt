@@ -1,15 +1,13 @@
 //! Commands, and which command the words of a request are.
 
-ghost use Rattle.std.specs.Prelude.{◌≡◌, IfOk, IsOk};
+ghost use Rattle.std.specs.Prelude.{◌≡◌, List, IfOk, IsOk};
 ghost use Rattle.words.specs.Commands.{command_of, command_in, AsksNoMemory, is_name, readers, counters, session_commands};
+ghost use Rattle.words.specs.Store.{Bytes};
+ghost use Rattle.words.specs.Verbs.{shaped};
 
 use crate::reply::Refusal;
 use crate::sequence::Sequence;
-use crate::shapes::{
-    KeyVerb, KeysVerb, NumberVerb, SettingsVerb, ValueVerb, alone, key_and_number, key_and_value,
-    key_offset_value, key_start_end, key_value_options, one_key, one_text, optional_text,
-    some_keys, some_settings, watched_keys,
-};
+use crate::shapes::{KeyVerb, KeysVerb, LoneVerb, NumberVerb, SettingsVerb, Shape, ValueVerb};
 use crate::word::{OutOfMemory, Word, Words};
 use std::alloc::Global;
 use std::fmt;
@@ -142,101 +140,86 @@ impl Command {
         let Some((name, arguments)) = words.as_slice().split_first() else {
             return Ok(Err(Refusal::UnknownCommand));
         };
-        string_command(alloc, name.as_slice(), arguments)
+        shape_of(name.as_slice()).read(alloc, arguments)
     }
 }
 
-/// A command of one key, by its name, or else one of the others.
-fn string_command(
-    alloc: Global,
-    name: &[u8],
-    arguments: &[Word],
-) -> Result<Result<Command, Refusal>, OutOfMemory>
-    ensures exact { IfOk result (λ command. command ≡ command_in (readers counters) name.now arguments.now) }
-    ensures memory { AsksNoMemory (command_in (readers counters) name.now arguments.now) → IsOk result }
+/// The shape of a command of one key, by its name, or else of one of the others.
+fn shape_of(name: &[u8]) -> Shape
+    ensures { (arguments : List Bytes) → shaped result arguments ≡ command_in (readers counters) name.now arguments }
 {
     if is_named(name, b"GET") {
-        one_key(alloc, KeyVerb::Get, arguments)
+        Shape::OneKey(KeyVerb::Get)
     } else if is_named(name, b"SET") {
-        key_value_options(alloc, arguments)
+        Shape::KeyValueOptions
     } else if is_named(name, b"SETNX") {
-        key_and_value(alloc, ValueVerb::SetNx, arguments)
+        Shape::KeyAndValue(ValueVerb::SetNx)
     } else if is_named(name, b"GETSET") {
-        key_and_value(alloc, ValueVerb::GetSet, arguments)
+        Shape::KeyAndValue(ValueVerb::GetSet)
     } else if is_named(name, b"GETDEL") {
-        one_key(alloc, KeyVerb::GetDel, arguments)
+        Shape::OneKey(KeyVerb::GetDel)
     } else if is_named(name, b"STRLEN") {
-        one_key(alloc, KeyVerb::StrLen, arguments)
+        Shape::OneKey(KeyVerb::StrLen)
     } else if is_named(name, b"EXISTS") {
-        some_keys(alloc, KeysVerb::Exists, arguments)
+        Shape::SomeKeys(KeysVerb::Exists)
     } else if is_named(name, b"DEL") {
-        some_keys(alloc, KeysVerb::Del, arguments)
+        Shape::SomeKeys(KeysVerb::Del)
     } else if is_named(name, b"APPEND") {
-        key_and_value(alloc, ValueVerb::Append, arguments)
+        Shape::KeyAndValue(ValueVerb::Append)
     } else if is_named(name, b"SETRANGE") {
-        key_offset_value(alloc, arguments)
+        Shape::KeyOffsetValue
     } else if is_named(name, b"GETRANGE") {
-        key_start_end(alloc, arguments)
+        Shape::KeyStartEnd
     } else {
-        counting_command(alloc, name, arguments)
+        counting_shape(name)
     }
 }
 
-/// A command of numbers or of several keys, by its name, or else one that names no key.
-fn counting_command(
-    alloc: Global,
-    name: &[u8],
-    arguments: &[Word],
-) -> Result<Result<Command, Refusal>, OutOfMemory>
-    ensures exact { IfOk result (λ command. command ≡ command_in counters name.now arguments.now) }
-    ensures memory { AsksNoMemory (command_in counters name.now arguments.now) → IsOk result }
+/// The shape of a command of numbers or of several keys, by its name, or else of one that names no key.
+fn counting_shape(name: &[u8]) -> Shape
+    ensures { (arguments : List Bytes) → shaped result arguments ≡ command_in counters name.now arguments }
 {
     if is_named(name, b"INCR") {
-        one_key(alloc, KeyVerb::Increment, arguments)
+        Shape::OneKey(KeyVerb::Increment)
     } else if is_named(name, b"DECR") {
-        one_key(alloc, KeyVerb::Decrement, arguments)
+        Shape::OneKey(KeyVerb::Decrement)
     } else if is_named(name, b"INCRBY") {
-        key_and_number(alloc, NumberVerb::Add, arguments)
+        Shape::KeyAndNumber(NumberVerb::Add)
     } else if is_named(name, b"DECRBY") {
-        key_and_number(alloc, NumberVerb::Subtract, arguments)
+        Shape::KeyAndNumber(NumberVerb::Subtract)
     } else if is_named(name, b"MGET") {
-        some_keys(alloc, KeysVerb::MGet, arguments)
+        Shape::SomeKeys(KeysVerb::MGet)
     } else if is_named(name, b"MSET") {
-        some_settings(alloc, SettingsVerb::MSet, arguments)
+        Shape::SomeSettings(SettingsVerb::MSet)
     } else if is_named(name, b"MSETNX") {
-        some_settings(alloc, SettingsVerb::MSetNx, arguments)
+        Shape::SomeSettings(SettingsVerb::MSetNx)
     } else {
-        keyless_command(alloc, name, arguments)
+        keyless_shape(name)
     }
 }
 
-/// A command that names no key, or one of the session, by its name.
-fn keyless_command(
-    alloc: Global,
-    name: &[u8],
-    arguments: &[Word],
-) -> Result<Result<Command, Refusal>, OutOfMemory>
-    ensures exact { IfOk result (λ command. command ≡ command_in session_commands name.now arguments.now) }
-    ensures memory { AsksNoMemory (command_in session_commands name.now arguments.now) → IsOk result }
+/// The shape of a command that names no key, or of one of the session, by its name.
+fn keyless_shape(name: &[u8]) -> Shape
+    ensures { (arguments : List Bytes) → shaped result arguments ≡ command_in session_commands name.now arguments }
 {
     if is_named(name, b"PING") {
-        optional_text(alloc, arguments)
+        Shape::OptionalText
     } else if is_named(name, b"ECHO") {
-        one_text(alloc, arguments)
+        Shape::OneText
     } else if is_named(name, b"MULTI") {
-        Ok(alone(SessionCommand::Multi, arguments))
+        Shape::Alone(LoneVerb::Multi)
     } else if is_named(name, b"EXEC") {
-        Ok(alone(SessionCommand::Exec, arguments))
+        Shape::Alone(LoneVerb::Exec)
     } else if is_named(name, b"DISCARD") {
-        Ok(alone(SessionCommand::Discard, arguments))
+        Shape::Alone(LoneVerb::Discard)
     } else if is_named(name, b"WATCH") {
-        watched_keys(alloc, arguments)
+        Shape::WatchedKeys
     } else if is_named(name, b"UNWATCH") {
-        Ok(alone(SessionCommand::Unwatch, arguments))
+        Shape::Alone(LoneVerb::Unwatch)
     } else if is_named(name, b"QUIT") {
-        Ok(alone(SessionCommand::Quit, arguments))
+        Shape::Alone(LoneVerb::Quit)
     } else {
-        Ok(Err(Refusal::UnknownCommand))
+        Shape::Unknown
     }
 }
 

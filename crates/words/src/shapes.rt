@@ -1,11 +1,15 @@
 //! The shapes of the words after a command's name. A request with another number of words is refused
 //! at once. What else the words show is kept as a refused command, in this order: a key that is too
 //! long, option words, a number that is none, an offset below 0.
+//!
+//! A function clears the room of all its temporaries when it begins. So those of the shapes that are
+//! read most have few: no `?`, and their refusals are functions of their own.
 
-ghost use Rattle.std.specs.Prelude.{◌≡◌, ◌++◌, List, ℕ, IfOk, IsOk, OnOk, length};
+ghost use Rattle.std.specs.Prelude.{◌≡◌, ◌++◌, List, ℕ, Some, Ok, Err, IfOk, IsOk, OnOk, length};
 ghost use Rattle.words.specs.Commands as commands;
 ghost use Rattle.words.specs.Commands.{AsksNoMemory, IsInline, when_of, in_pairs};
-ghost use Rattle.words.specs.Verbs.{any_long_set, Adds, of_key_verb, of_value_verb, of_number_verb, of_keys_verb, of_settings_verb};
+ghost use Rattle.words.specs.Verbs.{any_long_set, Adds, shaped};
+ghost use Rattle.words.specs.Verbs.{of_key_verb, of_value_verb, of_number_verb, of_keys_verb, of_settings_verb, of_lone_verb};
 
 use crate::command::{Command, Keys, SessionCommand, Settings, When};
 use crate::limits::KEY_BYTES_MAX;
@@ -13,7 +17,7 @@ use crate::number;
 use crate::reply::Refusal;
 use crate::sequence::Sequence;
 use crate::word::{OutOfMemory, Word};
-use std::alloc::Global;
+use std::alloc::{AllocError, Global};
 
 /// A command of one key.
 #[derive(Clone, Copy, Debug, PartialEq, Eq)]
@@ -53,6 +57,95 @@ pub(crate) enum KeysVerb {
 pub(crate) enum SettingsVerb {
     MSet,
     MSetNx,
+}
+
+/// A command of the session itself that takes no word.
+#[derive(Clone, Copy, Debug, PartialEq, Eq)]
+pub(crate) enum LoneVerb {
+    Multi,
+    Exec,
+    Discard,
+    Unwatch,
+    Quit,
+}
+
+/// What the words after a command's name are to be, and what they make.
+#[derive(Clone, Copy)]
+pub(crate) enum Shape {
+    /// `key`
+    OneKey(KeyVerb),
+    /// `key value`
+    KeyAndValue(ValueVerb),
+    /// `key value [option ..]`
+    KeyValueOptions,
+    /// `key number`
+    KeyAndNumber(NumberVerb),
+    /// `key offset value`
+    KeyOffsetValue,
+    /// `key start end`
+    KeyStartEnd,
+    /// `key [key ..]`
+    SomeKeys(KeysVerb),
+    /// `key value [key value ..]`
+    SomeSettings(SettingsVerb),
+    /// `[text]`
+    OptionalText,
+    /// `text`
+    OneText,
+    /// `key [key ..]` of WATCH
+    WatchedKeys,
+    /// Nothing.
+    Alone(LoneVerb),
+    /// Any words: no command has the name.
+    Unknown,
+}
+
+impl Shape {
+    /// The command that these words after the name are, or why they are none. The shapes that are
+    /// read most stand here, and the others apart, so that this function stays small.
+    pub(crate) fn read(
+        self,
+        alloc: Global,
+        arguments: &[Word],
+    ) -> Result<Result<Command, Refusal>, OutOfMemory>
+        ensures exact { IfOk result (λ command. command ≡ shaped self arguments.now) }
+        ensures memory { AsksNoMemory (shaped self arguments.now) → IsOk result }
+    {
+        match self {
+            Shape::OneKey(KeyVerb::Get) => get(alloc, arguments),
+            Shape::OneKey(verb) => one_key(alloc, verb, arguments),
+            Shape::KeyValueOptions => key_value_options(alloc, arguments),
+            Shape::OptionalText => optional_text(alloc, arguments),
+            other => other.read_seldom(alloc, arguments),
+        }
+    }
+
+    /// The same, for any shape.
+    #[inline(never)]
+    fn read_seldom(
+        self,
+        alloc: Global,
+        arguments: &[Word],
+    ) -> Result<Result<Command, Refusal>, OutOfMemory>
+        ensures exact { IfOk result (λ command. command ≡ shaped self arguments.now) }
+        ensures memory { AsksNoMemory (shaped self arguments.now) → IsOk result }
+    {
+        match self {
+            Shape::OneKey(verb) => one_key(alloc, verb, arguments),
+            Shape::KeyAndValue(verb) => key_and_value(alloc, verb, arguments),
+            Shape::KeyValueOptions => key_value_options(alloc, arguments),
+            Shape::KeyAndNumber(verb) => key_and_number(alloc, verb, arguments),
+            Shape::KeyOffsetValue => key_offset_value(alloc, arguments),
+            Shape::KeyStartEnd => key_start_end(alloc, arguments),
+            Shape::SomeKeys(verb) => some_keys(alloc, verb, arguments),
+            Shape::SomeSettings(verb) => some_settings(alloc, verb, arguments),
+            Shape::OptionalText => optional_text(alloc, arguments),
+            Shape::OneText => one_text(alloc, arguments),
+            Shape::WatchedKeys => watched_keys(alloc, arguments),
+            Shape::Alone(verb) => Ok(alone(verb, arguments)),
+            Shape::Unknown => Ok(Err(Refusal::UnknownCommand)),
+        }
+    }
 }
 
 impl KeyVerb {
@@ -115,6 +208,20 @@ impl SettingsVerb {
     }
 }
 
+impl LoneVerb {
+    fn with(self) -> SessionCommand
+        ensures { result ≡ of_lone_verb self }
+    {
+        match self {
+            LoneVerb::Multi => SessionCommand::Multi,
+            LoneVerb::Exec => SessionCommand::Exec,
+            LoneVerb::Discard => SessionCommand::Discard,
+            LoneVerb::Unwatch => SessionCommand::Unwatch,
+            LoneVerb::Quit => SessionCommand::Quit,
+        }
+    }
+}
+
 /// Whether a key has more bytes than a key may have.
 fn is_long(key: &Word) -> bool
     ensures { result ≡ commands.is_long key.now }
@@ -130,36 +237,61 @@ fn copy(alloc: Global, word: &Word) -> Result<Word, OutOfMemory>
     Word::from_slice(alloc, word.as_slice())
 }
 
+/// The refusal of a request with another number of words.
+#[cold]
+#[inline(never)]
+fn wrong_arity() -> Result<Result<Command, Refusal>, OutOfMemory>
+    ensures { result ≡ Ok (Err Refusal.WrongArity) }
+{
+    Ok(Err(Refusal::WrongArity))
+}
+
+/// A command that its words show to be refused.
+#[cold]
+#[inline(never)]
+fn bad(refusal: Refusal) -> Result<Result<Command, Refusal>, OutOfMemory>
+    ensures { result ≡ Ok (Ok (Command.Bad refusal)) }
+{
+    Ok(Ok(Command::Bad(refusal)))
+}
+
 /// Nothing.
-pub(crate) fn alone(command: SessionCommand, arguments: &[Word]) -> Result<Command, Refusal>
-    ensures { result ≡ commands.alone command arguments.now }
+fn alone(verb: LoneVerb, arguments: &[Word]) -> Result<Command, Refusal>
+    ensures { result ≡ commands.alone (of_lone_verb verb) arguments.now }
 {
     match arguments {
-        [] => Ok(Command::Session(command)),
+        [] => Ok(Command::Session(verb.with())),
         _ => Err(Refusal::WrongArity),
     }
 }
 
+/// A PING with this text.
+fn ping_with(alloc: Global, text: &Word) -> Result<Result<Command, Refusal>, OutOfMemory>
+    ensures exact { IfOk result (λ command. command ≡ Ok (Command.Ping (Some text.now))) }
+    ensures memory { IsInline text.now → IsOk result }
+{
+    let Ok(text) = copy(alloc, text) else {
+        return Err(AllocError);
+    };
+    Ok(Ok(Command::Ping(Some(text))))
+}
+
 /// `[text]`
-pub(crate) fn optional_text(
-    alloc: Global,
-    arguments: &[Word],
-) -> Result<Result<Command, Refusal>, OutOfMemory>
+fn optional_text(alloc: Global, arguments: &[Word]) -> Result<Result<Command, Refusal>, OutOfMemory>
     ensures exact { IfOk result (λ command. command ≡ commands.optional_text Command.Ping arguments.now) }
     ensures memory { AsksNoMemory (commands.optional_text Command.Ping arguments.now) → IsOk result }
 {
-    match arguments {
-        [] => Ok(Ok(Command::Ping(None))),
-        [text] => Ok(Ok(Command::Ping(Some(copy(alloc, text)?)))),
-        _ => Ok(Err(Refusal::WrongArity)),
+    if let [text] = arguments {
+        return ping_with(alloc, text);
     }
+    if !arguments.is_empty() {
+        return wrong_arity();
+    }
+    Ok(Ok(Command::Ping(None)))
 }
 
 /// `text`
-pub(crate) fn one_text(
-    alloc: Global,
-    arguments: &[Word],
-) -> Result<Result<Command, Refusal>, OutOfMemory>
+fn one_text(alloc: Global, arguments: &[Word]) -> Result<Result<Command, Refusal>, OutOfMemory>
     ensures exact { IfOk result (λ command. command ≡ commands.one_text Command.Echo arguments.now) }
     ensures memory { AsksNoMemory (commands.one_text Command.Echo arguments.now) → IsOk result }
 {
@@ -169,8 +301,25 @@ pub(crate) fn one_text(
     }
 }
 
+/// `key` of GET: as [`one_key`], with fewer copies for the command that is read most
+fn get(alloc: Global, arguments: &[Word]) -> Result<Result<Command, Refusal>, OutOfMemory>
+    ensures exact { IfOk result (λ command. command ≡ commands.one_key Command.Get arguments.now) }
+    ensures memory { AsksNoMemory (commands.one_key Command.Get arguments.now) → IsOk result }
+{
+    let [key] = arguments else {
+        return wrong_arity();
+    };
+    if is_long(key) {
+        return bad(Refusal::KeyTooLong);
+    }
+    let Ok(key) = copy(alloc, key) else {
+        return Err(AllocError);
+    };
+    Ok(Ok(Command::Get(key)))
+}
+
 /// `key`
-pub(crate) fn one_key(
+fn one_key(
     alloc: Global,
     verb: KeyVerb,
     arguments: &[Word],
@@ -178,15 +327,20 @@ pub(crate) fn one_key(
     ensures exact { IfOk result (λ command. command ≡ commands.one_key (of_key_verb verb) arguments.now) }
     ensures memory { AsksNoMemory (commands.one_key (of_key_verb verb) arguments.now) → IsOk result }
 {
-    match arguments {
-        [key] if is_long(key) => Ok(Ok(Command::Bad(Refusal::KeyTooLong))),
-        [key] => Ok(Ok(verb.with(copy(alloc, key)?))),
-        _ => Ok(Err(Refusal::WrongArity)),
+    let [key] = arguments else {
+        return wrong_arity();
+    };
+    if is_long(key) {
+        return bad(Refusal::KeyTooLong);
     }
+    let Ok(key) = copy(alloc, key) else {
+        return Err(AllocError);
+    };
+    Ok(Ok(verb.with(key)))
 }
 
 /// `key value`
-pub(crate) fn key_and_value(
+fn key_and_value(
     alloc: Global,
     verb: ValueVerb,
     arguments: &[Word],
@@ -214,25 +368,33 @@ fn when_of_options(options: &[Word]) -> Option<When>
 }
 
 /// `key value [option ..]`
-pub(crate) fn key_value_options(
+fn key_value_options(
     alloc: Global,
     arguments: &[Word],
 ) -> Result<Result<Command, Refusal>, OutOfMemory>
     ensures exact { IfOk result (λ command. command ≡ commands.key_value_options arguments.now) }
     ensures memory { AsksNoMemory (commands.key_value_options arguments.now) → IsOk result }
 {
-    match arguments {
-        [] | [_] => Ok(Err(Refusal::WrongArity)),
-        [key, _, ..] if is_long(key) => Ok(Ok(Command::Bad(Refusal::KeyTooLong))),
-        [key, value, options @ ..] => match when_of_options(options) {
-            Some(when) => Ok(Ok(Command::Set(copy(alloc, key)?, copy(alloc, value)?, when))),
-            None => Ok(Ok(Command::Bad(Refusal::Syntax))),
-        },
+    let [key, value, options @ ..] = arguments else {
+        return wrong_arity();
+    };
+    if is_long(key) {
+        return bad(Refusal::KeyTooLong);
     }
+    let Some(when) = when_of_options(options) else {
+        return bad(Refusal::Syntax);
+    };
+    let Ok(key) = copy(alloc, key) else {
+        return Err(AllocError);
+    };
+    let Ok(value) = copy(alloc, value) else {
+        return Err(AllocError);
+    };
+    Ok(Ok(Command::Set(key, value, when)))
 }
 
 /// `key number`
-pub(crate) fn key_and_number(
+fn key_and_number(
     alloc: Global,
     verb: NumberVerb,
     arguments: &[Word],
@@ -251,7 +413,7 @@ pub(crate) fn key_and_number(
 }
 
 /// `key offset value`
-pub(crate) fn key_offset_value(
+fn key_offset_value(
     alloc: Global,
     arguments: &[Word],
 ) -> Result<Result<Command, Refusal>, OutOfMemory>
@@ -273,10 +435,7 @@ pub(crate) fn key_offset_value(
 }
 
 /// `key start end`
-pub(crate) fn key_start_end(
-    alloc: Global,
-    arguments: &[Word],
-) -> Result<Result<Command, Refusal>, OutOfMemory>
+fn key_start_end(alloc: Global, arguments: &[Word]) -> Result<Result<Command, Refusal>, OutOfMemory>
     ensures exact { IfOk result (λ command. command ≡ commands.key_start_end arguments.now) }
     ensures memory { AsksNoMemory (commands.key_start_end arguments.now) → IsOk result }
 {
@@ -317,7 +476,7 @@ fn copies(alloc: Global, words: &[Word]) -> Result<Keys, OutOfMemory>
 }
 
 /// `key [key ..]`
-pub(crate) fn some_keys(
+fn some_keys(
     alloc: Global,
     verb: KeysVerb,
     arguments: &[Word],
@@ -335,10 +494,7 @@ pub(crate) fn some_keys(
 }
 
 /// `key [key ..]` of WATCH
-pub(crate) fn watched_keys(
-    alloc: Global,
-    arguments: &[Word],
-) -> Result<Result<Command, Refusal>, OutOfMemory>
+fn watched_keys(alloc: Global, arguments: &[Word]) -> Result<Result<Command, Refusal>, OutOfMemory>
     ensures exact { IfOk result (λ command. command ≡ commands.watched_keys arguments.now) }
     ensures memory { AsksNoMemory (commands.watched_keys arguments.now) → IsOk result }
 {
@@ -380,7 +536,7 @@ fn add_settings(
 }
 
 /// `key value [key value ..]`
-pub(crate) fn some_settings(
+fn some_settings(
     alloc: Global,
     verb: SettingsVerb,
     arguments: &[Word],

@@ -1,4 +1,3 @@
-use Rattle.std.proofs.Common.{◌≡◌, ◌∙◌, inl, inr}
 use Rattle.connection.proofs.Called.{place_for, ends_all, turned_said, turned_want, turned_called, attends_turned, wants_memory}
 use Rattle.connection.proofs.answering.answer_next.Goals as goal
 

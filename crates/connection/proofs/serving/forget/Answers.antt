@@ -1,6 +1,10 @@
-use Rattle.std.proofs.Common.{◌≡◌, ◌∙◌, sym}
-use Rattle.connection.proofs.Called.{forget_none, watches_none}
+use Rattle.std.proofs.Common.{◌∙◌, sym}
+use Rattle.connection.proofs.Called.{forget_none, watches_none, went_forgot}
 use Rattle.connection.proofs.serving.forget.Goals as goal
 
 pub returns-in_default-clause-watches : goal.returns-in_default-clause-watches
 returns-in_default-clause-watches g c = watches_none _ _ c.requires.attends (forget_none _ (sym c.close.ensures ∙ c.in_default.is))
+
+pub returns-in-Some-clause-went : goal.returns-in-Some-clause-went
+returns-in-Some-clause-went g c =
+    went_forgot _ _ _ _ _ _ (sym c.close.ensures ∙ c.in-Some.is) c.submit_with.ensures.done c.submit_with.ensures.undone

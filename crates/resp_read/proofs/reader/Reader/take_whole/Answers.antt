@@ -1,4 +1,4 @@
-use Rattle.std.proofs.Common.{◌≡◌, ◌+◌, [], subst, arith, length}
+use Rattle.std.proofs.Common.{refl, ◌≡◌, ◌+◌, [], subst, arith, length}
 use Rattle.resp_read.specs.declared.reader.Step.TheVariants.{Gives}
 use Rattle.resp_read.specs.Taking.{Takes}
 use Rattle.resp_read.specs.Unread.{Held, kept}
@@ -11,5 +11,5 @@ returns c =
     let words = kept c.self.inside.words in
     let nothing : kept c.self.inside.words ≡ [] = c.self.invariant.none (omega (arith, c.if-self-gt0.false)) in
     let none : c.self.inside.due + length (kept c.self.inside.words) ≡ 0 = rw nothing (omega (arith, c.if-self-gt0.false)) in
-    subst (λ (h : Held). Takes h (Gives c.in_ok-words.words) (held_of c.self.inside.due words c.skip.new.self)) c.self.view_is
-    (whole_taken (held_of c.self.inside.due words c.self.inside.pieces) (held_of c.self.inside.due words c.skip.new.self) c.oldest.result.now c.oldest.ensures.first.0 c.in_ok-words.words c.request_in.new.at none none nothing c.oldest.ensures.first.1 c.in_ok-words.ensures c.skip.ensures)
+    subst (λ (h : Held). Takes h (Gives c.request_in.new.words) (held_of c.self.inside.due words c.skip.new.self)) c.self.view_is
+    (whole_taken (held_of c.self.inside.due words c.self.inside.pieces) (held_of c.self.inside.due words c.skip.new.self) c.oldest.result.now c.oldest.ensures.first.0 c.request_in.new.words c.request_in.new.at none none nothing c.oldest.ensures.first.1 (c.if-not-request_in.ensures refl) c.skip.ensures)

@@ -9,7 +9,7 @@ use Rattle.transact.specs.Calls.{call_keys}
 use Rattle.transact.specs.Submits.{HasDone, HasFailed, HeardBusy, IfFault, IfReply, WasRefused, stripes_asked}
 use Rattle.transact.proofs.Keys.{taken_there}
 use Rattle.transact.proofs.Submits.{Fit, parts_of, done_behind_as, failed_behind_as, fit_given, refused_behind_as, told_behind_as}
-use Rattle.transact.proofs.submit.submit.Goals as goal
+use Rattle.transact.proofs.submit.submit_any.Goals as goal
 
 pub enter_call-answer-requires-clause-fit : goal.enter_call-answer-requires-clause-fit
 enter_call-answer-requires-clause-fit g c = subst (λ (m : ℕ). Fit m c.take-held.result) (sym c.stripes-stripes.ensures.count) c.take-held.ensures.fit

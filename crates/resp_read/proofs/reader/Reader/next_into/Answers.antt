@@ -1,0 +1,13 @@
+use Rattle.std.proofs.Common.{◌≡◌, subst, IfOk, IsTrue}
+use Rattle.words.specs.Stream.{Whole, front}
+use Rattle.resp_read.specs.Unread.{Held, unread}
+use Rattle.resp_read.proofs.ReaderLemmas.{given_front, next_front}
+use Rattle.resp_read.proofs.reader.Reader.next_into.Goals as goal
+
+pub returns-then-take_whole-clause-whole : goal.returns-then-take_whole-clause-whole
+returns-then-take_whole-clause-whole c = λ _. given_front c.args.self.now c.take_whole.new.self c.take_whole.new.words c.if-take_whole.ensures
+
+pub returns-clause-whole : goal.returns-clause-whole
+returns-clause-whole c =
+    subst (λ (h : Held). IfOk c.next_by_steps.result (λ given. IsTrue given → front (unread h) ≡ Whole (unread c.next_by_steps.new.self))) c.if-take_whole.ensures
+    (next_front c.take_whole.new.self c.next_by_steps.new.self c.next_by_steps.new.words c.next_by_steps.result c.next_by_steps.ensures.takes)
