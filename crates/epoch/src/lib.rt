@@ -12,8 +12,6 @@
 
 pub mod epochs;
 mod rule;
-#[cfg(test)]
-mod tests;
 pub mod view;
 
 pub use epochs::{Drained, EpochSeat, Epochs, Inside, Retired};

@@ -1,8 +1,6 @@
 //! `garnetd`: a RESP2 server over a store in memory. `garnetd --help` tells its command line.
 #![tactic(auto)]
 
-mod command_line;
-
 use anyhow::Result;
 use clap::error::ErrorKind;
 use command_line::options_of;

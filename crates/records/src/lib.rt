@@ -17,8 +17,6 @@
 mod entries;
 mod fields;
 mod pages;
-#[cfg(test)]
-mod tests;
 
 pub use entries::{
     KEY_BYTES_MAX, NoRoom, NotARecord, RECORD_HEADER, Record, overwrite, put_record, record_at,

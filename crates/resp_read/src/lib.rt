@@ -7,8 +7,6 @@ mod lines;
 mod look;
 mod pieces;
 mod reader;
-#[cfg(test)]
-mod tests;
 mod whole;
 
 pub use reader::{ReadFault, Reader};

@@ -11,8 +11,6 @@ mod numbers;
 mod report;
 mod run;
 mod schedule;
-#[cfg(test)]
-mod tests;
 mod verbs;
 
 pub use fault::ReplayFault;

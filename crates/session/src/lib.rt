@@ -14,7 +14,5 @@ mod laws;
 pub mod modes;
 mod queueing;
 mod spoiled;
-#[cfg(test)]
-mod tests;
 
 pub use laws::watches_follow_entries;

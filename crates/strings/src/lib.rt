@@ -8,7 +8,5 @@ pub mod keys;
 pub mod overlay;
 mod reading;
 pub mod run;
-#[cfg(test)]
-mod tests;
 pub mod writes;
 mod writing;

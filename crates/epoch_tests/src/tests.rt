@@ -1,0 +1,263 @@
+//! Stays and retirements of one thread and of three.
+
+ghost use Rattle.std.specs.Prelude.{◌≡◌, IfOk, IfSome};
+ghost use Rattle.epoch.specs.Seats.{IsOutside, drained_epoch, retired_epoch};
+
+use epoch::epochs::{Drained, EpochSeat, Epochs, Retired};
+use std::alloc::{AllocError, Global};
+use std::sync::Wait;
+use std::test::Fail;
+use std::thread::{Threads, join};
+
+/// How often a reader enters and leaves.
+const STAYS: u64 = 10_000;
+
+/// How many values the cleaner retires.
+const RETIREMENTS: u64 = 1_000;
+
+/// How often the cleaner tries to drain an epoch.
+const TRIES: u64 = 10_000_000;
+
+/// Epochs with three seats.
+fn opened(alloc: Global) -> Result<Option<(Epochs, EpochSeat, EpochSeat, EpochSeat)>, AllocError>
+    ensures { IfOk result (λ made. IfSome made (λ it. IsOutside it.0 it.1 × IsOutside it.0 it.2 × IsOutside it.0 it.3)) }
+{
+    let (epochs, mut seats) = Epochs::new(alloc, 3)?;
+    let Some(third) = seats.pop() else {
+        return Ok(None);
+    };
+    let Some(second) = seats.pop() else {
+        return Ok(None);
+    };
+    let Some(first) = seats.pop() else {
+        return Ok(None);
+    };
+    Ok(Some((epochs, first, second, third)))
+}
+
+/// What became of a retirement.
+#[derive(Debug, PartialEq, Eq, Drop)]
+struct Course {
+    /// The epoch of its stamp.
+    stamp: u64,
+    /// Whether its epoch was drained at the first try, and at the second.
+    drained: (bool, bool),
+    /// The value that came back.
+    value: Option<u64>,
+}
+
+/// The value, where its epoch is drained.
+fn value_of(retired: Retired<u64>, drained: Option<Drained>) -> Option<u64>
+    requires { IfSome drained (λ d. drained_epoch d ≡ retired_epoch retired) }
+{
+    let drained = drained?;
+    Some(retired.into_value(&drained))
+}
+
+/// One seat stays while another retires, and leaves after the first try to drain.
+fn retire_beside_a_stay<R: Wait>(
+    rt: &R,
+    epochs: &Epochs,
+    reader: EpochSeat,
+    cleaner: &mut EpochSeat,
+) -> Option<Course>
+    requires reader { IsOutside epochs.now reader }
+    requires cleaner { IsOutside epochs.now cleaner.old }
+{
+    let inside = epochs.enter(rt, reader);
+    let Ok(retired) = epochs.retire(cleaner, 7) else {
+        let _reader = epochs.leave(inside);
+        return None;
+    };
+    let stamp = retired.epoch();
+    let early = epochs.drained(cleaner, stamp).is_some();
+    let _reader = epochs.leave(inside);
+    let late = epochs.drained(cleaner, stamp);
+    Some(Course {
+        stamp,
+        drained: (early, late.is_some()),
+        value: value_of(retired, late),
+    })
+}
+
+/// One seat enters after another has retired, and before it drains.
+fn retire_before_a_stay<R: Wait>(
+    rt: &R,
+    epochs: &Epochs,
+    reader: EpochSeat,
+    cleaner: &mut EpochSeat,
+) -> Option<Course>
+    requires reader { IsOutside epochs.now reader }
+    requires cleaner { IsOutside epochs.now cleaner.old }
+{
+    let Ok(retired) = epochs.retire(cleaner, 8) else {
+        return None;
+    };
+    let stamp = retired.epoch();
+    let mut inside = epochs.enter(rt, reader);
+    let mut drained = epochs.drained(cleaner, stamp);
+    if let Some(drained) = &mut drained {
+        epochs.compare(&mut inside, drained);
+    }
+    let again = epochs.drained(cleaner, stamp).is_some();
+    let _reader = epochs.leave(inside);
+    Some(Course {
+        stamp,
+        drained: (drained.is_some(), again),
+        value: value_of(retired, drained),
+    })
+}
+
+/// A seat retires inside a stay of its own, and enters anew after the first try to drain.
+fn retire_inside_a_stay<R: Wait>(rt: &R, epochs: &Epochs, seat: EpochSeat) -> Option<Course>
+    requires { IsOutside epochs.now seat }
+{
+    let mut inside = epochs.enter(rt, seat);
+    let Ok(retired) = epochs.retire_inside(&mut inside, 9) else {
+        let _seat = epochs.leave(inside);
+        return None;
+    };
+    let stamp = retired.epoch();
+    let early = epochs.drained_inside(&mut inside, stamp).is_some();
+    let mut inside = epochs.enter(rt, epochs.leave(inside));
+    let late = epochs.drained_inside(&mut inside, stamp);
+    let _seat = epochs.leave(inside);
+    Some(Course {
+        stamp,
+        drained: (early, late.is_some()),
+        value: value_of(retired, late),
+    })
+}
+
+#[test]
+fn a_stay_keeps_its_epoch_until_it_ends(rt: HostRuntime) -> Result<(), Fail> {
+    let (epochs, reader, mut cleaner, _) = opened(rt.alloc())?.ok_or("no seats")?;
+    let course = retire_beside_a_stay(&rt, &epochs, reader, &mut cleaner);
+    let wanted = Course {
+        stamp: 1,
+        drained: (false, true),
+        value: Some(7),
+    };
+    assert!(rt; course == Some(wanted));
+    Ok(())
+}
+
+#[test]
+fn a_stay_after_the_advance_keeps_nothing(rt: HostRuntime) -> Result<(), Fail> {
+    let (epochs, reader, mut cleaner, _) = opened(rt.alloc())?.ok_or("no seats")?;
+    let course = retire_before_a_stay(&rt, &epochs, reader, &mut cleaner);
+    let wanted = Course {
+        stamp: 1,
+        drained: (true, true),
+        value: Some(8),
+    };
+    assert!(rt; course == Some(wanted));
+    Ok(())
+}
+
+#[test]
+fn the_own_stay_counts(rt: HostRuntime) -> Result<(), Fail> {
+    let (epochs, seat, _, _) = opened(rt.alloc())?.ok_or("no seats")?;
+    let course = retire_inside_a_stay(&rt, &epochs, seat);
+    let wanted = Course {
+        stamp: 1,
+        drained: (false, true),
+        value: Some(9),
+    };
+    assert!(rt; course == Some(wanted));
+    Ok(())
+}
+
+/// Enters and leaves many times.
+fn stay_often<R: Wait>(rt: &R, epochs: &Epochs, seat: EpochSeat) -> EpochSeat
+    requires { IsOutside epochs.now seat }
+    ensures { IsOutside epochs.now result }
+{
+    let mut seat = seat;
+    for _ in 0..STAYS {
+        let inside = epochs.enter(rt, seat);
+        seat = epochs.leave(inside);
+    }
+    seat
+}
+
+/// Two readers, each in a thread of its own.
+fn readers<R: Threads + Wait + Sync>(rt: &R, epochs: &Epochs, one: EpochSeat, two: EpochSeat)
+    requires one { IsOutside epochs.now one }
+    requires two { IsOutside epochs.now two }
+{
+    let (_one, _two) = join(
+        rt,
+        move || -> EpochSeat
+            requires { IsOutside epochs.now one }
+            ensures { IsOutside epochs.entry.now result }
+        { stay_often(rt, epochs, one) },
+        move || -> EpochSeat
+            requires { IsOutside epochs.now two }
+            ensures { IsOutside epochs.entry.now result }
+        { stay_often(rt, epochs, two) },
+    );
+}
+
+/// Tries to drain an epoch until it is drained.
+fn drain(epochs: &Epochs, seat: &mut EpochSeat, e: u64) -> Option<Drained>
+    requires { IsOutside epochs.now seat.old }
+    ensures outside { IsOutside epochs.now seat.new }
+    ensures epoch { IfSome result (λ drained. drained_epoch drained ≡ e) }
+{
+    for _ in 0..TRIES {
+        if let Some(drained) = epochs.drained(seat, e) {
+            return Some(drained);
+        }
+    }
+    None
+}
+
+/// Retires value after value, and says how many came back.
+fn retire_often(epochs: &Epochs, seat: EpochSeat) -> u64
+    requires { IsOutside epochs.now seat }
+{
+    let mut seat = seat;
+    let mut done = 0;
+    for n in 0..RETIREMENTS {
+        let Ok(retired) = epochs.retire(&mut seat, n) else {
+            break;
+        };
+        let drained = drain(epochs, &mut seat, retired.epoch());
+        if value_of(retired, drained) == Some(n) {
+            done += 1;
+        }
+    }
+    done
+}
+
+/// Two readers, and a cleaner beside them.
+fn three_threads<R: Threads + Wait + Sync>(
+    rt: &R,
+    epochs: &Epochs,
+    one: EpochSeat,
+    two: EpochSeat,
+    three: EpochSeat,
+) -> u64
+    requires one { IsOutside epochs.now one }
+    requires two { IsOutside epochs.now two }
+    requires three { IsOutside epochs.now three }
+{
+    let (_readers, done) = join(
+        rt,
+        move ||
+            requires { IsOutside epochs.now one × IsOutside epochs.now two }
+        { readers(rt, epochs, one, two) },
+        move || -> u64
+            requires { IsOutside epochs.now three }
+        { retire_often(epochs, three) },
+    );
+    done
+}
+
+#[test]
+fn two_threads_stay_while_a_third_retires(rt: HostRuntime) -> Result<(), Fail> {
+    let (epochs, one, two, three) = opened(rt.alloc())?.ok_or("no seats")?;
+    assert!(rt; three_threads(&rt, &epochs, one, two, three) == RETIREMENTS);
+    Ok(())
+}

@@ -1,0 +1,376 @@
+//! Words, requests and commands past their inline room, each command of the table with ample memory,
+//! the order of words, and limits at the ends of their ranges.
+
+ghost use Rattle.std.specs.Prelude.{◌<◌, ◌≤◌};
+
+use std::alloc::Global;
+use std::cmp::Ordering;
+use std::test::Fail;
+use words::command::{Command, SessionCommand, When};
+use words::limits::{Limits, WORDS_MAX};
+use words::reply::Refusal;
+use words::word::{Word, Words};
+
+/// The request of these words.
+fn request(alloc: Global, words: &[&[u8]]) -> Result<Words, Fail> {
+    let Some((name, arguments)) = words.split_first() else {
+        return Ok(Words::one(alloc, Word::empty(alloc)));
+    };
+    let mut request = Words::one(alloc, Word::from_slice(alloc, name)?);
+    for argument in arguments {
+        if request.as_slice().len() < WORDS_MAX {
+            request.push(Word::from_slice(alloc, argument)?)?;
+        }
+    }
+    Ok(request)
+}
+
+/// What words are.
+type Read = Result<Command, Refusal>;
+
+/// Whether what these words are is as `fits` says.
+fn reads(alloc: Global, words: &[&[u8]], fits: fn(&Read) -> bool) -> Result<bool, Fail>
+    requires { IsAlwaysCallable fits }
+{
+    let request = request(alloc, words)?;
+    let read = Command::of(alloc, &request)?;
+    Ok(fits(&read))
+}
+
+/// Whether a word is this text.
+fn is(word: &Word, text: &[u8]) -> bool {
+    word.as_slice() == text
+}
+
+/// Whether the words are these, in this order.
+fn are(words: &[Word], texts: &[&[u8]]) -> bool {
+    if words.len() != texts.len() {
+        return false;
+    }
+    for (word, text) in words.iter().zip(texts) {
+        if !is(word, text) {
+            return false;
+        }
+    }
+    true
+}
+
+/// Whether the settings are these pairs, in this order.
+fn are_settings(settings: &[(Word, Word)], texts: &[(&[u8], &[u8])]) -> bool {
+    if settings.len() != texts.len() {
+        return false;
+    }
+    for ((key, value), (key_text, value_text)) in settings.iter().zip(texts) {
+        if !is(key, key_text) || !is(value, value_text) {
+            return false;
+        }
+    }
+    true
+}
+
+#[test]
+fn a_word_past_its_inline_room(rt: HostRuntime) -> Result<(), Fail> {
+    let bytes = [7u8; 23];
+    let word = Word::from_slice(rt.alloc(), &bytes)?;
+    assert!(rt; word.clone()? == word);
+    assert_eq!(rt; word.len(), 23);
+    Ok(())
+}
+
+/// MSET of two short keys: five words.
+#[test]
+fn a_request_past_its_inline_room(rt: HostRuntime) -> Result<(), Fail> {
+    let words = request(rt.alloc(), &[b"MSET", b"a", b"1", b"b", b"2"])?;
+    assert!(rt; are(words.as_slice(), &[b"MSET", b"a", b"1", b"b", b"2"]));
+    Ok(())
+}
+
+fn is_get(read: &Read) -> bool {
+    matches!(read, Ok(Command::Get(key)) if is(key, b"k"))
+}
+
+fn is_set(read: &Read) -> bool {
+    matches!(read, Ok(Command::Set(key, value, When::IfPresent)) if is(key, b"k") && is(value, b"v"))
+}
+
+fn is_get_del(read: &Read) -> bool {
+    matches!(read, Ok(Command::GetDel(key)) if is(key, b"k"))
+}
+
+fn is_str_len(read: &Read) -> bool {
+    matches!(read, Ok(Command::StrLen(key)) if is(key, b"k"))
+}
+
+fn is_set_nx(read: &Read) -> bool {
+    matches!(read, Ok(Command::SetNx(key, value)) if is(key, b"k") && is(value, b"v"))
+}
+
+fn is_get_set(read: &Read) -> bool {
+    matches!(read, Ok(Command::GetSet(key, value)) if is(key, b"k") && is(value, b"v"))
+}
+
+fn is_append(read: &Read) -> bool {
+    matches!(read, Ok(Command::Append(key, value)) if is(key, b"k") && is(value, b"v"))
+}
+
+fn is_set_range(read: &Read) -> bool {
+    matches!(read, Ok(Command::SetRange(key, 5, value)) if is(key, b"k") && is(value, b"v"))
+}
+
+fn is_get_range(read: &Read) -> bool {
+    matches!(read, Ok(Command::GetRange(key, 1, -2)) if is(key, b"k"))
+}
+
+fn is_incr(read: &Read) -> bool {
+    matches!(read, Ok(Command::Add(key, 1)) if is(key, b"k"))
+}
+
+fn is_decr(read: &Read) -> bool {
+    matches!(read, Ok(Command::Subtract(key, 1)) if is(key, b"k"))
+}
+
+fn is_incr_by(read: &Read) -> bool {
+    matches!(read, Ok(Command::Add(key, -7)) if is(key, b"k"))
+}
+
+fn is_decr_by(read: &Read) -> bool {
+    matches!(read, Ok(Command::Subtract(key, 7)) if is(key, b"k"))
+}
+
+fn is_exists(read: &Read) -> bool {
+    matches!(read, Ok(Command::Exists(keys)) if are(keys.as_slice(), &[b"a", b"b", b"a"]))
+}
+
+fn is_del(read: &Read) -> bool {
+    matches!(read, Ok(Command::Del(keys)) if are(keys.as_slice(), &[b"a"]))
+}
+
+fn is_m_get(read: &Read) -> bool {
+    matches!(read, Ok(Command::MGet(keys)) if are(keys.as_slice(), &[b"a", b"z"]))
+}
+
+fn is_m_set(read: &Read) -> bool {
+    matches!(read, Ok(Command::MSet(settings)) if are_settings(settings.as_slice(), &[(b"a", b"1"), (b"b", b"2")]))
+}
+
+fn is_m_set_nx(read: &Read) -> bool {
+    matches!(read, Ok(Command::MSetNx(settings)) if are_settings(settings.as_slice(), &[(b"a", b"1")]))
+}
+
+fn is_ping(read: &Read) -> bool {
+    matches!(read, Ok(Command::Ping(None)))
+}
+
+fn is_ping_with_text(read: &Read) -> bool {
+    matches!(read, Ok(Command::Ping(Some(text))) if is(text, b"hi"))
+}
+
+fn is_echo(read: &Read) -> bool {
+    matches!(read, Ok(Command::Echo(text)) if is(text, b"hi"))
+}
+
+fn is_multi(read: &Read) -> bool {
+    matches!(read, Ok(Command::Session(SessionCommand::Multi)))
+}
+
+fn is_exec(read: &Read) -> bool {
+    matches!(read, Ok(Command::Session(SessionCommand::Exec)))
+}
+
+fn is_discard(read: &Read) -> bool {
+    matches!(read, Ok(Command::Session(SessionCommand::Discard)))
+}
+
+fn is_watch(read: &Read) -> bool {
+    matches!(read, Ok(Command::Session(SessionCommand::Watch(keys))) if are(keys.as_slice(), &[b"a", b"b"]))
+}
+
+fn is_unwatch(read: &Read) -> bool {
+    matches!(read, Ok(Command::Session(SessionCommand::Unwatch)))
+}
+
+fn is_quit(read: &Read) -> bool {
+    matches!(read, Ok(Command::Session(SessionCommand::Quit)))
+}
+
+fn is_unknown_name(read: &Read) -> bool {
+    matches!(read, Err(Refusal::UnknownCommand))
+}
+
+fn is_too_few_words(read: &Read) -> bool {
+    matches!(read, Err(Refusal::WrongArity))
+}
+
+fn is_no_option(read: &Read) -> bool {
+    matches!(read, Ok(Command::Bad(Refusal::Syntax)))
+}
+
+#[test]
+fn one_key(rt: HostRuntime) -> Result<(), Fail> {
+    assert!(rt; reads(rt.alloc(), &[b"gEt", b"k"], is_get)?);
+    assert!(rt; reads(rt.alloc(), &[b"GETDEL", b"k"], is_get_del)?);
+    assert!(rt; reads(rt.alloc(), &[b"STRLEN", b"k"], is_str_len)?);
+    Ok(())
+}
+
+#[test]
+fn values(rt: HostRuntime) -> Result<(), Fail> {
+    assert!(rt; reads(rt.alloc(), &[b"sEt", b"k", b"v", b"xX"], is_set)?);
+    assert!(rt; reads(rt.alloc(), &[b"SETNX", b"k", b"v"], is_set_nx)?);
+    assert!(rt; reads(rt.alloc(), &[b"GETSET", b"k", b"v"], is_get_set)?);
+    assert!(rt; reads(rt.alloc(), &[b"APPEND", b"k", b"v"], is_append)?);
+    Ok(())
+}
+
+#[test]
+fn ranges(rt: HostRuntime) -> Result<(), Fail> {
+    assert!(rt; reads(rt.alloc(), &[b"SETRANGE", b"k", b"5", b"v"], is_set_range)?);
+    assert!(rt; reads(rt.alloc(), &[b"GETRANGE", b"k", b"1", b"-2"], is_get_range)?);
+    Ok(())
+}
+
+#[test]
+fn counters(rt: HostRuntime) -> Result<(), Fail> {
+    assert!(rt; reads(rt.alloc(), &[b"INCR", b"k"], is_incr)?);
+    assert!(rt; reads(rt.alloc(), &[b"DECR", b"k"], is_decr)?);
+    assert!(rt; reads(rt.alloc(), &[b"INCRBY", b"k", b"-7"], is_incr_by)?);
+    assert!(rt; reads(rt.alloc(), &[b"DECRBY", b"k", b"7"], is_decr_by)?);
+    Ok(())
+}
+
+#[test]
+fn several_keys(rt: HostRuntime) -> Result<(), Fail> {
+    assert!(rt; reads(rt.alloc(), &[b"EXISTS", b"a", b"b", b"a"], is_exists)?);
+    assert!(rt; reads(rt.alloc(), &[b"DEL", b"a"], is_del)?);
+    assert!(rt; reads(rt.alloc(), &[b"MGET", b"a", b"z"], is_m_get)?);
+    assert!(rt; reads(rt.alloc(), &[b"WATCH", b"a", b"b"], is_watch)?);
+    Ok(())
+}
+
+#[test]
+fn settings(rt: HostRuntime) -> Result<(), Fail> {
+    assert!(rt; reads(rt.alloc(), &[b"MSET", b"a", b"1", b"b", b"2"], is_m_set)?);
+    assert!(rt; reads(rt.alloc(), &[b"MSETNX", b"a", b"1"], is_m_set_nx)?);
+    Ok(())
+}
+
+#[test]
+fn texts(rt: HostRuntime) -> Result<(), Fail> {
+    assert!(rt; reads(rt.alloc(), &[b"PING"], is_ping)?);
+    assert!(rt; reads(rt.alloc(), &[b"PING", b"hi"], is_ping_with_text)?);
+    assert!(rt; reads(rt.alloc(), &[b"ECHO", b"hi"], is_echo)?);
+    Ok(())
+}
+
+#[test]
+fn sessions(rt: HostRuntime) -> Result<(), Fail> {
+    assert!(rt; reads(rt.alloc(), &[b"MULTI"], is_multi)?);
+    assert!(rt; reads(rt.alloc(), &[b"EXEC"], is_exec)?);
+    assert!(rt; reads(rt.alloc(), &[b"DISCARD"], is_discard)?);
+    Ok(())
+}
+
+#[test]
+fn ends(rt: HostRuntime) -> Result<(), Fail> {
+    assert!(rt; reads(rt.alloc(), &[b"UNWATCH"], is_unwatch)?);
+    assert!(rt; reads(rt.alloc(), &[b"QUIT"], is_quit)?);
+    Ok(())
+}
+
+#[test]
+fn refusals(rt: HostRuntime) -> Result<(), Fail> {
+    assert!(rt; reads(rt.alloc(), &[b"FLUSHALL"], is_unknown_name)?);
+    assert!(rt; reads(rt.alloc(), &[b"GET"], is_too_few_words)?);
+    assert!(rt; reads(rt.alloc(), &[b"SET", b"k", b"v", b"EX"], is_no_option)?);
+    Ok(())
+}
+
+/// Each number at both ends of its range, and one past each.
+#[test]
+fn limits_at_the_ends_of_their_ranges(rt: HostRuntime) -> Result<(), Fail> {
+    let cases = [
+        (1, 1, 12, 64, 1, true),
+        (64, 65_536, 256, 65_536, 64, true),
+        (0, 1, 12, 64, 1, false),
+        (65, 1, 12, 64, 1, false),
+        (1, 0, 12, 64, 1, false),
+        (1, 65_537, 12, 64, 1, false),
+        (1, 1, 11, 64, 1, false),
+        (1, 1, 257, 64, 1, false),
+        (1, 1, 12, 63, 1, false),
+        (1, 1, 12, 65_537, 1, false),
+        (1, 1, 12, 64, 0, false),
+        (1, 1, 12, 64, 65, false),
+    ];
+    for (stripes, buckets, frames, places, clients, fits) in cases {
+        let limits = Limits::new(stripes, buckets, frames, places, clients);
+        assert_eq!(rt;
+            limits.is_some(),
+            fits,
+            "{stripes} {buckets} {frames} {places} {clients}"
+        );
+    }
+    Ok(())
+}
+
+/// How two texts stand, byte by byte.
+fn order_of(a: &[u8], b: &[u8]) -> Ordering {
+    for (x, y) in a.iter().zip(b) {
+        if x != y {
+            return x.cmp(y);
+        }
+    }
+    a.len().cmp(&b.len())
+}
+
+/// Whether the words of two texts stand as the texts do, either way round.
+fn stand_alike(alloc: Global, a: &[u8], b: &[u8]) -> Result<bool, Fail> {
+    let x = Word::from_slice(alloc, a)?;
+    let y = Word::from_slice(alloc, b)?;
+    Ok(x.cmp(&y) == order_of(a, b) && y.cmp(&x) == order_of(b, a))
+}
+
+/// Whether words stand as their texts do where these have one beginning, then a lesser and a greater
+/// byte, and past these the greatest and the least.
+fn differ_at(
+    alloc: Global,
+    place: usize,
+    length: usize,
+    lesser: u8,
+    greater: u8,
+) -> Result<bool, Fail>
+    requires { (place < length) × (length ≤ 24) }
+{
+    let mut a = [0xff; 24];
+    let mut b = [0; 24];
+    a[..place].fill(b'k');
+    b[..place].fill(b'k');
+    a[place] = lesser;
+    b[place] = greater;
+    Ok(stand_alike(alloc, &a[..length], &b[..length])? && stand_alike(alloc, &a, &b[..length])?)
+}
+
+/// The same at each place of this length, and where one text is the beginning of the other.
+fn differ_within(alloc: Global, length: usize) -> Result<bool, Fail>
+    requires { length ≤ 24 }
+{
+    let text = [b'k'; 24];
+    for place in 0..length {
+        if !differ_at(alloc, place, length, 0x7f, 0x80)?
+            || !differ_at(alloc, place, length, 0x80, 0xff)?
+            || !stand_alike(alloc, &text[..place], &text[..length])?
+        {
+            return Ok(false);
+        }
+    }
+    stand_alike(alloc, &text[..length], &text[..length])
+}
+
+/// Lengths on either side of each multiple of four and eight.
+#[test]
+fn words_stand_as_their_bytes_do(rt: HostRuntime) -> Result<(), Fail> {
+    for length in 0..25 {
+        assert!(rt; differ_within(rt.alloc(), length)?, "{length}");
+    }
+    Ok(())
+}
