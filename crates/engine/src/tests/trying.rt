@@ -57,14 +57,24 @@ fn is_answer(answer: &Result<Answer, (usize, Command)>, due: &str) -> bool {
     }
 }
 
+/// Lets go of what came of a command.
+fn let_go(tried: Result<Answer, (usize, Command)>) {
+    match tried {
+        Ok(answer) => drop(answer),
+        Err((_, command)) => drop(command),
+    }
+}
+
 /// Whether a command that is tried is answered as is due.
 fn command_is_answered(engine: &Engine, pass: &mut Pass, command: Command, due: &str) -> bool
     requires rests { Rests engine.now pass.old }
     requires place { IsTrue (touches_keys command) }
     ensures rests { Rests engine.now pass.new }
 {
-    let answer = try_command(engine, pass, command);
-    is_answer(&answer, due)
+    let tried = try_command(engine, pass, command);
+    let is_due = is_answer(&tried, due);
+    let_go(tried);
+    is_due
 }
 
 /// Whether a request that is tried is answered as is due.
@@ -93,8 +103,10 @@ fn command_is_busy(engine: &Engine, pass: &mut Pass, word: Word, key: &str, stri
     requires rests { Rests engine.now pass.old }
     ensures rests { Rests engine.now pass.new }
 {
-    let answer = try_command(engine, pass, Command::Get(word));
-    is_back(&answer, key, stripe)
+    let tried = try_command(engine, pass, Command::Get(word));
+    let is_back = is_back(&tried, key, stripe);
+    let_go(tried);
+    is_back
 }
 
 /// Whether a GET that is tried finds this stripe to be another pass's, and is handed back.
