@@ -81,6 +81,16 @@ struct Source<'a> {
     fails: bool,
 }
 
+impl<'a> Source<'a> {
+    /// A reader of these bytes, which does not fail.
+    fn of(bytes: &'a [u8]) -> Source<'a> {
+        Source {
+            bytes,
+            fails: false,
+        }
+    }
+}
+
 impl Read for Source<'_> {
     /// Gives seven bytes at most.
     fn read(&mut self, buffer: &mut [u8]) -> io::Result<usize> {
@@ -132,30 +142,62 @@ impl Write for Sink {
     }
 }
 
+/// What came of running a schedule over streams in memory.
+#[derive(Drop)]
+struct Outcome {
+    result: Result<(), ReplayFault>,
+    reader_told: Told,
+    writer_told: Told,
+    sink: Sink,
+}
+
+impl Outcome {
+    /// Runs the schedule of a reader, for a writer that takes so many bytes and then fails.
+    fn of(alloc: Global, source: Source<'_>, takes: usize) -> Outcome {
+        let mut reader = Noted::new(source);
+        let mut writer = Noted::new(Sink::new(alloc, takes));
+        let result = run_schedule(alloc, &mut reader, &mut writer);
+        let writer_told = writer.told();
+        Outcome {
+            result,
+            reader_told: reader.told(),
+            writer_told,
+            sink: writer.into_inner(),
+        }
+    }
+
+    /// Whether this report was printed, and passed on.
+    fn is_report(&self, report: &[u8]) -> bool {
+        let told = self.reader_told == Told::End && self.writer_told == Told::Nothing;
+        let printed = self.sink.text.as_slice() == report && self.sink.flushed == report.len();
+        self.result == Ok(()) && told && printed
+    }
+
+    /// Whether it ended with this fault, and nothing was printed.
+    fn is_fault(&self, fault: ReplayFault) -> bool {
+        self.result == Err(fault) && self.sink.text.is_empty()
+    }
+
+    /// Whether the writer failed, and just so many bytes of the report were printed.
+    fn is_cut(&self, report: &[u8], takes: usize) -> bool {
+        let text = self.sink.text.as_slice();
+        let printed = report.starts_with(text) && text.len() == takes;
+        let told = self.writer_told == Told::Failure;
+        self.result == Err(ReplayFault::CannotWrite) && told && printed
+    }
+}
+
 /// Whether the schedule prints this report, and passes it on.
 fn prints(alloc: Global, schedule: &[u8], report: &[u8]) -> bool {
-    let mut reader = Noted::new(Source {
-        bytes: schedule,
-        fails: false,
-    });
-    let mut writer = Noted::new(Sink::new(alloc, usize::MAX));
-    let result = run_schedule(alloc, &mut reader, &mut writer);
-    let told = reader.told() == Told::End && writer.told() == Told::Nothing;
-    let sink = writer.into_inner();
-    let printed = sink.text.as_slice() == report && sink.flushed == report.len();
-    result == Ok(()) && told && printed
+    let outcome = Outcome::of(alloc, Source::of(schedule), usize::MAX);
+    outcome.is_report(report)
 }
 
 /// Whether this line is the first bad one of the text, and nothing is printed.
 fn is_bad_at(alloc: Global, text: &[u8], number: usize) -> bool {
-    let mut reader = Noted::new(Source {
-        bytes: text,
-        fails: false,
-    });
-    let mut writer = Noted::new(Sink::new(alloc, usize::MAX));
-    let result = run_schedule(alloc, &mut reader, &mut writer);
+    let outcome = Outcome::of(alloc, Source::of(text), usize::MAX);
     let parsed = parse(alloc, text).err() == Some(ParseFault::BadLine(number));
-    parsed && result == Err(ReplayFault::BadLine(number)) && writer.into_inner().text.is_empty()
+    parsed && outcome.is_fault(ReplayFault::BadLine(number))
 }
 
 /// A schedule of one piece of so many bytes.
@@ -209,98 +251,43 @@ give 0 63
     );
 }
 
-/// Each way in which a first line is bad.
+/// Each way in which a first line is bad, with strokes between them.
+const FIRST_LINES: &str =
+    "|\n|world 2 16 12|world 2 16\n|world 2 16 12 4096\n|world 2 16 12 \n| world 2 16 12\n|\
+    world  2 16 12\n|world\t2 16 12\n|World 2 16 12\n|world 2 16 12\r\n|world 0 16 12\n|\
+    world 65 16 12\n|world 2 0 12\n|world 2 65 12\n|world 2 16 11\n|world 2 16 257\n|\
+    world 02 16 12\n|world +2 16 12\n|world -2 16 12\n|world 2 16 0xc\n|\
+    world 18446744073709551618 16 12\n|close 0\nworld 2 16 12\n";
+
+/// Each way in which a later line is bad, with strokes between them.
+const LATER_LINES: &str =
+    "\n|close 0|close 0\r\n|close\n|close \n|close 0 \n| close 0\n|close  0\n|\
+    close 0 0\n|close 2\n|close 00\n|close 01\n|close +1\n|close -0\n|close x\n|\
+    Close 0\n|open 0\n|world 2 16 12\n|fetch 2\n|commit 2\n|take 0\n|take 2 0\n|\
+    take 0 16\n|take 0 0 0\n|give 2 0\n|give 0 16\n|copy 16\n|write 16\n|install 16\n|\
+    drop 16\n|unlink 16\n|retire 16\n|drain 16\n|release 16 00\n|release 0\n|\
+    release 0 0\n|release 0 000\n|release 0 0000\n|release 0 FF\n|release 0 fg\n|\
+    piece 0\n|piece 0 \n|piece 2 00\n|piece 0 0\n|piece 0 000\n|piece 0 0A\n|\
+    piece 0 0g\n|piece 0 00 00\n|piece 0 00\r\n";
+
 #[test]
 fn first_lines_that_are_bad(rt: HostRuntime) {
-    let texts = [
-        b"".as_slice(),
-        b"\n",
-        b"world 2 16 12",
-        b"world 2 16\n",
-        b"world 2 16 12 4096\n",
-        b"world 2 16 12 \n",
-        b" world 2 16 12\n",
-        b"world  2 16 12\n",
-        b"world\t2 16 12\n",
-        b"World 2 16 12\n",
-        b"world 2 16 12\r\n",
-        b"world 0 16 12\n",
-        b"world 65 16 12\n",
-        b"world 2 0 12\n",
-        b"world 2 65 12\n",
-        b"world 2 16 11\n",
-        b"world 2 16 257\n",
-        b"world 02 16 12\n",
-        b"world +2 16 12\n",
-        b"world -2 16 12\n",
-        b"world 2 16 0xc\n",
-        b"world 18446744073709551618 16 12\n",
-        b"close 0\nworld 2 16 12\n",
-    ];
-    for text in texts {
-        assert!(rt; is_bad_at(rt.alloc(), text, 1), "{text:?}");
+    for text in FIRST_LINES.split('|') {
+        assert!(rt; is_bad_at(rt.alloc(), text.as_bytes(), 1), "{text:?}");
     }
 }
 
-/// Each way in which a later line is bad: here the third.
+/// Whether this line is a bad one as the third.
+fn is_bad_as_third(alloc: Global, line: &str) -> Result<bool, OutOfMemory> {
+    let mut text = Vec::from_slice(alloc, b"world 2 16 12\nclose 1\n")?;
+    text.extend_from_slice(line.as_bytes())?;
+    Ok(is_bad_at(alloc, text.as_slice(), 3))
+}
+
 #[test]
 fn later_lines_that_are_bad(rt: HostRuntime) -> Result<(), Fail> {
-    let alloc = rt.alloc();
-    let lines = [
-        b"\n".as_slice(),
-        b"close 0",
-        b"close 0\r\n",
-        b"close\n",
-        b"close \n",
-        b"close 0 \n",
-        b" close 0\n",
-        b"close  0\n",
-        b"close 0 0\n",
-        b"close 2\n",
-        b"close 00\n",
-        b"close 01\n",
-        b"close +1\n",
-        b"close -0\n",
-        b"close x\n",
-        b"Close 0\n",
-        b"open 0\n",
-        b"world 2 16 12\n",
-        b"fetch 2\n",
-        b"commit 2\n",
-        b"take 0\n",
-        b"take 2 0\n",
-        b"take 0 16\n",
-        b"take 0 0 0\n",
-        b"give 2 0\n",
-        b"give 0 16\n",
-        b"copy 16\n",
-        b"write 16\n",
-        b"install 16\n",
-        b"drop 16\n",
-        b"unlink 16\n",
-        b"retire 16\n",
-        b"drain 16\n",
-        b"release 16 00\n",
-        b"release 0\n",
-        b"release 0 0\n",
-        b"release 0 000\n",
-        b"release 0 0000\n",
-        b"release 0 FF\n",
-        b"release 0 fg\n",
-        b"piece 0\n",
-        b"piece 0 \n",
-        b"piece 2 00\n",
-        b"piece 0 0\n",
-        b"piece 0 000\n",
-        b"piece 0 0A\n",
-        b"piece 0 0g\n",
-        b"piece 0 00 00\n",
-        b"piece 0 00\r\n",
-    ];
-    for line in lines {
-        let mut text = Vec::from_slice(alloc, b"world 2 16 12\nclose 1\n")?;
-        text.extend_from_slice(line)?;
-        assert!(rt; is_bad_at(alloc, text.as_slice(), 3), "{line:?}");
+    for line in LATER_LINES.split('|') {
+        assert!(rt; is_bad_as_third(rt.alloc(), line)?, "{line:?}");
     }
     Ok(())
 }
@@ -312,55 +299,72 @@ fn the_first_bad_line_is_named(rt: HostRuntime) {
     assert!(rt; is_bad_at(rt.alloc(), text.as_slice(), 4));
 }
 
+/// Whether a schedule of one piece of so many bytes is read.
+fn is_piece_read(alloc: Global, count: usize) -> Result<bool, OutOfMemory> {
+    let text = piece_of(alloc, count)?;
+    Ok(parse(alloc, text.as_slice()).is_ok())
+}
+
+/// Whether the line of a piece of so many bytes is bad.
+fn is_piece_bad(alloc: Global, count: usize) -> Result<bool, OutOfMemory> {
+    let text = piece_of(alloc, count)?;
+    Ok(is_bad_at(alloc, text.as_slice(), 2))
+}
+
 #[test]
 fn a_piece_has_at_most_65536_bytes(rt: HostRuntime) -> Result<(), Fail> {
-    let alloc = rt.alloc();
-    let most = piece_of(alloc, PIECE_BYTES_MAX)?;
-    let schedule = parse(alloc, most.as_slice());
-    assert!(rt; schedule.is_ok());
-    let more = piece_of(alloc, PIECE_BYTES_MAX + 1)?;
-    assert!(rt; is_bad_at(alloc, more.as_slice(), 2));
+    assert!(rt; is_piece_read(rt.alloc(), PIECE_BYTES_MAX)?);
+    assert!(rt; is_piece_bad(rt.alloc(), PIECE_BYTES_MAX + 1)?);
     Ok(())
+}
+
+/// Whether a reader that fails after these bytes is told of, and nothing is printed.
+fn is_failure_told(alloc: Global, bytes: &[u8]) -> bool {
+    let outcome = Outcome::of(alloc, Source { bytes, fails: true }, usize::MAX);
+    outcome.reader_told == Told::Failure && outcome.is_fault(ReplayFault::CannotRead)
 }
 
 /// A reader that fails is told of, whatever was read before, and nothing is printed.
 #[test]
 fn a_reader_that_fails(rt: HostRuntime) {
-    for bytes in [b"".as_slice(), b"close", SET_AND_GET] {
-        let mut reader = Noted::new(Source { bytes, fails: true });
-        let mut writer = Noted::new(Sink::new(rt.alloc(), usize::MAX));
-        let result = run_schedule(rt.alloc(), &mut reader, &mut writer);
-        assert_eq!(rt; result, Err(ReplayFault::CannotRead));
-        assert_eq!(rt; reader.told(), Told::Failure);
-        assert!(rt; writer.into_inner().text.is_empty());
-    }
+    assert!(rt; is_failure_told(rt.alloc(), b""));
+    assert!(rt; is_failure_told(rt.alloc(), b"close"));
+    assert!(rt; is_failure_told(rt.alloc(), SET_AND_GET));
+}
+
+/// Whether a writer that fails after so many bytes is told of, and has these of the report.
+fn is_cut_at(alloc: Global, takes: usize) -> bool {
+    let outcome = Outcome::of(alloc, Source::of(SET_AND_GET), takes);
+    outcome.is_cut(SET_AND_GET_REPORT, takes)
 }
 
 /// A writer that fails is told of, and a beginning of the report is printed.
 #[test]
 fn a_writer_that_fails(rt: HostRuntime) {
     for takes in 0..SET_AND_GET_REPORT.len() {
-        let mut reader = Noted::new(Source {
-            bytes: SET_AND_GET,
-            fails: false,
-        });
-        let mut writer = Noted::new(Sink::new(rt.alloc(), takes));
-        let result = run_schedule(rt.alloc(), &mut reader, &mut writer);
-        assert_eq!(rt; result, Err(ReplayFault::CannotWrite), "{takes}");
-        assert_eq!(rt; writer.told(), Told::Failure, "{takes}");
-        let text = writer.into_inner().text;
-        assert!(rt; SET_AND_GET_REPORT.starts_with(text.as_slice()), "{takes}");
-        assert_eq!(rt; text.len(), takes);
+        assert!(rt; is_cut_at(rt.alloc(), takes), "{takes}");
+    }
+}
+
+/// Whether a schedule was reported, or memory was wanted.
+fn is_report_or_out_of_memory(replayed: &Result<Vec<u8>, ReplayFault>) -> bool {
+    match replayed {
+        Ok(report) => report.as_slice() == SET_AND_GET_REPORT,
+        Err(fault) => *fault == ReplayFault::OutOfMemory,
     }
 }
 
 /// Where an allocation is refused (`rt try --test --fail-alloc`), a schedule is reported or memory was wanted.
 #[test]
 fn a_refused_allocation(rt: HostRuntime) {
-    match replay(rt.alloc(), SET_AND_GET) {
-        Ok(report) => assert_eq!(rt; report.as_slice(), SET_AND_GET_REPORT),
-        Err(fault) => assert_eq!(rt; fault, ReplayFault::OutOfMemory),
-    }
+    let replayed = replay(rt.alloc(), SET_AND_GET);
+    assert!(rt; is_report_or_out_of_memory(&replayed));
+}
+
+/// Whether a fault has this text.
+fn has_text(alloc: Global, fault: ReplayFault, text: &str) -> Result<bool, AllocError> {
+    let shown = format!(in alloc; "{fault}")?;
+    Ok(shown.as_str() == text)
 }
 
 #[test]
@@ -372,22 +376,20 @@ fn faults_have_texts(rt: HostRuntime) -> Result<(), Fail> {
         (ReplayFault::OutOfMemory, "out of memory"),
     ];
     for (fault, text) in rows {
-        let shown = format!(in rt.alloc(); "{fault}")?;
-        assert_eq!(rt; shown.as_str(), text);
+        assert!(rt; has_text(rt.alloc(), fault, text)?, "{text}");
     }
     Ok(())
 }
 
+/// Whether a fault has this status, and is told or not.
+fn has_status(fault: ReplayFault, status: u8, is_told: bool) -> bool {
+    fault.status() == status && fault.is_told() == is_told
+}
+
 #[test]
 fn a_bad_line_has_its_own_status(rt: HostRuntime) {
-    let faults = [
-        (ReplayFault::CannotRead, 1, true),
-        (ReplayFault::BadLine(3), 2, true),
-        (ReplayFault::OutOfMemory, 1, true),
-        (ReplayFault::CannotWrite, 1, false),
-    ];
-    for (fault, status, is_told) in faults {
-        assert_eq!(rt; fault.status(), status, "{fault:?}");
-        assert_eq!(rt; fault.is_told(), is_told, "{fault:?}");
-    }
+    assert!(rt; has_status(ReplayFault::CannotRead, 1, true));
+    assert!(rt; has_status(ReplayFault::BadLine(3), 2, true));
+    assert!(rt; has_status(ReplayFault::OutOfMemory, 1, true));
+    assert!(rt; has_status(ReplayFault::CannotWrite, 1, false));
 }

@@ -1,7 +1,7 @@
 //! A server with its clients, and what clients send and read.
 
 use gates::Open;
-use server::{Endings, Options, ServerFault, listen, run_workers};
+use server::{Endings, Options, listen, run_workers};
 use std::alloc::Global;
 use std::io::{Read, Write};
 use std::net::{Ipv4Addr, Net, SocketAddrV4, TcpListener, TcpStream};
@@ -29,29 +29,25 @@ pub(crate) const QUEUED: &[u8] = b"+QUEUED\r\n";
 pub(crate) const TURNED_AWAY: &[u8] = b"-ERR max number of clients reached\r\n";
 
 /// What came of a server and its clients.
-#[derive(Clone, Copy)]
-pub(crate) struct Outcome<T> {
-    /// What the server answered.
-    pub(crate) served: Result<(), ServerFault>,
-    /// What the clients told, or `None` where a call of theirs failed.
-    pub(crate) told: Option<T>,
+#[derive(Drop)]
+pub(crate) struct Outcome {
+    /// Whether the server ended well, and its clients told yes.
+    well: bool,
     /// How the first four connections ended.
-    pub(crate) numbers: [Option<u8>; 4],
+    numbers: [Option<u8>; 4],
     /// How many connections were served.
-    pub(crate) count: usize,
+    count: usize,
 }
 
-impl<T: Copy + PartialEq> Outcome<T> {
-    /// Whether the server ended well, its clients told this, and so many connections were served.
-    pub(crate) fn is_well(&self, told: T, count: usize) -> bool {
-        self.served.is_ok() && self.told == Some(told) && self.count == count
+impl Outcome {
+    /// Whether the server ended well, its clients told yes, and so many connections were served.
+    pub(crate) fn is_well(&self, count: usize) -> bool {
+        self.well && self.count == count
     }
-}
 
-impl Outcome<bool> {
     /// Whether the server ended well, its clients told yes, and the first four connections ended so.
     pub(crate) fn ended(&self, numbers: [Option<u8>; 4]) -> bool {
-        self.served.is_ok() && self.told == Some(true) && self.numbers == numbers
+        self.well && self.numbers == numbers
     }
 }
 
@@ -66,24 +62,23 @@ fn first_numbers(endings: &Endings) -> [Option<u8>; 4] {
 }
 
 /// A listener, and its port.
-fn listening<R>(rt: &R, options: &Options) -> Result<(TcpListener, u16), Fail>
+fn listening<R>(rt: &R, options: &Options) -> Option<(TcpListener, u16)>
 where
     R: Net<Listener = TcpListener, Stream = TcpStream>,
 {
-    let listener = listen(rt, options)?;
-    let port = listener.local_addr()?.port();
-    Ok((listener, port))
+    let listener = listen(rt, options).ok()?;
+    let port = listener.local_addr().ok()?.port();
+    Some((listener, port))
 }
 
-/// A server with so many stripes and workers that accepts so many connections, while its clients talk, who
-/// are given its port.
-pub(crate) fn with_server<R, T: Copy, F: FnOnce(u16) -> io::Result<T>>(
+/// Whether a server with these options ends well, and its clients tell yes, who talk meanwhile and are
+/// given its port. `None` where there are no such options, or no listener.
+fn end_well<R, F: FnOnce(&R, u16) -> Option<bool>>(
     rt: &R,
-    accept: u32,
-    stripes: usize,
-    workers: usize,
+    options: Option<Options>,
+    endings: &Endings,
     talk: F,
-) -> Result<Outcome<T>, Fail>
+) -> Option<bool>
 where
     R: AllocGlobal
         + Clock
@@ -93,84 +88,140 @@ where
         + Sync,
     requires { F.IsAlwaysCallable talk }
 {
-    let options = Options::new(0, accept, stripes, workers).ok_or("options")?;
-    let endings = Endings::new(rt.alloc())?;
-    let (listener, port) = listening(rt, &options)?;
+    let options = &options?;
+    let (listener, port) = listening(rt, options)?;
     let (served, told) = thread::join(
         rt,
-        || run_workers(rt, listener, &options, &Open, &endings),
-        move || talk(port),
+        || run_workers(rt, listener, options, &Open, endings).is_ok(),
+        move || talk(rt, port),
     );
+    Some(served && told == Some(true))
+}
+
+/// A server with so many stripes and workers that accepts so many connections, while its clients talk, who
+/// are given its port and tell `None` where they can't go on.
+pub(crate) fn with_server<R, F: FnOnce(&R, u16) -> Option<bool>>(
+    rt: &R,
+    accept: u32,
+    stripes: usize,
+    workers: usize,
+    talk: F,
+) -> Result<Outcome, Fail>
+where
+    R: AllocGlobal
+        + Clock
+        + Net<Listener = TcpListener, Stream = TcpStream>
+        + Threads
+        + Wait
+        + Sync,
+    requires { F.IsAlwaysCallable talk }
+{
+    let options = Options::new(0, accept, stripes, workers);
+    let endings = Endings::new(rt.alloc())?;
+    let well = end_well(rt, options, &endings, talk);
     Ok(Outcome {
-        served,
-        told: told.ok(),
+        well: well == Some(true),
         numbers: first_numbers(&endings),
         count: endings.count(),
     })
 }
 
 /// A client of the server at this port.
-pub(crate) fn connect(rt: &impl Net<Stream = TcpStream>, port: u16) -> io::Result<TcpStream> {
-    let stream = TcpStream::connect(rt, SocketAddrV4::new(Ipv4Addr::LOCALHOST, port))?;
-    stream.set_nodelay(true)?;
-    Ok(stream)
+pub(crate) fn connect(rt: &impl Net<Stream = TcpStream>, port: u16) -> Option<TcpStream> {
+    let address = SocketAddrV4::new(Ipv4Addr::LOCALHOST, port);
+    let stream = TcpStream::connect(rt, address).ok()?;
+    if stream.set_nodelay(true).is_err() {
+        return None;
+    }
+    Some(stream)
+}
+
+/// So many connections, all open at once.
+pub(crate) fn connect_all<R>(rt: &R, port: u16, count: usize) -> Option<Vec<TcpStream>>
+where
+    R: AllocGlobal + Net<Stream = TcpStream>,
+{
+    let mut clients = Vec::new(rt.alloc());
+    for _ in 0..count {
+        clients.push(connect(rt, port)?).ok()?;
+    }
+    Some(clients)
+}
+
+/// Whether these bytes can be sent.
+pub(crate) fn sends(mut stream: &TcpStream, bytes: &[u8]) -> bool {
+    stream.write_all(bytes).is_ok()
 }
 
 /// Whether a request gets exactly this reply.
-pub(crate) fn answers(mut stream: &TcpStream, request: &[u8], reply: &[u8]) -> io::Result<bool> {
-    stream.write_all(request)?;
-    reads(stream, reply)
+pub(crate) fn answers(stream: &TcpStream, request: &[u8], reply: &[u8]) -> bool {
+    sends(stream, request) && reads(stream, reply)
+}
+
+/// Whether a new client is served.
+pub(crate) fn is_served(rt: &HostRuntime, port: u16) -> Option<bool> {
+    Some(answers(&connect(rt, port)?, PING, PONG))
+}
+
+/// The next byte.
+fn byte(mut stream: &TcpStream) -> Option<u8> {
+    let mut got = [0; 1];
+    stream.read_exact(&mut got).ok()?;
+    Some(got[0])
 }
 
 /// Whether these bytes come next.
-pub(crate) fn reads(mut stream: &TcpStream, bytes: &[u8]) -> io::Result<bool> {
-    for byte in bytes {
-        let mut got = [0; 1];
-        stream.read_exact(&mut got)?;
-        if got[0] != *byte {
-            return Ok(false);
+pub(crate) fn reads(stream: &TcpStream, bytes: &[u8]) -> bool {
+    for wanted in bytes {
+        if byte(stream) != Some(*wanted) {
+            return false;
         }
     }
-    Ok(true)
+    true
 }
 
 /// Whether the server sends no more.
-pub(crate) fn is_at_end(mut stream: &TcpStream) -> io::Result<bool> {
-    Ok(stream.read(&mut [0; 1])? == 0)
+pub(crate) fn is_at_end(mut stream: &TcpStream) -> bool {
+    matches!(stream.read(&mut [0; 1]), Ok(0))
 }
 
-/// The next line, without its end.
-fn line(alloc: Global, mut stream: &TcpStream) -> io::Result<Vec<u8>> {
-    let mut bytes = Vec::new(alloc);
+/// Reads the next line, and appends it without its end.
+fn read_line(stream: &TcpStream, line: &mut Vec<u8>) -> Option<()> {
     for _ in 0..u64::MAX {
-        let mut got = [0; 1];
-        stream.read_exact(&mut got)?;
-        match got[0] {
+        match byte(stream)? {
             b'\r' => {}
             b'\n' => break,
-            byte => bytes.push(byte)?,
+            byte => line.push(byte).ok()?,
         }
     }
-    Ok(bytes)
+    Some(())
 }
 
 /// The number that comes next as a bulk string.
-pub(crate) fn number(alloc: Global, stream: &TcpStream) -> io::Result<Option<u64>> {
-    let _length = line(alloc, stream)?;
-    let text = line(alloc, stream)?;
-    Ok(
-        str::from_utf8(text.as_slice())
-            .ok()
-            .and_then(|digits| digits.parse().ok()),
-    )
+pub(crate) fn number(alloc: Global, stream: &TcpStream) -> Option<u64> {
+    let mut text = Vec::new(alloc);
+    read_line(stream, &mut text)?;
+    text.clear();
+    read_line(stream, &mut text)?;
+    str::from_utf8(text.as_slice()).ok()?.parse().ok()
 }
 
-/// The spelling of a request.
-pub(crate) fn request(alloc: Global, words: &[&str]) -> io::Result<Vec<u8>> {
-    let mut spelled = Vec::new(alloc);
+/// Spells a request.
+fn spell(spelled: &mut Vec<u8>, words: &[&str]) -> io::Result<()> {
     write!(spelled, "*{}\r\n", words.len())?;
     for word in words {
         write!(spelled, "${}\r\n{word}\r\n", word.len())?;
     }
-    Ok(spelled)
+    Ok(())
+}
+
+/// Whether a request of these words gets exactly this reply.
+pub(crate) fn answers_words(
+    alloc: Global,
+    stream: &TcpStream,
+    words: &[&str],
+    reply: &[u8],
+) -> bool {
+    let mut spelled = Vec::new(alloc);
+    spell(&mut spelled, words).is_ok() && answers(stream, spelled.as_slice(), reply)
 }

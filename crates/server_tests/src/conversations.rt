@@ -1,11 +1,11 @@
 //! One client after the other.
 
 use crate::client::{
-    EXEC, MULTI, OK, PING, PONG, QUEUED, QUIT, answers, connect, is_at_end, reads, with_server,
+    EXEC, MULTI, OK, PING, PONG, QUEUED, QUIT, answers, connect, is_at_end, is_served, reads,
+    sends, with_server,
 };
 use std::alloc::Global;
-use std::io;
-use std::io::{Read, Write};
+use std::io::Read;
 use std::net::{Shutdown, TcpStream};
 use std::test::Fail;
 
@@ -18,35 +18,35 @@ const BAD_LENGTH: &[u8] = b"*1\r\n$04\r\nPING\r\n";
 const BAD_LENGTH_LINE: &[u8] = b"-ERR Protocol error: bad length\r\n";
 
 /// Each request is sent when the one before is answered.
-fn one_sets_and_gets(rt: &HostRuntime, port: u16) -> io::Result<bool> {
+fn one_sets_and_gets(rt: &HostRuntime, port: u16) -> Option<bool> {
     let client = connect(rt, port)?;
-    Ok(
-        answers(&client, PING, PONG)?
-            && answers(&client, GET, b"$-1\r\n")?
-            && answers(&client, SET, OK)?
-            && answers(&client, GET, b"$5\r\na\r\n*1\r\n")?,
+    Some(
+        answers(&client, PING, PONG)
+            && answers(&client, GET, b"$-1\r\n")
+            && answers(&client, SET, OK)
+            && answers(&client, GET, b"$5\r\na\r\n*1\r\n"),
     )
 }
 
 #[test]
 fn replies_before_input_ends(rt: HostRuntime) -> Result<(), Fail> {
-    let outcome = with_server(&rt, 1, 16, 1, |port| one_sets_and_gets(&rt, port))?;
+    let outcome = with_server(&rt, 1, 16, 1, one_sets_and_gets)?;
     assert!(rt; outcome.ended([Some(1), None, None, None]));
     Ok(())
 }
 
 /// The first sets a key and quits, and the second gets it.
-fn one_sets_another_gets(rt: &HostRuntime, port: u16) -> io::Result<bool> {
+fn one_sets_another_gets(rt: &HostRuntime, port: u16) -> Option<bool> {
     let first = connect(rt, port)?;
-    let set = answers(&first, SET, OK)? && answers(&first, QUIT, OK)?;
+    let set = answers(&first, SET, OK) && answers(&first, QUIT, OK);
     let second = connect(rt, port)?;
-    Ok(set && answers(&second, GET, b"$5\r\na\r\n*1\r\n")?)
+    Some(set && answers(&second, GET, b"$5\r\na\r\n*1\r\n"))
 }
 
 /// The store outlives a connection.
 #[test]
 fn a_later_connection_reads_what_an_earlier_one_set(rt: HostRuntime) -> Result<(), Fail> {
-    let outcome = with_server(&rt, 2, 16, 1, |port| one_sets_another_gets(&rt, port))?;
+    let outcome = with_server(&rt, 2, 16, 1, one_sets_another_gets)?;
     assert!(rt; outcome.ended([Some(2), Some(1), None, None]));
     Ok(())
 }
@@ -73,95 +73,121 @@ const WATCHED: &[(&[u8], &[u8])] = &[
 ];
 
 /// Whether each request gets exactly its reply.
-fn answers_all(stream: &TcpStream, rows: &[(&[u8], &[u8])]) -> io::Result<bool> {
+fn answers_all(stream: &TcpStream, rows: &[(&[u8], &[u8])]) -> bool {
     for &(request, reply) in rows {
-        if !answers(stream, request, reply)? {
-            return Ok(false);
+        if !answers(stream, request, reply) {
+            return false;
         }
     }
-    Ok(true)
+    true
 }
 
 /// A transaction on one connection, and two on the next with a watch on what the first wrote.
-fn two_have_transactions(rt: &HostRuntime, port: u16) -> io::Result<bool> {
+fn two_have_transactions(rt: &HostRuntime, port: u16) -> Option<bool> {
     let first = connect(rt, port)?;
-    let told = answers_all(&first, TRANSACTION)? && answers(&first, QUIT, OK)?;
+    let told = answers_all(&first, TRANSACTION) && answers(&first, QUIT, OK);
     let second = connect(rt, port)?;
-    Ok(told && answers_all(&second, WATCHED)?)
+    Some(told && answers_all(&second, WATCHED))
 }
 
 #[test]
 fn transactions_over_connections(rt: HostRuntime) -> Result<(), Fail> {
-    let outcome = with_server(&rt, 2, 16, 1, |port| two_have_transactions(&rt, port))?;
+    let outcome = with_server(&rt, 2, 16, 1, two_have_transactions)?;
     assert!(rt; outcome.ended([Some(2), Some(1), None, None]));
     Ok(())
 }
 
 /// Three clients after each other, each of whom goes away in its own manner, and a fourth.
-fn three_go_and_a_fourth_comes(rt: &HostRuntime, port: u16) -> io::Result<bool> {
-    goes_in_the_middle_of_a_request(&connect(rt, port)?)?;
-    goes_in_the_middle_of_a_reply(rt.alloc(), &connect(rt, port)?)?;
-    let told = is_refused(&connect(rt, port)?)?;
-    let fourth = connect(rt, port)?;
-    Ok(told && answers(&fourth, PING, PONG)?)
+fn three_go_and_a_fourth_comes(rt: &HostRuntime, port: u16) -> Option<bool> {
+    let told = goes_in_the_middle_of_a_request(rt, port)?;
+    let told = goes_in_the_middle_of_a_reply(rt, port)? && told;
+    let told = is_refused_and_goes(rt, port)? && told;
+    Some(is_served(rt, port)? && told)
 }
 
 /// Sends a part of a request.
-fn goes_in_the_middle_of_a_request(mut client: &TcpStream) -> io::Result<()> {
-    client.write_all(&GET[..20])
+fn goes_in_the_middle_of_a_request(rt: &HostRuntime, port: u16) -> Option<bool> {
+    Some(sends(&connect(rt, port)?, &GET[..20]))
 }
 
 /// Asks for 16 MiB, far more than the sockets hold, and goes after the first byte of it.
-fn goes_in_the_middle_of_a_reply(alloc: Global, mut client: &TcpStream) -> io::Result<()> {
-    client.write_all(b"*3\r\n$3\r\nSET\r\n$1\r\nk\r\n$8192\r\n")?;
-    client.write_all(&[b'v'; 8_192])?;
-    client.write_all(b"\r\n")?;
+fn goes_in_the_middle_of_a_reply(rt: &HostRuntime, port: u16) -> Option<bool> {
+    let client = connect(rt, port)?;
+    Some(sends_a_long_set(&client) && asks_often(rt.alloc(), &client) && reads_six(&client))
+}
+
+/// Sends a SET of 8,192 bytes.
+fn sends_a_long_set(client: &TcpStream) -> bool {
+    sends(client, b"*3\r\n$3\r\nSET\r\n$1\r\nk\r\n$8192\r\n")
+        && sends(client, &[b'v'; 8_192])
+        && sends(client, b"\r\n")
+}
+
+/// Sends 2,048 GETs at once.
+fn asks_often(alloc: Global, client: &TcpStream) -> bool {
     let mut requests = Vec::new(alloc);
     for _ in 0..2_048 {
-        requests.extend_from_slice(GET)?;
+        if requests.extend_from_slice(GET).is_err() {
+            return false;
+        }
     }
-    client.write_all(requests.as_slice())?;
-    let mut first = [0; 6];
-    client.read_exact(&mut first)
+    sends(client, requests.as_slice())
+}
+
+/// Whether six bytes come next.
+fn reads_six(mut client: &TcpStream) -> bool {
+    client.read_exact(&mut [0; 6]).is_ok()
 }
 
 /// Whether what is no request gets its line, and then the end.
-fn is_refused(client: &TcpStream) -> io::Result<bool> {
-    Ok(answers(client, BAD_LENGTH, BAD_LENGTH_LINE)? && is_at_end(client)?)
+fn is_refused(client: &TcpStream) -> bool {
+    answers(client, BAD_LENGTH, BAD_LENGTH_LINE) && is_at_end(client)
+}
+
+/// Whether a new client is refused, which then goes.
+fn is_refused_and_goes(rt: &HostRuntime, port: u16) -> Option<bool> {
+    Some(is_refused(&connect(rt, port)?))
 }
 
 #[test]
 fn a_client_that_goes_away_ends_its_own_connection_alone(rt: HostRuntime) -> Result<(), Fail> {
-    let outcome = with_server(&rt, 4, 16, 1, |port| three_go_and_a_fourth_comes(&rt, port))?;
+    let outcome = with_server(&rt, 4, 16, 1, three_go_and_a_fourth_comes)?;
     assert!(rt; outcome.ended([Some(1), Some(5), Some(3), Some(1)]));
     Ok(())
 }
 
 /// Sends what is no request, and far more than the sockets hold, before it reads.
-fn sends_on(mut client: &TcpStream) -> io::Result<bool> {
-    client.write_all(BAD_LENGTH)?;
-    for _ in 0..100 {
-        client.write_all(&[b'x'; 8_192])?;
+fn sends_on(client: &TcpStream) -> bool {
+    if !sends(client, BAD_LENGTH) {
+        return false;
     }
-    let told = reads(client, BAD_LENGTH_LINE)? && is_at_end(client)?;
-    client.shutdown(Shutdown::Both)?;
-    Ok(told)
+    for _ in 0..100 {
+        if !sends(client, &[b'x'; 8_192]) {
+            return false;
+        }
+    }
+    let told = reads(client, BAD_LENGTH_LINE) && is_at_end(client);
+    client.shutdown(Shutdown::Both).is_ok() && told
+}
+
+/// A new client sends on, and then goes.
+fn sends_on_and_goes(rt: &HostRuntime, port: u16) -> Option<bool> {
+    Some(sends_on(&connect(rt, port)?))
 }
 
 /// One sends on, one is refused and stays, and then a third comes.
-fn one_sends_on_and_one_stays(rt: &HostRuntime, port: u16) -> io::Result<bool> {
-    let told = sends_on(&connect(rt, port)?)?;
+fn one_sends_on_and_one_stays(rt: &HostRuntime, port: u16) -> Option<bool> {
+    let told = sends_on_and_goes(rt, port)?;
     let stays = connect(rt, port)?;
-    let told = told && is_refused(&stays)?;
-    let next = connect(rt, port)?;
-    Ok(told && answers(&next, PING, PONG)?)
+    let told = told && is_refused(&stays);
+    Some(is_served(rt, port)? && told)
 }
 
 /// The line of a fault reaches a client that sends on before it reads, and a client that never closes
 /// is let go.
 #[test]
 fn a_client_that_sends_on_reads_the_last_line(rt: HostRuntime) -> Result<(), Fail> {
-    let outcome = with_server(&rt, 3, 16, 1, |port| one_sends_on_and_one_stays(&rt, port))?;
+    let outcome = with_server(&rt, 3, 16, 1, one_sends_on_and_one_stays)?;
     assert!(rt; outcome.ended([Some(3), Some(3), Some(1), None]));
     Ok(())
 }

@@ -1,144 +1,143 @@
 //! Many clients at once.
 
 use crate::client::{
-    EXEC, MULTI, OK, PING, PONG, QUEUED, TURNED_AWAY, answers, connect, is_at_end, reads, request,
-    with_server,
+    EXEC, MULTI, OK, PING, PONG, QUEUED, TURNED_AWAY, answers, answers_words, connect, connect_all,
+    is_at_end, reads, with_server,
 };
 use std::alloc::Global;
 use std::net::{Net, TcpStream};
 use std::test::Fail;
+use std::thread;
 use std::thread::Threads;
-use std::{io, thread};
-
-/// So many connections, all open at once.
-fn connect_all<R>(rt: &R, port: u16, count: usize) -> io::Result<Vec<TcpStream>>
-where
-    R: AllocGlobal + Net<Stream = TcpStream>,
-{
-    let mut clients = Vec::new(rt.alloc());
-    for _ in 0..count {
-        clients.push(connect(rt, port)?)?;
-    }
-    Ok(clients)
-}
 
 /// Whether every client is served.
-fn all_are_served(clients: &[TcpStream]) -> io::Result<bool> {
+fn all_are_served(clients: &[TcpStream]) -> bool {
     for client in clients {
-        if !answers(client, PING, PONG)? {
-            return Ok(false);
+        if !answers(client, PING, PONG) {
+            return false;
         }
     }
-    Ok(true)
+    true
+}
+
+/// Whether a new client is turned away.
+fn is_turned_away(rt: &HostRuntime, port: u16) -> Option<bool> {
+    let beyond = connect(rt, port)?;
+    Some(reads(&beyond, TURNED_AWAY) && is_at_end(&beyond))
 }
 
 /// 64 clients that are served at once, and one more.
-fn sixty_four_and_one(rt: &HostRuntime, port: u16) -> io::Result<bool> {
+fn sixty_four_and_one(rt: &HostRuntime, port: u16) -> Option<bool> {
     let clients = connect_all(rt, port, 64)?;
-    let served = all_are_served(clients.as_slice())?;
-    let beyond = connect(rt, port)?;
-    let told = reads(&beyond, TURNED_AWAY)? && is_at_end(&beyond)?;
-    Ok(served && told && all_are_served(clients.as_slice())?)
+    let served = all_are_served(clients.as_slice());
+    let told = is_turned_away(rt, port)?;
+    Some(served && told && all_are_served(clients.as_slice()))
 }
 
 #[test]
 fn sixty_four_workers_serve_sixty_four_clients(rt: HostRuntime) -> Result<(), Fail> {
-    let outcome = with_server(&rt, 65, 64, 64, |port| sixty_four_and_one(&rt, port))?;
-    assert!(rt; outcome.is_well(true, 64));
+    let outcome = with_server(&rt, 65, 64, 64, sixty_four_and_one)?;
+    assert!(rt; outcome.is_well(64));
     Ok(())
 }
 
+/// So many clients at once, which end together.
+fn a_crowd_is_served(rt: &HostRuntime, port: u16, count: usize) -> Option<bool> {
+    let clients = connect_all(rt, port, count)?;
+    Some(all_are_served(clients.as_slice()))
+}
+
 /// Ten times as many clients as there are workers, all at once, which end together.
-fn one_crowd_after_the_other(rt: &HostRuntime, port: u16) -> io::Result<bool> {
+fn one_crowd_after_the_other(rt: &HostRuntime, port: u16) -> Option<bool> {
     for _ in 0..10 {
-        let clients = connect_all(rt, port, 4)?;
-        if !all_are_served(clients.as_slice())? {
-            return Ok(false);
+        if !a_crowd_is_served(rt, port, 4)? {
+            return Some(false);
         }
     }
-    Ok(true)
+    Some(true)
 }
 
 /// As many new clients as there are workers come as soon as those before have ended, and none is turned
 /// away.
 #[test]
 fn new_clients_come_as_others_end(rt: HostRuntime) -> Result<(), Fail> {
-    let outcome = with_server(&rt, 40, 16, 4, |port| one_crowd_after_the_other(&rt, port))?;
-    assert!(rt; outcome.is_well(true, 40));
+    let outcome = with_server(&rt, 40, 16, 4, one_crowd_after_the_other)?;
+    assert!(rt; outcome.is_well(40));
     Ok(())
 }
 
 /// The words that a client sends in each of its rounds, each with what it reads.
-fn round(alloc: Global, stream: &TcpStream, key: &str, other: &str) -> io::Result<bool> {
-    let set = request(alloc, &["SET", key, "7"])?;
-    let increase = request(alloc, &["INCR", key])?;
-    let both = request(alloc, &["MSET", key, "left", other, "right"])?;
-    let get = request(alloc, &["MGET", other, key])?;
-    Ok(
-        answers(stream, set.as_slice(), OK)?
-            && answers(stream, increase.as_slice(), b":8\r\n")?
-            && answers(stream, both.as_slice(), OK)?
-            && answers(
-                stream,
-                get.as_slice(),
-                b"*2\r\n$5\r\nright\r\n$4\r\nleft\r\n",
-            )?,
-    )
+fn round(alloc: Global, stream: &TcpStream, key: &str, other: &str) -> bool {
+    let crossed = b"*2\r\n$5\r\nright\r\n$4\r\nleft\r\n";
+    answers_words(alloc, stream, &["SET", key, "7"], OK)
+        && answers_words(alloc, stream, &["INCR", key], b":8\r\n")
+        && answers_words(alloc, stream, &["MSET", key, "left", other, "right"], OK)
+        && answers_words(alloc, stream, &["MGET", other, key], crossed)
+}
+
+/// Whether a SET, an INCR and a DEL are queued.
+fn changes_are_queued(alloc: Global, stream: &TcpStream, key: &str, other: &str) -> bool {
+    answers_words(alloc, stream, &["SET", key, "41"], QUEUED)
+        && answers_words(alloc, stream, &["INCR", key], QUEUED)
+        && answers_words(alloc, stream, &["DEL", key, other], QUEUED)
 }
 
 /// A transaction over two keys of this client's own.
-fn transaction(alloc: Global, stream: &TcpStream, key: &str, other: &str) -> io::Result<bool> {
-    let watch = request(alloc, &["WATCH", key, other])?;
-    let set = request(alloc, &["SET", key, "41"])?;
-    let increase = request(alloc, &["INCR", key])?;
-    let delete = request(alloc, &["DEL", key, other])?;
-    Ok(
-        answers(stream, watch.as_slice(), OK)?
-            && answers(stream, MULTI, OK)?
-            && answers(stream, set.as_slice(), QUEUED)?
-            && answers(stream, increase.as_slice(), QUEUED)?
-            && answers(stream, delete.as_slice(), QUEUED)?
-            && answers(stream, EXEC, b"*3\r\n+OK\r\n:42\r\n:2\r\n")?,
-    )
+fn transaction(alloc: Global, stream: &TcpStream, key: &str, other: &str) -> bool {
+    answers_words(alloc, stream, &["WATCH", key, other], OK)
+        && answers(stream, MULTI, OK)
+        && changes_are_queued(alloc, stream, key, other)
+        && answers(stream, EXEC, b"*3\r\n+OK\r\n:42\r\n:2\r\n")
+}
+
+/// Fifty rounds and transactions over these two keys.
+fn fifty_rounds(alloc: Global, stream: &TcpStream, key: &str, other: &str) -> bool {
+    for _ in 0..50 {
+        if !round(alloc, stream, key, other) || !transaction(alloc, stream, key, other) {
+            return false;
+        }
+    }
+    true
 }
 
 /// A client with two keys of its own, who checks each of its replies.
-fn one_of_many(alloc: Global, stream: &TcpStream, number: usize) -> io::Result<bool> {
-    let key = format!(in alloc; "left{number}")?;
-    let other = format!(in alloc; "right{number}")?;
-    for _ in 0..50 {
-        let told = round(alloc, stream, key.as_str(), other.as_str())?
-            && transaction(alloc, stream, key.as_str(), other.as_str())?;
-        if !told {
-            return Ok(false);
-        }
-    }
-    Ok(true)
+fn one_of_many(alloc: Global, stream: &TcpStream, number: usize) -> Option<bool> {
+    let key = format!(in alloc; "left{number}").ok()?;
+    let other = format!(in alloc; "right{number}").ok()?;
+    Some(fifty_rounds(alloc, stream, key.as_str(), other.as_str()))
 }
 
 /// Whether the client at this place reads what it should.
 fn reads_its_own(alloc: Global, clients: &[TcpStream], place: usize) -> bool {
     match clients.get(place) {
-        Some(stream) => one_of_many(alloc, stream, place).unwrap_or(false),
+        Some(stream) => one_of_many(alloc, stream, place) == Some(true),
         None => false,
     }
 }
 
-/// How many of sixteen clients at once read what they should.
-fn sixteen<R>(rt: &R, port: u16) -> io::Result<usize>
+/// How many of these clients at once read what they should.
+fn how_many_read_their_own<R>(rt: &R, clients: &[TcpStream]) -> Option<usize>
+where
+    R: AllocGlobal + Threads + Sync,
+{
+    let alloc = rt.alloc();
+    let read = &|place| reads_its_own(alloc, clients, place);
+    let told = thread::map_indices(rt, alloc, clients.len(), read).ok()?;
+    Some(told.iter().filter(|right| **right).count())
+}
+
+/// Whether sixteen clients at once all read what they should.
+fn sixteen<R>(rt: &R, port: u16) -> Option<bool>
 where
     R: AllocGlobal + Net<Stream = TcpStream> + Threads + Sync,
 {
     let clients = connect_all(rt, port, 16)?;
-    let alloc = rt.alloc();
-    let clients = clients.as_slice();
-    let told = thread::map_indices(rt, alloc, 16, &|place| reads_its_own(alloc, clients, place))?;
-    Ok(told.iter().filter(|right| **right).count())
+    Some(how_many_read_their_own(rt, clients.as_slice()) == Some(16))
 }
 
 #[test]
 fn sixteen_clients_at_once_read_their_own_replies(rt: HostRuntime) -> Result<(), Fail> {
-    let outcome = with_server(&rt, 16, 4, 16, |port| sixteen(&rt, port))?;
-    assert!(rt; outcome.is_well(16, 16));
+    let outcome = with_server(&rt, 16, 4, 16, |_, port| sixteen(&rt, port))?;
+    assert!(rt; outcome.is_well(16));
     Ok(())
 }

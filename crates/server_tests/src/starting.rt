@@ -2,54 +2,124 @@
 
 use gates::Open;
 use server::{Endings, Options, ServerFault, listen, run_workers};
+use std::alloc::Global;
+use std::net::{Net, TcpListener, TcpStream};
+use std::rt::Clock;
+use std::sync::Wait;
 use std::test::Fail;
+use std::thread::Threads;
 
 /// A server's options with this port, for one connection.
-fn options(port: u16) -> Result<Options, Fail> {
-    Ok(Options::new(port, 1, 16, 4).ok_or("options")?)
+fn options(port: u16) -> Option<Options> {
+    Options::new(port, 1, 16, 4)
+}
+
+/// A listener on a free port.
+fn listen_anywhere<R>(rt: &R) -> Option<TcpListener>
+where
+    R: Net<Listener = TcpListener, Stream = TcpStream>,
+{
+    listen(rt, &options(0)?).ok()
+}
+
+/// Whether a listener has an address of this host alone.
+fn is_on_loopback(listener: &TcpListener) -> bool {
+    match listener.local_addr() {
+        Ok(address) => address.ip().is_loopback(),
+        Err(_) => false,
+    }
+}
+
+/// Why nobody else can listen on the port of this listener.
+fn fault_of_a_second(rt: &HostRuntime, first: &TcpListener) -> Option<ServerFault> {
+    let port = first.local_addr().ok()?.port();
+    listen(rt, &options(port)?).err()
 }
 
 #[test]
 fn a_port_in_use_cannot_be_listened_on(rt: HostRuntime) -> Result<(), Fail> {
-    let listener = listen(&rt, &options(0)?)?;
-    let address = listener.local_addr()?;
-    assert!(rt; address.ip().is_loopback());
-    let refused = listen(&rt, &options(address.port())?).err();
-    assert!(rt; refused == Some(ServerFault::CannotListen));
+    let listener = listen_anywhere(&rt).ok_or("no listener")?;
+    assert!(rt; is_on_loopback(&listener));
+    assert!(rt; fault_of_a_second(&rt, &listener) == Some(ServerFault::CannotListen));
     Ok(())
+}
+
+/// A listener that does not wait for connections.
+fn listen_without_waiting<R>(rt: &R) -> Option<TcpListener>
+where
+    R: Net<Listener = TcpListener, Stream = TcpStream>,
+{
+    let listener = listen_anywhere(rt)?;
+    if listener.set_nonblocking(true).is_err() {
+        return None;
+    }
+    Some(listener)
+}
+
+/// Why a server stops whose listener gives no connection.
+fn fault_without_connections<R>(rt: &R, endings: &Endings) -> Option<ServerFault>
+where
+    R: AllocGlobal
+        + Clock
+        + Net<Listener = TcpListener, Stream = TcpStream>
+        + Threads
+        + Wait
+        + Sync,
+{
+    let options = options(0)?;
+    let listener = listen_without_waiting(rt)?;
+    run_workers(rt, listener, &options, &Open, endings).err()
 }
 
 /// The system refuses to wait for a connection.
 #[test]
 fn a_listener_that_gives_no_connection_stops_the_server(rt: HostRuntime) -> Result<(), Fail> {
     let endings = Endings::new(rt.alloc())?;
-    let listener = listen(&rt, &options(0)?)?;
-    listener.set_nonblocking(true)?;
-    let served = run_workers(&rt, listener, &options(0)?, &Open, &endings);
-    assert!(rt; served == Err(ServerFault::CannotAccept) && endings.count() == 0);
+    let fault = fault_without_connections(&rt, &endings);
+    assert!(rt; fault == Some(ServerFault::CannotAccept) && endings.count() == 0);
     Ok(())
 }
 
-#[test]
-fn each_fault_has_its_text(rt: HostRuntime) -> Result<(), Fail> {
-    for (fault, want) in [
-        (ServerFault::CannotListen, "garnetd: cannot listen"),
-        (ServerFault::CannotAccept, "garnetd: cannot accept"),
-        (ServerFault::OutOfMemory, "garnetd: out of memory"),
-    ] {
-        let text = format!(in rt.alloc(); "{fault}")?;
-        assert!(rt; text.as_str() == want);
+/// Each fault with its text.
+const FAULTS: &[(ServerFault, &str)] = &[
+    (ServerFault::CannotListen, "garnetd: cannot listen"),
+    (ServerFault::CannotAccept, "garnetd: cannot accept"),
+    (ServerFault::OutOfMemory, "garnetd: out of memory"),
+];
+
+/// Whether a fault is printed so.
+fn is_printed(alloc: Global, fault: ServerFault, want: &str) -> bool {
+    match format!(in alloc; "{fault}") {
+        Ok(text) => text.as_str() == want,
+        Err(_) => false,
     }
-    Ok(())
+}
+
+#[test]
+fn each_fault_has_its_text(rt: HostRuntime) {
+    for &(fault, want) in FAULTS {
+        assert!(rt; is_printed(rt.alloc(), fault, want), "{want}");
+    }
+}
+
+/// Numbers of connections, and whether there are options with them.
+const ACCEPTED: &[(u32, bool)] = &[(0, false), (1, true), (1_000_000, true), (1_000_001, false)];
+
+/// Numbers of stripes and of workers, and whether there are options with them.
+const COUNTS: &[(usize, bool)] = &[(0, false), (1, true), (64, true), (65, false)];
+
+/// Whether there are options with these numbers.
+fn is_in_range(accept: u32, stripes: usize, workers: usize) -> bool {
+    Options::new(7, accept, stripes, workers).is_some()
 }
 
 #[test]
 fn options_are_in_range(rt: HostRuntime) {
-    for (accept, want) in [(0, false), (1, true), (1_000_000, true), (1_000_001, false)] {
-        assert!(rt; Options::new(7, accept, 16, 4).is_some() == want);
+    for &(accept, want) in ACCEPTED {
+        assert!(rt; is_in_range(accept, 16, 4) == want, "{accept} connections");
     }
-    for (count, want) in [(0, false), (1, true), (64, true), (65, false)] {
-        assert!(rt; Options::new(7, 1, count, 4).is_some() == want);
-        assert!(rt; Options::new(7, 1, 16, count).is_some() == want);
+    for &(count, want) in COUNTS {
+        let same = is_in_range(1, count, 4) == want && is_in_range(1, 16, count) == want;
+        assert!(rt; same, "{count} stripes or workers");
     }
 }

@@ -5,7 +5,8 @@ ghost use Rattle.std.specs.Prelude.{◌≡◌, IfSome};
 ghost use Rattle.words.specs.Commands.{command_of};
 
 use session::modes::{AnySession, Called, Closed, Session, Step};
-use std::alloc::Global;
+use std::alloc::{AllocError, Global};
+use std::process::Abort;
 use std::test::Fail;
 use transact::call::{Answer, Call, Watching};
 use words::command::Command;
@@ -15,14 +16,13 @@ use words::reply::{CommandReply, Fault, Item, Line, Refusal, Reply};
 use words::word::{Word, Words};
 
 /// A session that talks.
-#[derive(Debug)]
 enum Talking {
     Open(AnySession),
     Closed(Session<Closed>),
 }
 
 /// What the calls of a talk are answered.
-#[derive(Clone, Copy, Debug, PartialEq, Eq)]
+#[derive(Clone, Copy)]
 enum Given {
     Done,
     Null,
@@ -67,13 +67,27 @@ fn words_of(alloc: Global, text: &[u8]) -> Option<Words> {
 
 /// One word more, where there is room for it.
 fn with_word(alloc: Global, words: Option<Words>, word: Word) -> Option<Words> {
-    let Some(mut words) = words else {
-        return Some(Words::one(alloc, word));
-    };
-    if words.as_slice().len() >= WORDS_MAX || words.push(word).is_err() {
-        return None;
+    match words {
+        None => Some(Words::one(alloc, word)),
+        Some(words) => added(words, word),
     }
-    Some(words)
+}
+
+/// These words and one more, where there is room for it.
+fn added(mut words: Words, word: Word) -> Option<Words> {
+    if push_word(&mut words, word) {
+        Some(words)
+    } else {
+        None
+    }
+}
+
+/// Adds a word, and answers whether there was room for it.
+fn push_word(words: &mut Words, word: Word) -> bool {
+    if words.as_slice().len() >= WORDS_MAX {
+        return false;
+    }
+    words.push(word).is_ok()
 }
 
 /// Notes a text. The notes have room for it.
@@ -91,12 +105,13 @@ fn note_number(notes: &mut Vec<u8>, number: usize) {
 
 /// Notes a reply and the end of a line.
 fn note_reply(notes: &mut Vec<u8>, reply: &Reply) {
-    match reply {
-        Reply::Single(CommandReply::One(Item::Line(line))) => note(notes, line.text()),
-        Reply::Single(CommandReply::One(Item::Bulk(text))) => note(notes, text.as_slice()),
-        Reply::NullArray => note(notes, b"(null)"),
-        _ => note(notes, b"(another reply)"),
-    }
+    let text = match reply {
+        Reply::Single(CommandReply::One(Item::Line(line))) => line.text(),
+        Reply::Single(CommandReply::One(Item::Bulk(text))) => text.as_slice(),
+        Reply::NullArray => b"(null)".as_slice(),
+        _ => b"(another reply)".as_slice(),
+    };
+    note(notes, text);
     note(notes, b"\n");
 }
 
@@ -212,7 +227,7 @@ fn end(talking: Talking, notes: &mut Vec<u8>) {
 }
 
 /// An empty list with room for notes, tried again where there was no memory.
-fn room(alloc: Global) -> Result<Vec<u8>, Fail> {
+fn room(alloc: Global) -> Result<Vec<u8>, AllocError> {
     if let Ok(notes) = Vec::with_capacity(alloc, 16_384) {
         return Ok(notes);
     }
@@ -220,7 +235,7 @@ fn room(alloc: Global) -> Result<Vec<u8>, Fail> {
 }
 
 /// What a new session says to requests between which stand semicolons.
-fn talk(alloc: Global, text: &[u8], given: Given) -> Result<Vec<u8>, Fail> {
+fn talk(alloc: Global, text: &[u8], given: Given) -> Result<Vec<u8>, AllocError> {
     let mut notes = room(alloc)?;
     let session = AnySession::Idle(Session::new(alloc));
     let talking = ask_all(alloc, session, text, given, &mut notes);
@@ -333,48 +348,43 @@ const SPOILED: [Row; 4] = [
     ),
 ];
 
-/// The place of the first row that is not said so, if there is one.
-fn wrong_row(alloc: Global, rows: &[Row]) -> Result<Option<usize>, Fail> {
+/// Sees that each row is said so by a new session.
+fn check_rows(rt: &impl Abort, alloc: Global, rows: &[Row]) -> Result<(), Fail> {
     for (place, (requests, given, said)) in rows.iter().enumerate() {
-        if !is_said(alloc, requests, *given, said)? {
-            return Ok(Some(place));
-        }
+        assert!(rt; is_said(alloc, requests, *given, said)?, "at {place}");
     }
-    Ok(None)
+    Ok(())
 }
 
 /// Whether a new session says this to these requests.
-fn is_said(alloc: Global, requests: &[u8], given: Given, said: &[u8]) -> Result<bool, Fail> {
+fn is_said(alloc: Global, requests: &[u8], given: Given, said: &[u8]) -> Result<bool, AllocError> {
     let notes = talk(alloc, requests, given)?;
     Ok(notes.as_slice() == said)
 }
 
 #[test]
 fn requests_of_an_idle_session(rt: HostRuntime) -> Result<(), Fail> {
-    assert_eq!(rt; wrong_row(rt.alloc(), &IDLE)?, None);
-    Ok(())
+    check_rows(&rt, rt.alloc(), &IDLE)
 }
 
 #[test]
 fn requests_in_a_transaction(rt: HostRuntime) -> Result<(), Fail> {
-    assert_eq!(rt; wrong_row(rt.alloc(), &QUEUEING)?, None);
-    Ok(())
+    check_rows(&rt, rt.alloc(), &QUEUEING)
 }
 
 #[test]
 fn requests_in_a_spoiled_transaction(rt: HostRuntime) -> Result<(), Fail> {
-    assert_eq!(rt; wrong_row(rt.alloc(), &SPOILED)?, None);
-    Ok(())
+    check_rows(&rt, rt.alloc(), &SPOILED)
 }
 
 /// Whether a session that watches says this where its EXEC is answered so.
-fn is_exec_said(alloc: Global, given: Given, said: &[u8]) -> Result<bool, Fail> {
+fn is_exec_said(alloc: Global, given: Given, said: &[u8]) -> Result<bool, AllocError> {
     let notes = exec_of_watched(alloc, given)?;
     Ok(notes.as_slice() == said)
 }
 
 /// What a session that watches says to a transaction whose EXEC is answered so.
-fn exec_of_watched(alloc: Global, given: Given) -> Result<Vec<u8>, Fail> {
+fn exec_of_watched(alloc: Global, given: Given) -> Result<Vec<u8>, AllocError> {
     let mut notes = room(alloc)?;
     let session = AnySession::Idle(Session::new(alloc));
     let talking = match ask_all(
@@ -407,7 +417,7 @@ fn repeated(
     text: &[u8],
     count: usize,
     last: &[u8],
-) -> Result<Vec<u8>, Fail> {
+) -> Result<Vec<u8>, AllocError> {
     let mut all = Vec::with_capacity(alloc, 131_072)?;
     note(&mut all, first);
     for _ in 0..count {
@@ -425,7 +435,7 @@ fn ends_so(
     count: usize,
     last: &[u8],
     end: &[u8],
-) -> Result<bool, Fail> {
+) -> Result<bool, AllocError> {
     let requests = repeated(alloc, first, text, count, last)?;
     let said = talk(alloc, &requests, Given::Done)?;
     Ok(said.as_slice().ends_with(end))
@@ -438,7 +448,7 @@ fn is_most(
     count: usize,
     more: &[u8],
     run: &[u8],
-) -> Result<bool, Fail> {
+) -> Result<bool, AllocError> {
     let too_large = b"+QUEUED\n-ERR transaction is too large\n\
           -EXECABORT transaction discarded because of earlier errors\nend";
     Ok(
@@ -457,24 +467,35 @@ fn a_transaction_of_too_many_commands(rt: HostRuntime) -> Result<(), Fail> {
 /// The end of what is said where a transaction of 8 requests is run.
 const RUN: &[u8] = b"+QUEUED\nexec 08 watching 00 +OK\nend";
 
+/// Whether 8 requests of a first text and another one so many times are queued and run, and these are not
+/// queued after them.
+fn are_most(
+    alloc: Global,
+    first: &[u8],
+    text: &[u8],
+    count: usize,
+    more: &[u8],
+) -> Result<bool, AllocError> {
+    let request = repeated(alloc, first, text, count, b";")?;
+    is_most(alloc, &request, 8, more, RUN)
+}
+
 /// A transaction of 8 requests of 128 words each is as large as one may be.
 #[test]
 fn a_transaction_of_too_many_words(rt: HostRuntime) -> Result<(), Fail> {
-    let request = repeated(rt.alloc(), b"MGET", b" k", 127, b";")?;
-    assert!(rt; is_most(rt.alloc(), &request, 8, b"UNWATCH;EXEC", RUN)?);
+    assert!(rt; are_most(rt.alloc(), b"MGET", b" k", 127, b"UNWATCH;EXEC")?);
     Ok(())
 }
 
 /// A transaction of 8 requests of 8,192 bytes each, their names counted, is as large as one may be.
 #[test]
 fn a_transaction_of_too_many_bytes(rt: HostRuntime) -> Result<(), Fail> {
-    let request = repeated(rt.alloc(), b"ECHO ", b"x", 8_188, b";")?;
-    assert!(rt; is_most(rt.alloc(), &request, 8, b"PING;EXEC", RUN)?);
+    assert!(rt; are_most(rt.alloc(), b"ECHO ", b"x", 8_188, b"PING;EXEC")?);
     Ok(())
 }
 
 /// A WATCH of so many keys, of two bytes each, and a last text.
-fn watch_of(alloc: Global, count: u8, last: &[u8]) -> Result<Vec<u8>, Fail> {
+fn watch_of(alloc: Global, count: u8, last: &[u8]) -> Result<Vec<u8>, AllocError> {
     let mut request = Vec::with_capacity(alloc, 16_384)?;
     note(&mut request, b"WATCH");
     for key in 0..count {
@@ -484,13 +505,18 @@ fn watch_of(alloc: Global, count: u8, last: &[u8]) -> Result<Vec<u8>, Fail> {
     Ok(request)
 }
 
+/// Whether this is said to a WATCH of so many keys, and a last text.
+fn is_watch_said(alloc: Global, count: u8, last: &[u8], said: &[u8]) -> Result<bool, AllocError> {
+    let requests = watch_of(alloc, count, last)?;
+    is_said(alloc, &requests, Given::Done, said)
+}
+
 #[test]
 fn too_many_watched_keys(rt: HostRuntime) -> Result<(), Fail> {
     let more = b";WATCH k\x80 x1 x1;WATCH k\x81 x1;WATCH x2;WATCH k\x80 x3 x1";
-    let requests = watch_of(rt.alloc(), 127, more)?;
     let said = b"watch 27 +OK\nwatch 03 +OK\nwatch 02 +OK\n-ERR too many watched keys\n\
           -ERR too many watched keys\nforget 28 end";
-    assert!(rt; is_said(rt.alloc(), &requests, Given::Done, said)?);
+    assert!(rt; is_watch_said(rt.alloc(), 127, more, said)?);
     Ok(())
 }
 
@@ -523,13 +549,25 @@ const WANTS: [&[u8]; 4] = [
       -ERR EXEC without MULTI\nend",
 ];
 
+/// Whether what is said to these requests is one of those texts.
+fn is_one_said(alloc: Global, requests: &[u8], texts: &[&[u8]]) -> Result<bool, AllocError> {
+    let said = talk(alloc, requests, Given::Done)?;
+    Ok(is_among(said.as_slice(), texts))
+}
+
+/// Whether a text is one of those.
+fn is_among(text: &[u8], texts: &[&[u8]]) -> bool {
+    for other in texts {
+        if *other == text {
+            return true;
+        }
+    }
+    false
+}
+
 #[test]
 fn want_of_memory_spoils_or_is_answered(rt: HostRuntime) -> Result<(), Fail> {
-    let said = talk(
-        rt.alloc(),
-        b"WATCH a;MULTI;SET a 1;SET b 2;EXEC;EXEC",
-        Given::Done,
-    )?;
-    assert!(rt; WANTS.iter().any(|want| *want == said.as_slice()));
+    let requests = b"WATCH a;MULTI;SET a 1;SET b 2;EXEC;EXEC";
+    assert!(rt; is_one_said(rt.alloc(), requests, &WANTS)?);
     Ok(())
 }
