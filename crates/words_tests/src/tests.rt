@@ -28,13 +28,24 @@ fn request(alloc: Global, words: &[&[u8]]) -> Result<Words, Fail> {
 /// What words are.
 type Read = Result<Command, Refusal>;
 
+/// Whether what this request is is as `fits` says.
+fn request_reads(alloc: Global, request: &Words, fits: fn(&Read) -> bool) -> Result<bool, Fail>
+    requires { IsAlwaysCallable fits }
+{
+    let read = Command::of(alloc, request)?;
+    let is_fit = fits(&read);
+    if let Ok(command) = read {
+        drop(command);
+    }
+    Ok(is_fit)
+}
+
 /// Whether what these words are is as `fits` says.
 fn reads(alloc: Global, words: &[&[u8]], fits: fn(&Read) -> bool) -> Result<bool, Fail>
     requires { IsAlwaysCallable fits }
 {
     let request = request(alloc, words)?;
-    let read = Command::of(alloc, &request)?;
-    Ok(fits(&read))
+    request_reads(alloc, &request, fits)
 }
 
 /// Whether a word is this text.
