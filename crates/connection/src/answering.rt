@@ -23,7 +23,7 @@ use streams::{Noted, ReadReady, WriteFault};
 use words::reply::{Fault, Line, ProtocolFault, Reply};
 
 /// What the next turn of a client comes to.
-#[derive(Debug, Drop)]
+#[derive(Drop)]
 pub(crate) enum Due {
     /// A request is answered with this reply.
     Reply(Reply),
@@ -68,7 +68,7 @@ fn answer_next<T: Wait, L: Latch>(
 }
 
 /// Where the answering of what a client was fed pauses.
-#[derive(Debug, Drop)]
+#[derive(Drop)]
 pub(crate) enum Paused {
     /// No whole request is left.
     Input,

@@ -179,7 +179,7 @@ fn take_few<R: Read>(
 }
 
 /// What came of asking for a piece that is there already.
-#[derive(Clone, Copy, Debug, PartialEq, Eq)]
+#[derive(Clone, Copy)]
 pub(crate) enum Waiting {
     /// The client was fed a piece.
     Fed,

@@ -15,7 +15,6 @@ use words::reply::{Refusal, Reply};
 use words::word::Words;
 
 /// How far a client's session has come.
-#[derive(Debug)]
 pub(crate) enum State {
     /// It waits for a request.
     Ready(AnySession),

@@ -7,8 +7,6 @@
 
 mod encoder;
 mod sink;
-#[cfg(test)]
-mod tests;
 mod walk;
 
 pub use encoder::{encode, encode_within, send};

@@ -13,7 +13,7 @@ use std::io::Write;
 use streams::Noted;
 
 /// A sink took no more bytes.
-#[derive(Clone, Copy, Debug, PartialEq, Eq)]
+#[derive(Clone, Copy)]
 pub(crate) struct Stopped;
 
 /// It takes a text, given part by part.
@@ -42,7 +42,7 @@ pub(crate) trait Sink {
 }
 
 /// How many bytes a text has. It stops where they are 2^64 or more.
-#[derive(Clone, Copy, Debug)]
+#[derive(Clone, Copy)]
 pub(crate) struct Length {
     pub(crate) bytes: usize,
 }

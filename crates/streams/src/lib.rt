@@ -5,8 +5,6 @@
 mod noted;
 mod observed;
 mod ready;
-#[cfg(test)]
-mod tests;
 
 pub use noted::Noted;
 pub use observed::{Input, Told, WriteFault};

@@ -132,6 +132,3 @@ impl Marks {
         self.keys.retain(move |_, seats| seats.keep_others(seat));
     }
 }
-
-#[cfg(test)]
-mod tests;

@@ -20,7 +20,7 @@ use crate::word::{OutOfMemory, Word};
 use std::alloc::{AllocError, Global};
 
 /// A command of one key.
-#[derive(Clone, Copy, Debug, PartialEq, Eq)]
+#[derive(Clone, Copy)]
 pub(crate) enum KeyVerb {
     Get,
     GetDel,
@@ -30,7 +30,7 @@ pub(crate) enum KeyVerb {
 }
 
 /// A command of a key and a value.
-#[derive(Clone, Copy, Debug, PartialEq, Eq)]
+#[derive(Clone, Copy)]
 pub(crate) enum ValueVerb {
     SetNx,
     GetSet,
@@ -38,14 +38,14 @@ pub(crate) enum ValueVerb {
 }
 
 /// A command of a key and a number.
-#[derive(Clone, Copy, Debug, PartialEq, Eq)]
+#[derive(Clone, Copy)]
 pub(crate) enum NumberVerb {
     Add,
     Subtract,
 }
 
 /// A command of one key or more.
-#[derive(Clone, Copy, Debug, PartialEq, Eq)]
+#[derive(Clone, Copy)]
 pub(crate) enum KeysVerb {
     Exists,
     Del,
@@ -53,14 +53,14 @@ pub(crate) enum KeysVerb {
 }
 
 /// A command of one setting or more.
-#[derive(Clone, Copy, Debug, PartialEq, Eq)]
+#[derive(Clone, Copy)]
 pub(crate) enum SettingsVerb {
     MSet,
     MSetNx,
 }
 
 /// A command of the session itself that takes no word.
-#[derive(Clone, Copy, Debug, PartialEq, Eq)]
+#[derive(Clone, Copy)]
 pub(crate) enum LoneVerb {
     Multi,
     Exec,

@@ -82,7 +82,7 @@ pub(crate) enum Open<'a> {
 }
 
 /// What an open call is for.
-#[derive(Clone, Copy, Debug)]
+#[derive(Clone, Copy)]
 pub(crate) enum Kind {
     /// It asks the store for something.
     Asks,

@@ -1,4 +1,4 @@
-use Rattle.std.proofs.Common.{[], ◌++◌, ◌∙◌, refl, sym, ap, append_assoc, append-nil, List, ℕ}
+use Rattle.std.proofs.Common.{rules, [], ◌++◌, ◌∙◌, refl, sym, ap, append_assoc, append-nil, List, ℕ}
 use Rattle.streams.specs.Laws.{Keeps-same, Appends-none, Appends-then}
 use Rattle.connection.proofs.Known.{regroup_held, regroup_cut, cut_held}
 use Rattle.connection.proofs.Conversing.{served_cut, served_cut_fault, served_fault, served_no_memory, served_unfed, served_quit}
@@ -76,3 +76,6 @@ returns-in-WriteFailed-clause-answered g c = λ was now fed before standing paus
       Appends-none _ _ (Keeps-same _),
       served_cut _ so_far.2 so_far.3 (so_far.4 ∙ ap (λ (t : List ℕ). t ++ so_far.2) (sym (append-nil before))),
     )
+
+pub returns-in-WriteFailed-clause-told : goal.returns-in-WriteFailed-clause-told
+returns-in-WriteFailed-clause-told g c = search rules

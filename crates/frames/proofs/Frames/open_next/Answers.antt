@@ -1,4 +1,4 @@
-use Rattle.std.proofs.Common.{◌≡◌, ◌+◌, ℕ, ◌<◌, List, length, ap, ◌∙◌, arith, length-set}
+use Rattle.std.proofs.Common.{rules, ◌≡◌, ◌+◌, ℕ, ◌<◌, List, length, ap, ◌∙◌, arith, length-set}
 use Rattle.frames.specs.Resident.{next_number, with_opened}
 use Rattle.frames.proofs.Windows.{length-window}
 use Rattle.frames.proofs.Shown.{shown-longer}
@@ -29,3 +29,6 @@ returns-clause-opened c =
     let size : c.len-2.result ≡ length f.frames.items = omega arith in
     let number : c.next_number-number.result ≡ f.oldest + f.resident = omega arith in
     rw (c.reset.ensures.empty, number) (shown-longer f.frames.items f.slot f.resident f.oldest ring _ room (rw size at c.slot_after-slot.ensures) ∙ ap with_opened c.self.view_is)
+
+pub returns-clause-empty : goal.returns-clause-empty
+returns-clause-empty c = search rules

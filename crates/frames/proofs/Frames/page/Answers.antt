@@ -1,4 +1,4 @@
-use Rattle.std.proofs.Common.{◌≡◌, ◌-◌, ◌<◌, length, ap, ◌∙◌, arith}
+use Rattle.std.proofs.Common.{rules, ◌≡◌, ◌-◌, ◌<◌, length, ap, ◌∙◌, arith}
 use Rattle.frames.specs.Resident.{page_of, next_number}
 use Rattle.frames.proofs.Windows.{length-window}
 use Rattle.frames.proofs.Shown.{get_or-shown}
@@ -13,3 +13,6 @@ returns-clause-bytes c =
     let below : c.args.number - f.oldest < f.resident = omega arith in
     let size : c.len.result ≡ length f.frames.items = omega arith in
     c.index.ensures ∙ get_or-shown f.frames.items f.slot f.resident f.oldest ring c.args.number _ _ below (rw size at c.slot_after-slot.ensures) ∙ ap (λ r. page_of r c.args.number) c.self.view_is
+
+pub returns-clause-resident : goal.returns-clause-resident
+returns-clause-resident c = search rules

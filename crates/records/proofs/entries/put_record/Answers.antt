@@ -29,3 +29,6 @@ returns c =
       number = gained.number_is;
       laid_out = gained.laid_out;
     }
+
+pub returns-then-size-end-clause-refused : goal.returns-then-size-end-clause-refused
+returns-then-size-end-clause-refused c = search rules

@@ -41,3 +41,6 @@ returns c =
       within = search rules;
     } in
     record { exact = (at, read); found = read-listed c.args.page.now c.args.offset _ read }
+
+pub returns-in_err-value-clause-exact : goal.returns-in_err-value-clause-exact
+returns-in_err-value-clause-exact c = search rules

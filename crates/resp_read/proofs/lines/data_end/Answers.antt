@@ -1,3 +1,4 @@
+use Rattle.std.proofs.lemmas.Grind.{common_steps}
 use Rattle.std.proofs.Common.{arith}
 use Rattle.resp_read.proofs.Steps.{data_part}
 use Rattle.resp_read.proofs.DataLemmas.{data_without_cr, data_ends_at_cr, data_without_lf}
@@ -15,3 +16,6 @@ returns-then-bytes-length-2 c = (omega arith, λ left size. data_ends_at_cr left
 pub returns-then-bytes-length-ne10 : goal.returns-then-bytes-length-ne10
 returns-then-bytes-length-ne10 c =
     λ left size. data_without_lf left size c.args.length c.args.bytes.now c.if-bytes-length-ne13.false (omega arith) c.if-bytes-length-ne10.true
+
+pub returns : goal.returns
+returns c = grind (arith, common_steps)

@@ -1,4 +1,4 @@
-use Rattle.std.proofs.Common.{arith, length, ◌≡◌, ◌-◌, ◌+◌, ◌∷◌, ◌++◌, ◌∙◌, List, ℕ, [], ap, take, drop}
+use Rattle.std.proofs.Common.{rules, arith, length, ◌≡◌, ◌-◌, ◌+◌, ◌∷◌, ◌++◌, ◌∙◌, List, ℕ, [], ap, take, drop}
 use Rattle.std.proofs.lemmas.List.{take_rest, length_push}
 use Rattle.resp_read.specs.Looks.{BeginsWithWords}
 use Rattle.resp_read.proofs.WholeLemmas.{one_more, all_taken}
@@ -19,3 +19,6 @@ loop-preserved c =
 pub returns : goal.returns
 returns c =
     λ _. all_taken c.args.bytes.now c.args.count c.loop.at c.loop.size c.loop.words c.loop.invariant.0 (omega (arith, c.requires.count, c.loop.invariant.1, c.loop-test.false)) c.requires.count.0 c.requires.count.1
+
+pub loop-init : goal.loop-init
+loop-init c = search rules

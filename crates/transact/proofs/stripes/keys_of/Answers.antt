@@ -1,4 +1,4 @@
-use Rattle.std.proofs.Common.{◌∙◌, ℕ, List, [], ◌++◌, sym, ap}
+use Rattle.std.proofs.Common.{rules, ◌∙◌, ℕ, List, [], ◌++◌, sym, ap}
 use Rattle.words.specs.declared.command.Command.{Command}
 use Rattle.words.specs.Store.{Bytes}
 use Rattle.words.specs.Commands.{keys_of_all}
@@ -19,3 +19,6 @@ returns-in-Exec-clause-exact c =
     ∙ (let a = c.as_slice-in-Exec.ensures in let b = c.keys.ensures in let is = c.in-Exec.is in
     ap (λ (l : List Command). stripes_with n [] (keys_of_all l ++ keys)) a ∙ ap (λ (k : List Bytes). stripes_with n [] (keys_of_all c.in-Exec.commands ++ k)) b
     ∙ ap (λ (x : Call). stripes_with n [] (call_keys x)) (sym is))
+
+pub returns-in-One-clause-exact : goal.returns-in-One-clause-exact
+returns-in-One-clause-exact c = search rules

@@ -1,4 +1,4 @@
-use Rattle.std.proofs.Common.{◌≡◌, ◌∙◌, ℕ, List, [], Option, refl, sym, ap, subst}
+use Rattle.std.proofs.Common.{rules, ◌≡◌, ◌∙◌, ℕ, List, [], Option, refl, sym, ap, subst}
 use Rattle.words.specs.Store.{Bytes, Write}
 use Rattle.words.specs.Session.{operation_of}
 use Rattle.gates.specs.declared.held.Held.{Held}
@@ -110,3 +110,6 @@ returns-in_default-clause-seen c = ap (λ (k : Knowledge). k.seen) c.plan.ensure
 pub returns-in-Err-clause-seen : goal.returns-in-Err-clause-seen
 returns-in-Err-clause-seen c =
     ap (λ (k : Knowledge). k.seen) c.undo.ensures.keeps.known ∙ c.in-Err.ensures.worn.seen ∙ ap (λ (k : Knowledge). k.seen) c.plan.ensures.keeps.known
+
+pub returns-in-Ok-commit-clause-fault : goal.returns-in-Ok-commit-clause-fault
+returns-in-Ok-commit-clause-fault c = search rules

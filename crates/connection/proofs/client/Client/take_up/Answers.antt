@@ -1,4 +1,4 @@
-use Rattle.std.proofs.Common.{◌≡◌, ◌++◌, inr, refl}
+use Rattle.std.proofs.Common.{rules, ◌≡◌, ◌++◌, inr, refl}
 use Rattle.words.specs.Spelling.{IsRequest, spelling}
 use Rattle.resp_read.specs.Unread.{unread as unread_of}
 use Rattle.connection.specs.Clients.{stage_of, IsReady, IsOpen, mode_of}
@@ -23,3 +23,9 @@ returns-in_default-of c =
       is_open,
       inr (λ asks. absurd (cc (c.in_default-of.ensures.memory asks)), refl),
     )
+
+pub returns-in-Closed : goal.returns-in-Closed
+returns-in-Closed c = search rules
+
+pub returns-in-Err-Protocol : goal.returns-in-Err-Protocol
+returns-in-Err-Protocol c = search rules

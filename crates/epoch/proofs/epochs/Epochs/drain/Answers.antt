@@ -1,4 +1,4 @@
-use Rattle.std.proofs.Common.{arith, ap, refl, ◌∷◌}
+use Rattle.std.proofs.Common.{rules, arith, ap, refl, ◌∷◌}
 use Rattle.epoch.proofs.Steps.{tells_any}
 use Rattle.epoch.proofs.Moments.{clear}
 use Rattle.epoch.specs.Seats.{known}
@@ -20,3 +20,6 @@ returns-clause-clear c = λ s ruled at.
     let past = c.if-not-scan.ensures.past refl in
     clear c.args.self.now.seats s ruled token.result.id token.result.me.0 at (known c.scan.new.seat) c.args.e
     (ap (λ m. m.0) token.ensures.4) past.passed past.above
+
+pub returns-then-not-scan-clause-none : goal.returns-then-not-scan-clause-none
+returns-then-not-scan-clause-none c = search rules

@@ -1,4 +1,4 @@
-use Rattle.std.proofs.Common.{sym, subst, ◌∙◌}
+use Rattle.std.proofs.Common.{rules, sym, subst, ◌∙◌}
 use Rattle.gates.specs.Sets.{rest_of}
 use Rattle.gates.specs.declared.view.Knowledge.{Knowledge}
 use Rattle.gates.specs.Passes.{stripes_of, known, parts_in, taken_in, AllFit}
@@ -24,3 +24,6 @@ returns-in_default-clause-known g c =
 pub give_first-requires-clause-first : goal.give_first-requires-clause-first
 give_first-requires-clause-first g c =
     first_part (parts_in c.args.self.pass.now) c.in-Some.stripe (rest_of c.args.self.order) (c.requires.open.order ∙ c.in-Some.ensures)
+
+pub returns-clause-known : goal.returns-clause-known
+returns-clause-known g c = search rules

@@ -1,4 +1,4 @@
-use Rattle.std.proofs.Common.{◌∷◌, ap, ◌∙◌, refl, arith}
+use Rattle.std.proofs.Common.{rules, ◌∷◌, ap, ◌∙◌, refl, arith}
 use Rattle.hybrid.proofs.Parts.{forgotten-from, kept-some, kept-length, fewer-kept}
 use Rattle.hybrid.proofs.stripe.Stripe.forget_oldest.Goals as goal
 
@@ -30,3 +30,6 @@ returns-clause-alone g c =
 pub returns-clause-counted : goal.returns-clause-counted
 returns-clause-counted g c =
     fewer-kept (λ r. record { identity = g.R.Shows.identity r; shown = g.R.Shows.shown r }) c.self.inside.receipts.items c.pop_front.new.self.items c.in-Some.first c.in-Some-first.receipt _ c.self.invariant.0 refl c.in-Some.ensures.items c.in-Some-first.is
+
+pub returns-clause-part : goal.returns-clause-part
+returns-clause-part g c = search rules

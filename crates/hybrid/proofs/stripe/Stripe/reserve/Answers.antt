@@ -1,4 +1,4 @@
-use Rattle.std.proofs.Common.{◌≡◌, refl, arith}
+use Rattle.std.proofs.Common.{rules, ◌≡◌, refl, arith}
 use Rattle.hybrid.specs.HybridLog.{pages_for, with_dropped}
 use Rattle.hybrid.proofs.Dropping.{on-true}
 use Rattle.hybrid.proofs.Reserving.{reserving-step, room-reserved}
@@ -14,3 +14,6 @@ loop-self-preserved g c =
 
 pub returns-clause-room : goal.returns-clause-room
 returns-clause-room g c = (refl, room-reserved c.args.self.now c.loop-self.self c.args.weight (g.D.Device.failures c.args.device.now) (g.D.Device.failures c.loop-self.device) c.requires c.loop-self.invariant (omega (arith, c.loop-self-test.false, c.free.ensures.free, c.pages_for-needed.ensures.pages)))
+
+pub returns-in_err-flush_oldest-clause-needed : goal.returns-in_err-flush_oldest-clause-needed
+returns-in_err-flush_oldest-clause-needed g c = search rules

@@ -1,4 +1,4 @@
-use Rattle.std.proofs.Common.{◌∙◌, ◌++◌, ap, List, ℕ}
+use Rattle.std.proofs.Common.{rules, ◌∙◌, ◌++◌, ap, List, ℕ}
 use Rattle.resp_read.specs.Unread.{Held, unread, kept}
 use Rattle.resp_read.proofs.ReaderLemmas.{on_ok_holds, unread_fed, held_of}
 use Rattle.resp_read.proofs.reader.Reader.feed.Goals as goal
@@ -11,3 +11,6 @@ returns-clause-unread c =
           ∙ (unread_fed (held_of c.self.inside.due (kept c.self.inside.words) c.self.inside.pieces) c.args.piece ∙ ap (λ (h : Held). unread h ++ c.args.piece) c.self.view_is))
       | in-Err w ↦ rw w.result-is tt
     ]
+
+pub returns-clause-returned : goal.returns-clause-returned
+returns-clause-returned c = search rules

@@ -1,3 +1,4 @@
+use Rattle.std.proofs.Common.{rules}
 use Rattle.resp_read.proofs.ReaderLemmas.{goes_nowhere, goes_after, gives_after}
 use Rattle.resp_read.proofs.reader.Reader.next_by_steps.Goals as goal
 
@@ -9,3 +10,6 @@ loop-given-preserved c = goes_after c.args.self.now c.loop-given.self c.step.new
 
 pub returns-in-Gives-clause-takes : goal.returns-in-Gives-clause-takes
 returns-in-Gives-clause-takes c = gives_after c.args.self.now c.loop-given.self c.step.new.self c.in-Gives.given c.loop-given.invariant c.in-Gives.ensures
+
+pub returns-in-Waits-clause-takes : goal.returns-in-Waits-clause-takes
+returns-in-Waits-clause-takes c = search rules

@@ -1,4 +1,4 @@
-use Rattle.std.proofs.Common.{◌≡◌, ◌∷◌, [], ◌++◌, ◌+◌, length, sym, ap, ◌∙◌, subst}
+use Rattle.std.proofs.Common.{rules, ◌≡◌, ◌∷◌, [], ◌++◌, ◌+◌, length, sym, ap, ◌∙◌, subst}
 use Rattle.std.proofs.lemmas.List.{length-append}
 use Rattle.words.specs.History.{MayAllBeQueued}
 use Rattle.words.specs.Session.{is_too_large}
@@ -15,3 +15,6 @@ invariant_of-result c =
           ∙ c.requires.fits;
       may_run = subst MayAllBeQueued (sym items) (one_more _ _ c.mode.invariant.may_run c.requires.may_run);
     }
+
+pub returns-in-None : goal.returns-in-None
+returns-in-None c = search rules

@@ -1,4 +1,4 @@
-use Rattle.std.proofs.Common.{ℕ, List, [], Option, subst}
+use Rattle.std.proofs.Common.{rules, ℕ, List, [], Option, subst}
 use Rattle.words.specs.Store.{Bytes}
 use Rattle.transact.specs.declared.shard.Shard.{Shard}
 use Rattle.transact.specs.Shards.{shard_meaning}
@@ -14,3 +14,6 @@ returns-clause-undone g c = λ before has.
     let d : ℕ → Option Shard = g.P.Parts.part_of c.clear_all.new.parts in
     taken_back shard_meaning n own c.args.self.begun before b d has
     (subst (λ (l : List Bytes). Became shard_meaning n [] (clears own l) b d) c.as_slice.ensures c.clear_all.ensures.became)
+
+pub returns-clause-became : goal.returns-clause-became
+returns-clause-became g c = search rules

@@ -1,4 +1,4 @@
-use Rattle.std.proofs.Common.{Some}
+use Rattle.std.proofs.Common.{rules, Some}
 use Rattle.transact.proofs.Shards.{store_changed, place_kept}
 use Rattle.transact.proofs.shard.Shard.write.Goals as goal
 
@@ -9,3 +9,6 @@ returns-clause-value c =
 pub returns-clause-kept : goal.returns-clause-kept
 returns-clause-kept c =
     place_kept c.args.self.now c.touch.new.self c.replace.new.self c.args.key c.args.value c.touch.ensures.places c.replace.ensures.places
+
+pub returns-clause-marks : goal.returns-clause-marks
+returns-clause-marks c = search rules

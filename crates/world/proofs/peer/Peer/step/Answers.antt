@@ -1,4 +1,4 @@
-use Rattle.std.proofs.Common.{sym, ap, ◌∙◌}
+use Rattle.std.proofs.Common.{rules, sym, ap, ◌∙◌}
 use Rattle.world.specs.States.{ClientState}
 use Rattle.world.proofs.PeerSteps.{waits, finishes, quits, fails, opens, steady_said}
 use Rattle.world.proofs.peer.Peer.step.Goals as goal
@@ -24,3 +24,6 @@ returns-in_ok-tell-in-Malformed-clause-steps c =
 
 pub returns-in-Closed-clause-steps : goal.returns-in-Closed-clause-steps
 returns-in-Closed-clause-steps c = quits _ _ _ c.in-Closed.ensures c.leave-in-Closed.ensures
+
+pub returns-in_ok-tell-in-Says-clause-steps : goal.returns-in_ok-tell-in-Says-clause-steps
+returns-in_ok-tell-in-Says-clause-steps c = search rules

@@ -1,10 +1,10 @@
 //! Streams in memory: what no contract sees of their calls.
 
-use crate::{Input, Noted, ReadReady, Told, WriteFault};
 use std::alloc::Global;
 use std::io;
 use std::io::{ErrorKind, Read, Write};
 use std::process::Abort;
+use streams::{Input, Noted, ReadReady, Told, WriteFault};
 
 /// What a stream does at one of its calls.
 #[derive(Clone, Copy, Debug)]

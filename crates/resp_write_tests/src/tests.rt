@@ -1,6 +1,6 @@
 //! The bytes of replies of each form, by the tables of lines and of the protocol.
 
-use crate::{encode, encode_within, send};
+use resp_write::{encode, encode_within, send};
 use std::alloc::{AllocError, Global};
 use std::io;
 use std::io::{ErrorKind, Write};

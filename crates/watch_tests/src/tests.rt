@@ -1,5 +1,9 @@
-use super::*;
+//! Marks that calls add, touch and take out, by key and seat.
+
+use std::alloc::Global;
 use std::test::Fail;
+use watch::Marks;
+use words::word::{OutOfMemory, Word};
 
 const LONG: &[u8] = b"a key that is longer than a word without memory";
 
