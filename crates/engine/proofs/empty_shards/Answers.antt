@@ -8,3 +8,9 @@ loop-preserved c = (
   search rules,
   rw c.in_ok-push.ensures.items (empty_more shard_meaning c.loop.shards.items c.new.result c.loop.invariant.1 c.new.ensures.empty c.new.ensures.unmarked),
 )
+
+pub returns-clause-count : goal.returns-clause-count
+returns-clause-count c = search rules
+
+pub returns-clause-empty : goal.returns-clause-empty
+returns-clause-empty c = search rules

@@ -8,3 +8,9 @@ returns-clause-passes c = λ place other below.
     let at = new_at c.in_ok-gates.gates 0 c.in_ok-gates.passes.items place other c.in_ok-gates.ensures.passes (search (rules, below)) in
     let same : place + 0 ≡ place = omega arith in
     record { rests = at.0; nothing = at.1 ∙ ap newcomer same }
+
+pub returns-clause-stripes : goal.returns-clause-stripes
+returns-clause-stripes c = search rules
+
+pub returns-clause-count : goal.returns-clause-count
+returns-clause-count c = search rules
