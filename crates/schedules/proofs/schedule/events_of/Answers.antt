@@ -1,4 +1,4 @@
-use Rattle.std.proofs.Common.{arith, ap, sym, subst, length}
+use Rattle.std.proofs.Common.{rules, arith, ap, sym, subst, length}
 use Rattle.schedules.specs.Lines.{AreEvents}
 use Rattle.schedules.proofs.Texts.{one_more, long_line, was_ok}
 use Rattle.schedules.proofs.schedule.events_of.Goals as goal
@@ -18,3 +18,6 @@ loop-rest-preserved c =
           (one_more c.args.limits.now c.args.text.now c.loop-rest.events.items c.loop-rest.rest.now c.in-Some.event c.in-Some.more.now c.loop-rest.invariant.are next);
       short = omega arith;
     }
+
+pub returns-in_default-clause-bad : goal.returns-in_default-clause-bad
+returns-in_default-clause-bad c = search rules

@@ -1,4 +1,5 @@
-use Rattle.std.proofs.Common.{◌≡◌, refl}
+use Rattle.std.proofs.lemmas.Grind.{common_steps}
+use Rattle.std.proofs.Common.{arith, ◌≡◌, refl}
 use Rattle.schedules.specs.Schedules.{First}
 use Rattle.schedules.proofs.Texts.{no_first_line, no_first_line_of, bad}
 use Rattle.schedules.proofs.schedule.parse.Goals as goal
@@ -19,3 +20,6 @@ pub returns-in-Err-clause-bad : goal.returns-in-Err-clause-bad
 returns-in-Err-clause-bad c = λ number is.
     bad c.in-Some-first_line.limits c.args.text.now c.in-Some.line.now c.in-Some.rest.now number
     c.in-Some.ensures c.in-Some-first_line.ensures (c.in-Err.ensures.bad number is)
+
+pub returns-in-Ok-clause-schedule : goal.returns-in-Ok-clause-schedule
+returns-in-Ok-clause-schedule c = grind (arith, common_steps)
