@@ -14,6 +14,8 @@ use Rattle.session.specs.Steps.{IsSaid, IsAsked, IsOutOfMemory, HasItsPlace}
 use Rattle.transact.specs.Calls.{asked_of}
 use Rattle.connection.specs.declared.state.State.{State}
 use Rattle.connection.specs.declared.state.State.TheVariants as state
+use Rattle.connection.specs.declared.client.Front.{Front}
+use Rattle.connection.specs.declared.client.Front.TheVariants as front
 use Rattle.connection.specs.declared.client.Next.{Next}
 use Rattle.connection.specs.declared.client.Next.TheVariants as next
 
@@ -112,6 +114,22 @@ Gives old next.Closed new = (mode_of old.stage ≡ Closed) × (new ≡ old)
 Gives old next.OutOfMemory new =
     (words : List Bytes) × (rest : Bytes) × TakesOff old.unread words rest × IsOpen (mode_of old.stage)
     × (((¬ FitInline words) × (new ≡ old)) ⊎ ((¬ AsksNoMemory (command_of words)) × (new ≡ record old { unread = rest })))
+
+-- a client that has come so far, before a request of these words was taken off
+abbrev pub before : List Bytes → Progress → Progress
+before words at = record at { unread = spelling words ++ at.unread }
+
+-- What stands at the front of a client that has come so far, whose words these are where it is a request, and how far it has come then.
+abbrev pub Stands : Progress → Front → List Bytes → Progress → Type 0
+Stands old front.Request words new = IsRequest words × (old ≡ before words new) × IsOpen (mode_of old.stage)
+Stands old front.Input words new = Gives old next.Input new
+Stands old (front.Malformed fault) words new = Gives old (next.Malformed fault) new
+Stands old front.OutOfMemory words new = Gives old next.OutOfMemory new
+Stands old front.Closed words new = Gives old next.Closed new
+
+-- the session is in no transaction, and waits for a request
+abbrev pub IsIdle : Stage → Type 0
+IsIdle stage = (watched : List Bytes) × (stage ≡ Ready (stands Idle watched))
 
 -- what a session at this stage says to the answer of its call, and at which stage it then is
 abbrev pub Resumes : Stage → Answer → Reply → Stage → Type 0

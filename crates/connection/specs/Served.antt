@@ -199,6 +199,7 @@ LeavesRoom waiting.NoMemory held = Unit {0}
 -- front, or memory was asked for, or its session has ended.
 abbrev pub HasTurned : Progress → Due → Progress → Type 0
 HasTurned old (due.Reply reply) new = (words : List Bytes) × TakesOff old.unread words new.unread
+HasTurned old (due.Line said) new = (words : List Bytes) × TakesOff old.unread words new.unread
 HasTurned old due.Input new = (stream.front old.unread ≡ stream.Part) × IsOpen (mode_of old.stage) × (new ≡ old)
 HasTurned old (due.Malformed fault) new = (stream.front old.unread ≡ stream.Faulty fault) × IsOpen (mode_of old.stage) × (new ≡ old)
 HasTurned old due.Closed new = (mode_of old.stage ≡ Closed) × (new ≡ old)
@@ -223,6 +224,7 @@ pub record Turned (was now : Knowledge) (old new : Progress) (reply : Reply) : T
 -- what a turn did: it answered the request, or the pass knows what it knew
 abbrev pub IsDue : (was now : Knowledge) → Progress → Due → Progress → Type 0
 IsDue was now old (due.Reply reply) new = Turned was now old new reply
+IsDue was now old (due.Line said) new = Turned was now old new (line_reply said)
 IsDue was now old _ new = now ≡ was
 
 -- the client's session waits for a request, or has ended, and watches what its pass does

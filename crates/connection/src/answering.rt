@@ -1,17 +1,20 @@
 //! The answering of what a client was fed: its requests are put to the engine, one after the other, and
 //! their replies are said.
 
-ghost use Rattle.std.specs.Prelude.{◌≡◌, ◌≤◌, ℕ, [], ◌++◌, List, IfNone, is_ok};
-ghost use Rattle.streams.specs.Streams.{IsPut, stream_of, told_of, told_when, reads_of};
+ghost use Rattle.std.specs.Prelude.{◌≡◌, ◌≤◌, ℕ, [], ◌++◌, List, IfNone};
+ghost use Rattle.streams.specs.Streams.{stream_of, told_of, reads_of};
 ghost use Rattle.streams.specs.declared.observed.Told.{Told as HasTold};
 ghost use Rattle.gates.specs.declared.view.Knowledge.{Knowledge};
 ghost use Rattle.engine.specs.Passes.{knows, Rests};
-ghost use Rattle.connection.specs.Clients.{Progress};
-ghost use Rattle.connection.specs.Served.{HasTurned, IsDue, Attends, Conversing, HasPaused, StandsAt, LeavesAt, paused_told, HasAnswered, GoesOn, EndsAnswering, answered_told, fault_line};
+ghost use Rattle.words.specs.Session.{line_reply};
+ghost use Rattle.words.specs.Spelling.{IsRequest};
+ghost use Rattle.transact.specs.Calls.{answer_of, reply_to};
+ghost use Rattle.connection.specs.Clients.{Progress, before, mode_of, IsIdle, IsOpen};
+ghost use Rattle.connection.specs.Served.{HasTurned, IsDue, Attends, Conversing, HasPaused, StandsAt, LeavesAt, paused_told, HasAnswered, GoesOn, EndsAnswering, answered_told};
 ghost use Rattle.std.specs.Io.KnownBytes.{Appends, Consumes};
 
-use crate::client::{Client, Next};
-use crate::output::{flush, say};
+use crate::client::{Client, Front, Next};
+use crate::output::{flush, say_line, say_spent};
 use crate::reading::{Room, Waiting, take_waiting};
 use crate::serving::Ended;
 use engine::{Engine, Pass};
@@ -19,14 +22,18 @@ use gates::Latch;
 use session::watches_follow_entries;
 use std::io::Write;
 use std::sync::Wait;
-use streams::{Noted, ReadReady, WriteFault};
+use streams::{Noted, ReadReady};
+use words::command::Brief;
 use words::reply::{Fault, Line, ProtocolFault, Reply};
+use words::word::Words;
 
 /// What the next turn of a client comes to.
 #[derive(Drop)]
 pub(crate) enum Due {
     /// A request is answered with this reply.
     Reply(Reply),
+    /// A request is answered with this line.
+    Line(Line),
     /// No whole request is left.
     Input,
     /// The bytes that are left begin with a fault.
@@ -37,11 +44,13 @@ pub(crate) enum Due {
     Closed,
 }
 
-/// Answers the client's next request, if there is a whole one.
+/// Answers the client's next request, if there is a whole one. It is taken up into these words.
+#[inline]
 fn answer_next<T: Wait, L: Latch>(
     rt: &T,
     latch: &L,
     client: &mut Client,
+    words: &mut Words,
     engine: &Engine,
     pass: &mut Pass,
 ) -> Due
@@ -52,7 +61,88 @@ fn answer_next<T: Wait, L: Latch>(
     ensures rests { Rests engine.now pass.new }
     ensures attends { Attends (knows pass.new) client.new }
 {
-    match client.next() {
+    match client.take_up(words) {
+        Front::Request => {
+            if client.is_idle() {
+                answer_idle(rt, latch, client, words, engine, pass)
+            } else {
+                answer_obeyed(rt, latch, client, words, engine, pass)
+            }
+        }
+        Front::Input => Due::Input,
+        Front::Malformed(fault) => Due::Malformed(fault),
+        Front::OutOfMemory => Due::NoMemory,
+        Front::Closed => Due::Closed,
+    }
+}
+
+/// Answers the request of these words, which was taken off, of a client whose session is in no transaction.
+/// A GET and a SET without an option go to the engine with their words as they lie: the session does no more
+/// to them than to hand them on.
+#[inline]
+fn answer_idle<T: Wait, L: Latch>(
+    rt: &T,
+    latch: &L,
+    client: &mut Client,
+    words: &mut Words,
+    engine: &Engine,
+    pass: &mut Pass,
+) -> Due
+    requires rests { Rests engine.now pass.old }
+    requires attends { Attends (knows pass.old) client.old }
+    requires idle { IsIdle client.old.stage }
+    requires request { IsRequest words.old }
+    ensures turned { HasTurned (before words.old client.old) result client.new }
+    ensures due { IsDue (knows pass.old) (knows pass.new) (before words.old client.old) result client.new }
+    ensures rests { Rests engine.now pass.new }
+    ensures attends { Attends (knows pass.new) client.new }
+{
+    match Brief::of(words) {
+        Brief::Get => {
+            watches_follow_entries();
+            let key = &words.as_slice()[1];
+            Due::Reply(engine.get(rt, pass, key, latch).into_reply())
+        }
+        Brief::Set => {
+            watches_follow_entries();
+            let value = words.pop();
+            let key = &words.as_slice()[1];
+            Due::Line(line_of(engine.set(rt, pass, key, value, latch)))
+        }
+        Brief::Other => answer_obeyed(rt, latch, client, words, engine, pass),
+    }
+}
+
+/// The line that is said to an answer of one line, or to a fault.
+fn line_of(told: Result<Line, Fault>) -> Line
+    ensures { line_reply result ≡ reply_to (answer_of told) }
+{
+    match told {
+        Ok(line) => line,
+        Err(fault) => Line::Faulty(fault),
+    }
+}
+
+/// Answers the request of these words, which was taken off.
+#[inline(never)]
+fn answer_obeyed<T: Wait, L: Latch>(
+    rt: &T,
+    latch: &L,
+    client: &mut Client,
+    words: &Words,
+    engine: &Engine,
+    pass: &mut Pass,
+) -> Due
+    requires rests { Rests engine.now pass.old }
+    requires attends { Attends (knows pass.old) client.old }
+    requires is_open { IsOpen (mode_of client.old.stage) }
+    requires request { IsRequest words.now }
+    ensures turned { HasTurned (before words.now client.old) result client.new }
+    ensures due { IsDue (knows pass.old) (knows pass.new) (before words.now client.old) result client.new }
+    ensures rests { Rests engine.now pass.new }
+    ensures attends { Attends (knows pass.new) client.new }
+{
+    match client.obey(words) {
         Next::Input => Due::Input,
         Next::Says(reply) => Due::Reply(reply),
         Next::SaysOutOfMemory => Due::Reply(Reply::line(Line::Faulty(Fault::OutOfMemory))),
@@ -107,18 +197,23 @@ pub(crate) fn answer_all<T: Wait, L: Latch, W: Write>(
     ensures rests { Rests engine.now pass.new }
     ensures attends { Attends (knows pass.new) client.new }
 {
+    let mut words = client.no_words();
     loop {
-        let reply = match answer_next(rt, latch, client, engine, pass) {
-            Due::Reply(reply) => reply,
+        match answer_next(rt, latch, client, &mut words, engine, pass) {
+            Due::Reply(reply) => {
+                if let Err(_) = say_spent(reply, out, writer) {
+                    return Paused::WriteFailed;
+                }
+            }
+            Due::Line(line) => {
+                if let Err(_) = say_line(line, out, writer) {
+                    return Paused::WriteFailed;
+                }
+            }
             Due::Input => return Paused::Input,
             Due::Malformed(fault) => return Paused::Malformed(fault),
             Due::NoMemory => return Paused::NoMemory,
             Due::Closed => return Paused::Closed,
-        };
-        let said = say(&reply, out, writer);
-        drop(reply);
-        if let Err(_) = said {
-            return Paused::WriteFailed;
         }
     }
 }
@@ -168,22 +263,6 @@ fn answer_waiting<T: Wait, L: Latch, R: ReadReady, W: Write>(
     }
 }
 
-/// Says the line of a protocol fault, as a reply is said.
-fn say_fault<W: Write>(
-    fault: ProtocolFault,
-    out: &mut Vec<u8>,
-    writer: &mut Noted<W>,
-) -> Result<(), WriteFault>
-    ensures put { IsPut (W.contents (stream_of writer.old)) (W.contents (stream_of writer.new))
-        out.old.items out.new.items result (fault_line fault) }
-    ensures told { told_of writer.new ≡ told_when (is_ok result) (told_of writer.old) }
-{
-    let line = Reply::line(Line::Malformed(fault));
-    let said = say(&line, out, writer);
-    drop(line);
-    said
-}
-
 /// Writes what is held back where the answering paused so, after it the line of a fault that was met.
 /// `None` where the connection goes on.
 pub(crate) fn conclude<W: Write>(
@@ -210,7 +289,7 @@ pub(crate) fn conclude<W: Write>(
             None
         }
         Paused::Malformed(fault) => {
-            if let Err(_) = say_fault(fault, out, writer) {
+            if let Err(_) = say_line(Line::Malformed(fault), out, writer) {
                 return Some(Ended::WriteFailed);
             }
             if let Err(_) = flush(out, writer) {

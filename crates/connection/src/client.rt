@@ -1,6 +1,6 @@
 //! The core of a connection, without input or output: it is fed bytes, and says what comes next.
 
-ghost use Rattle.std.specs.Prelude.{◌≡◌, ◌++◌, OnOk, OnErr};
+ghost use Rattle.std.specs.Prelude.{◌≡◌, ◌++◌, OnOk, OnErr, true};
 
 use crate::state::State;
 use bytes::Bytes;
@@ -33,14 +33,26 @@ pub enum Next {
     Closed,
 }
 
+/// What stands at the front of what a client was fed.
+#[derive(Clone, Copy)]
+pub(crate) enum Front {
+    /// A whole request, which is taken off.
+    Request,
+    /// A part of a request, or nothing.
+    Input,
+    /// A fault.
+    Malformed(ProtocolFault),
+    /// A whole request. There was no memory for its words.
+    OutOfMemory,
+    /// Whatever: the session has ended.
+    Closed,
+}
+
 /// One client: the bytes that it was fed and its session. What the session watches is forgotten by the
 /// call that [`close`](Client::close) gives, and by no other way: a client cannot be dropped.
 pub struct Client {
     alloc: Global,
     reader: Reader,
-    /// The words of the request that is being answered. Between requests they are one empty word, so
-    /// that no long word is kept.
-    words: Words,
     state: State,
 }
 
@@ -55,7 +67,8 @@ impl Model for Client {
 
 impl Client {
     ghost use Rattle.session.specs.Standings.{forget_of};
-    ghost use Rattle.connection.specs.Clients.{Progress, beginning, IsReady, IsCalled, Gives, Resumes, watched_of};
+    ghost use Rattle.words.specs.Spelling.{IsRequest};
+    ghost use Rattle.connection.specs.Clients.{Progress, beginning, before, IsReady, IsCalled, IsIdle, IsOpen, Gives, Resumes, Stands, mode_of, watched_of};
 
     /// A client that was fed nothing. It takes no memory.
     pub fn new(alloc: Global) -> Client
@@ -64,7 +77,6 @@ impl Client {
         Client {
             alloc,
             reader: Reader::new(alloc),
-            words: Words::one(alloc, Word::empty(alloc)),
             state: State::Ready(AnySession::Idle(Session::<Idle>::new(alloc))),
         }
     }
@@ -86,29 +98,59 @@ impl Client {
         requires { IsReady self.old.stage }
         ensures { Gives self.old result self.new }
     {
-        let next = self.take_up();
-        self.words.restart(Word::empty(self.alloc));
-        next
+        let mut words = self.no_words();
+        match self.take_up(&mut words) {
+            Front::Request => self.obey(&words),
+            Front::Input => Next::Input,
+            Front::Malformed(fault) => Next::Malformed(fault),
+            Front::OutOfMemory => Next::OutOfMemory,
+            Front::Closed => Next::Closed,
+        }
     }
 
-    /// The same as [`next`](Client::next). The words of the request are kept.
-    fn take_up(&mut self) -> Next
+    /// Words for requests to be taken up into. They take no memory until then.
+    pub(crate) fn no_words(&self) -> Words {
+        Words::one(self.alloc, Word::empty(self.alloc))
+    }
+
+    /// Takes the request at the front off, if there is a whole one, into the words of the caller, which serve
+    /// from request to request. It is then to be obeyed.
+    #[inline]
+    pub(crate) fn take_up(&mut self, words: &mut Words) -> Front
         requires { IsReady self.old.stage }
-        ensures { Gives self.old result self.new }
+        ensures { Stands self.old result words.new self.new }
     {
         if let State::Closed(_) = &self.state {
-            return Next::Closed;
+            return Front::Closed;
         }
-        match self.reader.next_into(&mut self.words) {
-            Ok(true) => {}
-            Ok(false) => return Next::Input,
-            Err(ReadFault::Protocol(fault)) => return Next::Malformed(fault),
-            Err(ReadFault::OutOfMemory) => return Next::OutOfMemory,
+        match self.reader.next_into(words) {
+            Ok(true) => Front::Request,
+            Ok(false) => Front::Input,
+            Err(ReadFault::Protocol(fault)) => Front::Malformed(fault),
+            Err(ReadFault::OutOfMemory) => Front::OutOfMemory,
         }
-        let Ok(command) = Command::of(self.alloc, &self.words) else {
+    }
+
+    /// What the client does next whose request was taken off, of these words.
+    #[inline(never)]
+    pub(crate) fn obey(&mut self, words: &Words) -> Next
+        requires ready { IsReady self.old.stage }
+        requires is_open { IsOpen (mode_of self.old.stage) }
+        requires request { IsRequest words.now }
+        ensures { Gives (before words.now self.old) result self.new }
+    {
+        let Ok(command) = Command::of(self.alloc, words) else {
             return Next::OutOfMemory;
         };
-        self.state.step(&self.words, command)
+        self.state.step(words, command)
+    }
+
+    /// Whether the session is in no transaction, and waits for a request: a command that reads or writes keys
+    /// is then a call of its own, and its answer is said as it comes.
+    pub(crate) fn is_idle(&self) -> bool
+        ensures { result ≡ true → IsIdle self.now.stage }
+    {
+        matches!(&self.state, State::Ready(AnySession::Idle(_)))
     }
 
     /// Takes the answer to the open call, and tells the reply that the client says to it. It takes
@@ -130,7 +172,6 @@ impl Client {
         let Client {
             alloc: _,
             reader: _,
-            words: _,
             state,
         } = self;
         match state {

@@ -3,12 +3,13 @@
 
 ghost use Rattle.std.specs.Prelude.{◌≡◌, [], OnOk, is_ok};
 ghost use Rattle.words.specs.Encoding.{encoding};
+ghost use Rattle.words.specs.Session.{line_reply};
 ghost use Rattle.streams.specs.Streams.{IsSent, IsPut, stream_of, told_of, told_when};
 
 use resp_write::{encode_within, send};
 use std::io::Write;
 use streams::{Noted, WriteFault};
-use words::reply::Reply;
+use words::reply::{Line, Reply};
 
 /// Writes what the output buffer holds, and empties it.
 pub(crate) fn flush<W: Write>(out: &mut Vec<u8>, writer: &mut Noted<W>) -> Result<(), WriteFault>
@@ -48,4 +49,34 @@ pub(crate) fn say<W: Write>(
         return Ok(());
     }
     send(reply, writer)
+}
+
+/// Says a reply, as [`say`] does, and lets it go.
+#[inline]
+pub(crate) fn say_spent<W: Write>(
+    reply: Reply,
+    out: &mut Vec<u8>,
+    writer: &mut Noted<W>,
+) -> Result<(), WriteFault>
+    ensures put { IsPut (W.contents (stream_of writer.old)) (W.contents (stream_of writer.new))
+        out.old.items out.new.items result (encoding reply) }
+    ensures told { told_of writer.new ≡ told_when (is_ok result) (told_of writer.old) }
+{
+    let said = say(&reply, out, writer);
+    drop(reply);
+    said
+}
+
+/// Says a line, as a reply is said.
+#[inline]
+pub(crate) fn say_line<W: Write>(
+    line: Line,
+    out: &mut Vec<u8>,
+    writer: &mut Noted<W>,
+) -> Result<(), WriteFault>
+    ensures put { IsPut (W.contents (stream_of writer.old)) (W.contents (stream_of writer.new))
+        out.old.items out.new.items result (encoding (line_reply line)) }
+    ensures told { told_of writer.new ≡ told_when (is_ok result) (told_of writer.old) }
+{
+    say_spent(Reply::line(line), out, writer)
 }

@@ -6,8 +6,9 @@ ghost use Rattle.std.specs.Prelude.{◌≡◌, ◌+◌, ◌<◌, [], ℕ, IfOk, 
 ghost use Rattle.gates.specs.Plays.{AreEmpty};
 ghost use Rattle.gates.specs.declared.gates.Pass as gates_pass;
 ghost use Rattle.transact.specs.Shards.{shard_meaning};
-ghost use Rattle.transact.specs.Calls.{asked_of};
+ghost use Rattle.transact.specs.Calls.{answer_of, asked_of};
 ghost use Rattle.transact.specs.Plans.{EndsAll};
+ghost use Rattle.transact.specs.Memory.{get_call, set_call};
 ghost use Rattle.engine.specs.Passes.{knows, Rests, IsNew, stripe_count};
 ghost use Rattle.transact.specs.Submits.{IfReply, IfFault, stripes_asked};
 ghost use Rattle.gates.specs.Sets.{times};
@@ -19,9 +20,10 @@ use std::alloc::Global;
 use std::sync::Wait;
 use transact::call::{Answer, Busy, Call};
 use transact::shard::Shard;
-use transact::submit::{submit, try_submit};
+use transact::submit::{submit, submit_get, submit_set, try_submit};
 use words::limits::Limits;
-use words::word::OutOfMemory;
+use words::reply::{Fault, Line};
+use words::word::{OutOfMemory, Word};
 
 /// How many passes there are beside one for each client: those of the threads that work in the
 /// background.
@@ -95,6 +97,46 @@ impl Engine {
         let number = pass.number();
         latch.at(number, Point::Before);
         let answer = submit(rt, self.alloc, &self.gates, pass, call, latch);
+        latch.at(number, Point::After);
+        answer
+    }
+
+    /// The same as [`submit_with`](Engine::submit_with) of a GET, whose key stays the caller's.
+    pub fn get<R: Wait, L: Latch>(&self, rt: &R, pass: &mut Pass, key: &Word, latch: &L) -> Answer
+        requires rests { Rests self.now pass.old }
+        ensures rests { Rests self.now pass.new }
+        ensures done { IfReply result (λ reply. IsDone (stripes_asked (stripe_count self.now) (get_call key.now)) (asked_of (get_call key.now)) reply (knows pass.old) (knows pass.new)) }
+        ensures undone { IfFault result (λ fault. IsUndone (stripes_asked (stripe_count self.now) (get_call key.now)) (asked_of (get_call key.now)) fault (knows pass.old) (knows pass.new)) }
+    {
+        let number = pass.number();
+        latch.at(number, Point::Before);
+        let answer = submit_get(rt, &self.gates, pass, key, latch);
+        latch.at(number, Point::After);
+        answer
+    }
+
+    /// The same as [`submit_with`](Engine::submit_with) of a SET without an option, whose key stays the
+    /// caller's. The value moves into the store. It is answered by a line.
+    ///
+    /// # Errors
+    ///
+    /// The fault that [`submit_with`](Engine::submit_with) answers.
+    pub fn set<R: Wait, L: Latch>(
+        &self,
+        rt: &R,
+        pass: &mut Pass,
+        key: &Word,
+        value: Word,
+        latch: &L,
+    ) -> Result<Line, Fault>
+        requires rests { Rests self.now pass.old }
+        ensures rests { Rests self.now pass.new }
+        ensures done { IfReply (answer_of result) (λ reply. IsDone (stripes_asked (stripe_count self.now) (set_call key.now value)) (asked_of (set_call key.now value)) reply (knows pass.old) (knows pass.new)) }
+        ensures undone { IfFault (answer_of result) (λ fault. IsUndone (stripes_asked (stripe_count self.now) (set_call key.now value)) (asked_of (set_call key.now value)) fault (knows pass.old) (knows pass.new)) }
+    {
+        let number = pass.number();
+        latch.at(number, Point::Before);
+        let answer = submit_set(rt, &self.gates, pass, key, value, latch);
         latch.at(number, Point::After);
         answer
     }

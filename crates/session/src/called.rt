@@ -2,7 +2,7 @@
 
 use crate::modes::{Called, Idle, Session, Then};
 use transact::call::Answer;
-use words::reply::{Line, Reply};
+use words::reply::Reply;
 
 impl Called {
     ghost use Rattle.session.specs.Standings.{idle_of, wait_of, Resumes};
@@ -25,9 +25,6 @@ impl Called {
                 return (Reply::line(line), session);
             }
         }
-        match answer {
-            Answer::Reply(reply) => (reply, session),
-            Answer::Fault(fault) => (Reply::line(Line::Faulty(fault)), session),
-        }
+        (answer.into_reply(), session)
     }
 }

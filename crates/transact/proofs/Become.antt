@@ -1,6 +1,8 @@
 -- What becomes of parts, by one change of one part, and by several.
-use Rattle.std.proofs.Common.{◌≡◌, ◌≢◌, ◌∙◌, ◌||◌, ℕ, Bool, true, false, List, [], ◌∷◌, ◌++◌, Option, Some, None, IsSome, cond, bytes_eq, sym, ap, subst, refl, eq-eqb, ne_eqb, ⊎_elim}
+use Rattle.std.proofs.Common.{◌≡◌, ◌≢◌, ◌∙◌, ◌||◌, ℕ, Bool, true, false, List, [], ◌∷◌, ◌++◌, Option, Some, None, IsSome, cond, bytes_eq, sym, ap, subst, refl, eq-eqb, ne_eqb, ⊎_elim, ◌⊎◌, inl, inr}
+use Rattle.std.specs.Bool.{Decides}
 use Rattle.std.specs.Map.{update}
+use Rattle.std.proofs.lemmas.Slice.Eq.{bytes_eq-Decides}
 use Rattle.std.proofs.lemmas.Bool.{cases_eq}
 use Rattle.words.specs.Store.{Bytes, Store, Write, written, writes_key}
 use Rattle.words.specs.Watches.{touched}
@@ -8,7 +10,7 @@ use Rattle.words.specs.Stripes.{stripe_of}
 use Rattle.gates.specs.Rule.{Meaning}
 use Rattle.transact.specs.declared.shard.Shard.{Shard}
 use Rattle.transact.specs.Shards.{HasPlace}
-use Rattle.transact.specs.Tables.{Change, touches, stays, AreThere, AllRead, PartBecame, Became, IsReady, AreReady, keys_written}
+use Rattle.transact.specs.Tables.{Change, touches, stays, AreThere, AllRead, PartBecame, Became, IsReady, AreReady, joined, keys_written, value_in}
 use Rattle.transact.proofs.Stores.{apart, written_same, written-append, some_is, or_false, touch_two, touched_false}
 
 module _ {T : Type 0} (contents : Meaning T) (n : ℕ) where
@@ -136,6 +138,74 @@ wrote_one contents n i w before later old new was is others at value marks =
       marks = λ key number here. marks key number ∙ sym (ap (λ b. touched b (contents.marks old key number)) (or_false (bytes_eq w.0 key)));
     }
     (write_leaves n i w at) (touch_leaves n i w at)
+
+-- one key has another value, and marks stay
+pub exchanged_one : {T : Type 0} (contents : Meaning T) (n i : ℕ) (w : Write) (before later : ℕ → Option T) (old new : T)
+    → before i ≡ Some old → later i ≡ Some new → ((j : ℕ) → j ≢ i → later j ≡ before j) → stripe_of n w.0 ≡ i
+    → ((k : Bytes) → contents.store new k ≡ update bytes_eq (contents.store old) w.0 w.1 k)
+    → ((k : Bytes) (number : ℕ) → contents.marks new k number ≡ contents.marks old k number)
+    → Became contents n (w ∷ []) stays before later
+exchanged_one contents n i w before later old new was is others at value marks =
+    became_one contents n i (w ∷ []) stays before later old new was is others
+    record {
+      here = λ key here. value key;
+      away = λ key ne. value key ∙ write_leaves n i w at key (contents.store old) ne;
+      marks = λ key number here. marks key number;
+    }
+    (write_leaves n i w at) (λ key number m ne. refl)
+
+-- one key was touched, and values stay
+pub touched_one : {T : Type 0} (contents : Meaning T) (n i : ℕ) (w : Write) (before later : ℕ → Option T) (old new : T)
+    → before i ≡ Some old → later i ≡ Some new → ((j : ℕ) → j ≢ i → later j ≡ before j) → stripe_of n w.0 ≡ i
+    → ((k : Bytes) → contents.store new k ≡ contents.store old k)
+    → ((k : Bytes) (number : ℕ) → contents.marks new k number ≡ touched (bytes_eq w.0 k) (contents.marks old k number))
+    → Became contents n [] (touches (w ∷ [])) before later
+touched_one contents n i w before later old new was is others at value marks =
+    became_one contents n i [] (touches (w ∷ [])) before later old new was is others
+    record {
+      here = λ key here. value key;
+      away = λ key ne. value key;
+      marks = λ key number here. marks key number ∙ sym (ap (λ b. touched b (contents.marks old key number)) (or_false (bytes_eq w.0 key)));
+    }
+    (λ key store ne. refl) (touch_leaves n i w at)
+
+same_or_not : (key k : Bytes) → (key ≡ k) ⊎ (key ≢ k)
+same_or_not key k =
+    elim (bytes_eq key k) as (λ test. Decides test (key ≡ k) → (key ≡ k) ⊎ (key ≢ k)) [
+      | true ↦ λ decides. inl (decides.0 refl)
+      | false ↦ λ decides. inr (λ same. absurd (cc (decides.1 same)))
+    ] (bytes_eq-Decides key k)
+
+given_back : (key k : Bytes) (store : Store) (value : Option Bytes) → written store ((key, value) ∷ (key, store key) ∷ []) k ≡ store k
+given_back key k store value =
+    elim (bytes_eq key k) as (λ test. Decides test (key ≡ k) → cond test (store key) (cond test value (store k)) ≡ store k) [
+      | true ↦ λ decides. ap store (decides.0 refl)
+      | false ↦ λ decides. refl
+    ] (bytes_eq-Decides key k)
+
+-- a key that was given a value got back what it had
+pub became_back : {T : Type 0} (contents : Meaning T) (n : ℕ) (key : Bytes) (value had : Option Bytes) (a b c : ℕ → Option T)
+    → had ≡ joined contents n a key → Became contents n ((key, value) ∷ []) stays a b → Became contents n ((key, had) ∷ []) stays b c
+    → Became contents n [] stays a c
+became_back contents n key value had a b c is one two =
+    let both = became_both contents n ((key, value) ∷ []) ((key, had) ∷ []) stays stays stays a b c (λ k number m. refl) one two in
+    record {
+      there = both.there;
+      was = λ i q e.
+          let was = both.was i q e in
+          let at_key : stripe_of n key ≡ i → had ≡ contents.store was.0 key = λ here. is ∙ ap (value_in contents key) (ap a here ∙ was.1) in (
+            was.0,
+            was.1,
+            record {
+              here = λ k here. ⊎_elim
+                  (λ same. was.2.here k here ∙ ap (λ (o : Option Bytes). written (contents.store was.0) ((key, value) ∷ (key, o) ∷ []) k) (at_key (ap (stripe_of n) same ∙ here)) ∙ given_back key k (contents.store was.0) value)
+                  (λ ne. was.2.here k here ∙ ap (λ t. cond t had (cond t value (contents.store was.0 k))) (apart key k ne))
+                  (same_or_not key k);
+              away = was.2.away;
+              marks = was.2.marks;
+            },
+          );
+    }
 
 -- one part has other bytes, and the same meaning
 pub same_one : {T : Type 0} (contents : Meaning T) (n i : ℕ) (before later : ℕ → Option T) (old new : T)

@@ -1,16 +1,16 @@
 -- Watches that begin, end, and are taken back.
-use Rattle.std.proofs.Common.{◌≡◌, ◌≢◌, ◌∙◌, ◌||◌, ◌+◌, ℕ, Bool, true, false, List, [], ◌∷◌, ◌++◌, Option, Some, None, IsSome, refl, sym, ap, subst, cond, nat_eq, bytes_eq, eq-eqb}
+use Rattle.std.proofs.Common.{◌≡◌, ◌∙◌, ◌||◌, ℕ, Bool, true, false, List, [], ◌∷◌, ◌++◌, Option, Some, None, IsSome, refl, sym, ap, subst, cond, nat_eq, bytes_eq, eq-eqb}
 use Rattle.std.proofs.lemmas.Bool.{eqb-true}
 use Rattle.std.specs.Prelude.{is_none}
 use Rattle.std.specs.Bool.{Decides}
 use Rattle.std.proofs.lemmas.Slice.Eq.{bytes_eq-Decides}
-use Rattle.words.specs.Store.{Bytes, Store, Write}
+use Rattle.words.specs.Store.{Bytes, Write}
 use Rattle.words.specs.History.{is_among}
 use Rattle.words.specs.Watches.{Marks, begun}
 use Rattle.words.specs.Stripes.{stripe_of}
 use Rattle.gates.specs.Rule.{Meaning}
-use Rattle.transact.specs.Tables.{stays, touches, begins, clears, touches_and_clears, AreThere, AreUnmarked, Became, PartBecame, HasBegun, joined_marks, mark_in}
-use Rattle.transact.proofs.Stores.{append_nil, some_of, same_key}
+use Rattle.transact.specs.Tables.{stays, touches, begins, clears, touches_and_clears, AreThere, AreUnmarked, Became, HasBegun, joined_marks, mark_in}
+use Rattle.transact.proofs.Stores.{append_nil, some_of}
 use Rattle.transact.proofs.Become.{became_both, became_none, became_same}
 
 pub away : (b : Bool) (m : Option Bool) → cond b m m ≡ m

@@ -1,20 +1,20 @@
 -- Parts that are held fit after what was planned and committed was installed.
-use Rattle.std.proofs.Common.{◌≡◌, ◌≢◌, ◌∙◌, ◌||◌, ◌+◌, ◌<◌, ◌≤◌, ◌↔◌, ℕ, Bool, true, false, List, [], ◌∷◌, ◌++◌, length, length-append, Option, Some, None, IsSome, refl, sym, ap, subst, cond, nat_eq, eq-eqb, ne_eqb, ⊎_elim, arith}
+use Rattle.std.proofs.Common.{◌≡◌, ◌∙◌, ◌||◌, ◌+◌, ◌≤◌, ℕ, Bool, true, false, List, [], ◌∷◌, length, length-append, Option, Some, None, IsSome, refl, sym, ap, subst, cond, nat_eq, eq-eqb, ne_eqb, ⊎_elim, arith}
 use Rattle.std.proofs.lemmas.Bool.{cases_eq}
 use Rattle.words.specs.declared.reply.Reply.{Reply}
 use Rattle.words.specs.declared.history.Operation.{Operation}
 use Rattle.words.specs.declared.history.Entry.{Entry}
-use Rattle.words.specs.Store.{Bytes, Store, Write, writes_key}
+use Rattle.words.specs.Store.{Bytes}
 use Rattle.words.specs.History.{History, after, is_written, is_among, keys_of_pairs}
 use Rattle.words.specs.Watches.{touched, mark_after, mark_at, mark_of}
-use Rattle.words.specs.Stripes.{stripe_of, IsPart}
+use Rattle.words.specs.Stripes.{stripe_of}
 use Rattle.gates.specs.declared.view.Knowledge.{Knowledge}
 use Rattle.gates.specs.Sets.{part_at}
-use Rattle.gates.specs.Rule.{Meaning, writes, touched_marks}
+use Rattle.gates.specs.Rule.{Meaning, writes}
 use Rattle.gates.specs.Plays.{kept}
-use Rattle.gates.specs.Passes.{AllFit, FitsPart, Committed, KeysHeld}
+use Rattle.gates.specs.Passes.{AllFit, Committed, KeysHeld}
 use Rattle.transact.specs.Plans.{IsInstalled}
-use Rattle.transact.specs.Tables.{AllRead, AllMarked, AreThere, Became, Stand, clears, joined_marks, mark_in, stays}
+use Rattle.transact.specs.Tables.{AreThere, Became, Stand, clears, joined_marks, mark_in, stays}
 use Rattle.transact.proofs.Stores.{some_of}
 use Rattle.transact.proofs.Installed.{not_among}
 

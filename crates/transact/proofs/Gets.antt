@@ -1,14 +1,13 @@
 -- A GET, from what it finds to what is held after it.
-use Rattle.std.proofs.Common.{◌≡◌, ◌∙◌, ℕ, List, [], ◌∷◌, Option, IsSome, refl, sym, ap, subst}
+use Rattle.std.proofs.Common.{◌≡◌, ℕ, [], ◌∷◌, Option, refl}
 use Rattle.words.specs.declared.reply.Reply.{Reply}
 use Rattle.words.specs.declared.reply.Reply.TheVariants as reply
 use Rattle.words.specs.Answers.{bulk}
 use Rattle.words.specs.Store.{Bytes}
 use Rattle.words.specs.Session.{operation_of}
 use Rattle.gates.specs.declared.held.Held.{Held}
-use Rattle.gates.specs.Passes.{Committed, KeysHeld, stripes_of}
+use Rattle.gates.specs.Passes.{Committed, stripes_of}
 use Rattle.gates.specs.Helds.{SameHold, same_as_it, gates_of, held_parts, held_taken, known_to, operation_asked}
-use Rattle.words.specs.History.{due, keys_named}
 use Rattle.transact.specs.declared.shard.Shard.{Shard}
 use Rattle.transact.specs.Shards.{shard_meaning}
 use Rattle.transact.specs.Plans.{IsPlan}
@@ -18,7 +17,7 @@ use Rattle.transact.specs.Tables.{AreThere, joined}
 use Rattle.transact.proofs.Become.{became_same, became_unwritten}
 use Rattle.transact.proofs.Begun.{begins_none, touched_only}
 use Rattle.transact.proofs.Plans.{plan_of_get}
-use Rattle.transact.proofs.Submits.{Fit, parts_of, fit_done, named_held, reply_due, stands}
+use Rattle.transact.proofs.Submits.{Fit, parts_of, fit_done, stands}
 
 -- the entry of a GET by the pass whose parts are held
 abbrev pub GetDone : ℕ → Bytes → Reply → (mid done : Held Shard) → Type 0

@@ -1,12 +1,10 @@
 -- What is installed after a plan is what its entry leaves.
-use Rattle.std.proofs.Common.{◌≡◌, ◌≢◌, ◌∙◌, ◌||◌, ℕ, Bool, true, false, List, [], ◌∷◌, ◌++◌, Option, Some, None, IsSome, refl, sym, ap, subst, cond, nat_eq, bytes_eq, eq-eqb, ne_eqb}
-use Rattle.words.specs.declared.command.Command.{Command}
+use Rattle.std.proofs.Common.{◌≡◌, ◌≢◌, ◌∙◌, ◌||◌, ℕ, Bool, true, false, List, [], ◌∷◌, Option, Some, None, IsSome, refl, sym, ap, subst, cond, nat_eq, bytes_eq, eq-eqb, ne_eqb}
 use Rattle.words.specs.declared.reply.Reply.{Reply}
 use Rattle.words.specs.declared.history.Operation.{Operation}
-use Rattle.words.specs.declared.history.Operation.TheVariants as operation
 use Rattle.words.specs.declared.history.Entry.{Entry}
-use Rattle.words.specs.Store.{Bytes, Store, Write, written, writes_key}
-use Rattle.words.specs.History.{History, Pair, after, due, outcome, writes_of, was_not_done, is_among, keys_of_pairs}
+use Rattle.words.specs.Store.{Bytes, Write, written, writes_key}
+use Rattle.words.specs.History.{History, Pair, after, outcome, writes_of, was_not_done, is_among, keys_of_pairs}
 use Rattle.words.specs.Watches.{touched, begun, mark_at, mark_of, mark_after, watched_at}
 use Rattle.words.specs.Stripes.{stripe_of}
 use Rattle.words.specs.Session.{Asked, operation_of}
@@ -15,11 +13,10 @@ use Rattle.gates.specs.Rule.{Meaning}
 use Rattle.transact.specs.declared.call.Call.{Call}
 use Rattle.transact.specs.declared.call.Call.TheVariants.{One, Watch, Exec, Forget}
 use Rattle.transact.specs.Calls.{asked_of}
-use Rattle.transact.specs.Plans.{IsPlan, IsInstalled, EndsAll, keys_begun, keys_ended, made}
+use Rattle.transact.specs.Plans.{IsPlan, IsInstalled, EndsAll, keys_begun, keys_ended}
 use Rattle.transact.specs.Tables.{Change, Became, AllRead, AllMarked, Stand, begins, clears, touches, touches_and_clears, joined_marks, mark_in}
 use Rattle.transact.proofs.Stores.{some_of, some_is}
 use Rattle.transact.proofs.Become.{became_both, became_read}
-use Rattle.transact.proofs.Begun.{away}
 
 -- the writes of a planned entry are those of the plan
 pub planned_writes : (seen : History) (session : ℕ) (operation : Operation) (reply : Reply) (ws : List Write) → IsPlan seen operation reply ws

@@ -1,13 +1,13 @@
 -- Lists of keys: which are there, what was found of them, and their stripes.
-use Rattle.std.proofs.Common.{◌≡◌, ◌≢◌, ◌∙◌, ◌||◌, ◌⊎◌, inl, inr, ℕ, zero, suc, ◌+◌, add-one, append_assoc, Bool, true, false, List, [], ◌∷◌, ◌++◌, take, Option, Some, None, IsSome, cond, bytes_eq, nat_eq, sym, ap, subst, refl, eq-eqb, ne_eqb, ⊎_elim, ◌<◌, ◌≤◌, ◌↔◌, nat_lt, arith}
+use Rattle.std.proofs.Common.{◌≡◌, ◌∙◌, ◌||◌, ◌⊎◌, inl, inr, ℕ, zero, suc, ◌+◌, add-one, append_assoc, Bool, true, false, List, [], ◌∷◌, ◌++◌, take, Option, Some, None, IsSome, cond, bytes_eq, nat_eq, sym, ap, subst, refl, eq-eqb, ne_eqb, ⊎_elim, ◌<◌, ◌≤◌, ◌↔◌, nat_lt, arith}
 use Rattle.std.proofs.lemmas.Bool.{cases_eq}
 use Rattle.std.specs.Prelude.{slice_get}
 use Rattle.std.specs.Bool.{Decides}
 use Rattle.std.specs.Map.{update}
 use Rattle.std.proofs.lemmas.Slice.Eq.{bytes_eq-Decides}
-use Rattle.words.specs.Store.{Bytes, Store, Write, empty, written, writes_key}
+use Rattle.words.specs.Store.{Bytes, Store, Write, written, writes_key}
 use Rattle.words.specs.History.{History, Pair, is_dirty, is_written, keys_of_pairs}
-use Rattle.words.specs.Watches.{Marks, mark_at, mark_of}
+use Rattle.words.specs.Watches.{mark_at, mark_of}
 use Rattle.words.specs.Stripes.{stripe_of}
 use Rattle.words.specs.Locality.{AreSameAt, IsNoneOf}
 use Rattle.gates.specs.Rule.{Meaning}

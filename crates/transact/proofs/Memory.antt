@@ -6,7 +6,7 @@ use Rattle.words.specs.declared.command.Command.{Command}
 use Rattle.words.specs.declared.command.Command.TheVariants.{Get, Set}
 use Rattle.words.specs.declared.command.When.TheVariants.{Always}
 use Rattle.words.specs.declared.limits.TheConstants.{WEIGHT_MAX, WEIGHT_OF_KEY}
-use Rattle.words.specs.Store.{Store, Write, weight}
+use Rattle.words.specs.Store.{Store}
 use Rattle.words.specs.declared.reply.Fault.{Fault}
 use Rattle.words.specs.declared.reply.Fault.TheVariants as fault
 use Rattle.words.specs.Store.{Bytes}
@@ -14,7 +14,7 @@ use Rattle.words.specs.History.{History, after}
 use Rattle.words.specs.Session.{Asked}
 use Rattle.gates.specs.declared.held.Held.{Held}
 use Rattle.gates.specs.declared.view.Knowledge.{Knowledge}
-use Rattle.gates.specs.Helds.{SameHold, held_parts, held_taken, known_to}
+use Rattle.gates.specs.Helds.{known_to}
 use Rattle.transact.specs.declared.call.Call.{Call}
 use Rattle.transact.specs.declared.call.Call.TheVariants.{One, Watch, Exec, Forget}
 use Rattle.transact.specs.declared.shard.Shard.{Shard}

@@ -10,7 +10,7 @@ use Rattle.words.specs.declared.reply.Reply.{Reply}
 use Rattle.words.specs.declared.reply.Reply.TheVariants as reply
 use Rattle.words.specs.declared.history.Entry.{Entry}
 use Rattle.words.specs.declared.history.Operation.{Operation}
-use Rattle.words.specs.declared.history.Operation.TheVariants.{Run, Watch, Exec}
+use Rattle.words.specs.declared.history.Operation.TheVariants.{Run, Exec}
 use Rattle.words.specs.Store.{Bytes, Store, Write, empty, written, writes_key, weight}
 use Rattle.words.specs.Commands.{touches_keys, keys_of, keys_of_all}
 use Rattle.words.specs.Numbers.{in_range}
@@ -27,7 +27,7 @@ use Rattle.gates.specs.Passes.{AreWatched}
 use Rattle.transact.specs.Plans.{IsPlan, made}
 use Rattle.transact.specs.Tables.{AreThere, AllRead, AllMarked, any_marked, joined, joined_marks, keys_written, values_of}
 use Rattle.transact.proofs.Stores.{written-append}
-use Rattle.transact.proofs.Keys.{any_is, append_none, found_agrees, joined_at, joined_same, none_more, same_both, same_more, written_there}
+use Rattle.transact.proofs.Keys.{any_is, found_agrees, joined_at, joined_same, none_more, same_both, same_more, written_there}
 
 -- A command that touches keys is never answered by the line of writes that weigh too much.
 

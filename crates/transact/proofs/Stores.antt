@@ -1,5 +1,5 @@
 -- Stores and marks after writes.
-use Rattle.std.proofs.Common.{◌≡◌, ◌≢◌, ◌∙◌, ◌||◌, ◌&&◌, ℕ, Bool, true, false, List, [], ◌∷◌, ◌++◌, Option, Some, None, IsSome, cond, bytes_eq, nat_eq, sym, ap, refl, unwrap_or, Result, Ok, Err, OnOk, IfOk, IsOk}
+use Rattle.std.proofs.Common.{◌≡◌, ◌≢◌, ◌∙◌, ◌||◌, Bool, true, false, List, [], ◌∷◌, ◌++◌, Option, Some, None, IsSome, cond, bytes_eq, sym, ap, refl, unwrap_or, Result, Ok, Err, OnOk, IfOk, IsOk}
 use Rattle.std.specs.Bool.{Decides}
 use Rattle.std.specs.Map.{update}
 use Rattle.std.proofs.lemmas.Slice.Eq.{bytes_eq-Decides}

@@ -1,5 +1,5 @@
 -- What is held fits before, between and after the steps of a call.
-use Rattle.std.proofs.Common.{◌≡◌, ◌∙◌, ℕ, List, [], ◌∷◌, ◌++◌, length, append_assoc, Bool, true, Option, Some, None, IsSome, refl, sym, ap, subst}
+use Rattle.std.proofs.Common.{◌≡◌, ◌∙◌, ℕ, List, [], ◌∷◌, ◌++◌, length, append_assoc, Bool, true, Option, Some, IsSome, refl, sym, ap, subst}
 use Rattle.words.specs.declared.reply.Reply.{Reply}
 use Rattle.words.specs.declared.reply.Fault.{Fault}
 use Rattle.words.specs.declared.reply.Fault.TheVariants as fault
@@ -18,8 +18,7 @@ use Rattle.gates.specs.declared.gates.Gates.{Gates}
 use Rattle.gates.specs.declared.held.Held.{Held}
 use Rattle.gates.specs.declared.view.Knowledge.{Knowledge}
 use Rattle.gates.specs.Sets.{part_at}
-use Rattle.gates.specs.Rule.{Meaning}
-use Rattle.gates.specs.Passes.{AllFit, AreWatched, Committed, KeysHeld, Learned, stripes_of}
+use Rattle.gates.specs.Passes.{AllFit, Committed, KeysHeld, Learned, stripes_of}
 use Rattle.gates.specs.Helds.{SameHold, held_parts, held_taken, known_to, gates_of, operation_asked}
 use Rattle.transact.specs.declared.call.Call.{Call}
 use Rattle.transact.specs.declared.call.Call.TheVariants.{One, Watch, Exec, Forget}
@@ -27,13 +26,12 @@ use Rattle.transact.specs.declared.shard.Shard.{Shard}
 use Rattle.transact.specs.Shards.{shard_meaning}
 use Rattle.transact.specs.Calls.{asked_of, call_keys}
 use Rattle.transact.specs.Plans.{IsPlan, IsInstalled, EndsAll, keys_begun, keys_ended}
-use Rattle.transact.specs.Submits.{asked_for, Did, DidNot, HeardBusy, IsRefused, WasRefused, ToldWorn, HasDone, HasEntry, HasFailed, IfFault, IfReply, MayBeSubmitted}
+use Rattle.transact.specs.Submits.{asked_for, Did, DidNot, HeardBusy, IsRefused, WasRefused, ToldWorn, HasDone, HasEntry, HasFailed, IfFault, IfReply}
 use Rattle.transact.specs.declared.call.Answer.{Answer}
 use Rattle.transact.specs.declared.call.Answer.TheVariants as answer
 use Rattle.words.specs.declared.command.Command.{Command}
 use Rattle.transact.specs.Tables.{AreThere, Became, Stand, begins, clears, stays, touches_and_clears}
-use Rattle.transact.proofs.Become.{there_after}
-use Rattle.transact.proofs.Installed.{call_became, installed}
+use Rattle.transact.proofs.Installed.{call_became, changes, installed}
 use Rattle.transact.proofs.Fit.{forgot_all, installed_all, kept_all, keys_held, stand_of}
 
 -- what is held fits
@@ -82,6 +80,30 @@ named_held n start mid call same n_is has ends there =
     (subst (λ (m : ℕ). KeysHeld m (held_parts mid) (call_keys call)) (n_is ∙ ap (λ (g : Rattle.std.specs.Borrow.Bor (Gates Shard)). stripes_of g.now) (sym same.gates))
     (keys_held shard_meaning n (held_parts mid) (call_keys call) there)))
 
+-- What was committed has become of all parts. They may have been written before the commit, and others after it.
+pub fit_over : (n seat place : ℕ) (call : Call) (reply : Reply) (ws : List Write) (start mid done last : Held Shard)
+    → n ≡ stripes_of (gates_of start) → seat ≡ (known_to start).number → HasEntry call → EndsAll call (known_to start).watched
+    → IsPlan (known_to start).seen (operation_of (known_to start).watched (asked_for call)) reply ws → Fit n start → SameHold start mid
+    → ((i : ℕ) → IsSome (parts_of start i) → IsSome (parts_of mid i)) → held_taken done ≡ held_taken mid
+    → Committed (stripes_of (gates_of mid)) (held_parts mid) (record { session = (known_to mid).number; operation = operation_asked mid (asked_for call); reply = reply }) place (known_to mid) (known_to done)
+    → Became shard_meaning n ws (changes call seat ws) (parts_of start) (parts_of last) → SameHold done last → Fit n last
+fit_over n seat place call reply ws start mid done last n_is seat_is has ends plan fit same there taken did made same_last =
+    let operation : Operation = operation_of (known_to start).watched (asked_for call) in
+    let whole : IsInstalled shard_meaning n (known_to start).seen (record { session = seat; operation = operation; reply = reply }) (parts_of start) (parts_of last) =
+    installed shard_meaning n call seat (asked_for call) (known_to start).seen (known_to start).watched reply ws (parts_of start) (parts_of last)
+    (asks call has) ends plan (stands n seat start seat_is fit) made in
+    let own : IsInstalled shard_meaning n (known_to start).seen (record { session = (known_to start).number; operation = operation; reply = reply }) (parts_of start) (parts_of last) =
+    subst (λ (s : ℕ). IsInstalled shard_meaning n (known_to start).seen (record { session = s; operation = operation; reply = reply }) (parts_of start) (parts_of last)) seat_is whole in
+    let did_start : Committed (stripes_of (gates_of mid)) (held_parts mid) (record { session = (known_to start).number; operation = operation; reply = reply }) place (known_to start) (known_to done) =
+    subst (λ (k : Knowledge). Committed (stripes_of (gates_of mid)) (held_parts mid) (record { session = k.number; operation = operation_of k.watched (asked_for call); reply = reply }) place k (known_to done)) same.known did in
+    let did_n : Committed n (held_parts mid) (record { session = (known_to start).number; operation = operation; reply = reply }) place (known_to start) (known_to done) =
+    subst (λ (m : ℕ). Committed m (held_parts mid) (record { session = (known_to start).number; operation = operation; reply = reply }) place (known_to start) (known_to done))
+    (sym (n_is ∙ ap (λ (g : Rattle.std.specs.Borrow.Bor (Gates Shard)). stripes_of g.now) (sym same.gates))) did_start in
+    let fit_done_known : AllFit shard_meaning n (known_to done) (held_taken start) (held_parts last) =
+    installed_all shard_meaning n operation reply place (known_to start) (known_to done) (held_taken start) (held_parts start) (held_parts mid) (held_parts last) did_n there fit own in
+    subst (λ (k : Knowledge). AllFit shard_meaning n k (held_taken last) (held_parts last)) (sym same_last.known)
+    (subst (λ (l : List (ℕ × (ℕ × Shard))). AllFit shard_meaning n (known_to done) l (held_parts last)) (sym (same_last.taken ∙ taken ∙ same.taken)) fit_done_known)
+
 -- the call was committed and installed
 pub fit_done : (n seat place : ℕ) (call : Call) (reply : Reply) (ws : List Write) (start mid done last : Held Shard)
     → n ≡ stripes_of (gates_of start) → seat ≡ (known_to start).number → HasEntry call → EndsAll call (known_to start).watched
@@ -91,23 +113,10 @@ pub fit_done : (n seat place : ℕ) (call : Call) (reply : Reply) (ws : List Wri
     → Committed (stripes_of (gates_of mid)) (held_parts mid) (record { session = (known_to mid).number; operation = operation_asked mid (asked_for call); reply = reply }) place (known_to mid) (known_to done)
     → Became shard_meaning n ws (touches_and_clears ws seat (keys_ended call)) (parts_of done) (parts_of last) → SameHold done last → Fit n last
 fit_done n seat place call reply ws start mid done last n_is seat_is has ends plan fit same became parts taken did made same_last =
-    let operation : Operation = operation_of (known_to start).watched (asked_for call) in
     let made_mid : Became shard_meaning n ws (touches_and_clears ws seat (keys_ended call)) (parts_of mid) (parts_of last) =
     subst (λ (l : List (ℕ × Shard)). Became shard_meaning n ws (touches_and_clears ws seat (keys_ended call)) (part_at l) (parts_of last)) parts made in
-    let whole : IsInstalled shard_meaning n (known_to start).seen (record { session = seat; operation = operation; reply = reply }) (parts_of start) (parts_of last) =
-    installed shard_meaning n call seat (asked_for call) (known_to start).seen (known_to start).watched reply ws (parts_of start) (parts_of last)
-    (asks call has) ends plan (stands n seat start seat_is fit) (call_became shard_meaning n call seat ws (parts_of start) (parts_of mid) (parts_of last) became made_mid) in
-    let own : IsInstalled shard_meaning n (known_to start).seen (record { session = (known_to start).number; operation = operation; reply = reply }) (parts_of start) (parts_of last) =
-    subst (λ (s : ℕ). IsInstalled shard_meaning n (known_to start).seen (record { session = s; operation = operation; reply = reply }) (parts_of start) (parts_of last)) seat_is whole in
-    let did_start : Committed (stripes_of (gates_of mid)) (held_parts mid) (record { session = (known_to start).number; operation = operation; reply = reply }) place (known_to start) (known_to done) =
-    subst (λ (k : Knowledge). Committed (stripes_of (gates_of mid)) (held_parts mid) (record { session = k.number; operation = operation_of k.watched (asked_for call); reply = reply }) place k (known_to done)) same.known did in
-    let did_n : Committed n (held_parts mid) (record { session = (known_to start).number; operation = operation; reply = reply }) place (known_to start) (known_to done) =
-    subst (λ (m : ℕ). Committed m (held_parts mid) (record { session = (known_to start).number; operation = operation; reply = reply }) place (known_to start) (known_to done))
-    (sym (n_is ∙ ap (λ (g : Rattle.std.specs.Borrow.Bor (Gates Shard)). stripes_of g.now) (sym same.gates))) did_start in
-    let fit_done_known : AllFit shard_meaning n (known_to done) (held_taken start) (held_parts last) =
-    installed_all shard_meaning n operation reply place (known_to start) (known_to done) (held_taken start) (held_parts start) (held_parts mid) (held_parts last) did_n became.there fit own in
-    subst (λ (k : Knowledge). AllFit shard_meaning n k (held_taken last) (held_parts last)) (sym same_last.known)
-    (subst (λ (l : List (ℕ × (ℕ × Shard))). AllFit shard_meaning n (known_to done) l (held_parts last)) (sym (same_last.taken ∙ taken ∙ same.taken)) fit_done_known)
+    fit_over n seat place call reply ws start mid done last n_is seat_is has ends plan fit same became.there taken did
+    (call_became shard_meaning n call seat ws (parts_of start) (parts_of mid) (parts_of last) became made_mid) same_last
 
 -- commits were worn out, and what was begun is taken back
 pub fit_undone : (n : ℕ) (start mid told last : Held Shard) → SameHold start mid → held_taken told ≡ held_taken mid → (known_to told).number ≡ (known_to mid).number

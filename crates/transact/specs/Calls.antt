@@ -1,11 +1,17 @@
 -- What sessions ask of the shared store, and the keys that they watch.
-use Rattle.std.specs.Prelude.{◌≡◌, List, [], ◌∷◌, ◌++◌, Option, Some, None}
+use Rattle.std.specs.Prelude.{◌≡◌, List, [], ◌∷◌, ◌++◌, Option, Some, None, Result, Ok, Err}
 use Rattle.words.specs.Store.{Bytes}
 use Rattle.words.specs.Commands.{keys_of, keys_of_all}
 use Rattle.words.specs.History.{is_among}
 use Rattle.words.specs.Watches.{with_new}
-use Rattle.words.specs.Session.{Asked}
+use Rattle.words.specs.declared.reply.Reply.{Reply}
+use Rattle.words.specs.declared.reply.Fault.{Fault}
+use Rattle.words.specs.declared.reply.Line.{Line}
+use Rattle.words.specs.declared.reply.Line.TheVariants.{Faulty}
+use Rattle.words.specs.Session.{Asked, line_reply}
 use Rattle.words.specs.Session as asked
+use Rattle.transact.specs.declared.call.Answer.{Answer}
+use Rattle.transact.specs.declared.call.Answer.TheVariants as answer
 use Rattle.transact.specs.declared.call.Call.{Call}
 use Rattle.transact.specs.declared.call.Call.TheVariants.{One, Watch, Exec, Forget}
 
@@ -21,6 +27,16 @@ abbrev pub call_of : List Bytes → Asked → Call
 call_of watched (asked.Run command) = One command
 call_of watched (asked.Watch keys) = Watch keys
 call_of watched (asked.Exec commands) = Exec commands watched
+
+-- the answer of one line, or of a fault
+abbrev pub answer_of : Result Line Fault → Answer
+answer_of (Ok said) = answer.Reply (line_reply said)
+answer_of (Err fault) = answer.Fault fault
+
+-- what is said to an answer as it comes
+abbrev pub reply_to : Answer → Reply
+reply_to (answer.Reply reply) = reply
+reply_to (answer.Fault fault) = line_reply (Faulty fault)
 
 -- the keys that a call names
 abbrev pub call_keys : Call → List Bytes

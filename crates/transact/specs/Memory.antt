@@ -1,5 +1,5 @@
 -- Calls that need no memory.
-use Rattle.std.specs.Prelude.{ℕ, ◌≡◌, ◌≤◌, ◌<◌, ◌⊎◌, ◌+◌, length, IsSome, unwrap_or, []}
+use Rattle.std.specs.Prelude.{◌≡◌, ◌≤◌, ◌<◌, ◌⊎◌, ◌+◌, length, IsSome, unwrap_or, []}
 use Rattle.words.specs.declared.word.TheConstants.{WORD_INLINE}
 use Rattle.words.specs.declared.command.Command.{Command}
 use Rattle.words.specs.declared.command.Command.TheVariants.{Get, Set}

@@ -1,5 +1,5 @@
 -- Shards: what one has of the keys of its stripe.
-use Rattle.std.specs.Prelude.{ℕ, ◌≡◌, Option, Some, None, IsSome}
+use Rattle.std.specs.Prelude.{Option, Some, None, IsSome}
 use Rattle.std.specs.BTreeMap.{get}
 use Rattle.std.specs.Cmp.Lexicographic.{slice_cmp}
 use Rattle.std.specs.Ordering.{nat_cmp}

@@ -32,7 +32,7 @@ asked_for (Forget watching) = asked.Exec []
 
 -- what a SET without an option asks
 abbrev pub setting_asked : Setting → Asked
-setting_asked setting = asked_for (set_call setting.key setting.value)
+setting_asked setting = asked_for (set_call setting.key.now setting.value.now)
 
 -- what a GET asks
 abbrev pub getting_asked : Getting → Asked

@@ -3,13 +3,13 @@
 ghost use Rattle.std.specs.Prelude.{◌≡◌, ◌≤◌, ◌-◌, [], drop, length, nat_eq, true, IsOk, OnOk, OnErr};
 ghost use Rattle.words.specs.History.{is_among};
 ghost use Rattle.words.specs.Watches.{with_new};
-ghost use Rattle.transact.specs.Calls.{watched_with, IsEarlier};
+ghost use Rattle.transact.specs.Calls.{answer_of, reply_to, watched_with, IsEarlier};
 
 use std::alloc::Global;
 use std::marker::Model;
 use words::command::{Command, Keys};
 use words::history::Commands;
-use words::reply::{Fault, Reply};
+use words::reply::{Fault, Line, Reply};
 use words::word::{OutOfMemory, Word};
 
 /// What a session asks of the shared store, whole or not at all.
@@ -33,6 +33,28 @@ pub enum Answer {
     Reply(Reply),
     /// The call could not be done. Nothing was changed.
     Fault(Fault),
+}
+
+impl Answer {
+    /// The answer of one line, or of a fault. It takes no memory.
+    pub fn of_line(told: Result<Line, Fault>) -> Answer
+        ensures { result ≡ answer_of told }
+    {
+        match told {
+            Ok(line) => Answer::Reply(Reply::line(line)),
+            Err(fault) => Answer::Fault(fault),
+        }
+    }
+
+    /// What is said to the answer as it comes: the reply, or the line of the fault. It takes no memory.
+    pub fn into_reply(self) -> Reply
+        ensures { result ≡ reply_to self }
+    {
+        match self {
+            Answer::Reply(reply) => reply,
+            Answer::Fault(fault) => Reply::line(Line::Faulty(fault)),
+        }
+    }
 }
 
 /// A stripe of a call's keys that another pass held when the call was tried.

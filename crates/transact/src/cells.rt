@@ -87,17 +87,70 @@ pub(crate) fn make_place<P: Parts<Shard>>(
 }
 
 /// Writes a key that has a place.
-pub(crate) fn write<P: Parts<Shard>>(parts: &mut P, stripes: usize, key: Word, value: Option<Word>)
+pub(crate) fn write<P: Parts<Shard>>(parts: &mut P, stripes: usize, key: &Word, value: Option<Word>)
     requires open { P.is_open parts.old }
     requires some { 1 ≤ stripes }
-    requires ready { IsReady stripes (P.part_of parts.old) key }
-    ensures became { Became shard_meaning stripes ((key, value) ∷ []) (touches ((key, value) ∷ [])) (P.part_of parts.old) (P.part_of parts.new) }
+    requires ready { IsReady stripes (P.part_of parts.old) key.now }
+    ensures became { Became shard_meaning stripes ((key.now, value) ∷ []) (touches ((key.now, value) ∷ [])) (P.part_of parts.old) (P.part_of parts.new) }
     ensures kept { (k : List ℕ) → IsReady stripes (P.part_of parts.old) k → IsReady stripes (P.part_of parts.new) k }
     ensures open { P.is_open parts.new }
     ensures keeps { P.keeps parts.old parts.new }
 {
-    let stripe = stripe_in(&*parts, stripes, &key);
+    let stripe = stripe_in(&*parts, stripes, key);
     parts.part(stripe).write(key, value)
+}
+
+/// Gives a key this value, and tells what it had. Marks stay. It takes no memory for a key that has a value.
+pub(crate) fn exchange<P: Parts<Shard>>(
+    parts: &mut P,
+    stripes: usize,
+    key: &Word,
+    value: Word,
+) -> Result<Option<Word>, OutOfMemory>
+    requires open { P.is_open parts.old }
+    requires some { 1 ≤ stripes }
+    requires there { IsSome (P.part_of parts.old (striping.stripe_of stripes key.now)) }
+    ensures had { IfOk result (λ old. old ≡ joined shard_meaning stripes (P.part_of parts.old) key.now) }
+    ensures ok { OnOk result (Became shard_meaning stripes ((key.now, Some value) ∷ []) stays (P.part_of parts.old) (P.part_of parts.new)) }
+    ensures ready { OnOk result (IsReady stripes (P.part_of parts.new) key.now) }
+    ensures err { OnErr result (Became shard_meaning stripes [] stays (P.part_of parts.old) (P.part_of parts.new)) }
+    ensures memory { IsSome (joined shard_meaning stripes (P.part_of parts.old) key.now) → IsOk result }
+    ensures open { P.is_open parts.new }
+    ensures keeps { P.keeps parts.old parts.new }
+{
+    let stripe = stripe_in(&*parts, stripes, key);
+    parts.part(stripe).exchange(key, value)
+}
+
+/// Gives a key that has a place this value, or none. Marks stay.
+pub(crate) fn restore<P: Parts<Shard>>(
+    parts: &mut P,
+    stripes: usize,
+    key: &Word,
+    value: Option<Word>,
+)
+    requires open { P.is_open parts.old }
+    requires some { 1 ≤ stripes }
+    requires ready { IsReady stripes (P.part_of parts.old) key.now }
+    ensures became { Became shard_meaning stripes ((key.now, value) ∷ []) stays (P.part_of parts.old) (P.part_of parts.new) }
+    ensures open { P.is_open parts.new }
+    ensures keeps { P.keeps parts.old parts.new }
+{
+    let stripe = stripe_in(&*parts, stripes, key);
+    parts.part(stripe).restore(key, value)
+}
+
+/// Touches the marks of a key. All values stay.
+pub(crate) fn touch<P: Parts<Shard>>(parts: &mut P, stripes: usize, key: &Word)
+    requires open { P.is_open parts.old }
+    requires some { 1 ≤ stripes }
+    requires there { IsSome (P.part_of parts.old (striping.stripe_of stripes key.now)) }
+    ensures became { Became shard_meaning stripes [] (touches ((key.now, None) ∷ [])) (P.part_of parts.old) (P.part_of parts.new) }
+    ensures open { P.is_open parts.new }
+    ensures keeps { P.keeps parts.old parts.new }
+{
+    let stripe = stripe_in(&*parts, stripes, key);
+    parts.part(stripe).touch(key)
 }
 
 /// Deletes a key, with its place.

@@ -1,8 +1,8 @@
 //! Writes that are made after a commit.
 
-ghost use Rattle.std.specs.Prelude.{◌≡◌, ◌≤◌, [], true};
+ghost use Rattle.std.specs.Prelude.{◌≡◌, ◌≤◌, [], ◌∷◌, ℕ, List, true};
 ghost use Rattle.transact.specs.Shards.{shard_meaning};
-ghost use Rattle.transact.specs.Tables.{AreDeletions, AreReady, AreThere, Became, keys_written, touches};
+ghost use Rattle.transact.specs.Tables.{AreDeletions, AreReady, AreThere, Became, IsReady, keys_written, touches};
 
 use crate::cells::{delete, write};
 use crate::shard::Shard;
@@ -36,9 +36,22 @@ fn write_all<P: Parts<Shard>>(parts: &mut P, stripes: usize, writes: Writes)
 {
     let mut left = writes.into_small_vec().into_iter();
     while let Some(next) = left.next() {
-        let (key, value) = next.into_parts();
-        write(parts, stripes, key, value);
+        write_one(parts, stripes, next);
     }
+}
+
+/// Makes a write at the place of its key.
+fn write_one<P: Parts<Shard>>(parts: &mut P, stripes: usize, next: Write)
+    requires open { P.is_open parts.old }
+    requires some { 1 ≤ stripes }
+    requires ready { IsReady stripes (P.part_of parts.old) next.0 }
+    ensures became { Became shard_meaning stripes (next ∷ []) (touches (next ∷ [])) (P.part_of parts.old) (P.part_of parts.new) }
+    ensures kept { (k : List ℕ) → IsReady stripes (P.part_of parts.old) k → IsReady stripes (P.part_of parts.new) k }
+    ensures open { P.is_open parts.new }
+    ensures keeps { P.keeps parts.old parts.new }
+{
+    let (key, value) = next.into_parts();
+    write(parts, stripes, &key, value);
 }
 
 /// Deletes the keys of these deletions, with their places.

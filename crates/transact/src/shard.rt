@@ -2,7 +2,7 @@
 //! none yet, and the marks of the keys that sessions watch. A key whose place has no value is missing. So
 //! room is made before anything is changed.
 
-ghost use Rattle.std.specs.Prelude.{◌≡◌, ◌∷◌, [], ℕ, List, true, false, is_none, IsSome, None, Some, IfOk, OnOk, OnErr, option_copied, IsOk};
+ghost use Rattle.std.specs.Prelude.{◌≡◌, ◌∷◌, [], ℕ, List, true, false, is_none, IsSome, None, Some, IfErr, IfOk, OnOk, OnErr, option_copied, IsOk};
 ghost use Rattle.std.specs.Map.{update};
 ghost use Rattle.std.specs.Str.{bytes_eq};
 ghost use Rattle.words.specs.Watches.{touched};
@@ -12,6 +12,7 @@ ghost use Rattle.transact.specs.Shards.{place_of, shard_store, shard_marks, HasP
 use gates::Part;
 use std::alloc::{AllocError, Global};
 use std::collections::BTreeMap;
+use std::mem;
 use watch::Marks;
 use words::word::{OutOfMemory, Word};
 
@@ -88,6 +89,58 @@ impl Shard {
         }
     }
 
+    /// Gives a key that has a place this value at its place, and tells what it had. It takes no memory.
+    ///
+    /// # Errors
+    ///
+    /// The value, where the key has no place. Nothing is changed then.
+    #[tactic(auto, unfolding(crate::specs::Shards::place_of))]
+    fn swap(&mut self, key: &Word, value: Word) -> Result<Option<Word>, Word>
+        ensures had { IfOk result (λ old. place_of self.old key.now ≡ Some old) }
+        ensures ok { OnOk result ((k : List ℕ) → place_of self.new k ≡ update bytes_eq (place_of self.old) key.now (Some (Some value)) k) }
+        ensures missing { OnErr result (place_of self.old key.now ≡ None) }
+        ensures err { OnErr result ((k : List ℕ) → place_of self.new k ≡ place_of self.old k) }
+        ensures back { IfErr result (λ back. back ≡ value) }
+        ensures marks { self.new.marks ≡ self.old.marks }
+    {
+        match self.map.get_mut(key) {
+            Some(place) => Ok(mem::replace(place, Some(value))),
+            None => Err(value),
+        }
+    }
+
+    /// Gives a key this value, and tells what it had. Marks stay. It takes memory only for a key that has no
+    /// place.
+    ///
+    /// # Errors
+    ///
+    /// [`OutOfMemory`] where there is no memory for a place. Nothing is changed then.
+    pub fn exchange(&mut self, key: &Word, value: Word) -> Result<Option<Word>, OutOfMemory>
+        ensures had { IfOk result (λ old. old ≡ shard_store self.old key.now) }
+        ensures ok { OnOk result ((k : List ℕ) → shard_store self.new k ≡ update bytes_eq (shard_store self.old) key.now (Some value) k) }
+        ensures place { OnOk result (HasPlace self.new key.now) }
+        ensures err { OnErr result ((k : List ℕ) → shard_store self.new k ≡ shard_store self.old k) }
+        ensures marks { shard_marks self.new ≡ shard_marks self.old }
+        ensures memory { HasPlace self.old key.now → IsOk result }
+    {
+        match self.swap(key, value) {
+            Ok(old) => Ok(old),
+            Err(value) => {
+                self.put(key.clone()?, Some(value))?;
+                Ok(None)
+            }
+        }
+    }
+
+    /// Gives a key that has a place this value, or none. Marks stay. It takes no memory.
+    pub fn restore(&mut self, key: &Word, value: Option<Word>)
+        requires { HasPlace self.old key.now }
+        ensures value { (k : List ℕ) → shard_store self.new k ≡ update bytes_eq (shard_store self.old) key.now value k }
+        ensures marks { shard_marks self.new ≡ shard_marks self.old }
+    {
+        self.replace(key, value);
+    }
+
     /// Makes a place for a key that has none. It takes no memory where the key has one.
     pub fn make_place(&mut self, key: &Word) -> Result<(), OutOfMemory>
         ensures same { (k : List ℕ) → shard_store self.new k ≡ shard_store self.old k }
@@ -105,14 +158,14 @@ impl Shard {
 
     /// Writes a key that has a place: its value is this, or none, and its marks are touched. It takes no
     /// memory.
-    pub fn write(&mut self, key: Word, value: Option<Word>)
-        requires { HasPlace self.old key }
-        ensures value { (k : List ℕ) → shard_store self.new k ≡ update bytes_eq (shard_store self.old) key value k }
-        ensures marks { (k : List ℕ) (number : ℕ) → shard_marks self.new k number ≡ touched (bytes_eq key k) (shard_marks self.old k number) }
+    pub fn write(&mut self, key: &Word, value: Option<Word>)
+        requires { HasPlace self.old key.now }
+        ensures value { (k : List ℕ) → shard_store self.new k ≡ update bytes_eq (shard_store self.old) key.now value k }
+        ensures marks { (k : List ℕ) (number : ℕ) → shard_marks self.new k number ≡ touched (bytes_eq key.now k) (shard_marks self.old k number) }
         ensures kept { (k : List ℕ) → HasPlace self.old k → HasPlace self.new k }
     {
-        self.touch(&key);
-        self.replace(&key, value);
+        self.touch(key); // for a deletion too
+        self.replace(key, value);
     }
 
     /// Deletes a key, with its place, and touches its marks. It takes no memory.
@@ -124,9 +177,9 @@ impl Shard {
         self.remove(key);
     }
 
-    /// Touches the marks of a key.
+    /// Touches the marks of a key. Values and places stay.
     #[tactic(auto, unfolding(crate::specs::Shards::place_of))]
-    fn touch(&mut self, key: &Word)
+    pub fn touch(&mut self, key: &Word)
         ensures marks { (k : List ℕ) (number : ℕ) → shard_marks self.new k number ≡ touched (bytes_eq key.now k) (shard_marks self.old k number) }
         ensures places { (k : List ℕ) → place_of self.new k ≡ place_of self.old k }
     {

@@ -9,16 +9,17 @@ ghost use Rattle.gates.specs.Sets.{part_at, times};
 ghost use Rattle.gates.specs.Passes.{AllFit, AreWatched, IsResting, KeysHeld, MayEnd, WasBusy, known, stripes_of};
 ghost use Rattle.gates.specs.Plays.{kept};
 ghost use Rattle.words.specs.declared.limits.TheConstants.{WEIGHT_MAX, WEIGHT_OF_KEY};
+ghost use Rattle.words.specs.declared.word.TheConstants.{WORD_INLINE};
 ghost use Rattle.gates.specs.Helds.{HasCommitted, IsOpen, operation_asked, borrow_of, gates_of, has_committed, held_parts, held_taken, known_to};
 ghost use Rattle.transact.specs.Shards.{shard_meaning};
 ghost use Rattle.transact.specs.Tables.{AreThere};
-ghost use Rattle.transact.specs.Calls.{call_keys};
+ghost use Rattle.transact.specs.Calls.{answer_of, call_keys};
 ghost use Rattle.transact.specs.Plans.{EndsAll};
 ghost use Rattle.transact.specs.Memory.{NeedsSome, ReadsMore, get_call, set_call};
 ghost use Rattle.transact.specs.Submits.{HasDone, HasEntry, HasFailed, IfFault, IfReply, Did, DidNot, HeardBusy, IsRefused, MayBeSubmitted, WasRefused, asked_for, setting_asked, stripes_asked};
 
 use crate::call::{Answer, Busy, Call, Watching};
-use crate::cells::{make_place, value_of, write};
+use crate::cells::{exchange, make_place, restore, touch, value_of, write};
 use crate::plan::{found, plan};
 use crate::shard::Shard;
 use crate::stripes::{keys_of, with_key};
@@ -29,7 +30,7 @@ use std::sync::Wait;
 use words::command::{Command, When};
 use words::limits::{WEIGHT_MAX, WEIGHT_OF_KEY};
 use words::reply::{Fault, Line, Refusal, Reply};
-use words::word::Word;
+use words::word::{WORD_INLINE, Word};
 
 impl Asks for Call {
     ghost use Rattle.transact.specs.Submits.{asked_for};
@@ -51,12 +52,12 @@ impl Asks for Getting<'_> {
 
 /// A SET without an option.
 #[derive(Drop)]
-struct Setting {
-    key: Word,
-    value: Word,
+struct Setting<'a> {
+    key: &'a Word,
+    value: &'a Word,
 }
 
-impl Asks for Setting {
+impl Asks for Setting<'_> {
     ghost use Rattle.transact.specs.Submits.{setting_asked};
 
     ghost asked = { setting_asked };
@@ -136,86 +137,180 @@ fn enter_get(held: &mut Held<'_, Shard>, stripes: usize, seat: u64, key: &Word) 
     }
 }
 
-/// Runs a SET without an option over the parts that are held: makes a place for its key, commits its one
-/// entry, and moves the key and the value to the place. A value that weighs too much is refused by the
+/// Runs a SET without an option over the parts that are held. A value that weighs too much is refused by the
 /// reply. It takes memory only for a key that has no value.
-fn enter_set(held: &mut Held<'_, Shard>, stripes: usize, seat: u64, setting: Setting) -> Answer
+fn enter_set(
+    held: &mut Held<'_, Shard>,
+    stripes: usize,
+    seat: u64,
+    key: &Word,
+    value: Word,
+) -> Result<Line, Fault>
     requires open { IsOpen held.old }
     requires fresh { has_committed held.old ≡ false }
     requires some { 1 ≤ stripes }
     requires stripes { stripes ≡ stripes_of (gates_of held.old) }
     requires seat { seat ≡ (known_to held.old).number }
     requires fit { AllFit shard_meaning stripes (known_to held.old) (held_taken held.old) (held_parts held.old) }
-    requires there { AreThere stripes (part_at (held_parts held.old)) (call_keys (set_call setting.key setting.value)) }
+    requires there { AreThere stripes (part_at (held_parts held.old)) (call_keys (set_call key.now value)) }
     ensures open { IsOpen held.new }
     ensures gates { gates_of held.new ≡ gates_of held.old }
     ensures pass { borrow_of held.new ≡ borrow_of held.old }
     ensures fit { AllFit shard_meaning stripes (known_to held.new) (held_taken held.new) (held_parts held.new) }
-    ensures did { IfReply result (λ reply. let entry : Entry = record { session = seat; operation = operation_of (known_to held.old).watched (asked_for (set_call setting.key setting.value)); reply = reply } in Did entry (known_to held.old) (known_to held.new)) }
-    ensures fault { IfFault result (λ fault. DidNot (known_to held.old).watched (known_to held.old) (known_to held.new)) }
-    ensures told { IfReply result (λ reply. (known_to held.new).notes ≡ (known_to held.old).notes) }
-    ensures refused { IfFault result (λ fault. IsRefused fault (known_to held.old) (known_to held.new)) }
-    ensures seen { IfFault result (λ fault. (known_to held.new).seen ≡ (known_to held.old).seen) }
-    ensures memory { IfFault result (λ fault. NeedsSome fault (known_to held.old) (asked_for (set_call setting.key setting.value))) }
+    ensures did { IfReply (answer_of result) (λ reply. let entry : Entry = record { session = seat; operation = operation_of (known_to held.old).watched (asked_for (set_call key.now value)); reply = reply } in Did entry (known_to held.old) (known_to held.new)) }
+    ensures fault { IfFault (answer_of result) (λ fault. DidNot (known_to held.old).watched (known_to held.old) (known_to held.new)) }
+    ensures told { IfReply (answer_of result) (λ reply. (known_to held.new).notes ≡ (known_to held.old).notes) }
+    ensures refused { IfFault (answer_of result) (λ fault. IsRefused fault (known_to held.old) (known_to held.new)) }
+    ensures seen { IfFault (answer_of result) (λ fault. (known_to held.new).seen ≡ (known_to held.old).seen) }
+    ensures memory { IfFault (answer_of result) (λ fault. NeedsSome fault (known_to held.old) (asked_for (set_call key.now value))) }
 {
-    if weighs_too_much(&setting.key, &setting.value) {
-        return refuse_set(held, stripes, seat, setting);
+    if weighs_too_much(key, &value) {
+        return refuse_set(held, stripes, seat, key, &value);
     }
-    if let Err(_) = make_place(held, stripes, &setting.key) {
-        return Answer::Fault(Fault::OutOfMemory);
+    if value.len() <= WORD_INLINE {
+        enter_short_set(held, stripes, seat, key, &value)
+    } else {
+        enter_long_set(held, stripes, seat, key, value)
     }
-    match commit_line(held, &setting, Line::Done) {
+}
+
+/// Runs a SET without an option of any value that does not weigh too much: makes a place for its key, commits
+/// its one entry, and moves the value to the place.
+fn enter_long_set(
+    held: &mut Held<'_, Shard>,
+    stripes: usize,
+    seat: u64,
+    key: &Word,
+    value: Word,
+) -> Result<Line, Fault>
+    requires open { IsOpen held.old }
+    requires light { nat_lt WEIGHT_MAX (WEIGHT_OF_KEY + length key.now + length value) ≡ false }
+    requires fresh { has_committed held.old ≡ false }
+    requires some { 1 ≤ stripes }
+    requires stripes { stripes ≡ stripes_of (gates_of held.old) }
+    requires seat { seat ≡ (known_to held.old).number }
+    requires fit { AllFit shard_meaning stripes (known_to held.old) (held_taken held.old) (held_parts held.old) }
+    requires there { AreThere stripes (part_at (held_parts held.old)) (call_keys (set_call key.now value)) }
+    ensures open { IsOpen held.new }
+    ensures gates { gates_of held.new ≡ gates_of held.old }
+    ensures pass { borrow_of held.new ≡ borrow_of held.old }
+    ensures fit { AllFit shard_meaning stripes (known_to held.new) (held_taken held.new) (held_parts held.new) }
+    ensures did { IfReply (answer_of result) (λ reply. let entry : Entry = record { session = seat; operation = operation_of (known_to held.old).watched (asked_for (set_call key.now value)); reply = reply } in Did entry (known_to held.old) (known_to held.new)) }
+    ensures fault { IfFault (answer_of result) (λ fault. DidNot (known_to held.old).watched (known_to held.old) (known_to held.new)) }
+    ensures told { IfReply (answer_of result) (λ reply. (known_to held.new).notes ≡ (known_to held.old).notes) }
+    ensures refused { IfFault (answer_of result) (λ fault. IsRefused fault (known_to held.old) (known_to held.new)) }
+    ensures seen { IfFault (answer_of result) (λ fault. (known_to held.new).seen ≡ (known_to held.old).seen) }
+    ensures memory { IfFault (answer_of result) (λ fault. NeedsSome fault (known_to held.old) (asked_for (set_call key.now value))) }
+{
+    if let Err(_) = make_place(held, stripes, key) {
+        return Err(Fault::OutOfMemory);
+    }
+    match commit_line(held, key, &value, Line::Done) {
         Ok(_) => {
-            let Setting { key, value } = setting;
             write(held, stripes, key, Some(value));
-            Answer::Reply(Reply::line(Line::Done))
+            Ok(Line::Done)
         }
-        Err(_) => Answer::Fault(Fault::CommitsWornOut),
+        Err(_) => Err(Fault::CommitsWornOut),
+    }
+}
+
+/// Runs a SET without an option of a value that is held without an allocation: exchanges the value that its key
+/// has for a copy of the new one, and commits its one entry. So the key is looked up once. Where the commit is
+/// refused, the key gets back what it had.
+fn enter_short_set(
+    held: &mut Held<'_, Shard>,
+    stripes: usize,
+    seat: u64,
+    key: &Word,
+    value: &Word,
+) -> Result<Line, Fault>
+    requires open { IsOpen held.old }
+    requires light { nat_lt WEIGHT_MAX (WEIGHT_OF_KEY + length key.now + length value.now) ≡ false }
+    requires short { length value.now ≤ WORD_INLINE }
+    requires fresh { has_committed held.old ≡ false }
+    requires some { 1 ≤ stripes }
+    requires stripes { stripes ≡ stripes_of (gates_of held.old) }
+    requires seat { seat ≡ (known_to held.old).number }
+    requires fit { AllFit shard_meaning stripes (known_to held.old) (held_taken held.old) (held_parts held.old) }
+    requires there { AreThere stripes (part_at (held_parts held.old)) (call_keys (set_call key.now value.now)) }
+    ensures open { IsOpen held.new }
+    ensures gates { gates_of held.new ≡ gates_of held.old }
+    ensures pass { borrow_of held.new ≡ borrow_of held.old }
+    ensures fit { AllFit shard_meaning stripes (known_to held.new) (held_taken held.new) (held_parts held.new) }
+    ensures did { IfReply (answer_of result) (λ reply. let entry : Entry = record { session = seat; operation = operation_of (known_to held.old).watched (asked_for (set_call key.now value.now)); reply = reply } in Did entry (known_to held.old) (known_to held.new)) }
+    ensures fault { IfFault (answer_of result) (λ fault. DidNot (known_to held.old).watched (known_to held.old) (known_to held.new)) }
+    ensures told { IfReply (answer_of result) (λ reply. (known_to held.new).notes ≡ (known_to held.old).notes) }
+    ensures refused { IfFault (answer_of result) (λ fault. IsRefused fault (known_to held.old) (known_to held.new)) }
+    ensures seen { IfFault (answer_of result) (λ fault. (known_to held.new).seen ≡ (known_to held.old).seen) }
+    ensures memory { IfFault (answer_of result) (λ fault. NeedsSome fault (known_to held.old) (asked_for (set_call key.now value.now))) }
+{
+    let Ok(copy) = value.clone() else {
+        unreachable!()
+    };
+    let Ok(old) = exchange(held, stripes, key, copy) else {
+        return Err(Fault::OutOfMemory);
+    };
+    match commit_line(held, key, value, Line::Done) {
+        Ok(_) => {
+            touch(held, stripes, key);
+            Ok(Line::Done)
+        }
+        Err(_) => {
+            restore(held, stripes, key, old);
+            Err(Fault::CommitsWornOut)
+        }
     }
 }
 
 /// Commits a SET that is answered by a line.
 fn commit_line(
     held: &mut Held<'_, Shard>,
-    setting: &Setting,
+    key: &Word,
+    value: &Word,
     line: Line,
 ) -> Result<u64, CommitsWornOut>
     requires open { IsOpen held.old }
     requires once { has_committed held.old ≡ false }
-    requires place { HasPlace (operation_asked held.old (setting_asked setting.now)) }
-    requires due { line_reply line ≡ due (known_to held.old).seen (operation_asked held.old (setting_asked setting.now)) }
-    requires keys { KeysHeld (stripes_of (gates_of held.old)) (held_parts held.old) (keys_named (operation_asked held.old (setting_asked setting.now))) }
-    ensures { HasCommitted held.old (operation_asked held.old (setting_asked setting.now)) (line_reply line) held.new result }
+    requires place { HasPlace (operation_asked held.old (asked_for (set_call key.now value.now))) }
+    requires due { line_reply line ≡ due (known_to held.old).seen (operation_asked held.old (asked_for (set_call key.now value.now))) }
+    requires keys { KeysHeld (stripes_of (gates_of held.old)) (held_parts held.old) (keys_named (operation_asked held.old (asked_for (set_call key.now value.now)))) }
+    ensures { HasCommitted held.old (operation_asked held.old (asked_for (set_call key.now value.now))) (line_reply line) held.new result }
 {
     let reply = Reply::line(line);
-    held.commit(setting, &reply)
+    held.commit(&Setting { key, value }, &reply)
 }
 
 /// Commits a SET whose value weighs too much: it writes nothing.
-fn refuse_set(held: &mut Held<'_, Shard>, stripes: usize, seat: u64, setting: Setting) -> Answer
+fn refuse_set(
+    held: &mut Held<'_, Shard>,
+    stripes: usize,
+    seat: u64,
+    key: &Word,
+    value: &Word,
+) -> Result<Line, Fault>
     requires open { IsOpen held.old }
     requires fresh { has_committed held.old ≡ false }
-    requires heavy { nat_lt WEIGHT_MAX (WEIGHT_OF_KEY + length setting.key + length setting.value) ≡ true }
+    requires heavy { nat_lt WEIGHT_MAX (WEIGHT_OF_KEY + length key.now + length value.now) ≡ true }
     requires some { 1 ≤ stripes }
     requires stripes { stripes ≡ stripes_of (gates_of held.old) }
     requires seat { seat ≡ (known_to held.old).number }
     requires fit { AllFit shard_meaning stripes (known_to held.old) (held_taken held.old) (held_parts held.old) }
-    requires there { AreThere stripes (part_at (held_parts held.old)) (call_keys (set_call setting.key setting.value)) }
+    requires there { AreThere stripes (part_at (held_parts held.old)) (call_keys (set_call key.now value.now)) }
     ensures open { IsOpen held.new }
     ensures gates { gates_of held.new ≡ gates_of held.old }
     ensures pass { borrow_of held.new ≡ borrow_of held.old }
     ensures fit { AllFit shard_meaning stripes (known_to held.new) (held_taken held.new) (held_parts held.new) }
-    ensures did { IfReply result (λ reply. let entry : Entry = record { session = seat; operation = operation_of (known_to held.old).watched (asked_for (set_call setting.key setting.value)); reply = reply } in Did entry (known_to held.old) (known_to held.new)) }
-    ensures fault { IfFault result (λ fault. DidNot (known_to held.old).watched (known_to held.old) (known_to held.new)) }
-    ensures told { IfReply result (λ reply. (known_to held.new).notes ≡ (known_to held.old).notes) }
-    ensures refused { IfFault result (λ fault. IsRefused fault (known_to held.old) (known_to held.new)) }
-    ensures seen { IfFault result (λ fault. (known_to held.new).seen ≡ (known_to held.old).seen) }
-    ensures memory { IfFault result (λ fault. NeedsSome fault (known_to held.old) (asked_for (set_call setting.key setting.value))) }
+    ensures did { IfReply (answer_of result) (λ reply. let entry : Entry = record { session = seat; operation = operation_of (known_to held.old).watched (asked_for (set_call key.now value.now)); reply = reply } in Did entry (known_to held.old) (known_to held.new)) }
+    ensures fault { IfFault (answer_of result) (λ fault. DidNot (known_to held.old).watched (known_to held.old) (known_to held.new)) }
+    ensures told { IfReply (answer_of result) (λ reply. (known_to held.new).notes ≡ (known_to held.old).notes) }
+    ensures refused { IfFault (answer_of result) (λ fault. IsRefused fault (known_to held.old) (known_to held.new)) }
+    ensures seen { IfFault (answer_of result) (λ fault. (known_to held.new).seen ≡ (known_to held.old).seen) }
+    ensures memory { IfFault (answer_of result) (λ fault. NeedsSome fault (known_to held.old) (asked_for (set_call key.now value.now))) }
 {
     let line = Line::Refused(Refusal::WritesTooMuch);
-    match commit_line(held, &setting, line) {
-        Ok(_) => Answer::Reply(Reply::line(line)),
-        Err(_) => Answer::Fault(Fault::CommitsWornOut),
+    match commit_line(held, key, value, line) {
+        Ok(_) => Ok(line),
+        Err(_) => Err(Fault::CommitsWornOut),
     }
 }
 
@@ -352,7 +447,7 @@ fn enter_one(
 {
     match command {
         Command::Set(key, value, When::Always) => Entered {
-            answer: enter_set(held, stripes, seat, Setting { key, value }),
+            answer: Answer::of_line(enter_set(held, stripes, seat, &key, value)),
             ends: false,
         },
         Command::Get(key) => Entered {
@@ -422,8 +517,8 @@ fn give_back(held: Held<'_, Shard>, ends: bool)
     }
 }
 
-/// Runs a GET of a pass over the gates.
-fn submit_get<R: Wait, L: Latch>(
+/// The same as [`submit`] of a GET, whose key stays the caller's.
+pub fn submit_get<R: Wait, L: Latch>(
     rt: &R,
     gates: &Gates<Shard>,
     pass: &mut Pass<Shard>,
@@ -448,28 +543,34 @@ fn submit_get<R: Wait, L: Latch>(
     answer
 }
 
-/// Runs a SET without an option of a pass over the gates.
-fn submit_set<R: Wait, L: Latch>(
+/// The same as [`submit`] of a SET without an option, whose key stays the caller's and whose value moves into
+/// the store. It is answered by a line.
+///
+/// # Errors
+///
+/// The fault that [`submit`] answers.
+pub fn submit_set<R: Wait, L: Latch>(
     rt: &R,
     gates: &Gates<Shard>,
     pass: &mut Pass<Shard>,
-    setting: Setting,
+    key: &Word,
+    value: Word,
     latch: &L,
-) -> Answer
+) -> Result<Line, Fault>
     requires own { IsResting gates.now pass.old }
     ensures own { IsResting gates.now pass.new }
-    ensures did { IfReply result (λ reply. HasDone (set_call setting.key setting.value) reply (known pass.old) (known pass.new)) }
-    ensures fault { IfFault result (λ fault. HasFailed (set_call setting.key setting.value) (known pass.old) (known pass.new)) }
-    ensures told { IfReply result (λ reply. HeardBusy (stripes_asked (stripes_of gates.now) (set_call setting.key setting.value)) (known pass.old) (known pass.new)) }
-    ensures refused { IfFault result (λ fault. WasRefused fault (stripes_asked (stripes_of gates.now) (set_call setting.key setting.value)) (known pass.old) (known pass.new)) }
-    ensures memory { IfFault result (λ fault. NeedsSome fault (known pass.new) (asked_for (set_call setting.key setting.value))) }
+    ensures did { IfReply (answer_of result) (λ reply. HasDone (set_call key.now value) reply (known pass.old) (known pass.new)) }
+    ensures fault { IfFault (answer_of result) (λ fault. HasFailed (set_call key.now value) (known pass.old) (known pass.new)) }
+    ensures told { IfReply (answer_of result) (λ reply. HeardBusy (stripes_asked (stripes_of gates.now) (set_call key.now value)) (known pass.old) (known pass.new)) }
+    ensures refused { IfFault (answer_of result) (λ fault. WasRefused fault (stripes_asked (stripes_of gates.now) (set_call key.now value)) (known pass.old) (known pass.new)) }
+    ensures memory { IfFault (answer_of result) (λ fault. NeedsSome fault (known pass.new) (asked_for (set_call key.now value))) }
 {
     let stripes = gates.stripes();
     let seat = pass.number();
-    let wanted = with_key(Sorted::none(), &setting.key, stripes);
+    let wanted = with_key(Sorted::none(), key, stripes);
     let mut held = gates.take(rt, pass, &wanted);
     latch.at(seat, Point::Holding);
-    let answer = enter_set(&mut held, stripes, seat, setting);
+    let answer = enter_set(&mut held, stripes, seat, key, value);
     held.give();
     answer
 }
@@ -532,7 +633,7 @@ pub fn submit<R: Wait, L: Latch>(
     match call {
         Call::One(Command::Get(key)) => submit_get(rt, gates, pass, &key, latch),
         Call::One(Command::Set(key, value, When::Always)) => {
-            submit_set(rt, gates, pass, Setting { key, value }, latch)
+            Answer::of_line(submit_set(rt, gates, pass, &key, value, latch))
         }
         call => submit_any(rt, alloc, gates, pass, call, latch),
     }

@@ -1,4 +1,5 @@
 pub mod Named
+pub mod Briefs
 pub mod Requests
 pub mod Places
 pub mod Spelled

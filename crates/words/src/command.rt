@@ -1,13 +1,16 @@
 //! Commands, and which command the words of a request are.
 
-ghost use Rattle.std.specs.Prelude.{◌≡◌, List, IfOk, IsOk};
+ghost use Rattle.std.specs.Prelude.{◌≡◌, List, IfOk, IsOk, codes};
 ghost use Rattle.words.specs.Commands.{command_of, command_in, AsksNoMemory, is_name, readers, counters, session_commands};
 ghost use Rattle.words.specs.Store.{Bytes};
 ghost use Rattle.words.specs.Verbs.{shaped};
+ghost use Rattle.words.specs.Briefs.{brief_of, names_key, IsGet, IsSet};
 
 use crate::reply::Refusal;
 use crate::sequence::Sequence;
-use crate::shapes::{KeyVerb, KeysVerb, LoneVerb, NumberVerb, SettingsVerb, Shape, ValueVerb};
+use crate::shapes::{
+    KeyVerb, KeysVerb, LoneVerb, NumberVerb, SettingsVerb, Shape, ValueVerb, is_long,
+};
 use crate::word::{OutOfMemory, Word, Words};
 use std::alloc::Global;
 use std::fmt;
@@ -91,6 +94,46 @@ pub enum Command {
     Session(SessionCommand),
     /// A command that its words show to be refused when it runs.
     Bad(Refusal),
+}
+
+/// Which of the commands that are asked most a request is, whose words then are the command's as they lie.
+#[derive(Clone, Copy, Debug, PartialEq, Eq)]
+pub enum Brief {
+    /// A GET: the second word is its key.
+    Get,
+    /// A SET without an option: the second word is its key, and the third the value.
+    Set,
+    /// Any other request.
+    Other,
+}
+
+impl Brief {
+    /// Which the request of these words is, where its key is not too long. It takes no memory.
+    pub fn of(words: &Words) -> Brief
+        ensures exact { result ≡ brief_of words.now }
+        ensures get { result ≡ Brief.Get → IsGet words.now }
+        ensures set { result ≡ Brief.Set → IsSet words.now }
+    {
+        match words.as_slice() {
+            [name, key] if is_get(name, key) => Brief::Get,
+            [name, key, _] if is_set(name, key) => Brief::Set,
+            _ => Brief::Other,
+        }
+    }
+}
+
+/// Whether a request of this name and one word is a GET of a key that is not too long.
+fn is_get(name: &Word, key: &Word) -> bool
+    ensures { result ≡ names_key (codes "GET") name.now key.now }
+{
+    is_named(name.as_slice(), b"GET") && !is_long(key)
+}
+
+/// Whether a request of this name and two words is a SET of a key that is not too long.
+fn is_set(name: &Word, key: &Word) -> bool
+    ensures { result ≡ names_key (codes "SET") name.now key.now }
+{
+    is_named(name.as_slice(), b"SET") && !is_long(key)
 }
 
 /// The command's name alone: its words may be long, and they are a user's.

@@ -223,7 +223,7 @@ impl LoneVerb {
 }
 
 /// Whether a key has more bytes than a key may have.
-fn is_long(key: &Word) -> bool
+pub(crate) fn is_long(key: &Word) -> bool
     ensures { result ≡ commands.is_long key.now }
 {
     key.len() > KEY_BYTES_MAX

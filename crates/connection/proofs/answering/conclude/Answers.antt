@@ -10,16 +10,16 @@ returns-in-Err-clause-answered g c = λ was now fed before standing paused.
     let cut = c.in-Err.ensures.sent in
     (cut.0, cut.3, served_cut _ cut.1 so_far.2 (cut_held before _ cut.0 cut.1 cut.2))
 
-pub returns-in-Err-say_fault-clause-answered : goal.returns-in-Err-say_fault-clause-answered
-returns-in-Err-say_fault-clause-answered g c = λ was now fed before standing paused.
+pub returns-in-Err-say_line-clause-answered : goal.returns-in-Err-say_line-clause-answered
+returns-in-Err-say_line-clause-answered g c = λ was now fed before standing paused.
     let so_far = rw c.in-Malformed.is at paused in
-    let cut = c.in-Err-say_fault.ensures.put in
+    let cut = c.in-Err-say_line.ensures.put in
     (cut.0, cut.3, served_cut_fault c.in-Malformed.fault _ cut.1 so_far.2 so_far.0 (regroup_held before _ _ cut.0 cut.1 cut.2))
 
 pub returns-in-Err-flush-clause-answered : goal.returns-in-Err-flush-clause-answered
 returns-in-Err-flush-clause-answered g c = λ was now fed before standing paused.
     let so_far = rw c.in-Malformed.is at paused in
-    let put = c.in_default-say_fault.ensures.put in
+    let put = c.in_default-say_line.ensures.put in
     let cut = c.in-Err-flush.ensures.sent in (
       put.0 ++ cut.0,
       Appends-then _ _ _ put.0 cut.0 put.1 cut.3,
@@ -30,8 +30,8 @@ returns-in-Err-flush-clause-answered g c = λ was now fed before standing paused
 pub returns-in_default-flush-clause-answered : goal.returns-in_default-flush-clause-answered
 returns-in_default-flush-clause-answered g c = λ was now fed before standing paused.
     let so_far = rw c.in-Malformed.is at paused in
-    let put = c.in_default-say_fault.ensures.put in (
-      put.0 ++ c.say_fault.new.out.items,
+    let put = c.in_default-say_line.ensures.put in (
+      put.0 ++ c.say_line.new.out.items,
       Appends-then _ _ _ put.0 _ put.1 c.in_default-flush.ensures.sent,
       served_fault c.in-Malformed.fault _ so_far.2 so_far.0 so_far.1 (regroup_held before _ _ put.0 _ put.2 ∙ append_assoc before put.0 _),
     )

@@ -1,6 +1,6 @@
-use Rattle.std.proofs.Common.{◌≡◌, ◌∙◌, ℕ, List, [], ◌∷◌, ◌++◌, Option, sym, ap, subst, rules}
+use Rattle.std.proofs.Common.{◌≡◌, ℕ, List, ◌++◌, Option, sym, ap, subst, rules}
 use Rattle.words.specs.declared.command.Command.{Command}
-use Rattle.words.specs.Store.{Bytes, Store, Write}
+use Rattle.words.specs.Store.{Store}
 use Rattle.words.specs.Commands.{keys_of, keys_of_all}
 use Rattle.transact.specs.declared.shard.Shard.{Shard}
 use Rattle.transact.specs.Shards.{shard_meaning}

@@ -1,5 +1,5 @@
-use Rattle.std.proofs.Common.{◌≡◌, ◌∙◌, ◌-◌, ◌+◌, ℕ, List, [], ◌∷◌, ◌++◌, Option, take, sym, ap, subst, arith}
-use Rattle.words.specs.Store.{Bytes, Store, Write}
+use Rattle.std.proofs.Common.{◌≡◌, ◌∙◌, ◌-◌, ℕ, List, [], ◌∷◌, ◌++◌, Option, take, sym, ap, subst, arith}
+use Rattle.words.specs.Store.{Bytes, Store}
 use Rattle.words.specs.Commands.{keys_of}
 use Rattle.transact.specs.declared.shard.Shard.{Shard}
 use Rattle.transact.specs.Shards.{shard_meaning}

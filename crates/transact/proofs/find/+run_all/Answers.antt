@@ -1,5 +1,3 @@
-use Rattle.words.specs.declared.command.Command.{Command}
-use Rattle.std.proofs.Common.{List}
 use Rattle.transact.proofs.Stores.{ok_then}
 use Rattle.transact.proofs.Plans.{replies_more, writes_more}
 use Rattle.transact.proofs.find.+run_all.Goals as goal

@@ -1,8 +1,8 @@
-use Rattle.std.proofs.Common.{◌≡◌, ◌∙◌, ℕ, List, [], ◌∷◌, Option, length, refl, sym, ap, subst}
+use Rattle.std.proofs.Common.{◌≡◌, ◌∙◌, ℕ, List, [], ◌∷◌, Option, refl, sym, subst}
 use Rattle.words.specs.Store.{Write}
 use Rattle.transact.specs.declared.shard.Shard.{Shard}
 use Rattle.transact.specs.Shards.{shard_meaning}
-use Rattle.transact.specs.Tables.{AreReady, Became, IsReady, touches}
+use Rattle.transact.specs.Tables.{AreReady, Became, touches}
 use Rattle.transact.proofs.Become.{became_touches, became_unwritten, ready_after}
 use Rattle.transact.proofs.install.write_all.Goals as goal
 
@@ -16,13 +16,12 @@ loop-next-init g c =
       λ later became. became,
     )
 
-pub write-requires-clause-ready : goal.write-requires-clause-ready
-write-requires-clause-ready g c =
+pub write_one-requires-clause-ready : goal.write_one-requires-clause-ready
+write_one-requires-clause-ready g c =
     let n : ℕ = c.args.stripes in
     let parts : ℕ → Option Shard = g.P.Parts.part_of c.loop-next.parts in
     let rest : List Write = c.next.new.self in
-    let all : AreReady n parts (c.in-Some.next ∷ rest) = subst (AreReady n parts) c.in-Some.ensures.steps c.loop-next.invariant.2 in
-    subst (λ (w : Write). IsReady n parts w.0) (sym c.into_parts-key.ensures) all.0
+    let all : AreReady n parts (c.in-Some.next ∷ rest) = subst (AreReady n parts) c.in-Some.ensures.steps c.loop-next.invariant.2 in all.0
 
 pub loop-next-preserved : goal.loop-next-preserved
 loop-next-preserved g c =
@@ -32,11 +31,11 @@ loop-next-preserved g c =
     let rest : List Write = c.next.new.self in
     let e : c.loop-next.left ≡ w ∷ rest = c.in-Some.ensures.steps in
     let before : ℕ → Option Shard = g.P.Parts.part_of c.loop-next.parts in
-    let now : ℕ → Option Shard = g.P.Parts.part_of c.write.new.parts in
-    let made : Became shard_meaning n (w ∷ []) (touches (w ∷ [])) before now = subst (λ (x : Write). Became shard_meaning n (x ∷ []) (touches (x ∷ [])) before now) c.into_parts-key.ensures c.write.ensures.became in (
-      c.write.ensures.open,
-      g.met.P.Parts.keeps_both c.args.parts.now c.loop-next.parts c.write.new.parts inv.1 c.write.ensures.keeps,
-      ready_after n rest before now c.write.ensures.kept (subst (AreReady n before) e inv.2).1,
+    let now : ℕ → Option Shard = g.P.Parts.part_of c.write_one.new.parts in
+    let made : Became shard_meaning n (w ∷ []) (touches (w ∷ [])) before now = c.write_one.ensures.became in (
+      c.write_one.ensures.open,
+      g.met.P.Parts.keeps_both c.args.parts.now c.loop-next.parts c.write_one.new.parts inv.1 c.write_one.ensures.keeps,
+      ready_after n rest before now c.write_one.ensures.kept (subst (AreReady n before) e inv.2).1,
       λ later became. inv.3 later (subst (λ (ws : List Write). Became shard_meaning n ws (touches ws) before later) (sym e)
           (became_touches shard_meaning n w rest before now later made became)),
     )

@@ -1,7 +1,6 @@
-use Rattle.std.proofs.Common.{◌≡◌, ◌∙◌, ℕ, List, [], Option, Some, sym, ap, subst}
+use Rattle.std.proofs.Common.{◌≡◌, ℕ, List, [], Option, sym, ap, subst}
 use Rattle.words.specs.Store.{Bytes}
 use Rattle.words.specs.Commands.{keys_of_all}
-use Rattle.words.specs.History.{Pair}
 use Rattle.words.specs.Session.{Asked, Watch, operation_of}
 use Rattle.words.specs.declared.command.Command.{Command}
 use Rattle.transact.specs.declared.call.Call.{Call}

@@ -3,11 +3,9 @@ use Rattle.words.specs.Store.{Bytes, Store, Write, empty, written}
 use Rattle.transact.specs.declared.shard.Shard.{Shard}
 use Rattle.transact.specs.Shards.{shard_meaning}
 use Rattle.words.specs.Commands.{keys_of_all}
-use Rattle.words.specs.Answers.{answers}
-use Rattle.words.specs.declared.reply.Reply.{Reply}
 use Rattle.words.specs.declared.reply.Reply.TheVariants as reply
 use Rattle.words.specs.History.{after}
-use Rattle.transact.proofs.Become.{became_same, there_after}
+use Rattle.transact.proofs.Become.{became_same}
 use Rattle.transact.proofs.Stores.{ok_both}
 use Rattle.transact.proofs.Plans.{plan_of_all, answers_there}
 use Rattle.transact.proofs.plan.plan_all.Goals as goal

@@ -1,11 +1,9 @@
-use Rattle.std.proofs.Common.{◌≡◌, ◌∙◌, ◌++◌, ℕ, List, [], ◌∷◌, Option, sym, ap, subst, refl}
-use Rattle.words.specs.Store.{Bytes, Store, Write, empty, written}
+use Rattle.std.proofs.Common.{ℕ, Option, sym, ap, subst}
+use Rattle.words.specs.Store.{empty, written}
 use Rattle.transact.specs.declared.shard.Shard.{Shard}
 use Rattle.transact.specs.Shards.{shard_meaning}
 use Rattle.words.specs.Commands.{keys_of}
-use Rattle.words.specs.Answers.{answer}
-use Rattle.words.specs.History.{after}
-use Rattle.transact.proofs.Become.{became_same, there_after}
+use Rattle.transact.proofs.Become.{became_same}
 use Rattle.transact.proofs.Stores.{ok_both}
 use Rattle.transact.proofs.Plans.{plan_of_one, answer_there}
 use Rattle.transact.proofs.plan.plan_copied.Goals as goal

@@ -1,12 +1,8 @@
-use Rattle.std.proofs.Common.{◌≡◌, ◌∙◌, ◌++◌, ℕ, List, [], ◌∷◌, Option, sym, ap, subst, refl}
-use Rattle.words.specs.Store.{Bytes, Store, Write, empty, written}
-use Rattle.transact.specs.declared.shard.Shard.{Shard}
+use Rattle.std.proofs.Common.{◌∙◌, ℕ, sym, subst}
 use Rattle.transact.specs.Shards.{shard_meaning}
-use Rattle.words.specs.Commands.{keys_of_all}
-use Rattle.words.specs.History.{after, History, Pair}
-use Rattle.transact.specs.Tables.{AllRead, HasBegun}
+use Rattle.words.specs.History.{after}
+use Rattle.transact.specs.Tables.{AllRead}
 use Rattle.transact.proofs.Become.{became_same}
-use Rattle.transact.proofs.Begun.{has_begun_none}
 use Rattle.transact.proofs.Stores.{ok_both}
 use Rattle.transact.proofs.Plans.{null_plan, dirty_is}
 use Rattle.transact.proofs.plan.plan_exec.Goals as goal

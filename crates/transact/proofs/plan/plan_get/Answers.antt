@@ -1,4 +1,4 @@
-use Rattle.std.proofs.Common.{◌≡◌, ◌∙◌, ℕ, Option}
+use Rattle.std.proofs.Common.{◌∙◌, ℕ, Option}
 use Rattle.transact.specs.declared.shard.Shard.{Shard}
 use Rattle.transact.specs.Shards.{shard_meaning}
 use Rattle.transact.proofs.Plans.{plan_of_get}

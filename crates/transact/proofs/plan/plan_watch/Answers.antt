@@ -1,5 +1,5 @@
-use Rattle.std.proofs.Common.{◌≡◌, ◌∙◌, ◌++◌, ℕ, List, [], ◌∷◌, Option, sym, ap, subst, refl}
-use Rattle.words.specs.Store.{Bytes, Store, Write, empty, written}
+use Rattle.std.proofs.Common.{ℕ, List, [], Option, sym, subst, refl}
+use Rattle.words.specs.Store.{Bytes}
 use Rattle.transact.specs.declared.shard.Shard.{Shard}
 use Rattle.transact.specs.Shards.{shard_meaning}
 use Rattle.transact.specs.Tables.{AreThere, Became, HasBegun, clears}

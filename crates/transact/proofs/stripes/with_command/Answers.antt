@@ -1,4 +1,4 @@
-use Rattle.std.proofs.Common.{◌∙◌, ℕ, List, [], ◌∷◌, ◌++◌, take, sym, ap}
+use Rattle.std.proofs.Common.{◌∙◌, ℕ, List, [], ◌∷◌, take, sym, ap}
 use Rattle.words.specs.Store.{Bytes}
 use Rattle.words.specs.Commands.{keys_of}
 use Rattle.transact.specs.Plans.{stripes_with}

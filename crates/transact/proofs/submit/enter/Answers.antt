@@ -1,5 +1,5 @@
 use Rattle.std.proofs.Common.{rules, ◌≡◌, ◌∙◌, ℕ, List, [], Option, refl, sym, ap, subst}
-use Rattle.words.specs.Store.{Bytes, Write}
+use Rattle.words.specs.Store.{Bytes}
 use Rattle.words.specs.Session.{operation_of}
 use Rattle.gates.specs.declared.held.Held.{Held}
 use Rattle.gates.specs.Sets.{part_at}

@@ -1,7 +1,6 @@
-use Rattle.std.proofs.Common.{◌≡◌, ◌∙◌, ℕ, List, [], Option, Bool, true, false, refl, sym, ap, subst, rules}
+use Rattle.std.proofs.Common.{◌∙◌, ℕ, List, [], Option, true, sym, ap, subst}
 use Rattle.words.specs.Store.{Bytes}
 use Rattle.words.specs.Commands.{keys_of_all}
-use Rattle.words.specs.History.{Pair}
 use Rattle.words.specs.Session.{operation_of, watched_at_fault}
 use Rattle.gates.specs.declared.held.Held.{Held}
 use Rattle.gates.specs.declared.view.Knowledge.{Knowledge}
@@ -12,11 +11,11 @@ use Rattle.transact.specs.declared.shard.Shard.{Shard}
 use Rattle.transact.specs.Shards.{shard_meaning}
 use Rattle.transact.specs.Calls.{call_keys}
 use Rattle.transact.specs.Plans.{EndsAll}
-use Rattle.transact.specs.Submits.{asked_for, Did, DidNot, HasFailed}
+use Rattle.transact.specs.Submits.{asked_for, Did, DidNot}
 use Rattle.transact.specs.Tables.{AreThere}
 use Rattle.transact.proofs.Become.{there_after}
 use Rattle.transact.proofs.Keys.{there_append}
-use Rattle.transact.proofs.Submits.{parts_of, ended_after, ends_still, fit_forgot, forgot_held, has_done, refused_still, unended}
+use Rattle.transact.proofs.Submits.{parts_of, ended_after, ends_still, fit_forgot, forgot_held, has_done, refused_still}
 use Rattle.transact.proofs.Memory.{exec_needs}
 use Rattle.transact.proofs.submit.enter_entry.Goals as goal
 

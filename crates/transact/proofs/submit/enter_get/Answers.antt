@@ -1,4 +1,4 @@
-use Rattle.std.proofs.Common.{◌≡◌, ◌∙◌, ℕ, List, [], ◌∷◌, Option, refl, sym, ap, subst}
+use Rattle.std.proofs.Common.{◌∙◌, ℕ, [], ◌∷◌, Option, refl, sym, ap, subst}
 use Rattle.gates.specs.Sets.{part_at}
 use Rattle.gates.specs.Helds.{same_as_it}
 use Rattle.transact.specs.declared.shard.Shard.{Shard}

@@ -2,7 +2,6 @@ use Rattle.std.proofs.Common.{Bool, subst}
 use Rattle.gates.specs.Passes.{AllFit, stripes_of}
 use Rattle.gates.specs.Plays.{kept}
 use Rattle.gates.specs.Helds.{gates_of, held_parts, held_taken, known_to}
-use Rattle.transact.specs.declared.shard.Shard.{Shard}
 use Rattle.transact.specs.Shards.{shard_meaning}
 use Rattle.transact.proofs.submit.give_back.Goals as goal
 

@@ -1,14 +1,12 @@
 use Rattle.std.proofs.Common.{◌≡◌, ◌∙◌, ℕ, List, [], ◌∷◌, false, refl, sym, ap, subst, rules}
-use Rattle.gates.specs.declared.held.Held.{Held}
 use Rattle.gates.specs.declared.view.Knowledge.{Knowledge}
 use Rattle.gates.specs.Passes.{known, stripes_of}
 use Rattle.gates.specs.Helds.{known_to}
-use Rattle.transact.specs.declared.shard.Shard.{Shard}
 use Rattle.transact.specs.Memory.{get_call}
 use Rattle.transact.specs.Submits.{HasDone, HasFailed, HeardBusy, IfFault, IfReply, WasRefused, stripes_asked}
 use Rattle.words.specs.declared.command.Command.TheVariants.{Get}
 use Rattle.transact.specs.Plans.{stripes_with}
-use Rattle.transact.proofs.Submits.{Fit, parts_of, done_alone, failed_alone, fit_given, refused_behind_as, told_behind_as}
+use Rattle.transact.proofs.Submits.{Fit, done_alone, failed_alone, fit_given, refused_behind_as, told_behind_as}
 use Rattle.transact.proofs.submit.submit_get.Goals as goal
 
 pub enter_get-answer-requires-clause-fit : goal.enter_get-answer-requires-clause-fit

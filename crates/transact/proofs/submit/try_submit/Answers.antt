@@ -1,10 +1,8 @@
-use Rattle.std.proofs.Common.{◌≡◌, ◌∙◌, ℕ, List, [], refl, sym, ap, subst, rules}
-use Rattle.gates.specs.declared.held.Held.{Held}
+use Rattle.std.proofs.Common.{◌∙◌, ℕ, [], refl, sym, subst, rules}
 use Rattle.gates.specs.declared.view.Knowledge.{Knowledge}
 use Rattle.gates.specs.Passes.{ToldBusy, known}
 use Rattle.gates.specs.Plays.{kept}
 use Rattle.gates.specs.Helds.{known_to}
-use Rattle.transact.specs.declared.shard.Shard.{Shard}
 use Rattle.transact.specs.Calls.{call_keys}
 use Rattle.transact.specs.Submits.{HasDone, HasFailed, HeardBusy, IfFault, IfReply, WasRefused}
 use Rattle.transact.proofs.Keys.{taken_there}

@@ -1,5 +1,3 @@
-use Rattle.std.proofs.Common.{ℕ, Option}
-use Rattle.transact.specs.declared.shard.Shard.{Shard}
 use Rattle.transact.specs.Shards.{shard_meaning}
 use Rattle.transact.specs.Plans.{keys_ended}
 use Rattle.transact.proofs.Become.{there_after}

@@ -1,27 +1,26 @@
-use Rattle.std.proofs.Common.{◌≡◌, ◌∙◌, refl, sym, ap, subst, Some, List, ℕ, [], ◌∷◌}
-use Rattle.words.specs.Store.{Bytes}
+use Rattle.std.proofs.Common.{refl, sym, subst, false, List, ℕ, []}
 use Rattle.gates.specs.Sets.{part_at}
 use Rattle.gates.specs.Helds.{same_as_it}
 use Rattle.transact.specs.declared.shard.Shard.{Shard}
 use Rattle.transact.specs.Shards.{shard_meaning}
-use Rattle.transact.specs.Tables.{Became, stays, touches}
+use Rattle.transact.specs.Tables.{Became, stays}
 use Rattle.transact.proofs.Submits.{fit_kept, fit_undone, parts_of}
 use Rattle.transact.proofs.Memory.{refused_place}
 use Rattle.transact.proofs.Sets.{set_made}
-use Rattle.transact.proofs.submit.enter_set.Goals as goal
+use Rattle.transact.proofs.submit.enter_long_set.Goals as goal
 
 pub returns-in-Err-clause-fit : goal.returns-in-Err-clause-fit
 returns-in-Err-clause-fit c = fit_kept c.args.stripes c.args.held.now c.make_place.new.parts c.make_place.ensures.keeps c.requires.fit c.make_place.ensures.became
 
 pub returns-in-Err-clause-memory : goal.returns-in-Err-clause-memory
 returns-in-Err-clause-memory c =
-    refused_place c.args.stripes c.args.seat c.args.held.now c.args.setting.key c.args.setting.value c.weighs_too_much.result c.make_place.result c.in-Err.field-0 c.requires.seat c.requires.fit c.requires.there
-    c.weighs_too_much.ensures c.if-weighs_too_much.false c.in-Err.is c.make_place.ensures.memory
+    refused_place c.args.stripes c.args.seat c.args.held.now c.args.key.now c.args.value false c.make_place.result c.in-Err.field-0 c.requires.seat c.requires.fit c.requires.there
+    (sym c.requires.light) refl c.in-Err.is c.make_place.ensures.memory
 
 pub returns-in-Ok-clause-fit : goal.returns-in-Ok-clause-fit
 returns-in-Ok-clause-fit c =
-    set_made c.args.stripes c.args.seat c.in-Ok.field-0 c.args.setting.key c.args.setting.value c.args.held.now c.make_place.new.parts c.commit_line.new.held c.write.new.parts c.requires.stripes c.requires.seat
-    (sym c.weighs_too_much.ensures ∙ c.if-weighs_too_much.false) c.requires.fit c.make_place.ensures.keeps c.make_place.ensures.became c.commit_line.ensures.parts c.commit_line.ensures.taken c.in-Ok.ensures.ok
+    set_made c.args.stripes c.args.seat c.in-Ok.field-0 c.args.key.now c.args.value c.args.held.now c.make_place.new.parts c.commit_line.new.held c.write.new.parts c.requires.stripes c.requires.seat
+    c.requires.light c.requires.fit c.make_place.ensures.keeps c.make_place.ensures.became c.commit_line.ensures.parts c.commit_line.ensures.taken c.in-Ok.ensures.ok
     c.write.ensures.became
     c.write.ensures.keeps
 

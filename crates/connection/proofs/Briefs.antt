@@ -1,0 +1,81 @@
+-- The turn of a client whose request goes to the engine with its words as they lie.
+use Rattle.std.proofs.Common.{◌≡◌, ℕ, List, [], ◌∷◌, ◌++◌, Some, refl, ap, IsTrue}
+use Rattle.words.specs.declared.command.Command.{Command}
+use Rattle.words.specs.declared.command.Command.TheVariants.{Get, Set}
+use Rattle.words.specs.declared.command.When.TheVariants.{Always}
+use Rattle.words.specs.declared.reply.Reply.{Reply}
+use Rattle.words.specs.Store.{Bytes}
+use Rattle.words.specs.Spelling.{IsRequest}
+use Rattle.words.specs.Commands.{touches_keys}
+use Rattle.words.specs.Briefs.{IsGet, IsSet}
+use Rattle.words.specs.Session.{Idle, Calls, Run, turn, turn_idle}
+use Rattle.gates.specs.declared.view.Knowledge.{Knowledge}
+use Rattle.transact.specs.declared.call.Call.TheVariants.{One}
+use Rattle.transact.specs.declared.call.Answer.{Answer}
+use Rattle.transact.specs.declared.call.Answer.TheVariants as answer
+use Rattle.transact.specs.Calls.{asked_of, reply_to}
+use Rattle.transact.specs.Submits.{IfReply, IfFault}
+use Rattle.session.specs.Standings.{Wait, ForAnswer, stands}
+use Rattle.session.specs.Laws.{WatchesPairsOfEntry, WatchesPairsOfFault}
+use Rattle.engine.specs.Calls.{IsDone, IsUndone}
+use Rattle.connection.specs.declared.client.Next.TheVariants as next
+use Rattle.connection.specs.Clients.{Progress, Ready, Called, Resumes, TakesUp, IsIdle, before}
+use Rattle.connection.specs.Served.{Attends, Turned}
+use Rattle.connection.proofs.Called.{turned_called}
+
+-- what a session in no transaction waits for that watches these keys
+abbrev waits : List Bytes → Wait
+waits watched = ForAnswer (stands Idle watched) (stands Idle watched)
+
+-- it hands the command on
+hands_on : (words : List Bytes) (command : Command) (at : Progress) (idle : IsIdle at.stage) → IsRequest words
+    → turn Idle idle.0 words ≡ Calls (Run command) Idle Idle → IsTrue (touches_keys command)
+    → TakesUp (before words at) (next.Calls (One command)) (record at { stage = Called (waits idle.0) })
+hands_on words command at idle request asks place =
+    (words, record { request = request; taken = refl }, (waits idle.0, refl, rw (idle.1, asks) (refl, refl), λ pairs. place))
+
+-- and says the answer as it comes
+says_it : (at : Progress) (idle : IsIdle at.stage) (a : Answer) → Resumes (Called (waits idle.0)) a (reply_to a) at.stage
+says_it at idle (answer.Reply reply) = (stands Idle idle.0, idle.1, (refl, refl))
+says_it at idle (answer.Fault fault) = (stands Idle idle.0, idle.1, (refl, refl))
+
+-- a client watches what it watched before its request was taken off
+pub attends_before : (knows : Knowledge) (words : List Bytes) (at : Progress) → Attends knows at → Attends knows (before words at)
+attends_before knows words at attends = record { ready = attends.ready; watches = attends.watches }
+
+-- the turn
+turned_brief : (was now : Knowledge) (stripes : List ℕ) (words : List Bytes) (command : Command) (a : Answer) (reply : Reply) (at : Progress)
+    → WatchesPairsOfEntry → WatchesPairsOfFault → Attends was at → (idle : IsIdle at.stage) → IsRequest words
+    → turn Idle idle.0 words ≡ Calls (Run command) Idle Idle → IsTrue (touches_keys command)
+    → IfReply a (λ given. IsDone stripes (Some (Run command)) given was now) → IfFault a (λ f. IsUndone stripes (Some (Run command)) f was now)
+    → reply ≡ reply_to a → Turned was now (before words at) at reply
+turned_brief was now stripes words command a reply at entry law attends idle request asks place done undone says =
+    turned_called was now stripes (One command) a reply (before words at) (record at { stage = Called (waits idle.0) }) at entry law
+    (attends_before was words at attends) (hands_on words command at idle request asks place) done undone refl (rw says (says_it at idle a))
+
+-- of a GET
+pub turned_get : (was now : Knowledge) (stripes : List ℕ) (words : List Bytes) (a : Answer) (reply : Reply) (at : Progress)
+    → WatchesPairsOfEntry → WatchesPairsOfFault → Attends was at → IsIdle at.stage → IsRequest words → (get : IsGet words)
+    → IfReply a (λ given. IsDone stripes (Some (Run (Get get.key))) given was now)
+    → IfFault a (λ f. IsUndone stripes (Some (Run (Get get.key))) f was now)
+    → reply ≡ reply_to a → Turned was now (before words at) at reply
+turned_get was now stripes words a reply at entry law attends idle request get done undone says =
+    turned_brief was now stripes words (Get get.key) a reply at entry law attends idle request (ap (turn_idle idle.0) get.command) refl done undone says
+
+-- of a SET without an option
+pub turned_set : (was now : Knowledge) (stripes : List ℕ) (words : List Bytes) (a : Answer) (reply : Reply) (at : Progress)
+    → WatchesPairsOfEntry → WatchesPairsOfFault → Attends was at → IsIdle at.stage → IsRequest words → (set : IsSet words)
+    → IfReply a (λ given. IsDone stripes (Some (Run (Set set.key set.value Always))) given was now)
+    → IfFault a (λ f. IsUndone stripes (Some (Run (Set set.key set.value Always))) f was now)
+    → reply ≡ reply_to a → Turned was now (before words at) at reply
+turned_set was now stripes words a reply at entry law attends idle request set done undone says =
+    turned_brief was now stripes words (Set set.key set.value Always) a reply at entry law attends idle request (ap (turn_idle idle.0) set.command) refl
+    done undone says
+
+-- what is left where the last of three words is taken off, and that word
+pub last_off : (left : List Bytes) (last name key value : Bytes) → name ∷ key ∷ value ∷ [] ≡ left ++ last ∷ [] → (left ≡ name ∷ key ∷ []) × (last ≡ value)
+last_off [] last name key value is = absurd (cc is)
+last_off (a ∷ []) last name key value is = absurd (cc is)
+last_off (a ∷ b ∷ []) last name key value is = (cc is, cc is)
+last_off (a ∷ b ∷ c ∷ []) last name key value is = absurd (cc is)
+last_off (a ∷ b ∷ c ∷ d ∷ more) last name key value is = absurd (cc is)

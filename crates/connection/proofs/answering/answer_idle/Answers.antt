@@ -1,0 +1,42 @@
+use Rattle.std.proofs.Common.{rules, ◌≡◌, ◌∙◌, [], ◌∷◌, refl, sym}
+use Rattle.words.specs.Session.{line_reply}
+use Rattle.transact.specs.Calls.{answer_of}
+use Rattle.connection.proofs.Called.{attends_turned}
+use Rattle.connection.proofs.Briefs.{last_off, turned_get, turned_set}
+use Rattle.connection.proofs.answering.answer_idle.Goals as goal
+
+pub returns-in-Get-clause-due : goal.returns-in-Get-clause-due
+returns-in-Get-clause-due g c =
+    let get = c.in-Get.ensures.get refl in
+    let same : c.index-as_slice-1.result ≡ get.key = search (rules, get.words_are) in
+    turned_get _ _ _ c.args.words.now c.get.result c.into_reply.result _ c.watches_follow_entries.ensures.entry c.watches_follow_entries.ensures.fault
+    c.requires.attends c.requires.idle c.requires.request get (rw same at c.get.ensures.done) (rw same at c.get.ensures.undone) c.into_reply.ensures
+
+pub returns-in-Get-clause-attends : goal.returns-in-Get-clause-attends
+returns-in-Get-clause-attends g c =
+    let get = c.in-Get.ensures.get refl in
+    let same : c.index-as_slice-1.result ≡ get.key = search (rules, get.words_are) in
+    let turned = turned_get _ _ _ c.args.words.now c.get.result c.into_reply.result _ c.watches_follow_entries.ensures.entry c.watches_follow_entries.ensures.fault
+    c.requires.attends c.requires.idle c.requires.request get (rw same at c.get.ensures.done) (rw same at c.get.ensures.undone) c.into_reply.ensures in
+    attends_turned _ _ _ _ _ turned
+
+pub returns-in-Set-clause-due : goal.returns-in-Set-clause-due
+returns-in-Set-clause-due g c =
+    let set = c.in-Set.ensures.set refl in
+    let off = last_off c.pop-value.new.self c.pop-value.result set.name set.key set.value (sym set.words_are ∙ c.pop-value.ensures) in
+    let left : c.pop-value.new.self ≡ set.name ∷ set.key ∷ [] = off.0 in
+    let same : c.index-as_slice-1-in-Set.result ≡ set.key = search (rules, left) in
+    let value : c.pop-value.result ≡ set.value = off.1 in
+    turned_set _ _ _ c.args.words.now (answer_of c.set.result) (line_reply c.line_of.result) _ c.watches_follow_entries-in-Set.ensures.entry c.watches_follow_entries-in-Set.ensures.fault
+    c.requires.attends c.requires.idle c.requires.request set (rw (same, value) at c.set.ensures.done) (rw (same, value) at c.set.ensures.undone) c.line_of.ensures
+
+pub returns-in-Set-clause-attends : goal.returns-in-Set-clause-attends
+returns-in-Set-clause-attends g c =
+    let set = c.in-Set.ensures.set refl in
+    let off = last_off c.pop-value.new.self c.pop-value.result set.name set.key set.value (sym set.words_are ∙ c.pop-value.ensures) in
+    let left : c.pop-value.new.self ≡ set.name ∷ set.key ∷ [] = off.0 in
+    let same : c.index-as_slice-1-in-Set.result ≡ set.key = search (rules, left) in
+    let value : c.pop-value.result ≡ set.value = off.1 in
+    let turned = turned_set _ _ _ c.args.words.now (answer_of c.set.result) (line_reply c.line_of.result) _ c.watches_follow_entries-in-Set.ensures.entry c.watches_follow_entries-in-Set.ensures.fault
+    c.requires.attends c.requires.idle c.requires.request set (rw (same, value) at c.set.ensures.done) (rw (same, value) at c.set.ensures.undone) c.line_of.ensures in
+    attends_turned _ _ _ _ _ turned
