@@ -1,14 +1,15 @@
--- The turn of a client whose request goes to the engine with its words as they lie.
+-- The turn of a client whose request goes to the engine with its words as they lie, or is a PING without a text.
 use Rattle.std.proofs.Common.{◌≡◌, ℕ, List, [], ◌∷◌, ◌++◌, Some, refl, ap, IsTrue}
 use Rattle.words.specs.declared.command.Command.{Command}
 use Rattle.words.specs.declared.command.Command.TheVariants.{Get, Set}
 use Rattle.words.specs.declared.command.When.TheVariants.{Always}
 use Rattle.words.specs.declared.reply.Reply.{Reply}
+use Rattle.words.specs.declared.reply.Line.TheVariants.{Pong}
 use Rattle.words.specs.Store.{Bytes}
 use Rattle.words.specs.Spelling.{IsRequest}
 use Rattle.words.specs.Commands.{touches_keys}
-use Rattle.words.specs.Briefs.{IsGet, IsSet}
-use Rattle.words.specs.Session.{Idle, Calls, Run, turn, turn_idle}
+use Rattle.words.specs.Briefs.{IsGet, IsSet, IsPing}
+use Rattle.words.specs.Session.{Idle, Says, Calls, Run, turn, turn_idle, line_reply}
 use Rattle.gates.specs.declared.view.Knowledge.{Knowledge}
 use Rattle.transact.specs.declared.call.Call.TheVariants.{One}
 use Rattle.transact.specs.declared.call.Answer.{Answer}
@@ -21,7 +22,7 @@ use Rattle.engine.specs.Calls.{IsDone, IsUndone}
 use Rattle.connection.specs.declared.client.Next.TheVariants as next
 use Rattle.connection.specs.Clients.{Progress, Ready, Called, Resumes, TakesUp, IsIdle, before}
 use Rattle.connection.specs.Served.{Attends, Turned}
-use Rattle.connection.proofs.Called.{turned_called}
+use Rattle.connection.proofs.Called.{turned_called, turned_said}
 
 -- what a session in no transaction waits for that watches these keys
 abbrev waits : List Bytes → Wait
@@ -71,6 +72,14 @@ pub turned_set : (was now : Knowledge) (stripes : List ℕ) (words : List Bytes)
 turned_set was now stripes words a reply at entry law attends idle request set done undone says =
     turned_brief was now stripes words (Set set.key set.value Always) a reply at entry law attends idle request (ap (turn_idle idle.0) set.command) refl
     done undone says
+
+-- of a PING without a text
+pub turned_ping : (was : Knowledge) (words : List Bytes) (at : Progress) → Attends was at → IsIdle at.stage → IsRequest words → IsPing words
+    → Turned was was (before words at) at (line_reply Pong)
+turned_ping was words at attends idle request ping =
+    let says : turn Idle idle.0 words ≡ Says (line_reply Pong) Idle = ap (turn_idle idle.0) ping.command in
+    turned_said was (before words at) at (line_reply Pong) (attends_before was words at attends)
+    (words, record { request = request; taken = refl }, (stands Idle idle.0, idle.1, rw (idle.1, says) (refl, refl)))
 
 -- what is left where the last of three words is taken off, and that word
 pub last_off : (left : List Bytes) (last name key value : Bytes) → name ∷ key ∷ value ∷ [] ≡ left ++ last ∷ [] → (left ≡ name ∷ key ∷ []) × (last ≡ value)

@@ -14,7 +14,7 @@ ghost use Rattle.connection.specs.Served.{HasTurned, IsDue, Attends, Conversing,
 ghost use Rattle.std.specs.Io.KnownBytes.{Appends, Consumes};
 
 use crate::client::{Client, Front, Next};
-use crate::output::{flush, say_line, say_spent};
+use crate::output::{flush, say_line, say_spent, say_value};
 use crate::reading::{Room, Waiting, take_waiting};
 use crate::serving::Ended;
 use engine::{Engine, Pass};
@@ -25,7 +25,7 @@ use std::sync::Wait;
 use streams::{Noted, ReadReady};
 use words::command::Brief;
 use words::reply::{Fault, Line, ProtocolFault, Reply};
-use words::word::Words;
+use words::word::{Word, Words};
 
 /// What the next turn of a client comes to.
 #[derive(Drop)]
@@ -34,6 +34,8 @@ pub(crate) enum Due {
     Reply(Reply),
     /// A request is answered with this line.
     Line(Line),
+    /// A GET is answered with what it found.
+    Value(Option<Word>),
     /// No whole request is left.
     Input,
     /// The bytes that are left begin with a fault.
@@ -78,7 +80,7 @@ fn answer_next<T: Wait, L: Latch>(
 
 /// Answers the request of these words, which was taken off, of a client whose session is in no transaction.
 /// A GET and a SET without an option go to the engine with their words as they lie: the session does no more
-/// to them than to hand them on.
+/// to them than to hand them on. A PING without a text is answered at once.
 #[inline]
 fn answer_idle<T: Wait, L: Latch>(
     rt: &T,
@@ -101,7 +103,10 @@ fn answer_idle<T: Wait, L: Latch>(
         Brief::Get => {
             watches_follow_entries();
             let key = &words.as_slice()[1];
-            Due::Reply(engine.get(rt, pass, key, latch).into_reply())
+            match engine.get(rt, pass, key, latch) {
+                Ok(value) => Due::Value(value),
+                Err(fault) => Due::Line(Line::Faulty(fault)),
+            }
         }
         Brief::Set => {
             watches_follow_entries();
@@ -109,6 +114,7 @@ fn answer_idle<T: Wait, L: Latch>(
             let key = &words.as_slice()[1];
             Due::Line(line_of(engine.set(rt, pass, key, value, latch)))
         }
+        Brief::Ping => Due::Line(Line::Pong),
         Brief::Other => answer_obeyed(rt, latch, client, words, engine, pass),
     }
 }
@@ -207,6 +213,11 @@ pub(crate) fn answer_all<T: Wait, L: Latch, W: Write>(
             }
             Due::Line(line) => {
                 if let Err(_) = say_line(line, out, writer) {
+                    return Paused::WriteFailed;
+                }
+            }
+            Due::Value(value) => {
+                if let Err(_) = say_value(value, out, writer) {
                     return Paused::WriteFailed;
                 }
             }

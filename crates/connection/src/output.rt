@@ -3,13 +3,14 @@
 
 ghost use Rattle.std.specs.Prelude.{◌≡◌, [], OnOk, is_ok};
 ghost use Rattle.words.specs.Encoding.{encoding};
-ghost use Rattle.words.specs.Session.{line_reply};
+ghost use Rattle.words.specs.Session.{line_reply, value_reply};
 ghost use Rattle.streams.specs.Streams.{IsSent, IsPut, stream_of, told_of, told_when};
 
-use resp_write::{encode_within, send};
+use resp_write::{encode_line_within, encode_value_within, encode_within, send};
 use std::io::Write;
 use streams::{Noted, WriteFault};
 use words::reply::{Line, Reply};
+use words::word::Word;
 
 /// Writes what the output buffer holds, and empties it.
 pub(crate) fn flush<W: Write>(out: &mut Vec<u8>, writer: &mut Noted<W>) -> Result<(), WriteFault>
@@ -78,5 +79,26 @@ pub(crate) fn say_line<W: Write>(
         out.old.items out.new.items result (encoding (line_reply line)) }
     ensures told { told_of writer.new ≡ told_when (is_ok result) (told_of writer.old) }
 {
+    if encode_line_within(line, out) {
+        return Ok(());
+    }
     say_spent(Reply::line(line), out, writer)
+}
+
+/// Says what a GET found, as a reply is said, and lets it go.
+#[inline]
+pub(crate) fn say_value<W: Write>(
+    value: Option<Word>,
+    out: &mut Vec<u8>,
+    writer: &mut Noted<W>,
+) -> Result<(), WriteFault>
+    ensures put { IsPut (W.contents (stream_of writer.old)) (W.contents (stream_of writer.new))
+        out.old.items out.new.items result (encoding (value_reply value)) }
+    ensures told { told_of writer.new ≡ told_when (is_ok result) (told_of writer.old) }
+{
+    if encode_value_within(&value, out) {
+        drop(value);
+        return Ok(());
+    }
+    say_spent(Reply::value(value), out, writer)
 }

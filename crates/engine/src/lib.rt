@@ -6,7 +6,7 @@ ghost use Rattle.std.specs.Prelude.{◌≡◌, ◌+◌, ◌<◌, [], ℕ, IfOk, 
 ghost use Rattle.gates.specs.Plays.{AreEmpty};
 ghost use Rattle.gates.specs.declared.gates.Pass as gates_pass;
 ghost use Rattle.transact.specs.Shards.{shard_meaning};
-ghost use Rattle.transact.specs.Calls.{answer_of, asked_of};
+ghost use Rattle.transact.specs.Calls.{answer_of, answer_with, asked_of};
 ghost use Rattle.transact.specs.Plans.{EndsAll};
 ghost use Rattle.transact.specs.Memory.{get_call, set_call};
 ghost use Rattle.engine.specs.Passes.{knows, Rests, IsNew, stripe_count};
@@ -68,6 +68,7 @@ impl Engine {
     ///
     /// [`Fault::OutOfMemory`]: words::reply::Fault::OutOfMemory
     /// [`Fault::CommitsWornOut`]: words::reply::Fault::CommitsWornOut
+    #[inline]
     pub fn submit<R: Wait>(&self, rt: &R, pass: &mut Pass, call: Call) -> Answer
         requires rests { Rests self.now pass.old }
         requires place { HasItsPlace (knows pass.old).watched (asked_of call) }
@@ -80,6 +81,7 @@ impl Engine {
     }
 
     /// The same as [`submit`](Engine::submit), with a latch that is told where the call is.
+    #[inline]
     pub fn submit_with<R: Wait, L: Latch>(
         &self,
         rt: &R,
@@ -101,12 +103,23 @@ impl Engine {
         answer
     }
 
-    /// The same as [`submit_with`](Engine::submit_with) of a GET, whose key stays the caller's.
-    pub fn get<R: Wait, L: Latch>(&self, rt: &R, pass: &mut Pass, key: &Word, latch: &L) -> Answer
+    /// The same as [`submit_with`](Engine::submit_with) of a GET, whose key stays the caller's. It is
+    /// answered by what the key has.
+    ///
+    /// # Errors
+    ///
+    /// The fault that [`submit_with`](Engine::submit_with) answers.
+    pub fn get<R: Wait, L: Latch>(
+        &self,
+        rt: &R,
+        pass: &mut Pass,
+        key: &Word,
+        latch: &L,
+    ) -> Result<Option<Word>, Fault>
         requires rests { Rests self.now pass.old }
         ensures rests { Rests self.now pass.new }
-        ensures done { IfReply result (λ reply. IsDone (stripes_asked (stripe_count self.now) (get_call key.now)) (asked_of (get_call key.now)) reply (knows pass.old) (knows pass.new)) }
-        ensures undone { IfFault result (λ fault. IsUndone (stripes_asked (stripe_count self.now) (get_call key.now)) (asked_of (get_call key.now)) fault (knows pass.old) (knows pass.new)) }
+        ensures done { IfReply (answer_with result) (λ reply. IsDone (stripes_asked (stripe_count self.now) (get_call key.now)) (asked_of (get_call key.now)) reply (knows pass.old) (knows pass.new)) }
+        ensures undone { IfFault (answer_with result) (λ fault. IsUndone (stripes_asked (stripe_count self.now) (get_call key.now)) (asked_of (get_call key.now)) fault (knows pass.old) (knows pass.new)) }
     {
         let number = pass.number();
         latch.at(number, Point::Before);

@@ -7,10 +7,10 @@ use crate::asks::Asks;
 use crate::laws::laws;
 use crate::part::Part;
 use crate::rule::{Arm, Commit, Ending, Give, Keep, Leave, Meet, OneHistory, Together, Told, Try};
+use crate::says::Says;
 use crate::view::View;
 use atomic_table::{Refused, Seat, Table};
 use std::alloc::{AllocError, Global};
-use words::reply::Reply;
 use words::word::OutOfMemory;
 
 /// The table's word that counts commits.
@@ -210,16 +210,16 @@ impl<T: Part> Gates<T> {
 
     /// Commits the entry that is picked.
     #[inline]
-    pub(crate) fn commit_as<E: Told, C: Asks>(
+    pub(crate) fn commit_as<E: Told, C: Asks, S: Says>(
         &self,
         pass: &mut Pass<T>,
         call: &C,
-        reply: &Reply,
+        reply: &S,
     ) -> Result<u64, CommitsWornOut>
         requires holding { IsHolding self.now pass.old }
-        requires told { E.entry ≡ record { session = (known pass.old).number; operation = operation_of (known pass.old).watched (C.asked call.now); reply = reply.now } }
+        requires told { E.entry ≡ record { session = (known pass.old).number; operation = operation_of (known pass.old).watched (C.asked call.now); reply = S.said reply.now } }
         requires place { HasPlace E.entry.operation }
-        requires due { reply.now ≡ due (known pass.old).seen E.entry.operation }
+        requires due { S.said reply.now ≡ due (known pass.old).seen E.entry.operation }
         requires keys { KeysHeld (stripes_of self.now) (parts_in pass.old) (keys_named E.entry.operation) }
         ensures holding { IsHolding self.now pass.new }
         ensures parts { parts_in pass.new ≡ parts_in pass.old }

@@ -7,11 +7,11 @@ use crate::gates::{CommitsWornOut, Gates, Pass};
 use crate::order::Order;
 use crate::part::{Part, Parts};
 use crate::rule::{Forget, Stay};
+use crate::says::Says;
 use crate::sorted::Sorted;
 use crossbeam_utils::Backoff;
 use std::marker::Brand;
 use std::sync::Wait;
-use words::reply::Reply;
 
 /// Stripes that a pass holds. It has to be given back, and until then the pass can take nothing else.
 pub struct Held<'a, T: Part> {
@@ -169,17 +169,17 @@ impl<'a, T: Part> Held<'a, T> {
     ///
     /// [`CommitsWornOut`] where the commit word was read at 2^62 or more. Nothing was committed.
     #[inline]
-    pub fn commit<C: Asks>(&mut self, call: &C, reply: &Reply) -> Result<u64, CommitsWornOut>
+    pub fn commit<C: Asks, S: Says>(&mut self, call: &C, reply: &S) -> Result<u64, CommitsWornOut>
         requires open { IsOpen self.old }
         requires once { has_committed self.old ≡ false }
         requires place { HasPlace (operation_asked self.old (C.asked call.now)) }
-        requires due { reply.now ≡ due (known_to self.old).seen (operation_asked self.old (C.asked call.now)) }
+        requires due { S.said reply.now ≡ due (known_to self.old).seen (operation_asked self.old (C.asked call.now)) }
         requires keys { KeysHeld (stripes_of (gates_of self.old)) (held_parts self.old) (keys_named (operation_asked self.old (C.asked call.now))) }
-        ensures { HasCommitted self.old (operation_asked self.old (C.asked call.now)) reply.now self.new result }
+        ensures { HasCommitted self.old (operation_asked self.old (C.asked call.now)) (S.said reply.now) self.new result }
     {
         let place = self
             .gates
-            .commit_as::<Brand, C>(&mut *self.pass, call, reply)?;
+            .commit_as::<Brand, C, S>(&mut *self.pass, call, reply)?;
         self.committed = true;
         Ok(place)
     }

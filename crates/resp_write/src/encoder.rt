@@ -2,15 +2,17 @@
 
 ghost use Rattle.std.specs.Prelude.{◌≡◌, ◌+◌, ◌≤◌, ◌^◌, ◌++◌, ◌↔◌, length, IsOk, IsTrue, IfSome, IfNone, OnOk, OnErr, vec_len, vec_capacity, not, is_ok};
 ghost use Rattle.words.specs.Encoding.{encoding};
+ghost use Rattle.words.specs.Session.{line_reply, value_reply};
 ghost use Rattle.streams.specs.Streams.{IsSent, stream_of, told_of, told_when};
 ghost use Rattle.resp_write.specs.Lines.{IsLine};
 
 use crate::sink::Length;
-use crate::walk::put_reply;
+use crate::walk::{put_line, put_reply, put_value};
 use std::alloc::AllocError;
 use std::io::Write;
 use streams::{Noted, WriteFault};
-use words::reply::Reply;
+use words::reply::{Line, Reply};
+use words::word::Word;
 
 /// Appends the bytes of a reply. It takes memory only where the room is too small; after an `Err`
 /// the buffer is as it was.
@@ -49,6 +51,43 @@ pub fn encode_within(reply: &Reply, out: &mut Vec<u8>) -> bool
             true
         }
         _ => false,
+    }
+}
+
+/// The same as [`encode_within`] of a reply of one line.
+#[inline]
+#[tactic(auto, unfolding(words::specs::Encoding::encoding, words::specs::Encoding::command_reply_encoding, words::specs::Encoding::item_encoding))]
+pub fn encode_line_within(line: Line, out: &mut Vec<u8>) -> bool
+    ensures fits { IsTrue result ↔ (vec_len out.old + length (encoding (line_reply line))
+        ≤ vec_capacity out.old) }
+    ensures done { IsTrue result → out.new.items ≡ out.old.items ++ encoding (line_reply line) }
+    ensures full { IsTrue (not result) → out.new.items ≡ out.old.items }
+    ensures capacity { vec_capacity out.old ≤ vec_capacity out.new }
+{
+    let text = line.text();
+    if text.len() + 2 > out.capacity() - out.len() {
+        return false;
+    }
+    let _ = put_line(text, out);
+    true
+}
+
+/// The same as [`encode_within`] of a reply of one byte string, or of the null bulk string.
+#[inline]
+pub fn encode_value_within(value: &Option<Word>, out: &mut Vec<u8>) -> bool
+    ensures fits { IsTrue result ↔ (vec_len out.old + length (encoding (value_reply value.now))
+        ≤ vec_capacity out.old) }
+    ensures done { IsTrue result → out.new.items ≡ out.old.items ++ encoding (value_reply value.now) }
+    ensures full { IsTrue (not result) → out.new.items ≡ out.old.items }
+    ensures capacity { vec_capacity out.old ≤ vec_capacity out.new }
+{
+    let mut length = Length { bytes: 0 };
+    match put_value(value, &mut length) {
+        Ok(()) if length.bytes <= out.capacity() - out.len() => {
+            let _ = put_value(value, out);
+            true
+        }
+        Ok(()) | Err(_) => false,
     }
 }
 

@@ -1,5 +1,6 @@
 //! The bytes of replies, in the Redis serialization protocol, version 2: [`encode`] and
-//! [`encode_within`] append them to a buffer, [`send`] writes them to a stream.
+//! [`encode_within`] append them to a buffer, [`send`] writes them to a stream. [`encode_line_within`] and
+//! [`encode_value_within`] do without a reply.
 //!
 //! One walk over a reply's tree gives its bytes, part by part, to a sink: a count of them, a buffer,
 //! or a stream. So a buffer is given room for all of them at once, and a stream needs no memory.
@@ -9,4 +10,4 @@ mod encoder;
 mod sink;
 mod walk;
 
-pub use encoder::{encode, encode_within, send};
+pub use encoder::{encode, encode_line_within, encode_value_within, encode_within, send};

@@ -3,12 +3,14 @@
 ghost use Rattle.std.specs.Prelude.{◌≡◌, ◌++◌};
 ghost use Rattle.std.specs.List.{flat_map};
 ghost use Rattle.words.specs.Encoding.{item_encoding, command_reply_encoding, encoding};
+ghost use Rattle.words.specs.Session.{value_reply};
 ghost use Rattle.words.specs.Spelling.{header, crlf, bulk_string};
 ghost use Rattle.resp_write.specs.Sinks.{IsGiven};
 
 use crate::sink::{Sink, Stopped};
 use itoa::Buffer;
 use words::reply::{CommandReply, Item, Reply};
+use words::word::Word;
 
 /// A reply.
 #[inline]
@@ -86,6 +88,18 @@ fn put_item<S: Sink>(item: &Item, out: &mut S) -> Result<(), Stopped>
     }
 }
 
+/// A value as a bulk string, or the null bulk string where there is none.
+#[inline]
+#[tactic(auto, unfolding(words::specs::Encoding::encoding, words::specs::Encoding::command_reply_encoding, words::specs::Encoding::item_encoding))]
+pub(crate) fn put_value<S: Sink>(value: &Option<Word>, out: &mut S) -> Result<(), Stopped>
+    ensures { IsGiven S.takes S.stops out.old out.new result (encoding (value_reply value.now)) }
+{
+    match value {
+        Some(word) => put_bulk(word.as_slice(), out),
+        None => out.give(b"$-1\r\n"),
+    }
+}
+
 /// `:`, a number in decimal, and a line end.
 #[inline]
 #[tactic(auto, unfolding(words::specs::Encoding::item_encoding))]
@@ -124,7 +138,7 @@ fn put_header<S: Sink>(sign: u8, count: usize, out: &mut S) -> Result<(), Stoppe
 
 /// A text and a line end.
 #[inline]
-fn put_line<S: Sink>(text: &[u8], out: &mut S) -> Result<(), Stopped>
+pub(crate) fn put_line<S: Sink>(text: &[u8], out: &mut S) -> Result<(), Stopped>
     ensures { IsGiven S.takes S.stops out.old out.new result (text.now ++ crlf) }
 {
     if let Err(stopped) = out.give(text) {

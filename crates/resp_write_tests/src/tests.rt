@@ -1,6 +1,6 @@
 //! The bytes of replies of each form, by the tables of lines and of the protocol.
 
-use resp_write::{encode, encode_within, send};
+use resp_write::{encode, encode_line_within, encode_value_within, encode_within, send};
 use std::alloc::{AllocError, Global};
 use std::io;
 use std::io::{ErrorKind, Write};
@@ -48,6 +48,22 @@ fn encodes_within(alloc: Global, reply: &Reply, text: &[u8]) -> Result<bool, All
     let mut out = Vec::with_capacity(alloc, text.len())?;
     let first = encode_within(reply, &mut out);
     let second = encode_within(reply, &mut out);
+    Ok(first && !second && out.as_slice() == text)
+}
+
+/// The same of a line.
+fn line_goes_within(alloc: Global, line: Line, text: &[u8]) -> Result<bool, AllocError> {
+    let mut out = Vec::with_capacity(alloc, text.len())?;
+    let first = encode_line_within(line, &mut out);
+    let second = encode_line_within(line, &mut out);
+    Ok(first && !second && out.as_slice() == text)
+}
+
+/// The same of what a GET found.
+fn value_goes_within(alloc: Global, value: &Option<Word>, text: &[u8]) -> Result<bool, AllocError> {
+    let mut out = Vec::with_capacity(alloc, text.len())?;
+    let first = encode_value_within(value, &mut out);
+    let second = encode_value_within(value, &mut out);
     Ok(first && !second && out.as_slice() == text)
 }
 
@@ -131,6 +147,14 @@ fn answers_and_refusals(rt: HostRuntime) -> Result<(), Fail> {
     for (line, text) in &ANSWERS {
         let has = has_bytes(rt.alloc(), Reply::line(*line), text)?;
         assert!(rt; has, "{line:?}");
+    }
+    Ok(())
+}
+
+#[test]
+fn lines_without_a_reply(rt: HostRuntime) -> Result<(), Fail> {
+    for (line, text) in &ANSWERS {
+        assert!(rt; line_goes_within(rt.alloc(), *line, text)?, "{line:?}");
     }
     Ok(())
 }
@@ -253,6 +277,16 @@ fn bulk_strings(rt: HostRuntime) -> Result<(), Fail> {
         let has = has_bytes(rt.alloc(), reply, text)?;
         assert!(rt; has, "{bytes:?}");
     }
+    Ok(())
+}
+
+#[test]
+fn values_without_a_reply(rt: HostRuntime) -> Result<(), Fail> {
+    for (bytes, text) in BULKS {
+        let value = Some(Word::from_slice(rt.alloc(), bytes)?);
+        assert!(rt; value_goes_within(rt.alloc(), &value, text)?, "{bytes:?}");
+    }
+    assert!(rt; value_goes_within(rt.alloc(), &None, b"$-1\r\n")?);
     Ok(())
 }
 

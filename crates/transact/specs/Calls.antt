@@ -8,7 +8,7 @@ use Rattle.words.specs.declared.reply.Reply.{Reply}
 use Rattle.words.specs.declared.reply.Fault.{Fault}
 use Rattle.words.specs.declared.reply.Line.{Line}
 use Rattle.words.specs.declared.reply.Line.TheVariants.{Faulty}
-use Rattle.words.specs.Session.{Asked, line_reply}
+use Rattle.words.specs.Session.{Asked, line_reply, value_reply}
 use Rattle.words.specs.Session as asked
 use Rattle.transact.specs.declared.call.Answer.{Answer}
 use Rattle.transact.specs.declared.call.Answer.TheVariants as answer
@@ -32,6 +32,11 @@ call_of watched (asked.Exec commands) = Exec commands watched
 abbrev pub answer_of : Result Line Fault → Answer
 answer_of (Ok said) = answer.Reply (line_reply said)
 answer_of (Err fault) = answer.Fault fault
+
+-- the answer that tells what a GET found, or a fault
+abbrev pub answer_with : Result (Option Bytes) Fault → Answer
+answer_with (Ok value) = answer.Reply (value_reply value)
+answer_with (Err fault) = answer.Fault fault
 
 -- what is said to an answer as it comes
 abbrev pub reply_to : Answer → Reply

@@ -7,13 +7,14 @@ use Rattle.words.specs.declared.history.Entry.{Entry}
 use Rattle.words.specs.Commands.{touches_keys}
 use Rattle.words.specs.History.{History, Pair, MayAllBeQueued}
 use Rattle.words.specs.Watches.{watched_after}
-use Rattle.words.specs.Session.{Asked, operation_of, watched_at_fault}
+use Rattle.words.specs.Session.{Asked, operation_of, value_reply, watched_at_fault}
 use Rattle.words.specs.Session as asked
 use Rattle.gates.specs.declared.view.Note.{Note}
 use Rattle.gates.specs.declared.view.Note.TheVariants.{Worn}
 use Rattle.gates.specs.Passes.{AreBusy}
 use Rattle.transact.specs.Calls.{call_keys}
 use Rattle.transact.specs.Memory.{get_call, set_call}
+use Rattle.transact.specs.declared.submit.Found.{Found}
 use Rattle.transact.specs.declared.submit.Getting.{Getting}
 use Rattle.transact.specs.declared.submit.Setting.{Setting}
 use Rattle.transact.specs.Plans.{stripes_with}
@@ -37,6 +38,10 @@ setting_asked setting = asked_for (set_call setting.key.now setting.value.now)
 -- what a GET asks
 abbrev pub getting_asked : Getting → Asked
 getting_asked getting = asked_for (get_call getting.key.now)
+
+-- what is said to a GET that found this
+abbrev pub found_reply : Found → Reply
+found_reply found = value_reply found.value.now
 
 -- a call that has a place in the history: a command that reads or writes keys, a watch, or a transaction of commands that may be queued
 abbrev pub HasEntry : Call → Type 0

@@ -5,7 +5,6 @@ ghost use Rattle.words.specs.declared.limits.TheConstants.{WEIGHT_MAX};
 ghost use Rattle.words.specs.declared.history.Operation.TheVariants.{Run, Watch, Exec};
 ghost use Rattle.transact.specs.declared.shard.Shard.{Shard};
 ghost use Rattle.words.specs.Store.{weight};
-ghost use Rattle.words.specs.Answers.{bulk};
 ghost use Rattle.words.specs.Commands.{keys_of, keys_of_all, touches_keys};
 ghost use Rattle.words.specs.History.{History, Pair, after, is_dirty, keys_of_pairs, too_much};
 ghost use Rattle.words.specs.Session.{Asked, operation_of};
@@ -131,16 +130,9 @@ fn plan_get<P: Parts<Shard>>(
     ensures keeps { P.keeps parts.old parts.new }
 {
     match value_of(parts, stripes, key) {
-        Ok(value) => Ok(answered(alloc, found(value))),
+        Ok(value) => Ok(answered(alloc, Reply::value(value))),
         Err(refused) => Err(refused),
     }
-}
-
-/// The reply to a GET that found this.
-pub(crate) fn found(value: Option<Word>) -> Reply
-    ensures { result ≡ Reply.Single (bulk value) }
-{
-    Reply::Single(CommandReply::bulk(value))
 }
 
 /// Plans a command on copies of the values of its keys.

@@ -13,18 +13,18 @@ ghost use Rattle.words.specs.declared.word.TheConstants.{WORD_INLINE};
 ghost use Rattle.gates.specs.Helds.{HasCommitted, IsOpen, operation_asked, borrow_of, gates_of, has_committed, held_parts, held_taken, known_to};
 ghost use Rattle.transact.specs.Shards.{shard_meaning};
 ghost use Rattle.transact.specs.Tables.{AreThere};
-ghost use Rattle.transact.specs.Calls.{answer_of, call_keys};
+ghost use Rattle.transact.specs.Calls.{answer_of, answer_with, call_keys};
 ghost use Rattle.transact.specs.Plans.{EndsAll};
 ghost use Rattle.transact.specs.Memory.{NeedsSome, ReadsMore, get_call, set_call};
 ghost use Rattle.transact.specs.Submits.{HasDone, HasEntry, HasFailed, IfFault, IfReply, Did, DidNot, HeardBusy, IsRefused, MayBeSubmitted, WasRefused, asked_for, setting_asked, stripes_asked};
 
 use crate::call::{Answer, Busy, Call, Watching};
 use crate::cells::{exchange, make_place, restore, touch, value_of, write};
-use crate::plan::{found, plan};
+use crate::plan::plan;
 use crate::shard::Shard;
 use crate::stripes::{keys_of, with_key};
 use crate::watches::forget;
-use gates::{Asks, CommitsWornOut, Gates, Held, Latch, Pass, Point, Sorted};
+use gates::{Asks, CommitsWornOut, Gates, Held, Latch, Pass, Point, Says, Sorted};
 use std::alloc::Global;
 use std::sync::Wait;
 use words::command::{Command, When};
@@ -48,6 +48,18 @@ impl Asks for Getting<'_> {
     ghost use Rattle.transact.specs.Submits.{getting_asked};
 
     ghost asked = { getting_asked };
+}
+
+/// What a GET found.
+#[derive(Drop)]
+struct Found<'a> {
+    value: &'a Option<Word>,
+}
+
+impl Says for Found<'_> {
+    ghost use Rattle.transact.specs.Submits.{found_reply};
+
+    ghost said = { found_reply };
 }
 
 /// A SET without an option.
@@ -106,9 +118,14 @@ pub fn enter(
     }
 }
 
-/// Runs a GET over the parts that are held: its reply is the one copy that is made of the value. It takes
-/// memory only for a value that is not held inline.
-fn enter_get(held: &mut Held<'_, Shard>, stripes: usize, seat: u64, key: &Word) -> Answer
+/// Runs a GET over the parts that are held: it tells the one copy that is made of the value. It takes memory
+/// only for a value that is not held inline.
+fn enter_get(
+    held: &mut Held<'_, Shard>,
+    stripes: usize,
+    seat: u64,
+    key: &Word,
+) -> Result<Option<Word>, Fault>
     requires open { IsOpen held.old }
     requires fresh { has_committed held.old ≡ false }
     requires some { 1 ≤ stripes }
@@ -120,20 +137,19 @@ fn enter_get(held: &mut Held<'_, Shard>, stripes: usize, seat: u64, key: &Word) 
     ensures gates { gates_of held.new ≡ gates_of held.old }
     ensures pass { borrow_of held.new ≡ borrow_of held.old }
     ensures fit { AllFit shard_meaning stripes (known_to held.new) (held_taken held.new) (held_parts held.new) }
-    ensures did { IfReply result (λ reply. let entry : Entry = record { session = seat; operation = operation_of (known_to held.old).watched (asked_for (get_call key.now)); reply = reply } in Did entry (known_to held.old) (known_to held.new)) }
-    ensures fault { IfFault result (λ fault. DidNot (known_to held.old).watched (known_to held.old) (known_to held.new)) }
-    ensures told { IfReply result (λ reply. (known_to held.new).notes ≡ (known_to held.old).notes) }
-    ensures refused { IfFault result (λ fault. IsRefused fault (known_to held.old) (known_to held.new)) }
-    ensures seen { IfFault result (λ fault. (known_to held.new).seen ≡ (known_to held.old).seen) }
-    ensures memory { IfFault result (λ fault. NeedsSome fault (known_to held.old) (asked_for (get_call key.now))) }
+    ensures did { IfReply (answer_with result) (λ reply. let entry : Entry = record { session = seat; operation = operation_of (known_to held.old).watched (asked_for (get_call key.now)); reply = reply } in Did entry (known_to held.old) (known_to held.new)) }
+    ensures fault { IfFault (answer_with result) (λ fault. DidNot (known_to held.old).watched (known_to held.old) (known_to held.new)) }
+    ensures told { IfReply (answer_with result) (λ reply. (known_to held.new).notes ≡ (known_to held.old).notes) }
+    ensures refused { IfFault (answer_with result) (λ fault. IsRefused fault (known_to held.old) (known_to held.new)) }
+    ensures seen { IfFault (answer_with result) (λ fault. (known_to held.new).seen ≡ (known_to held.old).seen) }
+    ensures memory { IfFault (answer_with result) (λ fault. NeedsSome fault (known_to held.old) (asked_for (get_call key.now))) }
 {
     let Ok(value) = value_of(held, stripes, key) else {
-        return Answer::Fault(Fault::OutOfMemory);
+        return Err(Fault::OutOfMemory);
     };
-    let reply = found(value);
-    match held.commit(&Getting { key }, &reply) {
-        Ok(_) => Answer::Reply(reply),
-        Err(_) => Answer::Fault(Fault::CommitsWornOut),
+    match held.commit(&Getting { key }, &Found { value: &value }) {
+        Ok(_) => Ok(value),
+        Err(_) => Err(Fault::CommitsWornOut),
     }
 }
 
@@ -276,8 +292,7 @@ fn commit_line(
     requires keys { KeysHeld (stripes_of (gates_of held.old)) (held_parts held.old) (keys_named (operation_asked held.old (asked_for (set_call key.now value.now)))) }
     ensures { HasCommitted held.old (operation_asked held.old (asked_for (set_call key.now value.now))) (line_reply line) held.new result }
 {
-    let reply = Reply::line(line);
-    held.commit(&Setting { key, value }, &reply)
+    held.commit(&Setting { key, value }, &line)
 }
 
 /// Commits a SET whose value weighs too much: it writes nothing.
@@ -451,7 +466,7 @@ fn enter_one(
             ends: false,
         },
         Command::Get(key) => Entered {
-            answer: enter_get(held, stripes, seat, &key),
+            answer: Answer::of_value(enter_get(held, stripes, seat, &key)),
             ends: false,
         },
         command => enter_spent(alloc, held, stripes, seat, Call::One(command)),
@@ -517,21 +532,25 @@ fn give_back(held: Held<'_, Shard>, ends: bool)
     }
 }
 
-/// The same as [`submit`] of a GET, whose key stays the caller's.
+/// The same as [`submit`] of a GET, whose key stays the caller's. It is answered by what the key has.
+///
+/// # Errors
+///
+/// The fault that [`submit`] answers.
 pub fn submit_get<R: Wait, L: Latch>(
     rt: &R,
     gates: &Gates<Shard>,
     pass: &mut Pass<Shard>,
     key: &Word,
     latch: &L,
-) -> Answer
+) -> Result<Option<Word>, Fault>
     requires own { IsResting gates.now pass.old }
     ensures own { IsResting gates.now pass.new }
-    ensures did { IfReply result (λ reply. HasDone (get_call key.now) reply (known pass.old) (known pass.new)) }
-    ensures fault { IfFault result (λ fault. HasFailed (get_call key.now) (known pass.old) (known pass.new)) }
-    ensures told { IfReply result (λ reply. HeardBusy (stripes_asked (stripes_of gates.now) (get_call key.now)) (known pass.old) (known pass.new)) }
-    ensures refused { IfFault result (λ fault. WasRefused fault (stripes_asked (stripes_of gates.now) (get_call key.now)) (known pass.old) (known pass.new)) }
-    ensures memory { IfFault result (λ fault. NeedsSome fault (known pass.new) (asked_for (get_call key.now))) }
+    ensures did { IfReply (answer_with result) (λ reply. HasDone (get_call key.now) reply (known pass.old) (known pass.new)) }
+    ensures fault { IfFault (answer_with result) (λ fault. HasFailed (get_call key.now) (known pass.old) (known pass.new)) }
+    ensures told { IfReply (answer_with result) (λ reply. HeardBusy (stripes_asked (stripes_of gates.now) (get_call key.now)) (known pass.old) (known pass.new)) }
+    ensures refused { IfFault (answer_with result) (λ fault. WasRefused fault (stripes_asked (stripes_of gates.now) (get_call key.now)) (known pass.old) (known pass.new)) }
+    ensures memory { IfFault (answer_with result) (λ fault. NeedsSome fault (known pass.new) (asked_for (get_call key.now))) }
 {
     let stripes = gates.stripes();
     let seat = pass.number();
@@ -612,6 +631,7 @@ fn submit_any<R: Wait, L: Latch>(
 /// the call ends the watches. With a fault they grow by none. After a transaction, and after a call that
 /// ends the watches, nothing is watched; the latter takes no memory and cannot fail. The latch is told
 /// where the stripes of a call are held whose commit is next.
+#[inline]
 pub fn submit<R: Wait, L: Latch>(
     rt: &R,
     alloc: Global,
@@ -631,7 +651,9 @@ pub fn submit<R: Wait, L: Latch>(
     ensures memory { IfFault result (λ fault. NeedsSome fault (known pass.new) (asked_for call)) }
 {
     match call {
-        Call::One(Command::Get(key)) => submit_get(rt, gates, pass, &key, latch),
+        Call::One(Command::Get(key)) => {
+            Answer::of_value(submit_get(rt, gates, pass, &key, latch))
+        }
         Call::One(Command::Set(key, value, When::Always)) => {
             Answer::of_line(submit_set(rt, gates, pass, &key, value, latch))
         }

@@ -4,7 +4,7 @@ ghost use Rattle.std.specs.Prelude.{◌≡◌, List, IfOk, IsOk, codes};
 ghost use Rattle.words.specs.Commands.{command_of, command_in, AsksNoMemory, is_name, readers, counters, session_commands};
 ghost use Rattle.words.specs.Store.{Bytes};
 ghost use Rattle.words.specs.Verbs.{shaped};
-ghost use Rattle.words.specs.Briefs.{brief_of, names_key, IsGet, IsSet};
+ghost use Rattle.words.specs.Briefs.{brief_of, names_key, IsGet, IsSet, IsPing};
 
 use crate::reply::Refusal;
 use crate::sequence::Sequence;
@@ -103,6 +103,8 @@ pub enum Brief {
     Get,
     /// A SET without an option: the second word is its key, and the third the value.
     Set,
+    /// A PING without a text.
+    Ping,
     /// Any other request.
     Other,
 }
@@ -113,10 +115,12 @@ impl Brief {
         ensures exact { result ≡ brief_of words.now }
         ensures get { result ≡ Brief.Get → IsGet words.now }
         ensures set { result ≡ Brief.Set → IsSet words.now }
+        ensures ping { result ≡ Brief.Ping → IsPing words.now }
     {
         match words.as_slice() {
             [name, key] if is_get(name, key) => Brief::Get,
             [name, key, _] if is_set(name, key) => Brief::Set,
+            [name] if is_named(name.as_slice(), b"PING") => Brief::Ping,
             _ => Brief::Other,
         }
     }

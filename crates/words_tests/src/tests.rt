@@ -6,7 +6,7 @@ ghost use Rattle.std.specs.Prelude.{◌<◌, ◌≤◌};
 use std::alloc::Global;
 use std::cmp::Ordering;
 use std::test::Fail;
-use words::command::{Command, SessionCommand, When};
+use words::command::{Brief, Command, SessionCommand, When};
 use words::limits::{Limits, WORDS_MAX};
 use words::reply::Refusal;
 use words::word::{Word, Words};
@@ -293,6 +293,34 @@ fn refusals(rt: HostRuntime) -> Result<(), Fail> {
     assert!(rt; reads(rt.alloc(), &[b"FLUSHALL"], is_unknown_name)?);
     assert!(rt; reads(rt.alloc(), &[b"GET"], is_too_few_words)?);
     assert!(rt; reads(rt.alloc(), &[b"SET", b"k", b"v", b"EX"], is_no_option)?);
+    Ok(())
+}
+
+/// Which of the commands that are asked most these words are.
+fn brief(alloc: Global, words: &[&[u8]]) -> Result<Brief, Fail> {
+    let request = request(alloc, words)?;
+    Ok(Brief::of(&request))
+}
+
+/// Those that are asked most, in any case, and requests that are like them.
+#[test]
+fn briefs(rt: HostRuntime) -> Result<(), Fail> {
+    let rows: [(&[&[u8]], Brief); 11] = [
+        (&[b"GET", b"k"], Brief::Get),
+        (&[b"get", b"k"], Brief::Get),
+        (&[b"GET", &[b'k'; 512]], Brief::Get),
+        (&[b"GET", &[b'k'; 513]], Brief::Other),
+        (&[b"GET", b"k", b"l"], Brief::Other),
+        (&[b"sEt", b"k", b"v"], Brief::Set),
+        (&[b"SET", &[b'k'; 513], b"v"], Brief::Other),
+        (&[b"SET", b"k", b"v", b"NX"], Brief::Other),
+        (&[b"ping"], Brief::Ping),
+        (&[b"PING", b"text"], Brief::Other),
+        (&[b"EXEC"], Brief::Other),
+    ];
+    for (words, wanted) in rows {
+        assert!(rt; brief(rt.alloc(), words)? == wanted, "{wanted:?}");
+    }
     Ok(())
 }
 

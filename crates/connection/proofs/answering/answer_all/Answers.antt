@@ -58,11 +58,11 @@ returns-in-Err-say_line-clause-paused g c = λ was fed before talk.
     let put = c.in-Err-say_line.ensures.put in
     (so_far.0 ++ put.0, Appends-then _ _ _ so_far.0 put.0 so_far.1 put.3, (c.answer_next.new.client, _, put.1, conversing_next _ _ _ _ _ _ _ _ so_far.2 c.in-Line.ensures.due, regroup before so_far.0 _ _ put.0 put.1 put.2))
 
-pub loop-reply-smaller : goal.loop-reply-smaller
-loop-reply-smaller g c = fewer_unread _ _ _ c.in-Line.ensures.turned.1
+pub loop-reply-smaller-in_default-say_line : goal.loop-reply-smaller-in_default-say_line
+loop-reply-smaller-in_default-say_line g c = fewer_unread _ _ _ c.in-Line.ensures.turned.1
 
-pub loop-reply-preserved : goal.loop-reply-preserved
-loop-reply-preserved g c =
+pub loop-reply-preserved-in_default-say_line : goal.loop-reply-preserved-in_default-say_line
+loop-reply-preserved-in_default-say_line g c =
     let put = c.in_default-say_line.ensures.put in
     record {
       talk = λ was fed before talk.
@@ -72,6 +72,30 @@ loop-reply-preserved g c =
             conversing_says _ _ _ _ (conversing_next _ _ _ _ _ _ _ _ so_far.2 c.in-Line.ensures.due) (regroup before so_far.0 _ _ put.0 _ put.2),
           );
       told = c.in_default-say_line.ensures.told ∙ c.loop-reply.invariant.told;
+      rests = c.answer_next.ensures.rests;
+      attends = c.answer_next.ensures.attends;
+    }
+
+pub returns-in-Err-say_value-clause-paused : goal.returns-in-Err-say_value-clause-paused
+returns-in-Err-say_value-clause-paused g c = λ was fed before talk.
+    let so_far = c.loop-reply.invariant.talk was fed before talk in
+    let put = c.in-Err-say_value.ensures.put in
+    (so_far.0 ++ put.0, Appends-then _ _ _ so_far.0 put.0 so_far.1 put.3, (c.answer_next.new.client, _, put.1, conversing_next _ _ _ _ _ _ _ _ so_far.2 c.in-Value.ensures.due, regroup before so_far.0 _ _ put.0 put.1 put.2))
+
+pub loop-reply-smaller : goal.loop-reply-smaller
+loop-reply-smaller g c = fewer_unread _ _ _ c.in-Value.ensures.turned.1
+
+pub loop-reply-preserved : goal.loop-reply-preserved
+loop-reply-preserved g c =
+    let put = c.in_default-say_value.ensures.put in
+    record {
+      talk = λ was fed before talk.
+          let so_far = c.loop-reply.invariant.talk was fed before talk in (
+            so_far.0 ++ put.0,
+            Appends-then _ _ _ so_far.0 put.0 so_far.1 put.1,
+            conversing_says _ _ _ _ (conversing_next _ _ _ _ _ _ _ _ so_far.2 c.in-Value.ensures.due) (regroup before so_far.0 _ _ put.0 _ put.2),
+          );
+      told = c.in_default-say_value.ensures.told ∙ c.loop-reply.invariant.told;
       rests = c.answer_next.ensures.rests;
       attends = c.answer_next.ensures.attends;
     }

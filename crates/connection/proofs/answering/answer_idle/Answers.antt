@@ -1,23 +1,39 @@
-use Rattle.std.proofs.Common.{rules, ◌≡◌, ◌∙◌, [], ◌∷◌, refl, sym}
-use Rattle.words.specs.Session.{line_reply}
-use Rattle.transact.specs.Calls.{answer_of}
+use Rattle.std.proofs.Common.{rules, ◌≡◌, ◌∙◌, [], ◌∷◌, Ok, Err, refl, sym}
+use Rattle.words.specs.declared.reply.Line.TheVariants.{Faulty}
+use Rattle.words.specs.Session.{line_reply, value_reply}
+use Rattle.transact.specs.Calls.{answer_of, answer_with}
 use Rattle.connection.proofs.Called.{attends_turned}
-use Rattle.connection.proofs.Briefs.{last_off, turned_get, turned_set}
+use Rattle.connection.proofs.Briefs.{last_off, turned_get, turned_set, turned_ping}
 use Rattle.connection.proofs.answering.answer_idle.Goals as goal
 
-pub returns-in-Get-clause-due : goal.returns-in-Get-clause-due
-returns-in-Get-clause-due g c =
+pub returns-in-Ok-clause-due : goal.returns-in-Ok-clause-due
+returns-in-Ok-clause-due g c =
     let get = c.in-Get.ensures.get refl in
     let same : c.index-as_slice-1.result ≡ get.key = search (rules, get.words_are) in
-    turned_get _ _ _ c.args.words.now c.get.result c.into_reply.result _ c.watches_follow_entries.ensures.entry c.watches_follow_entries.ensures.fault
-    c.requires.attends c.requires.idle c.requires.request get (rw same at c.get.ensures.done) (rw same at c.get.ensures.undone) c.into_reply.ensures
+    turned_get _ _ _ c.args.words.now (answer_with (Ok c.in-Ok.value)) (value_reply c.in-Ok.value) _ c.watches_follow_entries.ensures.entry c.watches_follow_entries.ensures.fault
+    c.requires.attends c.requires.idle c.requires.request get (rw same at c.in-Ok.ensures.done) tt refl
 
-pub returns-in-Get-clause-attends : goal.returns-in-Get-clause-attends
-returns-in-Get-clause-attends g c =
+pub returns-in-Ok-clause-attends : goal.returns-in-Ok-clause-attends
+returns-in-Ok-clause-attends g c =
     let get = c.in-Get.ensures.get refl in
     let same : c.index-as_slice-1.result ≡ get.key = search (rules, get.words_are) in
-    let turned = turned_get _ _ _ c.args.words.now c.get.result c.into_reply.result _ c.watches_follow_entries.ensures.entry c.watches_follow_entries.ensures.fault
-    c.requires.attends c.requires.idle c.requires.request get (rw same at c.get.ensures.done) (rw same at c.get.ensures.undone) c.into_reply.ensures in
+    let turned = turned_get _ _ _ c.args.words.now (answer_with (Ok c.in-Ok.value)) (value_reply c.in-Ok.value) _ c.watches_follow_entries.ensures.entry c.watches_follow_entries.ensures.fault
+    c.requires.attends c.requires.idle c.requires.request get (rw same at c.in-Ok.ensures.done) tt refl in
+    attends_turned _ _ _ _ _ turned
+
+pub returns-in-Err-clause-due : goal.returns-in-Err-clause-due
+returns-in-Err-clause-due g c =
+    let get = c.in-Get.ensures.get refl in
+    let same : c.index-as_slice-1.result ≡ get.key = search (rules, get.words_are) in
+    turned_get _ _ _ c.args.words.now (answer_with (Err c.in-Err.fault)) (line_reply (Faulty c.in-Err.fault)) _ c.watches_follow_entries.ensures.entry c.watches_follow_entries.ensures.fault
+    c.requires.attends c.requires.idle c.requires.request get tt (rw same at c.in-Err.ensures.undone) refl
+
+pub returns-in-Err-clause-attends : goal.returns-in-Err-clause-attends
+returns-in-Err-clause-attends g c =
+    let get = c.in-Get.ensures.get refl in
+    let same : c.index-as_slice-1.result ≡ get.key = search (rules, get.words_are) in
+    let turned = turned_get _ _ _ c.args.words.now (answer_with (Err c.in-Err.fault)) (line_reply (Faulty c.in-Err.fault)) _ c.watches_follow_entries.ensures.entry c.watches_follow_entries.ensures.fault
+    c.requires.attends c.requires.idle c.requires.request get tt (rw same at c.in-Err.ensures.undone) refl in
     attends_turned _ _ _ _ _ turned
 
 pub returns-in-Set-clause-due : goal.returns-in-Set-clause-due
@@ -40,3 +56,6 @@ returns-in-Set-clause-attends g c =
     let turned = turned_set _ _ _ c.args.words.now (answer_of c.set.result) (line_reply c.line_of.result) _ c.watches_follow_entries-in-Set.ensures.entry c.watches_follow_entries-in-Set.ensures.fault
     c.requires.attends c.requires.idle c.requires.request set (rw (same, value) at c.set.ensures.done) (rw (same, value) at c.set.ensures.undone) c.line_of.ensures in
     attends_turned _ _ _ _ _ turned
+
+pub returns-in-Ping-clause-due : goal.returns-in-Ping-clause-due
+returns-in-Ping-clause-due g c = turned_ping _ c.args.words.now _ c.requires.attends c.requires.idle c.requires.request (c.in-Ping.ensures.ping refl)

@@ -10,4 +10,4 @@ returns-in-Ok-clause-plan g c =
     let parts : ℕ → Option Shard = g.P.Parts.part_of c.args.parts.now in
     λ seen reads.
     plan_of_get shard_meaning n parts seen c.args.key.now c.in-Ok.value c.answered.result.reply c.answered.result.writes
-    c.in-Ok.ensures.value reads c.requires.there.0 (c.answered.ensures.reply ∙ c.found.ensures) c.answered.ensures.writes
+    c.in-Ok.ensures.value reads c.requires.there.0 (c.answered.ensures.reply ∙ c.value.ensures) c.answered.ensures.writes

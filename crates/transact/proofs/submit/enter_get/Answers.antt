@@ -1,4 +1,5 @@
 use Rattle.std.proofs.Common.{◌∙◌, ℕ, [], ◌∷◌, Option, refl, sym, ap, subst}
+use Rattle.words.specs.Session.{value_reply}
 use Rattle.gates.specs.Sets.{part_at}
 use Rattle.gates.specs.Helds.{same_as_it}
 use Rattle.transact.specs.declared.shard.Shard.{Shard}
@@ -24,8 +25,8 @@ returns-in_default-clause-memory c =
 
 pub commit-requires-clause-due : goal.commit-requires-clause-due
 commit-requires-clause-due c =
-    reply_due c.args.held.now c.value_of.new.parts (asked_for (get_call c.args.key.now)) c.found-reply.result [] c.value_of.ensures.keeps
-    (got c.args.stripes c.args.seat c.args.key.now c.in-Ok.value c.found-reply.result c.args.held.now c.requires.seat c.requires.fit c.requires.there c.in-Ok.ensures.value c.found-reply.ensures)
+    reply_due c.args.held.now c.value_of.new.parts (asked_for (get_call c.args.key.now)) (value_reply c.in-Ok.value) [] c.value_of.ensures.keeps
+    (got c.args.stripes c.args.seat c.args.key.now c.in-Ok.value (value_reply c.in-Ok.value) c.args.held.now c.requires.seat c.requires.fit c.requires.there c.in-Ok.ensures.value refl)
 
 pub commit-requires-clause-keys : goal.commit-requires-clause-keys
 commit-requires-clause-keys c =
@@ -34,8 +35,8 @@ commit-requires-clause-keys c =
 
 pub returns-in-Ok-commit-clause-fit : goal.returns-in-Ok-commit-clause-fit
 returns-in-Ok-commit-clause-fit c =
-    got_done c.args.stripes c.args.seat c.in-Ok-commit.field-0 c.args.key.now c.found-reply.result c.args.held.now c.value_of.new.parts c.commit.new.self c.requires.stripes c.requires.seat
-    (got c.args.stripes c.args.seat c.args.key.now c.in-Ok.value c.found-reply.result c.args.held.now c.requires.seat c.requires.fit c.requires.there c.in-Ok.ensures.value c.found-reply.ensures)
+    got_done c.args.stripes c.args.seat c.in-Ok-commit.field-0 c.args.key.now (value_reply c.in-Ok.value) c.args.held.now c.value_of.new.parts c.commit.new.self c.requires.stripes c.requires.seat
+    (got c.args.stripes c.args.seat c.args.key.now c.in-Ok.value (value_reply c.in-Ok.value) c.args.held.now c.requires.seat c.requires.fit c.requires.there c.in-Ok.ensures.value refl)
     c.requires.fit c.value_of.ensures.keeps c.value_of.ensures.same c.commit.ensures.parts c.commit.ensures.taken c.in-Ok-commit.ensures.ok
 
 pub returns-in-Err-clause-fit : goal.returns-in-Err-clause-fit

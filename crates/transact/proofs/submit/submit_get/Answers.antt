@@ -2,6 +2,7 @@ use Rattle.std.proofs.Common.{◌≡◌, ◌∙◌, ℕ, List, [], ◌∷◌, fa
 use Rattle.gates.specs.declared.view.Knowledge.{Knowledge}
 use Rattle.gates.specs.Passes.{known, stripes_of}
 use Rattle.gates.specs.Helds.{known_to}
+use Rattle.transact.specs.Calls.{answer_with}
 use Rattle.transact.specs.Memory.{get_call}
 use Rattle.transact.specs.Submits.{HasDone, HasFailed, HeardBusy, IfFault, IfReply, WasRefused, stripes_asked}
 use Rattle.words.specs.declared.command.Command.TheVariants.{Get}
@@ -21,16 +22,16 @@ pub returns-clause-did : goal.returns-clause-did
 returns-clause-did g c =
     let before : Knowledge = known c.args.pass.now in
     let last = c.give.ensures.known in
-    subst (λ (k : Knowledge). IfReply c.enter_get-answer.result (λ reply. HasDone (get_call c.args.key.now) reply before k)) (sym (search (rules, last)))
-    (done_alone c.enter_get-answer.result (Get c.args.key.now) c.number-seat.result before (known_to c.take-held.result) (known_to c.enter_get-answer.new.held) (search rules)
+    subst (λ (k : Knowledge). IfReply (answer_with c.enter_get-answer.result) (λ reply. HasDone (get_call c.args.key.now) reply before k)) (sym (search (rules, last)))
+    (done_alone (answer_with c.enter_get-answer.result) (Get c.args.key.now) c.number-seat.result before (known_to c.take-held.result) (known_to c.enter_get-answer.new.held) (search rules)
     c.take-held.ensures.learned c.enter_get-answer.ensures.did)
 
 pub returns-clause-fault : goal.returns-clause-fault
 returns-clause-fault g c =
     let before : Knowledge = known c.args.pass.now in
     let last = c.give.ensures.known in
-    subst (λ (k : Knowledge). IfFault c.enter_get-answer.result (λ fault. HasFailed (get_call c.args.key.now) before k)) (sym (search (rules, last)))
-    (failed_alone c.enter_get-answer.result (Get c.args.key.now) before (known_to c.take-held.result) (known_to c.enter_get-answer.new.held) refl
+    subst (λ (k : Knowledge). IfFault (answer_with c.enter_get-answer.result) (λ fault. HasFailed (get_call c.args.key.now) before k)) (sym (search (rules, last)))
+    (failed_alone (answer_with c.enter_get-answer.result) (Get c.args.key.now) before (known_to c.take-held.result) (known_to c.enter_get-answer.new.held) refl
     c.take-held.ensures.learned c.enter_get-answer.ensures.fault)
 
 pub returns-clause-told : goal.returns-clause-told
@@ -39,8 +40,8 @@ returns-clause-told g c =
     let stripes : List ℕ = stripes_asked (stripes_of c.args.gates.now) (get_call c.args.key.now) in
     let same : c.with_key-wanted.result ≡ stripes = c.with_key-wanted.ensures.exact ∙ ap (λ (s : List ℕ). stripes_with c.stripes-stripes.result s (c.args.key.now ∷ [])) c.none.ensures ∙ ap (λ (n : ℕ). stripes_asked n (get_call c.args.key.now)) c.stripes-stripes.ensures.count in
     let last = c.give.ensures.known in
-    subst (λ (k : Knowledge). IfReply c.enter_get-answer.result (λ reply. HeardBusy stripes before k)) (sym (search (rules, last)))
-    (told_behind_as c.enter_get-answer.result c.with_key-wanted.result stripes before (known_to c.take-held.result) (known_to c.enter_get-answer.new.held)
+    subst (λ (k : Knowledge). IfReply (answer_with c.enter_get-answer.result) (λ reply. HeardBusy stripes before k)) (sym (search (rules, last)))
+    (told_behind_as (answer_with c.enter_get-answer.result) c.with_key-wanted.result stripes before (known_to c.take-held.result) (known_to c.enter_get-answer.new.held)
     same c.take-held.ensures.told c.enter_get-answer.ensures.told)
 
 pub returns-clause-refused : goal.returns-clause-refused
@@ -49,6 +50,6 @@ returns-clause-refused g c =
     let stripes : List ℕ = stripes_asked (stripes_of c.args.gates.now) (get_call c.args.key.now) in
     let same : c.with_key-wanted.result ≡ stripes = c.with_key-wanted.ensures.exact ∙ ap (λ (s : List ℕ). stripes_with c.stripes-stripes.result s (c.args.key.now ∷ [])) c.none.ensures ∙ ap (λ (n : ℕ). stripes_asked n (get_call c.args.key.now)) c.stripes-stripes.ensures.count in
     let last = c.give.ensures.known in
-    subst (λ (k : Knowledge). IfFault c.enter_get-answer.result (λ fault. WasRefused fault stripes before k)) (sym (search (rules, last)))
-    (refused_behind_as c.enter_get-answer.result c.with_key-wanted.result stripes before (known_to c.take-held.result) (known_to c.enter_get-answer.new.held) (known_to c.enter_get-answer.new.held)
+    subst (λ (k : Knowledge). IfFault (answer_with c.enter_get-answer.result) (λ fault. WasRefused fault stripes before k)) (sym (search (rules, last)))
+    (refused_behind_as (answer_with c.enter_get-answer.result) c.with_key-wanted.result stripes before (known_to c.take-held.result) (known_to c.enter_get-answer.new.held) (known_to c.enter_get-answer.new.held)
     same c.take-held.ensures.told c.enter_get-answer.ensures.refused refl)

@@ -1,6 +1,7 @@
 use Rattle.std.proofs.Common.{◌∙◌, ◌∷◌, sym, refl, ap, subst, arith}
 use mathlib.Core.Option.{none}
 use Rattle.words.specs.declared.history.Entry.{Entry}
+use Rattle.words.specs.declared.reply.Reply.{Reply}
 use Rattle.words.specs.History.{Legal, keys_named}
 use Rattle.words.specs.Session.{Asked}
 use Rattle.words.specs.Watches.{GoesBy}
@@ -23,15 +24,16 @@ fetch_add-place-requires g c =
     let before : Knowledge = known c.args.pass.now in
     let seat = c.requires.holding.seat in
     let asked : Asked = g.C.Asks.asked c.args.call.now in
+    let said : Reply = g.S.Says.said c.args.reply.now in
     let entry = g.E.Told.entry in (
       h.table,
       omega arith,
       commits_step c.laws.ensures g.T.Part.meaning c.args.self.now.table.shared.key n c.arm.new.pass.seat.id m entry h.seat.single (sym h.armed ∙ armed.ok.0)
           (ap (λ (e : Entry). e.session) c.requires.told ∙ ap (λ (k : Knowledge). k.number) (sym armed.ok.1))
           (subst (λ (k : Knowledge). Legal (entry ∷ k.seen)) (sym armed.ok.1)
-          (seat.legal, told_extends before.number before.watched asked c.args.reply.now entry c.requires.told before.seen seat.watches c.requires.place c.requires.due))
+          (seat.legal, told_extends before.number before.watched asked said entry c.requires.told before.seen seat.watches c.requires.place c.requires.due))
           (subst (λ (k : Knowledge). GoesBy k.watched entry.operation) (sym armed.ok.1)
-          (told_goes_by before.number before.watched asked c.args.reply.now entry c.requires.told))
+          (told_goes_by before.number before.watched asked said entry c.requires.told))
           (keys_held n m.1 m.0.held h.seat.same (keys_named entry.operation)
           (subst (λ l. KeysHeld n l (keys_named entry.operation)) (sym armed.parts) c.requires.keys)),
     )

@@ -8,6 +8,6 @@ ghosts-commit_as g a =
       entry = record {
         session = (known a.pass.now).number;
         operation = operation_of (known a.pass.now).watched (g.C.Asks.asked a.call.now);
-        reply = a.reply.now;
+        reply = g.S.Says.said a.reply.now;
       };
     }
