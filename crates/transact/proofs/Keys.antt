@@ -15,7 +15,7 @@ use Rattle.gates.specs.Sets.{inserted, times}
 use Rattle.gates.specs.Passes.{AreWatched}
 use Rattle.transact.specs.Plans.{stripes_with}
 use Rattle.transact.specs.Tables.{AreThere, AllRead, AllMarked, joined, joined_marks, value_in, mark_in, any_marked, values_of, keys_written}
-use Rattle.transact.proofs.Stores.{same_key, some_of}
+use Rattle.transact.proofs.Stores.{or_right, same_key, some_of}
 use Rattle.std.proofs.Common.{unwrap_or}
 
 pub with_append : (n : ℕ) (s : List ℕ) (a b : List Bytes) → stripes_with n s (a ++ b) ≡ stripes_with n (stripes_with n s a) b
@@ -122,10 +122,6 @@ module _ {T : Type 0} (contents : Meaning T) (n : ℕ) (parts : ℕ → Option T
         | true ↦ λ decides. inl (subst (λ (k : Bytes). IsSome (parts (stripe_of n k))) (decides.0 refl) there.0)
         | false ↦ λ decides. ⊎_elim (λ some. inl some) (λ none. inr ((λ (e : first ≡ key). absurd (cc (decides.1 e))), none)) (there_or_none keys key there.1)
       ] (bytes_eq-Decides first key)
-
-  or_right : (a b : Bool) → b ≡ true → (a || b) ≡ true
-  or_right true b e = refl
-  or_right false b e = e
 
   pub written_there : (keys : List Bytes) (whole ws : List Write) → ((key : Bytes) → IsNoneOf keys key → writes_key whole key ≡ false)
       → ((key : Bytes) → writes_key ws key ≡ true → writes_key whole key ≡ true) → AreThere n parts keys → AreThere n parts (keys_written ws)

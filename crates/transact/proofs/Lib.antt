@@ -5,6 +5,7 @@ pub mod Become
 pub mod Keys
 pub mod Begun
 pub mod Plans
+pub mod Short
 pub mod Installed
 pub mod Fit
 pub mod Gets

@@ -10,6 +10,7 @@ use Rattle.words.specs.Store.{Store}
 use Rattle.words.specs.declared.reply.Fault.{Fault}
 use Rattle.words.specs.declared.reply.Fault.TheVariants as fault
 use Rattle.words.specs.Store.{Bytes}
+use Rattle.words.specs.Commands.{keys_of}
 use Rattle.words.specs.History.{History, after}
 use Rattle.words.specs.Session.{Asked}
 use Rattle.gates.specs.declared.held.Held.{Held}
@@ -20,7 +21,7 @@ use Rattle.transact.specs.declared.call.Call.TheVariants.{One, Watch, Exec, Forg
 use Rattle.transact.specs.declared.shard.Shard.{Shard}
 use Rattle.transact.specs.Shards.{shard_meaning}
 use Rattle.transact.specs.Calls.{call_keys}
-use Rattle.transact.specs.Memory.{AsksNoMemory, AsksShortRead, NeedsSome, ReadsMore, set_call}
+use Rattle.transact.specs.Memory.{AsksNoMemory, AsksInPlace, IsShort, IsShortOn, NeedsSome, PlansMore, set_call}
 use Rattle.transact.specs.Submits.{IfFault, asked_for}
 use Rattle.transact.specs.declared.call.Answer.{Answer}
 use Rattle.transact.specs.declared.call.Answer.TheVariants as answer
@@ -28,12 +29,21 @@ use Rattle.transact.specs.Tables.{AllRead, AreThere, joined}
 use Rattle.transact.proofs.Keys.{joined_at}
 use Rattle.transact.proofs.Submits.{Fit, parts_of, stands}
 
+-- a command that is short on the store that a history leaves is so on the parts of that store
+short_joined : (n : ℕ) (parts : ℕ → Option Shard) (seen : History) (command : Command) → AllRead shard_meaning n parts (after seen) → AreThere n parts (keys_of command)
+    → IsShortOn (after seen) command → IsShortOn (joined shard_meaning n parts) command
+short_joined n parts seen command reads there short = (
+  short.0,
+  subst (λ (v : Option Bytes). IsShort short.0 v command)
+      (sym (joined_at shard_meaning n parts (after seen) short.0 reads (subst (AreThere n parts) short.1.keys there).0)) short.1,
+)
+
 -- what a call needs on the store that a history leaves, it needs on the parts of that store
 asks_joined : (n : ℕ) (parts : ℕ → Option Shard) (seen : History) (call : Call) → AllRead shard_meaning n parts (after seen) → AreThere n parts (call_keys call)
-    → AsksShortRead (after seen) (asked_for call) → AsksShortRead (joined shard_meaning n parts) (asked_for call)
+    → AsksInPlace (after seen) (asked_for call) → AsksInPlace (joined shard_meaning n parts) (asked_for call)
 asks_joined n parts seen (One (Get key)) reads there asks =
     subst (λ (v : Option Bytes). length (unwrap_or v []) ≤ WORD_INLINE) (sym (joined_at shard_meaning n parts (after seen) key reads there.0)) asks
-asks_joined n parts seen (One _) reads there asks = absurd asks
+asks_joined n parts seen (One command) reads there asks = short_joined n parts seen command reads there asks
 asks_joined n parts seen (Watch keys) reads there asks = absurd asks
 asks_joined n parts seen (Exec commands watching) reads there asks = absurd asks
 asks_joined n parts seen (Forget watching) reads there asks = absurd asks
@@ -43,40 +53,40 @@ refused_not {A} {E} r e is ok = absurd (cc (subst (λ (x : Result A E). IsOk x) 
 
 -- the plan of a call was refused, which needs memory then
 pub refused_plan : {A E : Type 0} (n seat : ℕ) (start : Held Shard) (call : Call) (r : Result A E) (e : E) → seat ≡ (known_to start).number → Fit n start → AreThere n (parts_of start) (call_keys call)
-    → r ≡ Err e → (AsksShortRead (joined shard_meaning n (parts_of start)) (asked_for call) → IsOk r)
-    → ReadsMore fault.OutOfMemory (known_to start) (asked_for call)
+    → r ≡ Err e → (AsksInPlace (joined shard_meaning n (parts_of start)) (asked_for call) → IsOk r)
+    → PlansMore fault.OutOfMemory (known_to start) (asked_for call)
 refused_plan n seat start call r e is fit there refused memory = record {
   needs = λ same asks. refused_not r e refused (memory (asks_joined n (parts_of start) (known_to start).seen call (stands n seat start is fit).read there asks));
 }
 
 -- where commits are worn out, it is not for want of memory
-pub worn_not : (knows : Knowledge) (asked : Asked) → ReadsMore fault.CommitsWornOut knows asked
+pub worn_not : (knows : Knowledge) (asked : Asked) → PlansMore fault.CommitsWornOut knows asked
 worn_not knows asked = record { needs = λ is asks. absurd (cc is) }
 
 -- a transaction needs memory
-pub exec_needs : (answered : Fault) (knows : Knowledge) (call : Call) (commands : List Command) (watching : List Bytes) → call ≡ Exec commands watching → ReadsMore answered knows (asked_for call)
+pub exec_needs : (answered : Fault) (knows : Knowledge) (call : Call) (commands : List Command) (watching : List Bytes) → call ≡ Exec commands watching → PlansMore answered knows (asked_for call)
 exec_needs answered knows call commands watching is = record {
-  needs = λ same asks. absurd (subst (λ (x : Call). AsksShortRead (after knows.seen) (asked_for x)) is asks);
+  needs = λ same asks. absurd (subst (λ (x : Call). AsksInPlace (after knows.seen) (asked_for x)) is asks);
 }
 
 -- the same has been seen since
-pub needs_still : (answered : Fault) (one other : Knowledge) (asked : Asked) → other.seen ≡ one.seen → ReadsMore answered one asked → ReadsMore answered other asked
+pub needs_still : (answered : Fault) (one other : Knowledge) (asked : Asked) → other.seen ≡ one.seen → PlansMore answered one asked → PlansMore answered other asked
 needs_still answered one other asked same some = record {
-  needs = λ is asks. some.needs is (subst (λ (h : History). AsksShortRead (after h) asked) same asks);
+  needs = λ is asks. some.needs is (subst (λ (h : History). AsksInPlace (after h) asked) same asks);
 }
 
-reads_only : (store : Store) (call : Call) → ((key value : Bytes) → call ≡ set_call key value → ⊥) → AsksNoMemory store (asked_for call) → AsksShortRead store (asked_for call)
-reads_only store (One (Get key)) never asks = asks
-reads_only store (One (Set key value Always)) never asks = absurd (never key value refl)
-reads_only store (One _) never asks = absurd asks
-reads_only store (Watch keys) never asks = absurd asks
-reads_only store (Exec commands watching) never asks = absurd asks
-reads_only store (Forget watching) never asks = absurd asks
+planned_in_place : (store : Store) (call : Call) → ((key value : Bytes) → call ≡ set_call key value → ⊥) → AsksNoMemory store (asked_for call) → AsksInPlace store (asked_for call)
+planned_in_place store (One (Get key)) never asks = asks
+planned_in_place store (One (Set key value Always)) never asks = absurd (never key value refl)
+planned_in_place store (One _) never asks = asks
+planned_in_place store (Watch keys) never asks = absurd asks
+planned_in_place store (Exec commands watching) never asks = absurd asks
+planned_in_place store (Forget watching) never asks = absurd asks
 
--- a call that gives no key a value needs memory but where it reads one key
-pub needs_as : (a : Answer) (knows : Knowledge) (call : Call) → ((key value : Bytes) → call ≡ set_call key value → ⊥) → IfFault a (λ fault. ReadsMore fault knows (asked_for call)) → IfFault a (λ fault. NeedsSome fault knows (asked_for call))
+-- a call that is no SET without an option needs memory where its plan does
+pub needs_as : (a : Answer) (knows : Knowledge) (call : Call) → ((key value : Bytes) → call ≡ set_call key value → ⊥) → IfFault a (λ fault. PlansMore fault knows (asked_for call)) → IfFault a (λ fault. NeedsSome fault knows (asked_for call))
 needs_as (answer.Reply reply) knows call never more = tt
-needs_as (answer.Fault fault) knows call never more = record { needs = λ is asks. more.needs is (reads_only (after knows.seen) call never asks) }
+needs_as (answer.Fault fault) knows call never more = record { needs = λ is asks. more.needs is (planned_in_place (after knows.seen) call never asks) }
 
 not_heavy : (w : ℕ) → nat_lt WEIGHT_MAX w ≡ false → WEIGHT_MAX < w → ⊥
 not_heavy w is more = absurd (cc (sym is ∙ lt-ltb WEIGHT_MAX w more))

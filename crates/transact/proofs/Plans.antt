@@ -98,7 +98,7 @@ answers_same law commands one other same =
     let is = law (Exec commands []) one other (same_more (keys_of_all commands) one other same) in λ i. (items (answers one commands).0 (is i).0, (is i).1)
 
 -- an entry that is only looked at
-abbrev entry_of : Operation → Entry
+abbrev pub entry_of : Operation → Entry
 entry_of operation = record { session = 0; operation = operation; reply = reply.Array [] }
 
 is_plan : (seen : History) (operation : Operation) (planned_reply one : Reply) (planned_writes ws : List Write) (heavy : Bool)

@@ -1,36 +1,61 @@
 -- Calls that need no memory.
-use Rattle.std.specs.Prelude.{◌≡◌, ◌≤◌, ◌<◌, ◌⊎◌, ◌+◌, length, IsSome, unwrap_or, []}
+use Rattle.std.specs.Prelude.{◌≡◌, ◌≤◌, ◌<◌, ◌⊎◌, ◌+◌, ◌∷◌, length, List, IsSome, Option, unwrap_or, []}
 use Rattle.words.specs.declared.word.TheConstants.{WORD_INLINE}
 use Rattle.words.specs.declared.command.Command.{Command}
 use Rattle.words.specs.declared.command.Command.TheVariants.{Get, Set}
 use Rattle.words.specs.declared.command.When.TheVariants.{Always}
 use Rattle.words.specs.declared.limits.TheConstants.{WEIGHT_MAX, WEIGHT_OF_KEY}
+use Rattle.words.specs.Answers.{answer, value_of}
+use Rattle.words.specs.Commands.{IsInline, keys_of}
+use Rattle.strings.specs.declared.overlay.Overlay.{Overlay}
+use Rattle.strings.specs.Overlays as overlays
 use Rattle.transact.specs.declared.call.Call.{Call}
 use Rattle.transact.specs.declared.call.Call.TheVariants.{One}
 use Rattle.words.specs.declared.reply.Fault.{Fault}
 use Rattle.words.specs.declared.reply.Fault.TheVariants as fault
-use Rattle.words.specs.Store.{Bytes, Store}
+use Rattle.words.specs.Store.{Bytes, Store, Write}
 use Rattle.words.specs.History.{after}
 use Rattle.gates.specs.declared.view.Knowledge.{Knowledge}
 use Rattle.words.specs.Session.{Asked, Run, Watch, Exec}
 
--- a command that reads one key, which is missing or whose value is held without an allocation
-abbrev pub IsShortRead : Store → Command → Type 0
-IsShortRead store (Get key) = length (unwrap_or (store key) []) ≤ WORD_INLINE
-IsShortRead store _ = ⊥
+-- an overlay of one key, which has this value, without a write
+abbrev pub of_one_key : Bytes → Option Bytes → Overlay
+of_one_key key value = record { found = (key, value) ∷ []; writes = [] }
+
+-- A command of one key that is planned without a growth where the key has this value: the key, its value, and each text that the command answers
+-- or writes are held without an allocation, and the key is there unless nothing is written.
+pub record IsShort (named : Bytes) (found : Option Bytes) (command : Command) : Type 0 where
+  pub keys : keys_of command ≡ named ∷ []
+  pub key : IsInline named
+  pub value : IsInline (value_of found)
+  pub texts : overlays.NeedsNoMemory (of_one_key named found) command
+  pub place : IsSome found ⊎ ((answer (overlays.shown (of_one_key named found)) command).1 ≡ [])
+
+-- the same on a store
+abbrev pub IsShortOn : Store → Command → Type 0
+IsShortOn store command = (key : Bytes) × IsShort key (store key) command
+
+-- A command that is planned without a growth: it reads a key that is missing or whose value is held without an allocation, or it is short.
+abbrev pub IsPlannedInPlace : Store → Command → Type 0
+IsPlannedInPlace store (Get key) = length (unwrap_or (store key) []) ≤ WORD_INLINE
+IsPlannedInPlace store command = IsShortOn store command
 
 -- the same of what a session asks
-abbrev pub AsksShortRead : Store → Asked → Type 0
-AsksShortRead store (Run command) = IsShortRead store command
-AsksShortRead store (Watch keys) = ⊥
-AsksShortRead store (Exec commands) = ⊥
+abbrev pub AsksInPlace : Store → Asked → Type 0
+AsksInPlace store (Run command) = IsPlannedInPlace store command
+AsksInPlace store (Watch keys) = ⊥
+AsksInPlace store (Exec commands) = ⊥
 
--- A command that needs no memory on a store: it reads a key that is missing or whose value is held without an allocation, or it gives a new value
--- to a key that is there, or one that weighs too much.
+-- each of these keys has a value
+abbrev pub AllHave : Store → List Write → Type 0
+AllHave store [] = Unit {0}
+AllHave store (write ∷ writes) = IsSome (store write.0) × AllHave store writes
+
+-- A command that needs no memory on a store: it gives, without an option, a new value to a key that is there, or one that weighs too much, or it is
+-- planned without a growth.
 abbrev pub NeedsNoMemory : Store → Command → Type 0
-NeedsNoMemory store (Get key) = length (unwrap_or (store key) []) ≤ WORD_INLINE
 NeedsNoMemory store (Set key value Always) = IsSome (store key) ⊎ (WEIGHT_MAX < WEIGHT_OF_KEY + length key + length value)
-NeedsNoMemory store _ = ⊥
+NeedsNoMemory store command = IsPlannedInPlace store command
 
 -- a call that gives a key a value, without an option
 abbrev pub set_call : Bytes → Bytes → Call
@@ -50,6 +75,6 @@ AsksNoMemory store (Exec commands) = ⊥
 pub record NeedsSome (answered : Fault) (knows : Knowledge) (asked : Asked) : Type 0 where
   pub needs : answered ≡ fault.OutOfMemory → AsksNoMemory (after knows.seen) asked → ⊥
 
--- the same of the calls that read one key alone
-pub record ReadsMore (answered : Fault) (knows : Knowledge) (asked : Asked) : Type 0 where
-  pub needs : answered ≡ fault.OutOfMemory → AsksShortRead (after knows.seen) asked → ⊥
+-- The same of a call that is planned: it is not for want of memory where the plan needs none.
+pub record PlansMore (answered : Fault) (knows : Knowledge) (asked : Asked) : Type 0 where
+  pub needs : answered ≡ fault.OutOfMemory → AsksInPlace (after knows.seen) asked → ⊥

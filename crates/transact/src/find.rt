@@ -1,10 +1,14 @@
 //! What is found of the keys that commands name.
 
-ghost use Rattle.std.specs.Prelude.{◌≡◌, ◌≤◌, ℕ, ◌++◌, ◌∷◌, [], length, take, IfOk, OnOk};
-ghost use Rattle.words.specs.Store.{empty, written};
+ghost use Rattle.std.specs.Prelude.{◌≡◌, ◌≤◌, ◌<◌, ◌+◌, ℕ, ◌++◌, ◌∷◌, [], length, take, IfOk, OnOk, IsOk, Option};
+ghost use Rattle.words.specs.Store.{Bytes, empty, written};
 ghost use Rattle.words.specs.Answers.{answer, answers};
-ghost use Rattle.words.specs.Commands.{keys_of, keys_of_all};
-ghost use Rattle.strings.specs.Overlays.{shown};
+ghost use Rattle.words.specs.Answers as answering;
+ghost use Rattle.words.specs.Commands.{IsInline, keys_of, keys_of_all};
+ghost use Rattle.strings.specs.declared.found.TheConstants.{FOUND_INLINE};
+ghost use Rattle.strings.specs.declared.writes.TheConstants.{WRITES_INLINE};
+ghost use Rattle.strings.specs.Overlays.{NeedsNoMemory, shown};
+ghost use Rattle.transact.specs.Memory.{of_one_key};
 ghost use Rattle.transact.specs.Shards.{shard_meaning};
 ghost use Rattle.transact.specs.Tables.{AreThere, joined, values_of};
 
@@ -21,7 +25,8 @@ use words::command::Command;
 use words::reply::CommandReply;
 use words::word::{OutOfMemory, Word};
 
-/// Finds the value of a key.
+/// Finds the value of a key. It takes memory only for a key or a value that is not held inline, and past
+/// the writes that are.
 fn find_key<P: Parts<Shard>>(
     parts: &mut P,
     stripes: usize,
@@ -32,6 +37,7 @@ fn find_key<P: Parts<Shard>>(
     requires some { 1 ≤ stripes }
     requires there { AreThere stripes (P.part_of parts.old) (key.now ∷ []) }
     ensures found { OnOk result (found.new ≡ found.old ++ values_of (joined shard_meaning stripes (P.part_of parts.old)) (key.now ∷ [])) }
+    ensures memory { length found.old < WRITES_INLINE → IsInline key.now → IsInline (answering.value_of (joined shard_meaning stripes (P.part_of parts.old) key.now)) → IsOk result }
     ensures same { P.part_of parts.new ≡ P.part_of parts.old }
     ensures open { P.is_open parts.new }
     ensures keeps { P.keeps parts.old parts.new }
@@ -54,6 +60,7 @@ fn find_keys<P: Parts<Shard>>(
     requires most { count ≤ length (keys_of command.now) }
     requires there { AreThere stripes (P.part_of parts.old) (keys_of command.now) }
     ensures found { OnOk result (found.new ≡ found.old ++ values_of (joined shard_meaning stripes (P.part_of parts.old)) (take count (keys_of command.now))) }
+    ensures memory { (key : Bytes) → keys_of command.now ≡ key ∷ [] → found.old ≡ [] → IsInline key → IsInline (answering.value_of (joined shard_meaning stripes (P.part_of parts.old) key)) → IsOk result }
     ensures same { P.part_of parts.new ≡ P.part_of parts.old }
     ensures open { P.is_open parts.new }
     ensures keeps { P.keeps parts.old parts.new }
@@ -76,6 +83,7 @@ pub(crate) fn find_command<P: Parts<Shard>>(
     requires some { 1 ≤ stripes }
     requires there { AreThere stripes (P.part_of parts.old) (keys_of command.now) }
     ensures found { OnOk result (found.new ≡ found.old ++ values_of (joined shard_meaning stripes (P.part_of parts.old)) (keys_of command.now)) }
+    ensures memory { (key : Bytes) → keys_of command.now ≡ key ∷ [] → found.old ≡ [] → IsInline key → IsInline (answering.value_of (joined shard_meaning stripes (P.part_of parts.old) key)) → IsOk result }
     ensures same { P.part_of parts.new ≡ P.part_of parts.old }
     ensures open { P.is_open parts.new }
     ensures keeps { P.keeps parts.old parts.new }
@@ -107,7 +115,8 @@ pub(crate) fn find_commands<P: Parts<Shard>>(
 
 /// Shows what was found.
 fn show<'a>(found: &'a [Write], shown: &mut Findings<'a>) -> Result<(), OutOfMemory>
-    ensures { OnOk result (shown.new ≡ shown.old ++ found.entry.now) }
+    ensures shown { OnOk result (shown.new ≡ shown.old ++ found.entry.now) }
+    ensures memory { length shown.old + length found.entry.now ≤ FOUND_INLINE → IsOk result }
 {
     match found {
         [] => Ok(()),
@@ -128,7 +137,8 @@ pub(crate) fn answer_one(
     found: &Writes,
     command: &Command,
 ) -> Result<(CommandReply, Writes), OutOfMemory>
-    ensures { IfOk result (λ done. done ≡ answer (written empty found.now) command.now) }
+    ensures answer { IfOk result (λ done. done ≡ answer (written empty found.now) command.now) }
+    ensures memory { (key : Bytes) (value : Option Bytes) → found.now ≡ (key, value) ∷ [] → NeedsNoMemory (of_one_key key value) command.now → IsOk result }
 {
     let mut overlay = Overlay::new(alloc);
     match answer_on(alloc, found, command, &mut overlay) {
@@ -147,7 +157,8 @@ fn answer_on<'a>(
 ) -> Result<CommandReply, OutOfMemory>
     requires none { overlay.old.found ≡ [] }
     requires unwritten { overlay.old.writes ≡ [] }
-    ensures { IfOk result (λ reply. (reply, overlay.new.writes) ≡ answer (written empty found.entry.now) command.now) }
+    ensures answer { IfOk result (λ reply. (reply, overlay.new.writes) ≡ answer (written empty found.entry.now) command.now) }
+    ensures memory { (key : Bytes) (value : Option Bytes) → found.entry.now ≡ (key, value) ∷ [] → NeedsNoMemory (of_one_key key value) command.now → IsOk result }
 {
     show(found.as_slice(), &mut overlay.found)?;
     run(alloc, command, overlay)

@@ -13,7 +13,7 @@ ghost use Rattle.transact.specs.Shards.{shard_meaning};
 ghost use Rattle.transact.specs.Tables as tables;
 ghost use Rattle.transact.specs.Tables.{AllRead, AreReady, AreThere, Became, HasBegun, Stand, begins, clears, joined, joined_marks, keys_written, stays, touches_and_clears};
 ghost use Rattle.transact.specs.Calls.{asked_of, call_keys};
-ghost use Rattle.transact.specs.Memory.{AsksShortRead, IsShortRead};
+ghost use Rattle.transact.specs.Memory.{AllHave, AsksInPlace, IsPlannedInPlace, IsShortOn};
 ghost use Rattle.transact.specs.Submits.{asked_for};
 ghost use Rattle.transact.specs.Plans.{EndsAll, IsEntry, IsPlan, keys_begun, keys_ended};
 
@@ -66,7 +66,7 @@ pub fn plan<P: Parts<Shard>>(
     ensures ok { OnOk result (Became shard_meaning stripes [] (begins seat (keys_begun call.now)) (P.part_of parts.old) (P.part_of parts.new)) }
     ensures begun { IfOk result (λ planned. HasBegun shard_meaning stripes seat planned.begun (P.part_of parts.old) (P.part_of parts.new)) }
     ensures err { OnErr result (Became shard_meaning stripes [] stays (P.part_of parts.old) (P.part_of parts.new)) }
-    ensures memory { AsksShortRead (joined shard_meaning stripes (P.part_of parts.old)) (asked_for call.now) → IsOk result }
+    ensures memory { AsksInPlace (joined shard_meaning stripes (P.part_of parts.old)) (asked_for call.now) → IsOk result }
     ensures open { P.is_open parts.new }
     ensures keeps { P.keeps parts.old parts.new }
 {
@@ -100,7 +100,7 @@ fn plan_one<P: Parts<Shard>>(
     ensures ready { IfOk result (λ planned. AreReady stripes (P.part_of parts.new) planned.writes) }
     ensures begun { IfOk result (λ planned. planned.begun ≡ []) }
     ensures became { Became shard_meaning stripes [] stays (P.part_of parts.old) (P.part_of parts.new) }
-    ensures memory { IsShortRead (joined shard_meaning stripes (P.part_of parts.old)) command.now → IsOk result }
+    ensures memory { IsPlannedInPlace (joined shard_meaning stripes (P.part_of parts.old)) command.now → IsOk result }
     ensures open { P.is_open parts.new }
     ensures keeps { P.keeps parts.old parts.new }
 {
@@ -125,7 +125,7 @@ fn plan_get<P: Parts<Shard>>(
     ensures writes { IfOk result (λ planned. planned.writes ≡ []) }
     ensures begun { IfOk result (λ planned. planned.begun ≡ []) }
     ensures same { P.part_of parts.new ≡ P.part_of parts.old }
-    ensures memory { IsShortRead (joined shard_meaning stripes (P.part_of parts.old)) (Command.Get key.now) → IsOk result }
+    ensures memory { IsPlannedInPlace (joined shard_meaning stripes (P.part_of parts.old)) (Command.Get key.now) → IsOk result }
     ensures open { P.is_open parts.new }
     ensures keeps { P.keeps parts.old parts.new }
 {
@@ -150,6 +150,7 @@ fn plan_copied<P: Parts<Shard>>(
     ensures ready { IfOk result (λ planned. AreReady stripes (P.part_of parts.new) planned.writes) }
     ensures begun { IfOk result (λ planned. planned.begun ≡ []) }
     ensures became { Became shard_meaning stripes [] stays (P.part_of parts.old) (P.part_of parts.new) }
+    ensures memory { IsShortOn (joined shard_meaning stripes (P.part_of parts.old)) command.now → IsOk result }
     ensures open { P.is_open parts.new }
     ensures keeps { P.keeps parts.old parts.new }
 {
@@ -265,6 +266,7 @@ fn settle<P: Parts<Shard>>(
     ensures ready { IfOk result (λ planned. AreReady stripes (P.part_of parts.new) planned.writes) }
     ensures begun { IfOk result (λ planned. planned.begun ≡ []) }
     ensures became { Became shard_meaning stripes [] stays (P.part_of parts.old) (P.part_of parts.new) }
+    ensures memory { AllHave (joined shard_meaning stripes (P.part_of parts.old)) writes → IsOk result }
     ensures open { P.is_open parts.new }
     ensures keeps { P.keeps parts.old parts.new }
 {
@@ -312,6 +314,7 @@ fn make_places<P: Parts<Shard>>(
     requires there { AreThere stripes (P.part_of parts.old) (keys_written writes.now) }
     ensures ready { OnOk result (AreReady stripes (P.part_of parts.new) writes.now) }
     ensures became { Became shard_meaning stripes [] stays (P.part_of parts.old) (P.part_of parts.new) }
+    ensures memory { AllHave (joined shard_meaning stripes (P.part_of parts.old)) writes.now → IsOk result }
     ensures open { P.is_open parts.new }
     ensures keeps { P.keeps parts.old parts.new }
 {

@@ -15,7 +15,7 @@ ghost use Rattle.transact.specs.Shards.{shard_meaning};
 ghost use Rattle.transact.specs.Tables.{AreThere};
 ghost use Rattle.transact.specs.Calls.{answer_of, answer_with, call_keys};
 ghost use Rattle.transact.specs.Plans.{EndsAll};
-ghost use Rattle.transact.specs.Memory.{NeedsSome, ReadsMore, get_call, set_call};
+ghost use Rattle.transact.specs.Memory.{NeedsSome, PlansMore, get_call, set_call};
 ghost use Rattle.transact.specs.Submits.{HasDone, HasEntry, HasFailed, IfFault, IfReply, Did, DidNot, HeardBusy, IsRefused, MayBeSubmitted, WasRefused, asked_for, setting_asked, stripes_asked};
 
 use crate::call::{Answer, Busy, Call, Watching};
@@ -104,7 +104,7 @@ pub fn enter(
     ensures told { IfReply result (λ reply. (known_to held.new).notes ≡ (known_to held.old).notes) }
     ensures refused { IfFault result (λ fault. IsRefused fault (known_to held.old) (known_to held.new)) }
     ensures seen { IfFault result (λ fault. (known_to held.new).seen ≡ (known_to held.old).seen) }
-    ensures memory { IfFault result (λ fault. ReadsMore fault (known_to held.old) (asked_for call.now)) }
+    ensures memory { IfFault result (λ fault. PlansMore fault (known_to held.old) (asked_for call.now)) }
 {
     let Ok(planned) = plan(alloc, held, stripes, seat, call) else {
         return Answer::Fault(Fault::OutOfMemory);
@@ -373,7 +373,7 @@ fn enter_entry(
     ensures fault { IfFault result.answer (λ fault. HasFailed call.now (known_to held.old) (kept result.ends (known_to held.new))) }
     ensures told { IfReply result.answer (λ reply. (known_to held.new).notes ≡ (known_to held.old).notes) }
     ensures refused { IfFault result.answer (λ fault. IsRefused fault (known_to held.old) (known_to held.new)) }
-    ensures memory { IfFault result.answer (λ fault. ReadsMore fault (known_to held.new) (asked_for call.now)) }
+    ensures memory { IfFault result.answer (λ fault. PlansMore fault (known_to held.new) (asked_for call.now)) }
 {
     match enter(alloc, held, stripes, seat, call) {
         Answer::Reply(reply) => Entered {

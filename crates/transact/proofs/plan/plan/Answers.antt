@@ -7,7 +7,7 @@ use Rattle.transact.specs.declared.call.Call.{Call}
 use Rattle.transact.specs.declared.shard.Shard.{Shard}
 use Rattle.transact.specs.Shards.{shard_meaning}
 use Rattle.transact.specs.Calls.{asked_of, call_keys}
-use Rattle.transact.specs.Memory.{AsksShortRead}
+use Rattle.transact.specs.Memory.{AsksInPlace}
 use Rattle.transact.specs.Submits.{asked_for}
 use Rattle.transact.specs.Plans.{IsPlan, keys_begun}
 use Rattle.transact.specs.Tables.{AreThere, Became, begins, joined}
@@ -71,14 +71,14 @@ returns-in-Exec-clause-begun g c =
 pub returns-in-One-clause-memory : goal.returns-in-One-clause-memory
 returns-in-One-clause-memory g c =
     λ asks. c.plan_one.ensures.memory
-    (subst (λ (x : Call). AsksShortRead (joined shard_meaning c.args.stripes (g.P.Parts.part_of c.args.parts.now)) (asked_for x)) c.in-One.is asks)
+    (subst (λ (x : Call). AsksInPlace (joined shard_meaning c.args.stripes (g.P.Parts.part_of c.args.parts.now)) (asked_for x)) c.in-One.is asks)
 
 pub returns-in-Watch-clause-memory : goal.returns-in-Watch-clause-memory
 returns-in-Watch-clause-memory g c =
     λ asks. absurd
-    (subst (λ (x : Call). AsksShortRead (joined shard_meaning c.args.stripes (g.P.Parts.part_of c.args.parts.now)) (asked_for x)) c.in-Watch.is asks)
+    (subst (λ (x : Call). AsksInPlace (joined shard_meaning c.args.stripes (g.P.Parts.part_of c.args.parts.now)) (asked_for x)) c.in-Watch.is asks)
 
 pub returns-in-Exec-clause-memory : goal.returns-in-Exec-clause-memory
 returns-in-Exec-clause-memory g c =
     λ asks. absurd
-    (subst (λ (x : Call). AsksShortRead (joined shard_meaning c.args.stripes (g.P.Parts.part_of c.args.parts.now)) (asked_for x)) c.in-Exec.is asks)
+    (subst (λ (x : Call). AsksInPlace (joined shard_meaning c.args.stripes (g.P.Parts.part_of c.args.parts.now)) (asked_for x)) c.in-Exec.is asks)
