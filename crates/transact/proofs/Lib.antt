@@ -6,6 +6,7 @@ pub mod Keys
 pub mod Begun
 pub mod Plans
 pub mod Short
+pub mod ShortRows
 pub mod Installed
 pub mod Fit
 pub mod Gets
