@@ -204,8 +204,34 @@ pub(crate) fn answer_all<T: Wait, L: Latch, W: Write>(
     ensures attends { Attends (knows pass.new) client.new }
 {
     let mut words = client.no_words();
+    answer_requests(rt, latch, client, &mut words, out, writer, engine, pass)
+}
+
+/// Does what [`answer_all`] says. Each request is taken up into these words.
+fn answer_requests<T: Wait, L: Latch, W: Write>(
+    rt: &T,
+    latch: &L,
+    client: &mut Client,
+    words: &mut Words,
+    out: &mut Vec<u8>,
+    writer: &mut Noted<W>,
+    engine: &Engine,
+    pass: &mut Pass,
+) -> Paused
+    requires rests { Rests engine.now pass.old }
+    requires attends { Attends (knows pass.old) client.old }
+    ensures paused { (was : Knowledge) (fed before : List ℕ)
+        → Conversing was (knows pass.old) fed client.old (before ++ out.old.items)
+        → (sent : List ℕ)
+        × Appends (W.contents (stream_of writer.old)) (W.contents (stream_of writer.new)) sent
+        × HasPaused was (knows pass.new) fed result client.new (before ++ sent) out.new.items }
+    ensures stands { StandsAt result client.new }
+    ensures told { told_of writer.new ≡ paused_told result (told_of writer.old) }
+    ensures rests { Rests engine.now pass.new }
+    ensures attends { Attends (knows pass.new) client.new }
+{
     loop {
-        match answer_next(rt, latch, client, &mut words, engine, pass) {
+        match answer_next(rt, latch, client, words, engine, pass) {
             Due::Reply(reply) => {
                 if let Err(_) = say_spent(reply, out, writer) {
                     return Paused::WriteFailed;

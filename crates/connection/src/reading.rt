@@ -59,9 +59,9 @@ impl Room {
         }
     }
 
-    /// Makes room for a piece, and says whether there is. A block whose pieces are all let go is used again
-    /// from its start. Else the next piece is cut from what is left of it, as long as that is enough, so small
-    /// pieces share a block. Else the other block takes its place.
+    /// Makes room for a piece, and says whether there is. The next piece is cut from what is left of a block, as
+    /// long as that is enough, so small pieces share a block. Else the block is used again from its start, if its
+    /// pieces are all let go. Else the other block takes its place.
     fn make_room(&mut self) -> bool
         requires { self.old.items ≡ [] }
         ensures room { IsTrue result → PIECE_BYTES ≤ self.new.spare }
@@ -76,13 +76,14 @@ impl Room {
     }
 }
 
-/// Whether a block has room for a piece, from its start where its pieces are all let go.
+/// Whether a block has room for a piece: after the pieces that were cut from it, or from its start where these are
+/// all let go.
 fn has_room(block: &mut BytesMut) -> bool
     ensures room { IsTrue result → PIECE_BYTES ≤ block.new.spare }
     ensures block { PIECE_BYTES ≤ block.old.spare → IsTrue result }
     ensures items { block.new.items ≡ block.old.items }
 {
-    block.try_reclaim(BLOCK_BYTES) || PIECE_BYTES <= block.capacity() - block.len()
+    PIECE_BYTES <= block.capacity() - block.len() || block.try_reclaim(BLOCK_BYTES)
 }
 
 /// Feeds the client what was read into the room, as one piece that is cut from its block.

@@ -352,3 +352,12 @@ pub next_front : (old new : Held) (words : List Bytes) (result : Result Bool Rea
 next_front old new words (Ok true) takes = λ _. given_front old new words takes
 next_front old new words (Ok false) takes = λ is. absurd (false≢true is)
 next_front old new words (Err fault) takes = tt
+
+-- a reader that holds nothing
+pub unread_nothing : (held : Held) → held.count ≡ 0 → joined held.pieces ≡ [] → unread held ≡ []
+unfolding unread
+unread_nothing held none empty = rw (none, empty) refl
+
+pub front_nothing : (held : Held) → held.count ≡ 0 → joined held.pieces ≡ [] → front (unread held) ≡ Part
+unfolding front
+front_nothing held none empty = rw (unread_nothing held none empty) refl

@@ -45,10 +45,16 @@ pub(crate) enum Rest {
 pub(crate) fn look_at_count(alloc: Global, pieces: &Pieces) -> Line
     ensures { TellsCount (joined pieces.now) result }
 {
-    match count_line(pieces.oldest()) {
+    let oldest = pieces.oldest();
+    match count_line(oldest) {
         Line::Number { value, width } => Line::Number { value, width },
         Line::Faulty(fault) => Line::Faulty(fault),
-        Line::Part => count_across(alloc, pieces),
+        Line::Part => {
+            if pieces.held() == oldest.len() {
+                return Line::Part;
+            }
+            count_across(alloc, pieces)
+        }
     }
 }
 
@@ -98,7 +104,12 @@ pub(crate) fn look_at_word(alloc: Global, pieces: &Pieces, at: usize, size: usiz
     match look_in(size, &oldest[at..]) {
         Look::Whole { start, long } => Look::Whole { start, long },
         Look::Faulty(fault) => Look::Faulty(fault),
-        Look::Part => word_across(alloc, pieces, at, size),
+        Look::Part => {
+            if pieces.held() == oldest.len() {
+                return Look::Part;
+            }
+            word_across(alloc, pieces, at, size)
+        }
     }
 }
 

@@ -189,10 +189,21 @@ impl Reader {
         ensures keeps { IfOk result (λ given. IsFalse given → KeepsWords self.old self.new) }
         ensures err_keeps { OnErr result (KeepsWords self.old self.new) }
     {
+        if self.is_empty() {
+            return Ok(false);
+        }
         if self.take_whole(words) {
             return Ok(true);
         }
         self.next_by_steps(words)
+    }
+
+    /// Whether nothing is held, neither taken off nor in the pieces.
+    #[inline(always)]
+    fn is_empty(&self) -> bool
+        ensures { IsTrue result → (self.now.count ≡ 0) × (joined self.now.pieces ≡ []) }
+    {
+        self.due == 0 && self.pieces.held() == 0
     }
 
     /// Takes the first request step by step.

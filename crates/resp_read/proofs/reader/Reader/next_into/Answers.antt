@@ -1,8 +1,14 @@
-use Rattle.std.proofs.Common.{◌≡◌, subst, IfOk, IsTrue}
+use Rattle.std.proofs.Common.{arith, refl, ◌≡◌, subst, IfOk, IsTrue}
 use Rattle.words.specs.Stream.{Whole, front}
 use Rattle.resp_read.specs.Unread.{Held, unread}
-use Rattle.resp_read.proofs.ReaderLemmas.{given_front, next_front}
+use Rattle.resp_read.proofs.ReaderLemmas.{front_nothing, given_front, next_front, unread_nothing}
 use Rattle.resp_read.proofs.reader.Reader.next_into.Goals as goal
+
+pub returns-then-is_empty-clause-none : goal.returns-then-is_empty-clause-none
+returns-then-is_empty-clause-none c = λ _. let nothing = c.if-is_empty.ensures refl in front_nothing c.args.self.now nothing.0 nothing.1
+
+pub returns-then-is_empty-clause-bounded : goal.returns-then-is_empty-clause-bounded
+returns-then-is_empty-clause-bounded c = λ _. let nothing = c.if-is_empty.ensures refl in rw (unread_nothing c.args.self.now nothing.0 nothing.1) (omega arith)
 
 pub returns-then-take_whole-clause-whole : goal.returns-then-take_whole-clause-whole
 returns-then-take_whole-clause-whole c = λ _. given_front c.args.self.now c.take_whole.new.self c.take_whole.new.words c.if-take_whole.ensures

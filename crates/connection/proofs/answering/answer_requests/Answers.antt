@@ -2,7 +2,7 @@ use Rattle.std.proofs.Common.{◌++◌, ◌∙◌}
 use Rattle.streams.specs.Laws.{Appends-then}
 use Rattle.connection.proofs.Known.{regroup}
 use Rattle.connection.proofs.Conversing.{conversing_next, conversing_same, conversing_says, fewer_unread}
-use Rattle.connection.proofs.answering.answer_all.Goals as goal
+use Rattle.connection.proofs.answering.answer_requests.Goals as goal
 
 pub returns-in-Input-clause-paused : goal.returns-in-Input-clause-paused
 returns-in-Input-clause-paused g c = λ was fed before talk.

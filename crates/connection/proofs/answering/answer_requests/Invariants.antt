@@ -4,7 +4,7 @@ use Rattle.gates.specs.declared.view.Knowledge.{Knowledge}
 use Rattle.engine.specs.Passes.{knows, Rests}
 use Rattle.streams.specs.Streams.{stream_of, told_of}
 use Rattle.connection.specs.Served.{Attends, Conversing}
-use Rattle.connection.proofs.answering.answer_all.Given as goal
+use Rattle.connection.proofs.answering.answer_requests.Given as goal
 
 abbrev pub invariant-loop-reply : goal.invariant-loop-reply
 invariant-loop-reply g l = record {
