@@ -14,13 +14,13 @@ use Rattle.gates.specs.declared.view.Knowledge.{Knowledge}
 use Rattle.transact.specs.declared.call.Call.TheVariants.{One}
 use Rattle.transact.specs.declared.call.Answer.{Answer}
 use Rattle.transact.specs.declared.call.Answer.TheVariants as answer
-use Rattle.transact.specs.Calls.{asked_of, reply_to}
+use Rattle.transact.specs.Calls.{reply_to}
 use Rattle.transact.specs.Submits.{IfReply, IfFault}
 use Rattle.session.specs.Standings.{Wait, ForAnswer, stands}
 use Rattle.session.specs.Laws.{WatchesPairsOfEntry, WatchesPairsOfFault}
 use Rattle.engine.specs.Calls.{IsDone, IsUndone}
 use Rattle.connection.specs.declared.client.Next.TheVariants as next
-use Rattle.connection.specs.Clients.{Progress, Ready, Called, Resumes, TakesUp, IsIdle, before}
+use Rattle.connection.specs.Clients.{Progress, Called, Resumes, TakesUp, IsIdle, before}
 use Rattle.connection.specs.Served.{Attends, Turned}
 use Rattle.connection.proofs.Called.{turned_called, turned_said}
 

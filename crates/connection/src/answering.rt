@@ -180,35 +180,9 @@ pub(crate) enum Paused {
     Closed,
 }
 
-/// Answers all whole requests that the client was fed. The replies go into the output buffer, and to
-/// the writer where it is full.
+/// Answers all whole requests that the client was fed. Each is taken up into these words. The replies go into
+/// the output buffer, and to the writer where it is full.
 pub(crate) fn answer_all<T: Wait, L: Latch, W: Write>(
-    rt: &T,
-    latch: &L,
-    client: &mut Client,
-    out: &mut Vec<u8>,
-    writer: &mut Noted<W>,
-    engine: &Engine,
-    pass: &mut Pass,
-) -> Paused
-    requires rests { Rests engine.now pass.old }
-    requires attends { Attends (knows pass.old) client.old }
-    ensures paused { (was : Knowledge) (fed before : List ℕ)
-        → Conversing was (knows pass.old) fed client.old (before ++ out.old.items)
-        → (sent : List ℕ)
-        × Appends (W.contents (stream_of writer.old)) (W.contents (stream_of writer.new)) sent
-        × HasPaused was (knows pass.new) fed result client.new (before ++ sent) out.new.items }
-    ensures stands { StandsAt result client.new }
-    ensures told { told_of writer.new ≡ paused_told result (told_of writer.old) }
-    ensures rests { Rests engine.now pass.new }
-    ensures attends { Attends (knows pass.new) client.new }
-{
-    let mut words = client.no_words();
-    answer_requests(rt, latch, client, &mut words, out, writer, engine, pass)
-}
-
-/// Does what [`answer_all`] says. Each request is taken up into these words.
-fn answer_requests<T: Wait, L: Latch, W: Write>(
     rt: &T,
     latch: &L,
     client: &mut Client,
@@ -231,6 +205,9 @@ fn answer_requests<T: Wait, L: Latch, W: Write>(
     ensures attends { Attends (knows pass.new) client.new }
 {
     loop {
+        if client.wants_input() {
+            return Paused::Input;
+        }
         match answer_next(rt, latch, client, words, engine, pass) {
             Due::Reply(reply) => {
                 if let Err(_) = say_spent(reply, out, writer) {
@@ -256,12 +233,13 @@ fn answer_requests<T: Wait, L: Latch, W: Write>(
 }
 
 /// Answers all whole requests that the client was fed, and of what is there already: it is read and fed
-/// where no whole request is left. The replies go into the output buffer, and to the writer where it is
-/// full.
+/// where no whole request is left. Each request is taken up into these words. The replies go into the output
+/// buffer, and to the writer where it is full.
 fn answer_waiting<T: Wait, L: Latch, R: ReadReady, W: Write>(
     rt: &T,
     latch: &L,
     client: &mut Client,
+    words: &mut Words,
     room: &mut Room,
     out: &mut Vec<u8>,
     reader: &mut Noted<R>,
@@ -288,7 +266,7 @@ fn answer_waiting<T: Wait, L: Latch, R: ReadReady, W: Write>(
     ensures attends { Attends (knows pass.new) client.new }
 {
     loop {
-        match answer_all(rt, latch, client, out, writer, engine, pass) {
+        match answer_all(rt, latch, client, words, out, writer, engine, pass) {
             Paused::Input => {}
             paused => return paused,
         }
@@ -357,11 +335,12 @@ pub(crate) fn conclude<W: Write>(
 }
 
 /// Answers all whole requests that the client was fed, and of what is there already, and writes the
-/// replies. `None` where the connection goes on.
+/// replies. Each request is taken up into these words. `None` where the connection goes on.
 pub(crate) fn answer_piece<T: Wait, L: Latch, R: ReadReady, W: Write>(
     rt: &T,
     latch: &L,
     client: &mut Client,
+    words: &mut Words,
     room: &mut Room,
     out: &mut Vec<u8>,
     reader: &mut Noted<R>,
@@ -388,6 +367,8 @@ pub(crate) fn answer_piece<T: Wait, L: Latch, R: ReadReady, W: Write>(
     ensures rests { Rests engine.now pass.new }
     ensures attends { Attends (knows pass.new) client.new }
 {
-    let paused = answer_waiting(rt, latch, client, room, out, reader, writer, engine, pass);
+    let paused = answer_waiting(
+        rt, latch, client, words, room, out, reader, writer, engine, pass,
+    );
     conclude(paused, out, writer)
 }

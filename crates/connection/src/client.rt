@@ -1,6 +1,6 @@
 //! The core of a connection, without input or output: it is fed bytes, and says what comes next.
 
-ghost use Rattle.std.specs.Prelude.{◌≡◌, ◌++◌, OnOk, OnErr, true};
+ghost use Rattle.std.specs.Prelude.{◌≡◌, [], ◌++◌, OnOk, OnErr, true};
 
 use crate::state::State;
 use bytes::Bytes;
@@ -111,6 +111,15 @@ impl Client {
     /// Words for requests to be taken up into. They take no memory until then.
     pub(crate) fn no_words(&self) -> Words {
         Words::one(self.alloc, Word::empty(self.alloc))
+    }
+
+    /// Whether nothing is left of what it was fed, and its session has not ended: it wants more input.
+    #[inline]
+    pub(crate) fn wants_input(&self) -> bool
+        requires { IsReady self.now.stage }
+        ensures { result ≡ true → (self.now.unread ≡ []) × IsOpen (mode_of self.now.stage) }
+    {
+        self.reader.is_empty() && !matches!(&self.state, State::Closed(_))
     }
 
     /// Takes the request at the front off, if there is a whole one, into the words of the caller, which serve

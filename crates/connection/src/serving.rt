@@ -18,6 +18,7 @@ use std::alloc::Global;
 use std::io::Write;
 use std::sync::Wait;
 use streams::{Noted, ReadReady};
+use words::word::Words;
 
 /// The room that the output buffer has at least, in bytes: every line fits.
 const LINE_ROOM: usize = 128;
@@ -87,12 +88,46 @@ fn converse<T: Wait, L: Latch, R: ReadReady, W: Write>(
     ensures rests { Rests engine.now pass.new }
     ensures attends { Attends (knows pass.new) client.new }
 {
+    let mut words = client.no_words();
+    converse_with(
+        rt, latch, client, &mut words, room, out, reader, writer, engine, pass,
+    )
+}
+
+/// Does what [`converse`] says. Each request is taken up into these words.
+fn converse_with<T: Wait, L: Latch, R: ReadReady, W: Write>(
+    rt: &T,
+    latch: &L,
+    client: &mut Client,
+    words: &mut Words,
+    room: &mut Room,
+    out: &mut Vec<u8>,
+    reader: &mut Noted<R>,
+    writer: &mut Noted<W>,
+    engine: &Engine,
+    pass: &mut Pass,
+) -> Ended
+    requires rests { Rests engine.now pass.old }
+    requires watches { (knows pass.old).watched ≡ [] }
+    requires begins { client.old ≡ beginning }
+    requires room { room.old.items ≡ [] }
+    requires empty { out.old.items ≡ [] }
+    ensures served { (bytes text : List ℕ)
+        × Consumes (R.remaining (stream_of reader.old)) (R.remaining (stream_of reader.new)) bytes
+        × Appends (W.contents (stream_of writer.old)) (W.contents (stream_of writer.new)) text
+        × Served (knows pass.old) (knows pass.new) result bytes text }
+    ensures end { result ≡ Ended.EndOfInput → IsAtEnd (R.remaining (stream_of reader.new)) }
+    ensures reader_told { told_of reader.new ≡ reader_told result (told_of reader.old) }
+    ensures writer_told { told_of writer.new ≡ writer_told result (told_of writer.old) }
+    ensures rests { Rests engine.now pass.new }
+    ensures attends { Attends (knows pass.new) client.new }
+{
     loop {
         if let Some(ended) = take_piece(reader, room, client) {
             return ended;
         }
         if let Some(ended) = answer_piece(
-            rt, latch, client, room, out, reader, writer, engine, pass,
+            rt, latch, client, words, room, out, reader, writer, engine, pass,
         ) {
             return ended;
         }
@@ -139,7 +174,8 @@ pub(crate) fn forget<T: Wait, L: Latch>(
 /// at most two blocks. Each piece costs 40 bytes in the reader's list beside its own, so a client that sends
 /// one byte a piece costs 41 bytes a byte, or 81 just after the list has doubled. Only where memory was
 /// refused for a word do whole words stay in the pieces: then the request's 66,694 bytes stand in at most six
-/// blocks. The output buffer has 65,536 bytes. A transaction keeps at most 128 commands with 65,536 bytes of
+/// blocks. The words of the last request stay until those of the next take their place, 65,536 bytes at most. The
+/// output buffer has 65,536 bytes. A transaction keeps at most 128 commands with 65,536 bytes of
 /// words, and a session at most 128 watched keys.
 pub fn serve<T: Wait, L: Latch, R: ReadReady, W: Write>(
     rt: &T,

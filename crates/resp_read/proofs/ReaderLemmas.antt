@@ -358,6 +358,36 @@ pub unread_nothing : (held : Held) → held.count ≡ 0 → joined held.pieces �
 unfolding unread
 unread_nothing held none empty = rw (none, empty) refl
 
-pub front_nothing : (held : Held) → held.count ≡ 0 → joined held.pieces ≡ [] → front (unread held) ≡ Part
+pub front_nothing : (held : Held) → unread held ≡ [] → front (unread held) ≡ Part
 unfolding front
-front_nothing held none empty = rw (unread_nothing held none empty) refl
+front_nothing held none = rw none refl
+
+pub taken_up_nothing : (held : Held) → unread held ≡ [] → IsTakenUp held
+unfolding unread header
+taken_up_nothing held none = inl (part held.count none)
+  where
+    part : (n : ℕ) → taken_off n held.words ++ joined held.pieces ≡ [] → IsPartOfOne n held.words (joined held.pieces)
+    part zero none = rw none (omega arith)
+    part (suc n) none = absurd (omega (arith, ap length none))
+
+-- the count of a request of which nothing is due
+pub between_count : (due size : ℕ) (words : List Bytes) → IsBegun due size words → due ≡ 0 → due + length words ≡ 0
+between_count due size words begun none = omega (arith, none, ap length (begun.none none))
+
+-- pieces that have no bytes together
+pub nothing_joined : (bytes : Bytes) → length bytes ≡ 0 → bytes ≡ []
+nothing_joined [] none = refl
+nothing_joined (byte ∷ bytes) none = absurd (omega (arith, none))
+
+-- a reader that holds something
+pub unread_counted : (held : Held) → (held.count ≡ 0 → ⊥) → 0 < length (unread held)
+unfolding unread header
+unread_counted held some = counted held.count some
+  where
+    counted : (n : ℕ) → (n ≡ 0 → ⊥) → 0 < length (taken_off n held.words ++ joined held.pieces)
+    counted zero some = absurd (some refl)
+    counted (suc n) some = omega arith
+
+pub unread_pieces : (held : Held) → 0 < length (joined held.pieces) → 0 < length (unread held)
+unfolding unread
+unread_pieces held some = rw (length-append (taken_off held.count held.words) (joined held.pieces)) (omega (arith, some))

@@ -132,6 +132,15 @@ impl Reader {
         self.pieces.get(index)
     }
 
+    /// Whether nothing is unread: every byte that was fed was given.
+    #[inline(always)]
+    pub fn is_empty(&self) -> bool
+        ensures none { IsTrue result → unread self.now ≡ [] }
+        ensures some { IsFalse result → 0 < length (unread self.now) }
+    {
+        self.due == 0 && self.pieces.held() == 0
+    }
+
     /// Takes the first request and gives its words, or `None` where more bytes are due. After a
     /// protocol fault it answers the same for good, since the bytes stay.
     pub fn next(&mut self) -> Result<Option<Words>, ReadFault>
@@ -196,14 +205,6 @@ impl Reader {
             return Ok(true);
         }
         self.next_by_steps(words)
-    }
-
-    /// Whether nothing is held, neither taken off nor in the pieces.
-    #[inline(always)]
-    fn is_empty(&self) -> bool
-        ensures { IsTrue result → (self.now.count ≡ 0) × (joined self.now.pieces ≡ []) }
-    {
-        self.due == 0 && self.pieces.held() == 0
     }
 
     /// Takes the first request step by step.

@@ -1,14 +1,17 @@
 use Rattle.std.proofs.Common.{arith, refl, ◌≡◌, subst, IfOk, IsTrue}
 use Rattle.words.specs.Stream.{Whole, front}
 use Rattle.resp_read.specs.Unread.{Held, unread}
-use Rattle.resp_read.proofs.ReaderLemmas.{front_nothing, given_front, next_front, unread_nothing}
+use Rattle.resp_read.proofs.ReaderLemmas.{front_nothing, given_front, next_front, taken_up_nothing}
 use Rattle.resp_read.proofs.reader.Reader.next_into.Goals as goal
 
 pub returns-then-is_empty-clause-none : goal.returns-then-is_empty-clause-none
-returns-then-is_empty-clause-none c = λ _. let nothing = c.if-is_empty.ensures refl in front_nothing c.args.self.now nothing.0 nothing.1
+returns-then-is_empty-clause-none c = λ _. front_nothing c.args.self.now (c.if-is_empty.ensures.none refl)
 
 pub returns-then-is_empty-clause-bounded : goal.returns-then-is_empty-clause-bounded
-returns-then-is_empty-clause-bounded c = λ _. let nothing = c.if-is_empty.ensures refl in rw (unread_nothing c.args.self.now nothing.0 nothing.1) (omega arith)
+returns-then-is_empty-clause-bounded c = λ _. rw (c.if-is_empty.ensures.none refl) (omega arith)
+
+pub returns-then-is_empty-clause-takes_up : goal.returns-then-is_empty-clause-takes_up
+returns-then-is_empty-clause-takes_up c = λ _. taken_up_nothing c.args.self.now (c.if-is_empty.ensures.none refl)
 
 pub returns-then-take_whole-clause-whole : goal.returns-then-take_whole-clause-whole
 returns-then-take_whole-clause-whole c = λ _. given_front c.args.self.now c.take_whole.new.self c.take_whole.new.words c.if-take_whole.ensures

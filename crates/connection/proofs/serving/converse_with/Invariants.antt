@@ -5,7 +5,7 @@ use Rattle.engine.specs.Passes.{knows, Rests}
 use Rattle.connection.specs.Clients.{IsOpen, mode_of}
 use Rattle.streams.specs.Streams.{stream_of, told_of, reads_of}
 use Rattle.connection.specs.Served.{Attends, Conversing}
-use Rattle.connection.proofs.serving.converse.Given as goal
+use Rattle.connection.proofs.serving.converse_with.Given as goal
 
 abbrev pub invariant-loop-ended : goal.invariant-loop-ended
 invariant-loop-ended g l = record {

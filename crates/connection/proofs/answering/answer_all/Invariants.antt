@@ -4,10 +4,10 @@ use Rattle.gates.specs.declared.view.Knowledge.{Knowledge}
 use Rattle.engine.specs.Passes.{knows, Rests}
 use Rattle.streams.specs.Streams.{stream_of, told_of}
 use Rattle.connection.specs.Served.{Attends, Conversing}
-use Rattle.connection.proofs.answering.answer_requests.Given as goal
+use Rattle.connection.proofs.answering.answer_all.Given as goal
 
-abbrev pub invariant-loop-reply : goal.invariant-loop-reply
-invariant-loop-reply g l = record {
+abbrev pub invariant-loop-client : goal.invariant-loop-client
+invariant-loop-client g l = record {
   talk :
       (was : Knowledge) (fed before : List ℕ)
       → Conversing was (knows l.initial.pass) fed l.initial.client (before ++ l.initial.out.items)
@@ -18,5 +18,5 @@ invariant-loop-reply g l = record {
   attends : Attends (knows l.pass) l.client;
 }
 
-abbrev pub decreases-loop-reply : goal.decreases-loop-reply
-decreases-loop-reply g l = length (l.client).unread
+abbrev pub decreases-loop-client : goal.decreases-loop-client
+decreases-loop-client g l = length (l.client).unread
