@@ -147,8 +147,11 @@ fn say<R: Wait>(
     if let Err(_) = client.feed(Bytes::from_static(piece)) {
         return Some(Ended::NoMemory);
     }
+    let mut words = client.no_words();
     let mut out = Vec::new(alloc);
-    let paused = answer_all(rt, &Open, client, &mut out, writer, engine, pass);
+    let paused = answer_all(
+        rt, &Open, client, &mut words, &mut out, writer, engine, pass,
+    );
     conclude(paused, &mut out, writer)
 }
 
