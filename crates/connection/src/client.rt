@@ -1,6 +1,6 @@
 //! The core of a connection, without input or output: it is fed bytes, and says what comes next.
 
-ghost use Rattle.std.specs.Prelude.{◌≡◌, [], ◌++◌, OnOk, OnErr, true};
+ghost use Rattle.std.specs.Prelude.{◌≡◌, ◌<◌, ◌⊎◌, [], ◌++◌, length, OnOk, OnErr, true, false};
 
 use crate::state::State;
 use bytes::Bytes;
@@ -68,6 +68,7 @@ impl Model for Client {
 impl Client {
     ghost use Rattle.session.specs.Standings.{forget_of};
     ghost use Rattle.words.specs.Spelling.{IsRequest};
+    ghost use Rattle.words.specs.Session.{Closed};
     ghost use Rattle.connection.specs.Clients.{Progress, beginning, before, IsReady, IsCalled, IsIdle, IsOpen, Gives, Resumes, Stands, mode_of, watched_of};
 
     /// A client that was fed nothing. It takes no memory.
@@ -117,7 +118,9 @@ impl Client {
     #[inline]
     pub(crate) fn wants_input(&self) -> bool
         requires { IsReady self.now.stage }
-        ensures { result ≡ true → (self.now.unread ≡ []) × IsOpen (mode_of self.now.stage) }
+        ensures wants { result ≡ true → (self.now.unread ≡ []) × IsOpen (mode_of self.now.stage) }
+        ensures left { result ≡ false →
+            (0 < length self.now.unread) ⊎ (mode_of self.now.stage ≡ Closed) }
     {
         self.reader.is_empty() && !matches!(&self.state, State::Closed(_))
     }

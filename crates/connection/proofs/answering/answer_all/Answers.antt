@@ -7,12 +7,12 @@ use Rattle.connection.proofs.answering.answer_all.Goals as goal
 pub returns-then-wants_input-clause-paused : goal.returns-then-wants_input-clause-paused
 returns-then-wants_input-clause-paused g c = λ was fed before talk.
     let so_far = c.loop-client.invariant.talk was fed before talk in
-    let wants = c.if-wants_input.ensures refl in
+    let wants = c.if-wants_input.ensures.wants refl in
     (so_far.0, so_far.1, (rw wants.0 front-none, wants.1, so_far.2))
 
 pub returns-then-wants_input-clause-stands : goal.returns-then-wants_input-clause-stands
 returns-then-wants_input-clause-stands g c =
-    let wants = c.if-wants_input.ensures refl in (rw wants.0 front-none, wants.1)
+    let wants = c.if-wants_input.ensures.wants refl in (rw wants.0 front-none, wants.1)
 
 pub returns-in-Input-clause-paused : goal.returns-in-Input-clause-paused
 returns-in-Input-clause-paused g c = λ was fed before talk.
