@@ -36,24 +36,6 @@ impl StreamReader<'_> {
         }
     }
 
-    /// Whether bytes are there already. Afterwards calls of the socket wait as before, unless it is stuck.
-    fn has_bytes(&mut self) -> bool {
-        if self.stream.set_nonblocking(true).is_err() {
-            return false;
-        }
-        let peeked = self.stream.peek(&mut [0; 1]);
-        if self.stream.set_nonblocking(false).is_err() {
-            self.mode = Mode::Stuck;
-        }
-        match peeked {
-            Ok(count) => count > 0,
-            Err(error) => {
-                self.note(error.kind());
-                false
-            }
-        }
-    }
-
     /// Keeps a failure for the next read to tell.
     fn note(&mut self, kind: ErrorKind) {
         if kind != ErrorKind::WouldBlock && kind != ErrorKind::Interrupted {
@@ -77,13 +59,17 @@ impl Read for StreamReader<'_> {
 }
 
 impl ReadReady for StreamReader<'_> {
-    /// Since bytes are there and nobody else reads them, the read does not wait.
+    /// Afterwards calls of the socket wait as before, unless it is stuck.
     fn read_ready(&mut self, buffer: &mut [u8]) -> Option<usize> {
-        if self.mode != Mode::Waits || !self.has_bytes() || self.mode != Mode::Waits {
+        if self.mode != Mode::Waits || self.stream.set_nonblocking(true).is_err() {
             return None;
         }
         let mut stream = self.stream;
-        match stream.read(buffer) {
+        let input = stream.read(buffer);
+        if self.stream.set_nonblocking(false).is_err() {
+            self.mode = Mode::Stuck;
+        }
+        match input {
             Ok(0) => None,
             Ok(count) => Some(count),
             Err(error) => {
