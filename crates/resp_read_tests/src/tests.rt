@@ -416,11 +416,11 @@ const CUT_WORDS: &[&[u8]] = &[
     b"012345678901234567890123456789",
 ];
 
-/// Whether these are the words of the request that is cut below.
-fn are_cut_words(words: &Words) -> bool {
-    let mut same = words.as_slice().len() == CUT_WORDS.len();
-    for (word, &wanted) in words.as_slice().iter().zip(CUT_WORDS) {
-        same = same && word.as_slice() == wanted;
+/// Whether these are the words that are wanted.
+fn are(words: &Words, wanted: &[&[u8]]) -> bool {
+    let mut same = words.as_slice().len() == wanted.len();
+    for (word, &bytes) in words.as_slice().iter().zip(wanted) {
+        same = same && word.as_slice() == bytes;
     }
     same
 }
@@ -435,7 +435,7 @@ enum Given {
 
 fn given_by(reader: &mut Reader) -> Given {
     match reader.next() {
-        Ok(Some(words)) if are_cut_words(&words) => Given::Words,
+        Ok(Some(words)) if are(&words, CUT_WORDS) => Given::Words,
         Err(ReadFault::OutOfMemory) => Given::NoMemory,
         _ => Given::Another,
     }
@@ -499,40 +499,51 @@ fn a_refused_allocation_of_a_whole_request(rt: HostRuntime) -> Result<(), Fail> 
     Ok(())
 }
 
-/// Asserts that these are the words.
-fn check_words(rt: &impl Abort, words: &Words, wanted: &[&[u8]]) {
-    assert!(rt; words.as_slice().len() == wanted.len());
-    for (word, &bytes) in words.as_slice().iter().zip(wanted) {
-        assert!(rt; word.as_slice() == bytes);
-    }
-}
-
-/// Feeds a piece and asks the reader with these words, which are used again.
-fn feed_into(reader: &mut Reader, words: &mut Words, piece: &'static [u8]) -> Result<bool, Fail> {
+/// Feeds a piece and asks the reader with these words, which are used again. Whether it gives the words that
+/// are wanted, or none where none are.
+fn gives_into(
+    reader: &mut Reader,
+    words: &mut Words,
+    piece: &'static [u8],
+    wanted: &[&[u8]],
+) -> Result<bool, Fail> {
     feed_again(reader, piece)?;
     match reader.next_into(words) {
-        Ok(given) => Ok(given),
+        Ok(true) => Ok(are(words, wanted)),
+        Ok(false) => Ok(wanted.is_empty()),
         Err(_) => Err(Fail::from("a fault")),
     }
 }
 
-/// A request of many words, then one of few, a part, and its rest, each into the same words.
-fn feed_one_after_another(
-    rt: &impl Abort,
-    reader: &mut Reader,
-    words: &mut Words,
-) -> Result<(), Fail> {
-    let long =
-        b"*6\r\n$1\r\na\r\n$26\r\nabcdefghijklmnopqrstuvwxyz\r\n$1\r\nc\r\n$0\r\n\r\n$1\r\ne\r\n$30\r\n012345678901234567890123456789\r\n";
-    assert!(rt; feed_into(reader, words, long)?);
-    check_words(rt, words, CUT_WORDS);
-    assert!(rt; feed_into(reader, words, b"*2\r\n$3\r\nGET\r\n$1\r\nk\r\n")?);
-    check_words(rt, words, &[b"GET", b"k"]);
-    assert!(rt; !feed_into(reader, words, b"*3\r\n$3\r\nSET\r\n$1\r\nk")?);
-    assert!(rt; feed_into(reader, words, b"\r\n$2\r\nvw\r\n*1\r\n$4\r\nPING\r\n")?);
-    check_words(rt, words, &[b"SET", b"k", b"vw"]);
-    assert!(rt; feed_into(reader, words, b"*1\r\n")?);
-    check_words(rt, words, &[b"PING"]);
+/// A request of many words, then one of few, a part, its rest with a part, and the rest of that: each piece with
+/// the words that the reader then gives.
+const ONE_AFTER_ANOTHER: &[(&[u8], &[&[u8]])] = &[
+    (
+        b"*6\r\n$1\r\na\r\n$26\r\nabcdefghijklmnopqrstuvwxyz\r\n$1\r\nc\r\n$0\r\n\r\n$1\r\ne\r\n$30\r\n012345678901234567890123456789\r\n",
+        CUT_WORDS,
+    ),
+    (b"*2\r\n$3\r\nGET\r\n$1\r\nk\r\n", &[b"GET", b"k"]),
+    (b"*3\r\n$3\r\nSET\r\n$1\r\nk", &[]),
+    (
+        b"\r\n$2\r\nvw\r\n*1\r\n$4\r\nPING\r\n",
+        &[b"SET", b"k", b"vw"],
+    ),
+    (b"*1\r\n", &[b"PING"]),
+];
+
+/// Whether the reader gives the words of each piece, all into the same.
+fn gives_one_after_another(reader: &mut Reader, words: &mut Words) -> Result<bool, Fail> {
+    for (piece, wanted) in ONE_AFTER_ANOTHER {
+        if !gives_into(reader, words, piece, wanted)? {
+            return Ok(false);
+        }
+    }
+    Ok(true)
+}
+
+/// Asserts that all was given.
+fn all_given(rt: &impl Abort, given: Result<bool, Fail>) -> Result<(), Fail> {
+    assert!(rt; given?);
     Ok(())
 }
 
@@ -541,5 +552,5 @@ fn words_are_used_again(rt: HostRuntime) -> Result<(), Fail> {
     let alloc = rt.alloc();
     let mut reader = Reader::new(alloc);
     let mut words = Words::one(alloc, Word::empty(alloc));
-    feed_one_after_another(&rt, &mut reader, &mut words)
+    all_given(&rt, gives_one_after_another(&mut reader, &mut words))
 }
