@@ -1,3 +1,1 @@
-pub mod Watchers
-pub mod Maps
-pub mod Calls
+pub mod Nothing

@@ -1,7 +1,6 @@
-//! Callers of the gates over ordered maps, and tests of the gates with them.
+//! Tests of the gates, through their public items alone. They stand apart from `gates`, so that it is not
+//! proved a second time with them.
 #![tactic(auto)]
 
-pub mod map;
 #[cfg(test)]
 mod tests;
-pub mod watchers;

@@ -1,6 +1,5 @@
-use Rattle.gates_tests.specs.Maps.{map_meaning}
 use Rattle.gates_tests.proofs.Fits.{taken_fits}
 use Rattle.gates_tests.proofs.tests.busy_one.Goals as goal
 
 pub give-requires-clause-fit : goal.give-requires-clause-fit
-give-requires-clause-fit c = taken_fits map_meaning c.args.gates.now c.args.stripes.now _ c.in-Ok.held c.in-Ok.ensures.ok.0
+give-requires-clause-fit c = taken_fits c.args.gates.now c.args.stripes.now _ c.in-Ok.held c.in-Ok.ensures.ok.0
