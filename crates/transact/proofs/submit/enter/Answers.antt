@@ -113,3 +113,9 @@ returns-in-Err-clause-seen c =
 
 pub returns-in-Ok-commit-clause-fault : goal.returns-in-Ok-commit-clause-fault
 returns-in-Ok-commit-clause-fault c = search rules
+
+pub returns-in-Ok-commit-clause-seen : goal.returns-in-Ok-commit-clause-seen
+returns-in-Ok-commit-clause-seen c = tt
+
+pub returns-in-Ok-commit-clause-memory : goal.returns-in-Ok-commit-clause-memory
+returns-in-Ok-commit-clause-memory c = tt

@@ -54,3 +54,9 @@ returns-in-Ok-clause-refused c =
     subst (λ (k : Knowledge). IfFault c.enter_call-answer.result.answer (λ fault. WasRefused fault [] before k)) (sym (search (rules, last)))
     (refused_behind_as c.enter_call-answer.result.answer [] [] before (known_to c.in-Ok.held) (known_to c.enter_call-answer.new.held) (kept c.enter_call-answer.result.ends (known_to c.enter_call-answer.new.held))
     refl told c.enter_call-answer.ensures.refused refl)
+
+pub returns-in-Err-clause-stripe : goal.returns-in-Err-clause-stripe
+returns-in-Err-clause-stripe c = search rules
+
+pub returns-in-Err-clause-busy : goal.returns-in-Err-clause-busy
+returns-in-Err-clause-busy c = search rules
