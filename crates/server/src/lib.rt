@@ -6,8 +6,9 @@ mod accepting;
 mod closing;
 mod ending_list;
 mod fault;
+mod serving;
 mod setting;
-mod stream_reader;
+mod socket;
 mod workers;
 mod working;
 

@@ -1,38 +1,82 @@
-//! The reader of a connection: its socket, which can be asked for what is there already.
+//! The socket of a connection, from which one reads and to which another writes.
+//!
+//! A read waits for its client. But to sleep and be woken takes longer than a short request and its reply do, so
+//! while few connections are served a reader asks for some 50 µs, again and again, whether input has come, and
+//! lets other threads run in between, before it sleeps. Where that finds nothing it is done less and less often, so
+//! a client that takes its time costs nothing. With more connections than processors there is always another
+//! thread to run, and a reader sleeps at once.
+//!
+//! While it is asked, the socket's calls must not wait, and reader and writer have the one socket: so it is kept
+//! whether its calls wait, and each call changes that only where it has to. A client that sends one request after
+//! the other, or more than is read at once, has it changed seldom.
 
+ghost use Rattle.std.specs.Prelude.{◌≤◌, ◌<◌, length, IfSome};
+
+use crate::serving::Serving;
+use std::cell::Cell;
 use std::io;
-use std::io::{ErrorKind, Read};
+use std::io::{ErrorKind, Read, Write};
 use std::net::TcpStream;
+use std::thread::yield_now;
 use streams::ReadReady;
+
+/// How often a reader asks for input before it sleeps: some 50 µs, as long as Linux advises to poll a device.
+const LOOKS: u32 = 100;
+/// The most reads in a row that sleep at once, since asking found nothing before them.
+const RESTS_MAX: u32 = 63;
+
+/// A socket, and whether its calls wait. They do at first.
+#[derive(Drop)]
+pub(crate) struct Socket<'a> {
+    stream: &'a TcpStream,
+    waits: Cell<bool>,
+}
+
+impl<'a> Socket<'a> {
+    /// This socket, whose calls wait.
+    pub(crate) fn new(stream: &'a TcpStream) -> Socket<'a> {
+        Socket {
+            stream,
+            waits: Cell::new(true),
+        }
+    }
+
+    /// Has the socket's calls wait from here on, or not.
+    ///
+    /// # Errors
+    ///
+    /// Why the system refused it. All is as before then, and the next call asks for it again.
+    fn set_waiting(&self, waits: bool) -> io::Result<()> {
+        if self.waits.get() != waits {
+            self.stream.set_nonblocking(!waits)?;
+            self.waits.set(waits);
+        }
+        Ok(())
+    }
+}
 
 /// Reads from a socket, and can be asked for what is there already.
 #[derive(Drop)]
-pub(crate) struct StreamReader<'a> {
-    stream: &'a TcpStream,
-    mode: Mode,
+pub(crate) struct SocketReader<'a> {
+    socket: &'a Socket<'a>,
+    serving: &'a Serving,
     /// How the socket failed when it was asked. The system tells that once, so the next read tells it again.
     failed: Option<ErrorKind>,
+    /// How many reads sleep at once before one asks again.
+    rests: u32,
+    /// How many do so once asking finds nothing.
+    next_rests: u32,
 }
 
-/// Whether calls of a socket wait.
-#[derive(Clone, Copy, PartialEq, Eq)]
-enum Mode {
-    /// They wait, and the socket may be asked.
-    Waits,
-    /// They do not, since the system refused to have them wait again. The next read tries that again, and fails
-    /// where it is refused again. A write before then fails where it would wait, so the connection ends.
-    Stuck,
-    /// They wait again after they did not. The socket is not asked again.
-    Unasked,
-}
-
-impl StreamReader<'_> {
-    /// Reads from this socket, whose calls wait.
-    pub(crate) fn new(stream: &TcpStream) -> StreamReader<'_> {
-        StreamReader {
-            stream,
-            mode: Mode::Waits,
+impl<'a> SocketReader<'a> {
+    /// Reads from this socket, whose connection is one of those that are served.
+    pub(crate) fn new(socket: &'a Socket<'a>, serving: &'a Serving) -> SocketReader<'a> {
+        SocketReader {
+            socket,
+            serving,
             failed: None,
+            rests: 0,
+            next_rests: 0,
         }
     }
 
@@ -42,34 +86,65 @@ impl StreamReader<'_> {
             self.failed = Some(kind);
         }
     }
+
+    /// Whether the next read asks for input before it sleeps.
+    fn is_worth_a_look(&mut self) -> bool {
+        if self.rests > 0 {
+            self.rests -= 1;
+            return false;
+        }
+        self.serving.is_few()
+    }
+
+    /// Asks for input again and again, and reads it once it is there. `None` where none came, or the socket
+    /// ended or failed.
+    fn look(&mut self, buffer: &mut [u8]) -> Option<usize>
+        requires { 0 < length buffer.old }
+        ensures { IfSome result (λ count. count ≤ length buffer.new) }
+    {
+        for _ in 0..LOOKS {
+            if let Some(count) = self.read_ready(buffer) {
+                self.next_rests = 0;
+                return Some(count);
+            }
+            if self.failed.is_some() {
+                return None;
+            }
+            yield_now();
+        }
+        self.rests = self.next_rests;
+        self.next_rests = self
+            .next_rests
+            .saturating_mul(2)
+            .saturating_add(1)
+            .min(RESTS_MAX);
+        None
+    }
 }
 
-impl Read for StreamReader<'_> {
+impl Read for SocketReader<'_> {
     fn read(&mut self, buffer: &mut [u8]) -> io::Result<usize> {
+        if self.failed.is_none() && !buffer.is_empty() && self.is_worth_a_look() {
+            if let Some(count) = self.look(buffer) {
+                return Ok(count);
+            }
+        }
         if let Some(kind) = self.failed.take() {
             return Err(kind.into());
         }
-        if self.mode == Mode::Stuck {
-            self.stream.set_nonblocking(false)?;
-            self.mode = Mode::Unasked;
-        }
-        let mut stream = self.stream;
+        self.socket.set_waiting(true)?;
+        let mut stream = self.socket.stream;
         stream.read(buffer)
     }
 }
 
-impl ReadReady for StreamReader<'_> {
-    /// Afterwards calls of the socket wait as before, unless it is stuck.
+impl ReadReady for SocketReader<'_> {
     fn read_ready(&mut self, buffer: &mut [u8]) -> Option<usize> {
-        if self.mode != Mode::Waits || self.stream.set_nonblocking(true).is_err() {
+        if self.failed.is_some() || self.socket.set_waiting(false).is_err() {
             return None;
         }
-        let mut stream = self.stream;
-        let input = stream.read(buffer);
-        if self.stream.set_nonblocking(false).is_err() {
-            self.mode = Mode::Stuck;
-        }
-        match input {
+        let mut stream = self.socket.stream;
+        match stream.read(buffer) {
             Ok(0) => None,
             Ok(count) => Some(count),
             Err(error) => {
@@ -77,5 +152,37 @@ impl ReadReady for StreamReader<'_> {
                 None
             }
         }
+    }
+}
+
+/// Writes to a socket.
+#[derive(Drop)]
+pub(crate) struct SocketWriter<'a> {
+    socket: &'a Socket<'a>,
+}
+
+impl<'a> SocketWriter<'a> {
+    /// Writes to this socket.
+    pub(crate) fn new(socket: &'a Socket<'a>) -> SocketWriter<'a> {
+        SocketWriter { socket }
+    }
+}
+
+impl Write for SocketWriter<'_> {
+    /// Waits only where the socket has no room.
+    fn write(&mut self, bytes: &[u8]) -> io::Result<usize> {
+        let mut stream = self.socket.stream;
+        match stream.write(bytes) {
+            Err(error) if error.kind() == ErrorKind::WouldBlock => {
+                self.socket.set_waiting(true)?;
+                stream.write(bytes)
+            }
+            written => written,
+        }
+    }
+
+    fn flush(&mut self) -> io::Result<()> {
+        let mut stream = self.socket.stream;
+        stream.flush()
     }
 }

@@ -7,6 +7,7 @@ use crate::accepting::accept_all;
 use crate::closing::{LEAVING_MAX, Leaving, close_all};
 use crate::ending_list::Endings;
 use crate::fault::ServerFault;
+use crate::serving::Serving;
 use crate::setting::Options;
 use crate::working::work;
 use crossbeam_channel::{Receiver, Sender, bounded};
@@ -16,7 +17,7 @@ use std::net::{TcpListener, TcpStream};
 use std::rt::Clock;
 use std::sync::Wait;
 use std::thread;
-use std::thread::{Scope, Threads};
+use std::thread::{Scope, Threads, available_parallelism};
 
 /// Serves connections over one store: as many as the options say are accepted, and each is served by a
 /// worker until it ends. One for which no worker is free, or comes free within 100 milliseconds, reads
@@ -57,6 +58,8 @@ fn serve_all<R: AllocGlobal + Clock + Threads + Wait + Sync, L: Latch + Sync>(
 {
     let (to_workers, for_workers) = bounded(rt.alloc(), 0)?;
     let for_workers = &for_workers;
+    let serving = Serving::new(processors(rt));
+    let serving = &serving;
     thread::scope(
         thread::scope_env(),
         rt,
@@ -71,6 +74,7 @@ fn serve_all<R: AllocGlobal + Clock + Threads + Wait + Sync, L: Latch + Sync>(
                 scope,
                 latch,
                 endings,
+                serving,
                 engine,
                 passes,
                 options.workers,
@@ -80,6 +84,14 @@ fn serve_all<R: AllocGlobal + Clock + Threads + Wait + Sync, L: Latch + Sync>(
             accept_all(rt, listener, options.accept, to_workers, to_closer)
         },
     )
+}
+
+/// How many processors there are; 1 where the system does not tell.
+fn processors(rt: &impl Threads) -> usize {
+    match available_parallelism(rt) {
+        Ok(count) => count.get(),
+        Err(_) => 1,
+    }
 }
 
 /// Starts the thread that closes connections, and gives what they are handed over by.
@@ -101,6 +113,7 @@ fn start_workers<'s, 'e, R: AllocGlobal + Clock + Wait + Sync, L: Latch + Sync>(
     scope: &Scope<'s, &'e ()>,
     latch: &'s L,
     endings: &'s Endings,
+    serving: &'s Serving,
     engine: &'s Engine,
     mut passes: Vec<Pass>,
     count: usize,
@@ -118,6 +131,7 @@ fn start_workers<'s, 'e, R: AllocGlobal + Clock + Wait + Sync, L: Latch + Sync>(
             scope,
             latch,
             endings,
+            serving,
             engine,
             pass,
             handed,
@@ -133,6 +147,7 @@ fn start_worker<'s, 'e, R: AllocGlobal + Clock + Wait + Sync, L: Latch + Sync>(
     scope: &Scope<'s, &'e ()>,
     latch: &'s L,
     endings: &'s Endings,
+    serving: &'s Serving,
     engine: &'s Engine,
     pass: Pass,
     handed: &'s Receiver<TcpStream>,
@@ -147,7 +162,7 @@ fn start_worker<'s, 'e, R: AllocGlobal + Clock + Wait + Sync, L: Latch + Sync>(
             requires rests { Rests engine.now pass }
             requires watches { (knows pass).watched ≡ [] }
         {
-            let _ = work(rt, latch, endings, engine, pass, handed, &closer);
+            let _ = work(rt, latch, endings, serving, engine, pass, handed, &closer);
         },
     )?;
     Ok(())

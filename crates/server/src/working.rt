@@ -5,7 +5,8 @@ ghost use Rattle.engine.specs.Passes.{knows, Rests};
 
 use crate::closing::{Leaving, close_later};
 use crate::ending_list::Endings;
-use crate::stream_reader::StreamReader;
+use crate::serving::Serving;
+use crate::socket::{Socket, SocketReader, SocketWriter};
 use connection::{Ended, serve};
 use crossbeam_channel::{Receiver, Sender};
 use engine::{Engine, Pass};
@@ -21,6 +22,7 @@ pub(crate) fn work<R: AllocGlobal + Clock + Wait, L: Latch>(
     rt: &R,
     latch: &L,
     endings: &Endings,
+    serving: &Serving,
     engine: &Engine,
     pass: Pass,
     handed: &Receiver<TcpStream>,
@@ -36,7 +38,9 @@ pub(crate) fn work<R: AllocGlobal + Clock + Wait, L: Latch>(
         let Ok(stream) = handed.recv(rt) else {
             return pass;
         };
-        let (back, ended) = serve_stream(rt, latch, &stream, engine, pass);
+        serving.begin();
+        let (back, ended) = serve_stream(rt, latch, &stream, serving, engine, pass);
+        serving.end();
         pass = back;
         let _ = endings.push(rt, ended);
         close(rt, stream, ended, closer);
@@ -49,6 +53,7 @@ fn serve_stream<R: AllocGlobal + Wait, L: Latch>(
     rt: &R,
     latch: &L,
     stream: &TcpStream,
+    serving: &Serving,
     engine: &Engine,
     pass: Pass,
 ) -> (Pass, Ended)
@@ -59,8 +64,9 @@ fn serve_stream<R: AllocGlobal + Wait, L: Latch>(
 {
     // Without this a short reply may wait for the client's acknowledgement of the one before.
     let _ = stream.set_nodelay(true);
-    let mut reader = Noted::new(StreamReader::new(stream));
-    let mut writer = Noted::new(stream);
+    let socket = Socket::new(stream);
+    let mut reader = Noted::new(SocketReader::new(&socket, serving));
+    let mut writer = Noted::new(SocketWriter::new(&socket));
     serve(
         rt,
         rt.alloc(),

@@ -4,6 +4,8 @@ use crate::client::{OK, PING, PONG, answers, connect, is_at_end, reads, sends, w
 use std::alloc::{AllocError, Global};
 use std::net::{Shutdown, TcpStream};
 use std::test::Fail;
+use std::thread::sleep;
+use std::time::Duration;
 
 const GET: &[u8] = b"*2\r\n$3\r\nGET\r\n$1\r\nk\r\n";
 
@@ -44,7 +46,12 @@ fn are_answered(client: &TcpStream, count: u8, last: u8) -> bool {
             return false;
         }
     }
-    reads(client, b"$8000\r\n") && reads(client, &[last; 8_000]) && reads(client, b"\r\n")
+    get_is_answered(client, last)
+}
+
+/// Whether a GET is answered by 8,000 bytes of this letter.
+fn get_is_answered(client: &TcpStream, letter: u8) -> bool {
+    reads(client, b"$8000\r\n") && reads(client, &[letter; 8_000]) && reads(client, b"\r\n")
 }
 
 /// 200 SETs of 8,000 bytes and a GET, all sent before the first reply is read, and then a PING.
@@ -72,6 +79,67 @@ fn ten_sets_and_the_end(rt: &HostRuntime, port: u16) -> Option<bool> {
 #[test]
 fn long_requests_before_the_end_of_the_input_are_answered(rt: HostRuntime) -> Result<(), Fail> {
     let outcome = with_server(&rt, 1, 16, 1, ten_sets_and_the_end)?;
+    assert!(rt; outcome.ended([Some(1), None, None, None]));
+    Ok(())
+}
+
+/// Adds a request of this name for a key of 500 bytes, and what follows.
+fn add_for_long_key(requests: &mut Vec<u8>, name: &[u8], rest: &[u8]) -> Result<(), AllocError> {
+    requests.extend_from_slice(name)?;
+    requests.extend_from_slice(b"$500\r\n")?;
+    requests.extend_from_slice(&[b'k'; 500])?;
+    requests.extend_from_slice(b"\r\n")?;
+    requests.extend_from_slice(rest)
+}
+
+/// A SET of 8,000 bytes to a key of 500, and so many GETs of it.
+fn set_and_gets(alloc: Global, count: u32) -> Result<Vec<u8>, AllocError> {
+    let mut requests = Vec::new(alloc);
+    add_for_long_key(&mut requests, b"*3\r\n$3\r\nSET\r\n", b"$8000\r\n")?;
+    requests.extend_from_slice(&[b'v'; 8_000])?;
+    requests.extend_from_slice(b"\r\n")?;
+    for _ in 0..count {
+        add_for_long_key(&mut requests, b"*2\r\n$3\r\nGET\r\n", b"")?;
+    }
+    Ok(requests)
+}
+
+/// Whether a SET and so many GETs can be sent at once.
+fn sends_set_and_gets(alloc: Global, client: &TcpStream, count: u32) -> bool {
+    match set_and_gets(alloc, count) {
+        Ok(requests) => sends(client, requests.as_slice()),
+        Err(_) => false,
+    }
+}
+
+/// Whether a SET and so many GETs are answered.
+fn set_and_gets_are_answered(client: &TcpStream, count: u32) -> bool {
+    if !reads(client, OK) {
+        return false;
+    }
+    for _ in 0..count {
+        if !get_is_answered(client, b'v') {
+            return false;
+        }
+    }
+    true
+}
+
+/// A SET and 700 GETs at once, more than 20 reads of the server, whose replies are not read at first: 5.6 MB,
+/// more than two sockets hold.
+fn seven_hundred_gets(rt: &HostRuntime, port: u16) -> Option<bool> {
+    let client = connect(rt, port)?;
+    if !sends_set_and_gets(rt.alloc(), &client, 700) {
+        return Some(false);
+    }
+    sleep(rt, Duration::from_millis(100));
+    Some(set_and_gets_are_answered(&client, 700))
+}
+
+/// A write waits for its client also where the reader was asked just before for what is there already.
+#[test]
+fn replies_wait_for_a_client_that_reads_late(rt: HostRuntime) -> Result<(), Fail> {
+    let outcome = with_server(&rt, 1, 16, 1, seven_hundred_gets)?;
     assert!(rt; outcome.ended([Some(1), None, None, None]));
     Ok(())
 }
