@@ -1,9 +1,10 @@
 //! The socket of a connection, from which one reads and to which another writes.
 //!
 //! A read waits for its client. But to sleep and be woken takes longer than a short request and its reply do, so
-//! while few connections are served a reader asks for some 50 µs, again and again, whether input has come, and
-//! lets other threads run in between, before it sleeps. Where that finds nothing it is done less and less often, so
-//! a client that takes its time costs nothing. With more connections than processors there is always another
+//! while few connections are served a reader asks for 50 µs, again and again, whether input has come, and lets other
+//! threads run in between, before it sleeps. Where that finds nothing it is done less and less often, so a client
+//! that takes its time costs nothing; nor is it done for long where other programs have the processors, since then
+//! the time is over when the reader runs again. With more connections than processors there is always another
 //! thread to run, and a reader sleeps at once.
 //!
 //! While it is asked, the socket's calls must not wait, and reader and writer have the one socket: so it is kept
@@ -17,11 +18,15 @@ use std::cell::Cell;
 use std::io;
 use std::io::{ErrorKind, Read, Write};
 use std::net::TcpStream;
+use std::rt::Clock;
 use std::thread::yield_now;
+use std::time::{Duration, Instant};
 use streams::ReadReady;
 
-/// How often a reader asks for input before it sleeps: some 50 µs, as long as Linux advises to poll a device.
-const LOOKS: u32 = 100;
+/// For how many microseconds a reader asks for input before it sleeps: as long as Linux advises to poll a device.
+const POLL_MICROSECONDS: u64 = 50;
+/// How often it asks at most in that time.
+const LOOKS_MAX: u32 = 1_000;
 /// The most reads in a row that sleep at once, since asking found nothing before them.
 const RESTS_MAX: u32 = 63;
 
@@ -57,7 +62,8 @@ impl<'a> Socket<'a> {
 
 /// Reads from a socket, and can be asked for what is there already.
 #[derive(Drop)]
-pub(crate) struct SocketReader<'a> {
+pub(crate) struct SocketReader<'a, C> {
+    clock: &'a C,
     socket: &'a Socket<'a>,
     serving: &'a Serving,
     /// How the socket failed when it was asked. The system tells that once, so the next read tells it again.
@@ -68,10 +74,15 @@ pub(crate) struct SocketReader<'a> {
     next_rests: u32,
 }
 
-impl<'a> SocketReader<'a> {
+impl<'a, C: Clock> SocketReader<'a, C> {
     /// Reads from this socket, whose connection is one of those that are served.
-    pub(crate) fn new(socket: &'a Socket<'a>, serving: &'a Serving) -> SocketReader<'a> {
+    pub(crate) fn new(
+        clock: &'a C,
+        socket: &'a Socket<'a>,
+        serving: &'a Serving,
+    ) -> SocketReader<'a, C> {
         SocketReader {
+            clock,
             socket,
             serving,
             failed: None,
@@ -96,13 +107,24 @@ impl<'a> SocketReader<'a> {
         self.serving.is_few()
     }
 
+    /// Whether a reader that began to ask then still asks.
+    fn is_early(&self, began: &Instant) -> bool {
+        match began.elapsed(self.clock) {
+            Ok(time) => time < Duration::from_micros(POLL_MICROSECONDS),
+            Err(_) => false,
+        }
+    }
+
     /// Asks for input again and again, and reads it once it is there. `None` where none came, or the socket
     /// ended or failed.
     fn look(&mut self, buffer: &mut [u8]) -> Option<usize>
         requires { 0 < length buffer.old }
         ensures { IfSome result (λ count. count ≤ length buffer.new) }
     {
-        for _ in 0..LOOKS {
+        let Ok(began) = Instant::now(self.clock) else {
+            return None;
+        };
+        for _ in 0..LOOKS_MAX {
             if let Some(count) = self.read_ready(buffer) {
                 self.next_rests = 0;
                 return Some(count);
@@ -111,6 +133,9 @@ impl<'a> SocketReader<'a> {
                 return None;
             }
             yield_now();
+            if !self.is_early(&began) {
+                break;
+            }
         }
         self.rests = self.next_rests;
         self.next_rests = self
@@ -122,7 +147,7 @@ impl<'a> SocketReader<'a> {
     }
 }
 
-impl Read for SocketReader<'_> {
+impl<C: Clock> Read for SocketReader<'_, C> {
     fn read(&mut self, buffer: &mut [u8]) -> io::Result<usize> {
         if self.failed.is_none() && !buffer.is_empty() && self.is_worth_a_look() {
             if let Some(count) = self.look(buffer) {
@@ -138,7 +163,7 @@ impl Read for SocketReader<'_> {
     }
 }
 
-impl ReadReady for SocketReader<'_> {
+impl<C: Clock> ReadReady for SocketReader<'_, C> {
     fn read_ready(&mut self, buffer: &mut [u8]) -> Option<usize> {
         if self.failed.is_some() || self.socket.set_waiting(false).is_err() {
             return None;

@@ -49,7 +49,7 @@ pub(crate) fn work<R: AllocGlobal + Clock + Wait, L: Latch>(
 }
 
 /// Serves one connection until it ends.
-fn serve_stream<R: AllocGlobal + Wait, L: Latch>(
+fn serve_stream<R: AllocGlobal + Clock + Wait, L: Latch>(
     rt: &R,
     latch: &L,
     stream: &TcpStream,
@@ -65,7 +65,7 @@ fn serve_stream<R: AllocGlobal + Wait, L: Latch>(
     // Without this a short reply may wait for the client's acknowledgement of the one before.
     let _ = stream.set_nodelay(true);
     let socket = Socket::new(stream);
-    let mut reader = Noted::new(SocketReader::new(&socket, serving));
+    let mut reader = Noted::new(SocketReader::new(rt, &socket, serving));
     let mut writer = Noted::new(SocketWriter::new(&socket));
     serve(
         rt,
