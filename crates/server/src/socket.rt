@@ -3,9 +3,9 @@
 //! A read waits for its client. But to sleep and be woken takes longer than a short request and its reply do, so
 //! while few connections are served a reader asks for 50 µs, again and again, whether input has come, and lets other
 //! threads run in between, before it sleeps. Where that finds nothing it is done less and less often, so a client
-//! that takes its time costs nothing; nor is it done for long where other programs have the processors, since then
-//! the time is over when the reader runs again. With more connections than processors there is always another
-//! thread to run, and a reader sleeps at once.
+//! that takes its time costs nothing. Where other programs have the processors, the time is over when the reader
+//! runs again: then it sleeps at once for a while, since who sleeps is let run sooner than who steps aside. With more
+//! connections than processors there is always another thread to run, and a reader sleeps at once.
 //!
 //! While it is asked, the socket's calls must not wait, and reader and writer have the one socket: so it is kept
 //! whether its calls wait, and each call changes that only where it has to. A client that sends one request after
@@ -27,8 +27,12 @@ use streams::ReadReady;
 const POLL_MICROSECONDS: u64 = 50;
 /// How often it asks at most in that time.
 const LOOKS_MAX: u32 = 1_000;
+/// How often it asks at least in that time, unless other programs have the processors.
+const LOOKS_MIN: u32 = 8;
 /// The most reads in a row that sleep at once, since asking found nothing before them.
 const RESTS_MAX: u32 = 63;
+/// How many reads in a row sleep at once where other programs had the processors.
+const CROWDED_RESTS: u32 = 255;
 
 /// A socket, and whether its calls wait. They do at first.
 #[derive(Drop)]
@@ -99,7 +103,7 @@ impl<'a, C: Clock> SocketReader<'a, C> {
     }
 
     /// Whether the next read asks for input before it sleeps.
-    fn is_worth_a_look(&mut self) -> bool {
+    fn takes_a_look(&mut self) -> bool {
         if self.rests > 0 {
             self.rests -= 1;
             return false;
@@ -124,7 +128,7 @@ impl<'a, C: Clock> SocketReader<'a, C> {
         let Ok(began) = Instant::now(self.clock) else {
             return None;
         };
-        for _ in 0..LOOKS_MAX {
+        for looks in 0..LOOKS_MAX {
             if let Some(count) = self.read_ready(buffer) {
                 self.next_rests = 0;
                 return Some(count);
@@ -134,6 +138,10 @@ impl<'a, C: Clock> SocketReader<'a, C> {
             }
             yield_now();
             if !self.is_early(&began) {
+                if looks < LOOKS_MIN {
+                    self.rests = CROWDED_RESTS;
+                    return None;
+                }
                 break;
             }
         }
@@ -149,7 +157,7 @@ impl<'a, C: Clock> SocketReader<'a, C> {
 
 impl<C: Clock> Read for SocketReader<'_, C> {
     fn read(&mut self, buffer: &mut [u8]) -> io::Result<usize> {
-        if self.failed.is_none() && !buffer.is_empty() && self.is_worth_a_look() {
+        if self.failed.is_none() && !buffer.is_empty() && self.takes_a_look() {
             if let Some(count) = self.look(buffer) {
                 return Ok(count);
             }
