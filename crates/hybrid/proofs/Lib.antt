@@ -19,3 +19,4 @@ pub mod Keeping
 pub mod Opening
 pub mod Tail
 pub mod Putting
+mod SizeRows

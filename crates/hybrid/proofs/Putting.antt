@@ -154,7 +154,7 @@ put-from v now number offset link hash page w heads key value same is at there l
     let resident : begin_of v.resident.oldest ≤ a = omega (arith, offset_is, t.low, t.last, is.tail) in
     subst (λ (q : HybridLog). IsPutIn q new a key value) same (record {
       is = done.is;
-      appended = record { put = r; key_is = refl; value_is = refl; capacity = refl; log = done.log };
+      appended = record { put = r; key_is = refl; hash_is = hashed; value_is = refl; capacity = refl; log = done.log };
       put = done.put;
       bytes = bytes;
       resident = resident;

@@ -6,6 +6,7 @@ use Rattle.records.specs.declared.pages.TheConstants.{PAGE_SIZE, HEADER_SIZE}
 use Rattle.records.specs.declared.entries.TheConstants.{RECORD_HEADER}
 use Rattle.records.specs.Page.{number_of}
 use Rattle.records.specs.Records.{Stored, value_bytes, size_for, records_of, IsLaidOut}
+use Rattle.hybrid.specs.Hash.{hash_of}
 
 abbrev pub Log : Type 0
 Log = List (ℕ × Stored)
@@ -83,6 +84,7 @@ begin_of number = number * PAGE_SIZE + HEADER_SIZE
 pub record IsAppended (older newer : Log) (address : ℕ) (key : List ℕ) (value : Option (List ℕ)) : Type 0 where
   pub put : Stored
   pub key_is : put.key ≡ key
+  pub hash_is : put.hash ≡ hash_of key
   pub value_is : put.value ≡ value
   pub capacity : put.capacity ≡ size_for (length key) (length (value_bytes value)) - RECORD_HEADER - length key
   pub log : newer ≡ (address, put) ∷ older

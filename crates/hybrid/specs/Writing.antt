@@ -2,9 +2,9 @@
 use Rattle.std.specs.Prelude.{◌≡◌, ℕ, ◌+◌, ◌≤◌, List, [], ◌∷◌, length, map, Option}
 use Rattle.std.specs.Map.{update}
 use Rattle.std.specs.Str.{bytes_eq}
+use Rattle.words.specs.declared.limits.TheConstants.{VALUE_BYTES_MAX, WEIGHT_OF_KEY}
 use Rattle.records.specs.declared.entries.TheConstants.{KEY_BYTES_MAX}
 use Rattle.records.specs.Records.{value_bytes, with_value}
-use Rattle.hybrid.specs.declared.stripe.TheConstants.{VALUE_MAX, WRITE_WEIGHT}
 use Rattle.hybrid.specs.Log.{IsAppended}
 use Rattle.hybrid.specs.HybridLog.{HybridLog, log_of}
 use Rattle.hybrid.specs.Lookups.{IsInPlace}
@@ -18,15 +18,15 @@ abbrev pub written : (List ℕ → Option (List ℕ)) → List OneWrite → List
 written contents [] key = contents key
 written contents (w ∷ writes) key = written (update bytes_eq contents w.0 w.1) writes key
 
--- what the writes weigh: for each the lengths of its key and of its value (0 where it is deleted), and WRITE_WEIGHT more
+-- what the writes weigh: for each the lengths of its key and of its value (0 where it is deleted), and WEIGHT_OF_KEY more
 abbrev pub load : List OneWrite → ℕ
 load [] = 0
-load (w ∷ writes) = WRITE_WEIGHT + length w.0 + length (value_bytes w.1) + load writes
+load (w ∷ writes) = WEIGHT_OF_KEY + length w.0 + length (value_bytes w.1) + load writes
 
 -- a key and a value that a record may have
 pub record Fits (key : List ℕ) (value : Option (List ℕ)) : Type 0 where
   pub key_fits : length key ≤ KEY_BYTES_MAX
-  pub value_fits : length (value_bytes value) ≤ VALUE_MAX
+  pub value_fits : length (value_bytes value) ≤ VALUE_BYTES_MAX
 
 abbrev pub AreFit : List OneWrite → Type 0
 AreFit [] = Unit {0}

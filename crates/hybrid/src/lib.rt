@@ -20,8 +20,5 @@ pub use staged::Staged;
 pub use stripe::clean::Cleaned;
 pub use stripe::find::Lookup;
 pub use stripe::room::{Fault, Room};
-pub use stripe::{
-    CALL_PAGES, CLEAN_WEIGHT, CLOSED_MIN, LAST_PAGE, RECORD_MAX, Stripe, VALUE_MAX, WEIGHT_MAX,
-    WRITE_WEIGHT,
-};
+pub use stripe::{CALL_PAGES, CLEAN_WEIGHT, CLOSED_MIN, LAST_PAGE, RECORD_MAX, Stripe};
 pub use write::Write;

@@ -21,18 +21,8 @@ mod flush;
 mod install;
 pub mod room;
 
-/// The most bytes of a value.
-pub const VALUE_MAX: usize = 8192;
-
 /// The most bytes that a record takes, whose key and value are the longest.
 pub const RECORD_MAX: usize = 8728;
-
-/// The most that the writes of one call may weigh, in bytes: for each its key, its value and 48 more.
-pub const WEIGHT_MAX: usize = 49152;
-
-/// What each write weighs beside its key and its value: no less than a record's header and what
-/// rounds its size up.
-pub const WRITE_WEIGHT: usize = 48;
 
 /// The most that the records of one page weigh as writes: the room that the cleaner asks for.
 pub const CLEAN_WEIGHT: usize = 32736;

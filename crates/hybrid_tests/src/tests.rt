@@ -5,14 +5,12 @@ ghost use Rattle.hybrid.specs.HybridLog.{HasRoom};
 ghost use Rattle.hybrid.specs.declared.stripe.TheConstants.{CLEAN_WEIGHT};
 
 use device::{Device, MemoryDevice, MemoryReceipt, Shows};
-use hybrid::{
-    CLEAN_WEIGHT, Cleaned, Fault, Lookup, Room, Staged, Stripe, VALUE_MAX, WRITE_WEIGHT, Write,
-};
+use hybrid::{CLEAN_WEIGHT, Cleaned, Fault, Lookup, Room, Staged, Stripe, Write};
 use records::{KEY_BYTES_MAX, Page, Record, record_at};
 use std::alloc::Global;
 use std::process::Abort;
 use std::test::Fail;
-use words::limits::Limits;
+use words::limits::{Limits, VALUE_BYTES_MAX, WEIGHT_OF_KEY};
 
 // One write.
 #[derive(Drop)]
@@ -78,10 +76,10 @@ fn new_shelf(alloc: Global, buckets: usize, places: usize) -> Result<Shelf, Fail
 impl Shelf {
     // Gives a key a value, or none.
     fn put(&mut self, key: &[u8], value: Option<&[u8]>) -> Result<(), Fault> {
-        if key.len() > KEY_BYTES_MAX || length_of(value) > VALUE_MAX {
+        if key.len() > KEY_BYTES_MAX || length_of(value) > VALUE_BYTES_MAX {
             return Err(Fault::StoreFull);
         }
-        let weight = WRITE_WEIGHT + key.len() + length_of(value);
+        let weight = WEIGHT_OF_KEY + key.len() + length_of(value);
         let room = self.stripe.reserve(weight, &mut self.device)?;
         self.stripe.install(room, &[OneWrite { key, value }]);
         Ok(())

@@ -124,6 +124,7 @@ impl Pieces {
     /// Puts a piece last. An empty one is not kept. Where there is no room for it and no memory, or
     /// the pieces together would have 2^64 bytes, it comes back.
     pub(crate) fn push(&mut self, piece: Bytes) -> Result<(), Bytes>
+        ensures first { self.old ≡ [] → IsOk result }
         ensures ok { OnOk result (self.new ≡ self.old ++ as_piece piece) }
         ensures err { OnErr result (self.new ≡ self.old) }
         ensures returned { IfErr result (λ refused. refused ≡ piece) }

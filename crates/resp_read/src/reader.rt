@@ -109,8 +109,9 @@ impl Reader {
     }
 
     /// Adds a piece at the end. An empty one is not kept. Where there is no room for it and no memory,
-    /// it comes back and the reader is unchanged.
+    /// it comes back and the reader is unchanged. A reader that holds no piece has room for one.
     pub fn feed(&mut self, piece: Bytes) -> Result<(), (Bytes, OutOfMemory)>
+        ensures first { self.old.pieces ≡ [] → IsOk result }
         ensures unread { OnOk result (unread self.new ≡ unread self.old ++ piece) }
         ensures last { OnOk result
             (self.new ≡ record self.old { pieces = self.old.pieces ++ as_piece piece }) }

@@ -8,3 +8,4 @@ pub mod ReportLines
 pub mod Running
 pub mod Spellings
 pub mod Texts
+mod SizeRows

@@ -1,7 +1,8 @@
 //! What a stream has told, as it told it. Only the calls here change it, each by one call of the
 //! stream, so no caller can say that a stream ended or failed which has not told so.
 
-ghost use Rattle.std.specs.Prelude.{◌≡◌, ◌<◌, ◌^◌, ◌-◌, ◌+◌, length, IfSome, IfNone, IsTrue, is_ok};
+ghost use Rattle.std.specs.Prelude.{◌≡◌, ◌<◌, ◌^◌, ◌-◌, ◌+◌, length, ◌↔◌, IfSome, IfNone, IsTrue, is_ok};
+ghost use Rattle.std.specs.IoError.{error_kind};
 ghost use Rattle.std.specs.Io.KnownBytes.{Keeps};
 ghost use Rattle.streams.specs.Streams.{IsRead, IsReadReady, IsWritten, bytes_count, ready_count, told_after, told_when};
 ghost use Rattle.streams.specs.Observations.{AsBefore};
@@ -54,6 +55,7 @@ impl<S> Observed<S> {
         ensures stream { result.stream ≡ stream }
         ensures told { result.told ≡ Told.Nothing }
         ensures reads { result.reads ≡ 2 ^ 64 - 1 }
+        ensures interruptions { result.interruptions ≡ 2 ^ 64 - 1 }
     {
         Observed {
             stream,
@@ -82,6 +84,7 @@ impl<S> Observed<S> {
         ensures stream { self.new.stream ≡ self.old.stream }
         ensures told { self.new.told ≡ told_when result self.old.told }
         ensures reads { self.new.reads ≡ self.old.reads }
+        ensures interrupted { IsTrue result ↔ ((0 < self.old.interruptions) × (error_kind error.now ≡ ErrorKind.Interrupted)) }
         ensures fewer { IsTrue result → self.new.interruptions < self.old.interruptions }
     {
         if self.interruptions > 0 && error.kind() == ErrorKind::Interrupted {

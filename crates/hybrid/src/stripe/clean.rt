@@ -10,10 +10,11 @@ ghost use Rattle.hybrid.specs.Staging.{AreRight, AreShort, IsMissing, AreMarked,
 use crate::hash::hash_of;
 use crate::staged::Staged;
 use crate::stripe::room::Room;
-use crate::stripe::{CLEAN_WEIGHT, RECORD_MAX, Stripe, WRITE_WEIGHT};
+use crate::stripe::{CLEAN_WEIGHT, RECORD_MAX, Stripe};
 use crate::write::length_of;
 use device::Shows;
 use records::{HEADER_SIZE, PAGE_SIZE, Page, RECORD_HEADER, record_at};
+use words::limits::WEIGHT_OF_KEY;
 
 /// What a step of the cleaner did.
 #[derive(Drop)]
@@ -110,7 +111,7 @@ impl<R: Shows> Stripe<R> {
                 continue;
             }
             self.append(hash_of(record.key), record.key, record.value, weight);
-            weight -= WRITE_WEIGHT + record.key.len() + length_of(record.value);
+            weight -= WEIGHT_OF_KEY + record.key.len() + length_of(record.value);
             at += size;
         }
     }

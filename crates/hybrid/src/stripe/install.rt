@@ -14,10 +14,11 @@ ghost use Rattle.hybrid.specs.Writing.{IsWritten, AreInstalled, Fits, AreFit, lo
 
 use crate::hash::hash_of;
 use crate::stripe::room::Room;
-use crate::stripe::{RECORD_MAX, Stripe, WRITE_WEIGHT};
+use crate::stripe::{RECORD_MAX, Stripe};
 use crate::write::{Write, length_of};
 use device::Shows;
 use records::{HEADER_SIZE, KEY_BYTES_MAX, PAGE_SIZE, overwrite, put_record, record_size};
+use words::limits::WEIGHT_OF_KEY;
 
 impl<R: Shows> Stripe<R> {
     /// Makes these writes, in order. It cannot fail, and takes no memory.
@@ -37,7 +38,7 @@ impl<R: Shows> Stripe<R> {
         for write in writes {
             let key = write.key();
             let value = write.value();
-            let used = WRITE_WEIGHT + key.len() + length_of(value);
+            let used = WEIGHT_OF_KEY + key.len() + length_of(value);
             self.write(key, value, weight);
             weight -= used;
         }
@@ -46,12 +47,12 @@ impl<R: Shows> Stripe<R> {
     // Gives a key another value, or none.
     fn write(&mut self, key: &[u8], value: Option<&[u8]>, weight: usize)
         requires room { HasRoom self.old weight }
-        requires within { WRITE_WEIGHT + length key.now + length (value_bytes (option_copied value)) ≤ weight }
+        requires within { WEIGHT_OF_KEY + length key.now + length (value_bytes (option_copied value)) ≤ weight }
         requires fits { Fits key.now (option_copied value) }
         ensures written { IsWritten self.old key.now (option_copied value.entry) self.new }
         ensures contents { (other : List ℕ) → contents (log_of self.new) other ≡ update bytes_eq (contents (log_of self.old)) key.now (option_copied value.entry) other }
-        ensures room { HasRoom self.new (weight - (WRITE_WEIGHT + length key.now + length (value_bytes (option_copied value.entry)))) }
-        ensures grown { IsGrown self.old self.new (WRITE_WEIGHT + length key.now + length (value_bytes (option_copied value.entry))) }
+        ensures room { HasRoom self.new (weight - (WEIGHT_OF_KEY + length key.now + length (value_bytes (option_copied value.entry)))) }
+        ensures grown { IsGrown self.old self.new (WEIGHT_OF_KEY + length key.now + length (value_bytes (option_copied value.entry))) }
     {
         let hash = hash_of(key);
         match self.place(hash, key, length_of(value)) {
@@ -87,13 +88,13 @@ impl<R: Shows> Stripe<R> {
     ) -> u64
         requires hash { hash ≡ hash_of key.now }
         requires room { HasRoom self.old weight }
-        requires within { WRITE_WEIGHT + length key.now + length (value_bytes (option_copied value)) ≤ weight }
+        requires within { WEIGHT_OF_KEY + length key.now + length (value_bytes (option_copied value)) ≤ weight }
         requires key { length key.now ≤ KEY_BYTES_MAX }
         requires fits { size_for (length key.now) (length (value_bytes (option_copied value))) ≤ RECORD_MAX }
         ensures log { IsAppended (log_of self.old) (log_of self.new) result key.now (option_copied value.entry) }
         ensures resident { begin_of self.old.resident.oldest ≤ result }
-        ensures room { HasRoom self.new (weight - (WRITE_WEIGHT + length key.now + length (value_bytes (option_copied value.entry)))) }
-        ensures grown { IsGrown self.old self.new (WRITE_WEIGHT + length key.now + length (value_bytes (option_copied value.entry))) }
+        ensures room { HasRoom self.new (weight - (WEIGHT_OF_KEY + length key.now + length (value_bytes (option_copied value.entry)))) }
+        ensures grown { IsGrown self.old self.new (WEIGHT_OF_KEY + length key.now + length (value_bytes (option_copied value.entry))) }
     {
         let free = PAGE_SIZE - self.tail_end();
         if record_size(key.len(), length_of(value)) <= free {

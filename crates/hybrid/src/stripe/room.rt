@@ -1,19 +1,20 @@
 // Room for a call's writes: flushes and drops of the oldest read-only pages.
 
-ghost use Rattle.std.specs.Prelude.{◌≡◌, ◌↔◌, ◌+◌, ◌-◌, ◌<◌, ◌≤◌, ◌^◌, ◌⊎◌, ℕ, IsTrue, IsSome, IfOk, IfErr, OnOk, OnErr};
+ghost use Rattle.std.specs.Prelude.{◌≡◌, ◌↔◌, ◌+◌, ◌-◌, ◌<◌, ◌≤◌, ◌^◌, ◌⊎◌, ℕ, IsTrue, IsSome, IfOk, IfErr, OnOk, OnErr, None};
 ghost use Rattle.std.specs.Bool.{OnTrue, OnFalse};
 ghost use Rattle.frames.specs.Resident.{first_mutable, next_number};
 ghost use Rattle.hybrid.specs.HybridLog.{log_of, HasRoom, free, pages_for, with_dropped, receipt_of};
 ghost use Rattle.hybrid.specs.Reserving.{IsFlushed, IsReserved, MatchFault, IsFull};
 
-use crate::stripe::{CALL_PAGES, CLOSED_MIN, LAST_PAGE, Stripe, WEIGHT_MAX};
+use crate::stripe::{CALL_PAGES, CLOSED_MIN, LAST_PAGE, Stripe};
 use device::{Device, Shows};
 use records::PAGE_SIZE;
+use words::limits::WEIGHT_MAX;
 
 /// Room for writes of this weight in all.
 #[derive(Debug, Drop)]
 pub struct Room {
-    /// The weight in bytes: for each write the lengths of its key and value, and [`crate::WRITE_WEIGHT`] more.
+    /// The weight in bytes: for each write the lengths of its key and value, and [`words::limits::WEIGHT_OF_KEY`] more.
     pub weight: usize,
 }
 
@@ -43,6 +44,8 @@ impl<R: Shows> Stripe<R> {
         ensures fault { IfErr result (λ fault. MatchFault fault (D.failures device.new ≡ D.failures device.old + 1) (IsFull self.new × (D.failures device.new ≡ D.failures device.old))) }
         ensures no_fault { OnOk result (D.failures device.new ≡ D.failures device.old) }
         ensures needed { OnErr result (0 < pages_for self.old weight) }
+        ensures needful { OnErr result ((LAST_PAGE < next_number self.new.resident) ⊎ ((receipt_of self.new self.new.resident.oldest ≡ None) × (free self.new < pages_for self.old weight))) }
+        ensures last { OnOk result (0 < pages_for self.old weight → next_number self.new.resident ≤ LAST_PAGE) }
     {
         let needed = self.pages_for(weight);
         if needed > 0 && self.next_number() > LAST_PAGE {
@@ -97,6 +100,7 @@ impl<R: Shows> Stripe<R> {
         requires { self.old.resident.oldest < first_mutable self.old.resident }
         ensures flushed { OnOk result (IsFlushed self.old self.new) }
         ensures unchanged { OnErr result (self.new ≡ self.old) }
+        ensures bare { OnErr result (receipt_of self.old self.old.resident.oldest ≡ None) }
         ensures receipt { OnOk result (IsSome (receipt_of self.new self.new.resident.oldest)) }
         ensures log { log_of self.new ≡ log_of self.old }
         ensures fault { IfErr result (λ fault. MatchFault fault (D.failures device.new ≡ D.failures device.old + 1) ((self.new.unreleased ≡ self.new.places) × (D.failures device.new ≡ D.failures device.old))) }

@@ -17,3 +17,6 @@ returns-clause-room g c = (refl, room-reserved c.args.self.now c.loop-self.self 
 
 pub returns-in_err-flush_oldest-clause-needed : goal.returns-in_err-flush_oldest-clause-needed
 returns-in_err-flush_oldest-clause-needed g c = search rules
+
+pub returns-clause-last : goal.returns-clause-last
+returns-clause-last g c = c.loop-self.invariant.numbers
