@@ -1,5 +1,5 @@
 -- The turn of a client that makes a call, and of one that does not.
-use Rattle.std.proofs.Common.{◌≡◌, ℕ, List, [], ◌∷◌, ◌++◌, length, Option, Some, None, refl, sym, ap, ◌∙◌, ◌⊎◌, inl, inr}
+use Rattle.std.proofs.Common.{◌≡◌, ℕ, List, [], ◌∷◌, ◌++◌, length, Option, Some, None, refl, sym, ap, subst, ◌∙◌, ◌⊎◌, inl, inr}
 use Rattle.words.specs.Commands.{command_of}
 use Rattle.words.specs.Commands as commands
 use Rattle.resp_read.specs.Memory.{FitInline}
@@ -22,7 +22,6 @@ use Rattle.session.specs.Standings.{Standing, Wait, forget_of}
 use Rattle.session.specs.Steps.{IsSaid, IsAsked, IsOutOfMemory}
 use Rattle.session.specs.Steps as steps
 use Rattle.session.specs.Laws.{WatchesPairsOfEntry, WatchesPairsOfFault}
-use Rattle.transact.specs.Memory.{AsksNoMemory}
 use Rattle.transact.specs.Submits.{IfReply, IfFault}
 use Rattle.engine.specs.Calls.{HasItsPlace, IsDone, IsUndone, IsCause, Forgot, entry_of}
 use Rattle.connection.specs.declared.client.Next.TheVariants as next
@@ -67,7 +66,8 @@ forget_some (key ∷ keys) call is = cc is
 -- the end of watches makes no entry
 went_answered : (stripes : List ℕ) (given : Answer) (was now : Knowledge) → IfReply given (λ reply. Forgot stripes was now) → IfFault given (λ f. ⊥)
     → Went was now []
-went_answered stripes (answer.Reply reply) was now done undone = record { number = done.number; more = done.others; seen = done.seen; mine = done.mine }
+went_answered stripes (answer.Reply reply) was now done undone =
+    record { number = done.number; more = done.others; seen = done.seen; mine = done.mine; told = done.told; notes = done.notes }
 went_answered stripes (answer.Fault f) was now done undone = absurd undone
 
 pub went_forgot : (watched : List Bytes) (call : Call) (stripes : List ℕ) (given : Answer) (was now : Knowledge) → forget_of watched ≡ Some call
@@ -78,57 +78,52 @@ went_forgot watched call stripes given was now is done undone =
     went_answered stripes given was now (rw forgets at done) (rw forgets at undone)
 
 -- a turn that asks the store for nothing spares it
-spares_said : (t : Turn) (watched : List Bytes) (store : Store) (reply : Reply) (then : Standing) → IsSaid t watched reply then → Spares t store [] reply
+spares_said : (t : Turn) (watched : List Bytes) (store : Store) (reply : Reply) (then : Standing) → IsSaid t watched reply then → Spares t store [] [] reply
 spares_said (Says said next) watched store reply then is = tt
 spares_said (Forgets said next) watched store reply then is = tt
 spares_said (Tries said done faulty) watched store reply then is = tt
 spares_said (Calls asked done faulty) watched store reply then is = absurd is
 spares_said Never watched store reply then is = tt
 
-spares_want : (t : Turn) (watched : List Bytes) (store : Store) (reply : Reply) (then : Standing) → IsOutOfMemory t watched then → Spares t store [] reply
-spares_want (Says said next) watched store reply then is = tt
-spares_want (Forgets said next) watched store reply then is = tt
-spares_want (Tries said done faulty) watched store reply then is = tt
-spares_want (Calls (Run command) done faulty) watched store reply then is = absurd is.0
-spares_want (Calls (Watch keys) done faulty) watched store reply then is = λ none. absurd none
-spares_want (Calls (Exec commands) done faulty) watched store reply then is = absurd is.0
-spares_want Never watched store reply then is = tt
+spares_want : (t : Turn) (watched : List Bytes) (store : Store) (reply : Reply) (then : Standing) → IsOutOfMemory t watched then
+    → reply ≡ line_reply (line.Faulty fault.OutOfMemory) → Spares t store [] [] reply
+spares_want (Says said next) watched store reply then is says = tt
+spares_want (Forgets said next) watched store reply then is says = tt
+spares_want (Tries said done faulty) watched store reply then is says = tt
+spares_want (Calls (Run command) done faulty) watched store reply then is says = absurd is.0
+spares_want (Calls (Watch keys) done faulty) watched store reply then is says =
+    λ none. record { fault = fault.OutOfMemory; says = says; stripes = []; cause = ((λ spares. absurd spares), tt) }
+spares_want (Calls (Exec commands) done faulty) watched store reply then is says = absurd is.0
+spares_want Never watched store reply then is says = tt
 
 -- a call that was done makes an entry
-spares_done : (t : Turn) (store : Store) (one : Placed) (reply : Reply) → Spares t store (one ∷ []) reply
-spares_done (Says said next) store one reply = tt
-spares_done (Forgets said next) store one reply = tt
-spares_done (Tries said done faulty) store one reply = tt
-spares_done (Calls asked done faulty) store one reply = λ none is. absurd (cc is)
-spares_done Never store one reply = tt
+spares_done : (t : Turn) (store : Store) (told : List Note) (one : Placed) (reply : Reply) → Spares t store told (one ∷ []) reply
+spares_done (Says said next) store told one reply = tt
+spares_done (Forgets said next) store told one reply = tt
+spares_done (Tries said done faulty) store told one reply = tt
+spares_done (Calls asked done faulty) store told one reply = λ is. absurd (cc is)
+spares_done Never store told one reply = tt
 
 -- a call that was not done has its cause
-cause_spares : (f : Fault) (stripes : List ℕ) (asked : Asked) (store : Store) (told : List Note) → IsCause f stripes asked store told → AsksNoMemory store asked
-    → f ≡ fault.CommitsWornOut
-cause_spares fault.OutOfMemory stripes asked store told cause spares = absurd (cause.0 spares)
-cause_spares fault.CommitsWornOut stripes asked store told cause spares = refl
-cause_spares fault.DeviceFault stripes asked store told cause spares = absurd cause
-cause_spares fault.StoreFull stripes asked store told cause spares = absurd cause
-
 spares_undone : (t : Turn) (watched : List Bytes) (call : Call) (wait : Wait) (asked : Asked) (f : Fault) (stripes : List ℕ) (store : Store) (told : List Note)
     (reply : Reply) → IsAsked t watched call wait → asked_of call ≡ Some asked → IsCause f stripes asked store told → reply ≡ line_reply (line.Faulty f)
-    → Spares t store [] reply
+    → Spares t store told [] reply
 spares_undone (Says said then) watched call wait asked f stripes store told reply is asks cause says = tt
 spares_undone (Forgets said then) watched call wait asked f stripes store told reply is asks cause says = tt
 spares_undone (Tries said done faulty) watched call wait asked f stripes store told reply is asks cause says = tt
 spares_undone (Calls wanted done faulty) watched call wait asked f stripes store told reply is asks cause says =
     let same : wanted ≡ asked = some_is (sym (asked_of_call watched wanted) ∙ sym (ap asked_of is.0) ∙ asks) in
-    λ spares none. says ∙ ap (λ (x : Fault). line_reply (line.Faulty x)) (cause_spares f stripes asked store told cause (rw same at spares))
+    λ none. record { fault = f; says = says; stripes = stripes; cause = subst (λ (a : Asked). IsCause f stripes a store told) (sym same) cause }
 spares_undone Never watched call wait asked f stripes store told reply is asks cause says = tt
 
-spares_forgot : (t : Turn) (watched : List Bytes) (call : Call) (wait : Wait) (store : Store) (reply : Reply) → IsAsked t watched call wait → asked_of call ≡ None
-    → Spares t store [] reply
-spares_forgot (Says said then) watched call wait store reply is asks = tt
-spares_forgot (Forgets said then) watched call wait store reply is asks = tt
-spares_forgot (Tries said done faulty) watched call wait store reply is asks = tt
-spares_forgot (Calls wanted done faulty) watched call wait store reply is asks =
+spares_forgot : (t : Turn) (watched : List Bytes) (call : Call) (wait : Wait) (store : Store) (told : List Note) (reply : Reply)
+    → IsAsked t watched call wait → asked_of call ≡ None → Spares t store told [] reply
+spares_forgot (Says said then) watched call wait store told reply is asks = tt
+spares_forgot (Forgets said then) watched call wait store told reply is asks = tt
+spares_forgot (Tries said done faulty) watched call wait store told reply is asks = tt
+spares_forgot (Calls wanted done faulty) watched call wait store told reply is asks =
     absurd (cc (sym (asked_of_call watched wanted) ∙ sym (ap asked_of is.0) ∙ asks))
-spares_forgot Never watched call wait store reply is asks = tt
+spares_forgot Never watched call wait store told reply is asks = tt
 
 -- a turn that says a reply at once
 pub turned_said : (was : Knowledge) (old new : Progress) (reply : Reply) → Attends was old → TakesUp old (next.Says reply) new → Turned was was old new reply
@@ -146,7 +141,7 @@ turned_want was old new reply attends up is = record {
   own = [];
   went = went_none was;
   answers = rw is (answers_want was.number was.watched old new attends.watches up);
-  spared = (up.0, up.1, spares_want (turn_at old.stage up.0) (watched_of old.stage) (after was.seen) reply up.2.0 up.2.2);
+  spared = (up.0, up.1, spares_want (turn_at old.stage up.0) (watched_of old.stage) (after was.seen) reply up.2.0 up.2.2 is);
 }
 
 -- what a session that waits says to a fault
@@ -169,21 +164,21 @@ turned_done : (was now : Knowledge) (stripes : List ℕ) (call : Call) (given re
     → new.unread ≡ called.unread → Resumes called.stage (answer.Reply given) reply new.stage → Turned was now old new reply
 turned_done was now stripes call given reply old called new None law attends up asks done unread resumes = record {
   own = [];
-  went = record { number = done.number; more = done.others; seen = done.seen; mine = done.mine };
+  went = record { number = done.number; more = done.others; seen = done.seen; mine = done.mine; told = done.told; notes = done.notes };
   answers = rw done.watched (answers_forgot was.number was.watched old called new call (answer.Reply given) reply attends.watches up asks unread resumes);
   spared = (
     up.0,
     taken_still _ up.0 _ _ up.1 unread,
-    spares_forgot (turn_at old.stage up.0) (watched_of old.stage) call up.2.0 (after now.seen) reply up.2.2 asks,
+    spares_forgot (turn_at old.stage up.0) (watched_of old.stage) call up.2.0 (after now.seen) done.told reply up.2.2 asks,
   );
 }
 turned_done was now stripes call given reply old called new (Some asked) law attends up asks done unread resumes = record {
   own = (length (done.others ++ was.seen), entry_of was asked given) ∷ [];
-  went = record { number = done.number; more = entry_of was asked given ∷ done.others; seen = done.seen; mine = done.mine };
+  went = record { number = done.number; more = entry_of was asked given ∷ done.others; seen = done.seen; mine = done.mine; told = done.told; notes = done.notes };
   answers =
       rw done.watched
       (answers_done was.number was.watched old called new call asked given reply (length (done.others ++ was.seen)) law attends.watches up asks unread resumes);
-  spared = (up.0, taken_still _ up.0 _ _ up.1 unread, spares_done (turn_at old.stage up.0) (after now.seen) _ reply);
+  spared = (up.0, taken_still _ up.0 _ _ up.1 unread, spares_done (turn_at old.stage up.0) (after now.seen) done.told _ reply);
 }
 
 -- a turn whose call was answered with a fault
@@ -193,7 +188,7 @@ turned_undone : (was now : Knowledge) (stripes : List ℕ) (call : Call) (f : Fa
 turned_undone was now stripes call f reply old called new None law attends up asks undone unread resumes = absurd undone
 turned_undone was now stripes call f reply old called new (Some asked) law attends up asks undone unread resumes = record {
   own = [];
-  went = record { number = undone.number; more = undone.others; seen = undone.seen; mine = undone.mine };
+  went = record { number = undone.number; more = undone.others; seen = undone.seen; mine = undone.mine; told = undone.told; notes = undone.notes };
   answers =
       rw undone.watched (answers_undone was.number was.watched old called new call asked f reply law attends.watches up asks unread resumes);
   spared = (

@@ -15,13 +15,14 @@ use Rattle.words.specs.History.{Pair, Placed, keys_of_pairs}
 use Rattle.words.specs.Watches.{watched_after}
 use Rattle.words.specs.Session.{Mode, Idle, Turn, Says, Forgets, Tries, Calls, Never, operation_of, watched_at_fault, turn, Rest, TakesEntry, Follows, Transcript}
 use Rattle.gates.specs.declared.view.Knowledge.{Knowledge}
+use Rattle.gates.specs.declared.view.Note.{Note}
 use Rattle.connection.specs.Clients.{Progress, beginning, TakesOff, IsOpen, mode_of, WantsMemory}
 use Rattle.connection.specs.Conversations.{Leads, Talk, Conversation, Answers, Went}
 use Rattle.connection.specs.declared.serving.Ended.{Ended}
 use Rattle.connection.specs.declared.serving.Ended.TheVariants as ended
 use Rattle.connection.specs.declared.answering.Paused.{Paused}
 use Rattle.connection.specs.declared.answering.Paused.TheVariants as paused
-use Rattle.connection.specs.Served.{Answered, Conversing, Served, Turned, HasTaken, HasPaused, HasAnswered, StandsAt, LeavesAt, GoesOn, Attends, fault_line}
+use Rattle.connection.specs.Served.{Answered, Conversing, Served, Turned, Turns, HasTaken, HasPaused, HasAnswered, StandsAt, LeavesAt, GoesOn, Attends, fault_line, fed_at_once}
 
 -- spellings, requests and encodings, with one more
 spellings-more : (requests : List (List Bytes)) (words : List Bytes) → spellings (requests ++ words ∷ []) ≡ spellings requests ++ spelling words
@@ -144,8 +145,8 @@ conversation_next session own entries pairs after fed said old new reply talk on
 }
 
 -- a pass that has made no entry
-pub went_none : (was : Knowledge) → Went was was []
-went_none was = record { number = refl; more = []; seen = refl; mine = refl }
+abbrev pub went_none : (was : Knowledge) → Went was was []
+went_none was = record { number = refl; more = []; seen = refl; mine = refl; told = []; notes = refl }
 
 -- a pass that goes on
 pub went_then : (was mid now : Knowledge) (own entries : List Placed) → Went was mid own → Went mid now entries → Went was now (own ++ entries)
@@ -158,34 +159,97 @@ went_then was mid now own entries one two = record {
       ∙ ap (λ (t : List Placed). reverse entries ++ t) one.mine
       ∙ sym (append_assoc (reverse entries) (reverse own) was.mine)
       ∙ ap (λ (t : List Placed). t ++ was.mine) (sym (reverse-append own entries));
+  told = two.told ++ one.told;
+  notes = two.notes ∙ ap (λ (t : List Note). two.told ++ t) one.notes ∙ sym (append_assoc two.told one.told was.notes);
 }
+
+-- bytes at the end of what is unread change no turn
+abbrev more_unread : Bytes → Progress → Progress
+more_unread piece at = record at { unread = at.unread ++ piece }
+
+taken_longer : (piece old new : Bytes) (words : List Bytes) → TakesOff old words new → TakesOff (old ++ piece) words (new ++ piece)
+taken_longer piece old new words taken = record {
+  request = taken.request;
+  taken = ap (λ (t : Bytes). t ++ piece) taken.taken ∙ append_assoc (spelling words) new piece;
+}
+
+turned_longer : (piece : Bytes) (was now : Knowledge) (old new : Progress) (reply : Reply) → Turned was now old new reply
+    → Turned was now (more_unread piece old) (more_unread piece new) reply
+turned_longer piece was now old new reply turned = record {
+  own = turned.own;
+  went = turned.went;
+  answers = record {
+    words = turned.answers.words;
+    taken = taken_longer piece old.unread new.unread turned.answers.words turned.answers.taken;
+    ready = turned.answers.ready;
+    watches = turned.answers.watches;
+    goes_on = turned.answers.goes_on;
+  };
+  spared = (turned.spared.0, taken_longer piece old.unread new.unread turned.spared.0 turned.spared.1, turned.spared.2);
+}
+
+turns_longer : (piece : Bytes) (was now : Knowledge) (old new : Progress) (replies : List Reply) → Turns was now old new replies
+    → Turns was now (more_unread piece old) (more_unread piece new) replies
+turns_longer piece was now old new [] turns = (turns.0, ap (more_unread piece) turns.1)
+turns_longer piece was now old new (reply ∷ replies) turns = (
+  turns.0,
+  more_unread piece turns.1,
+  turned_longer piece was turns.0 old turns.1 reply turns.2,
+  turns_longer piece turns.0 now turns.1 new replies turns.3,
+)
+
+-- one turn more
+turns_then : (was mid now : Knowledge) (old at new : Progress) (replies : List Reply) (reply : Reply) → Turns was mid old at replies → Turned mid now at new reply
+    → Turns was now old new (replies ++ reply ∷ [])
+turns_then was mid now old at new [] reply turns one = (now, new, rw (turns.0, turns.1) at one, (refl, refl))
+turns_then was mid now old at new (first ∷ replies) reply turns one =
+    (turns.0, turns.1, turns.2, turns_then turns.0 mid now turns.1 at new replies reply turns.3 one)
 
 -- the conversation of a pass that watches nothing begins
 pub conversing_begins : (was : Knowledge) (at : Progress) → was.watched ≡ [] → at ≡ beginning → Conversing was was [] at []
 conversing_begins was at none begins = record {
   own = [];
   went = went_none was;
-  conversation = rw (none, begins) (conversation_begins was.number);
+  conversation = record {
+    requests = [];
+    replies = [];
+    joined = rw begins refl;
+    within = tt;
+    ready = rw begins tt;
+    watches = rw (none, begins) refl;
+    talk = λ others entries more last watched goes. rw (none, begins) at goes;
+    text = sym encodings-none;
+  };
+  turns = (refl, begins);
+}
+
+-- it goes on with a piece, of a client that stands as before but for that
+pub conversing_with : (was now : Knowledge) (fed said piece : Bytes) (at : Progress) → Conversing was now fed at said
+    → Conversing was now (fed ++ piece) (record at { unread = at.unread ++ piece }) said
+unfolding conversation_fed
+conversing_with was now fed said piece at talk = record {
+  own = talk.own;
+  went = talk.went;
+  conversation = conversation_fed was.number talk.own now.watched fed said piece at talk.conversation;
+  turns = turns_longer piece was now (fed_at_once fed) at talk.conversation.replies talk.turns;
 }
 
 -- it goes on with a piece
 pub conversing_fed : (was now : Knowledge) (fed said piece : Bytes) (at after : Progress) → Conversing was now fed at said
     → after ≡ record at { unread = at.unread ++ piece } → Conversing was now (fed ++ piece) after said
-conversing_fed was now fed said piece at after talk is = record {
-  own = talk.own;
-  went = talk.went;
-  conversation = rw is (conversation_fed was.number talk.own now.watched fed said piece at talk.conversation);
-}
+conversing_fed was now fed said piece at after talk is = rw is (conversing_with was now fed said piece at talk)
 
 -- it goes on with one answered request
 pub conversing_next : (was mid now : Knowledge) (fed said : Bytes) (old new : Progress) (reply : Reply)
     → Conversing was mid fed old said → Turned mid now old new reply → Conversing was now fed new (said ++ encoding reply)
+unfolding conversation_next
 conversing_next was mid now fed said old new reply talk one = record {
   own = talk.own ++ one.own;
   went = went_then was mid now talk.own one.own talk.went one.went;
   conversation =
       conversation_next was.number talk.own one.own mid.watched now.watched fed said old new reply talk.conversation
       (rw talk.went.number at one.answers);
+  turns = turns_then was mid now (fed_at_once fed) old new talk.conversation.replies reply talk.turns one;
 }
 
 -- the same of an equal text
@@ -212,6 +276,10 @@ closed {was} {now} {fed} {at} {said} talk = record {
   went = talk.went;
   transcript = closed_transcript was.number talk.conversation.requests talk.own talk.conversation.replies (mode_of at.stage) now.watched talk.conversation.talk;
   leads = closed_leads was.number talk.conversation.requests talk.own talk.conversation.replies (mode_of at.stage) now.watched talk.conversation.talk;
+  last = now;
+  stands = at;
+  turns = talk.turns;
+  forgets = went_none now;
 }
 
 -- a connection whose pass has gone on by no entry of its own since it ended
@@ -230,6 +298,10 @@ served_later was now then e bytes text served later = record {
     went = rw (append-nil served.talk.own) at (went_then was now then served.talk.own [] served.talk.went later);
     transcript = served.talk.transcript;
     leads = served.talk.leads;
+    last = served.talk.last;
+    stands = served.talk.stands;
+    turns = served.talk.turns;
+    forgets = went_then served.talk.last now then [] [] served.talk.forgets later;
   };
   ends = served.ends;
 }
@@ -296,15 +368,6 @@ front-none = refl
 
 pub longer : (unread piece : Bytes) → 0 < length piece → 0 < length (unread ++ piece)
 longer unread piece some = omega (arith, length-append unread piece)
-
--- it goes on with a piece, of a client that stands as before but for that
-pub conversing_with : (was now : Knowledge) (fed said piece : Bytes) (at : Progress) → Conversing was now fed at said
-    → Conversing was now (fed ++ piece) (record at { unread = at.unread ++ piece }) said
-conversing_with was now fed said piece at talk = record {
-  own = talk.own;
-  went = talk.went;
-  conversation = conversation_fed was.number talk.own now.watched fed said piece at talk.conversation;
-}
 
 -- a connection that ends where it took a piece
 pub served_taken : (was now : Knowledge) (fed piece said : Bytes) (at after : Progress) (e : Ended)

@@ -1,8 +1,8 @@
 -- What serving one connection did, for each way in which it ends.
-use Rattle.std.specs.Prelude.{ℕ, ◌≡◌, ◌<◌, ◌⊎◌, List, [], ◌++◌, length, Option, Some, None}
+use Rattle.std.specs.Prelude.{ℕ, ◌≡◌, ◌<◌, ◌⊎◌, List, [], ◌∷◌, ◌++◌, length, Option, Some, None}
 use Rattle.words.specs.declared.reply.ProtocolFault.{ProtocolFault}
 use Rattle.words.specs.declared.reply.Reply.{Reply}
-use Rattle.words.specs.declared.reply.Fault.TheVariants as fault
+use Rattle.words.specs.declared.reply.Fault.{Fault}
 use Rattle.words.specs.declared.reply.Line.TheVariants as line
 use Rattle.words.specs.Store.{Bytes, Store}
 use Rattle.words.specs.Spelling.{spellings, AreRequests}
@@ -10,11 +10,12 @@ use Rattle.words.specs.Stream.{front, Part, Faulty}
 use Rattle.words.specs.Stream as stream
 use Rattle.words.specs.Encoding.{encoding, encodings}
 use Rattle.words.specs.History.{Pair, Placed, after, keys_of_pairs}
-use Rattle.words.specs.Session.{Mode, Idle, Closed, Turn, Calls, Transcript, line_reply, value_reply}
+use Rattle.words.specs.Session.{Asked, Mode, Idle, Closed, Turn, Calls, Transcript, line_reply, value_reply}
 use Rattle.gates.specs.declared.view.Knowledge.{Knowledge}
+use Rattle.gates.specs.declared.view.Note.{Note}
 use Rattle.streams.specs.declared.observed.Told.{Told}
 use Rattle.streams.specs.declared.observed.Told.TheVariants as told
-use Rattle.transact.specs.Memory.{AsksNoMemory}
+use Rattle.engine.specs.Calls.{IsCause}
 use Rattle.connection.specs.declared.answering.Due.{Due}
 use Rattle.connection.specs.declared.answering.Due.TheVariants as due
 use Rattle.connection.specs.declared.serving.Ended.{Ended}
@@ -23,11 +24,45 @@ use Rattle.connection.specs.declared.answering.Paused.{Paused}
 use Rattle.connection.specs.declared.answering.Paused.TheVariants as paused
 use Rattle.connection.specs.declared.reading.Waiting.{Waiting}
 use Rattle.connection.specs.declared.reading.Waiting.TheVariants as waiting
-use Rattle.connection.specs.Clients.{Progress, IsReady, IsOpen, mode_of, watched_of, turn_at, TakesOff, WantsMemory}
+use Rattle.connection.specs.Clients.{Progress, beginning, IsReady, IsOpen, mode_of, watched_of, turn_at, TakesOff, WantsMemory}
 use Rattle.connection.specs.Conversations.{Went, Leads, Conversation, Answers}
+
+-- What was asked was answered by the line of a fault that had its cause, where a store stood and the pass was told this meanwhile: the store
+-- was asked for what may want memory, or the pass was told last that commits are worn out.
+pub record IsFaulty (asked : Asked) (store : Store) (told : List Note) (reply : Reply) : Type 0 where
+  pub fault : Fault
+  pub says : reply ≡ line_reply (line.Faulty fault)
+  pub stripes : List ℕ
+  pub cause : IsCause fault stripes asked store told
+
+-- a request that asks the store makes its entry, or is answered by the line of a fault that had its cause
+abbrev pub Spares : Turn → Store → List Note → List Placed → Reply → Type 0
+Spares (Calls asked done faulty) store told own reply = own ≡ [] → IsFaulty asked store told reply
+Spares _ store told own reply = Unit {0}
+
+-- the same of the request that was taken off
+abbrev pub Spared : Progress → Store → List Note → List Placed → Progress → Reply → Type 0
+Spared old store told own new reply = (words : List Bytes) × TakesOff old.unread words new.unread × Spares (turn_at old.stage words) store told own reply
+
+-- The next turn of a client whose pass knew the one and then knows the other answered its request with this reply.
+pub record Turned (was now : Knowledge) (old new : Progress) (reply : Reply) : Type 0 where
+  pub own : List Placed
+  pub went : Went was now own
+  pub answers : Answers was.number own was.watched now.watched old new reply
+  pub spared : Spared old (after now.seen) went.told own new reply
+
+-- The next turns of a client, of a pass that knew the one and then knows the other, answered its requests with these replies, in order.
+abbrev pub Turns : (was now : Knowledge) → (old new : Progress) → List Reply → Type 0
+Turns was now old new [] = (now ≡ was) × (new ≡ old)
+Turns was now old new (reply ∷ replies) = (mid : Knowledge) × (at : Progress) × Turned was mid old at reply × Turns mid now at new replies
+
+-- a client that was fed these bytes at once, and has answered none of them
+abbrev pub fed_at_once : Bytes → Progress
+fed_at_once bytes = record beginning { unread = bytes }
 
 -- A connection that read these bytes, of a pass that knew the one and then knows the other: the bytes are the spellings of requests, in
 -- order, and a rest; the requests, the entries that the pass made and the replies are a transcript, which leads the session to this mode.
+-- Each reply is that of a turn, the line of a fault with its cause; after the last turn the pass made no entry.
 pub record Answered (was now : Knowledge) (bytes : Bytes) : Type 0 where
   pub requests : List (List Bytes)
   pub rest : Bytes
@@ -40,12 +75,17 @@ pub record Answered (was now : Knowledge) (bytes : Bytes) : Type 0 where
   pub went : Went was now own
   pub transcript : Transcript was.number Idle [] requests own replies
   pub leads : Leads was.number Idle [] requests own replies mode pairs
+  pub last : Knowledge
+  pub stands : Progress
+  pub turns : Turns was last (fed_at_once bytes) stands replies
+  pub forgets : Went last now []
 
 -- A conversation of a pass that knew the one when it began and knows the other now.
 pub record Conversing (was now : Knowledge) (fed : Bytes) (at : Progress) (said : Bytes) : Type 0 where
   pub own : List Placed
   pub went : Went was now own
   pub conversation : Conversation was.number own now.watched fed at said
+  pub turns : Turns was now (fed_at_once fed) at conversation.replies
 
 -- the line of a protocol fault
 abbrev pub fault_line : ProtocolFault → Bytes
@@ -205,22 +245,6 @@ HasTurned old due.Input new = (stream.front old.unread ≡ stream.Part) × IsOpe
 HasTurned old (due.Malformed fault) new = (stream.front old.unread ≡ stream.Faulty fault) × IsOpen (mode_of old.stage) × (new ≡ old)
 HasTurned old due.Closed new = (mode_of old.stage ≡ Closed) × (new ≡ old)
 HasTurned old due.NoMemory new = WantsMemory old.unread × IsOpen (mode_of old.stage)
-
--- a request that asks the store for what needs no memory there makes its entry, unless commits are worn out
-abbrev pub Spares : Turn → Store → List Placed → Reply → Type 0
-Spares (Calls asked done faulty) store own reply = AsksNoMemory store asked → own ≡ [] → reply ≡ line_reply (line.Faulty fault.CommitsWornOut)
-Spares _ store own reply = Unit {0}
-
--- the same of the request that was taken off
-abbrev pub Spared : Progress → Store → List Placed → Progress → Reply → Type 0
-Spared old store own new reply = (words : List Bytes) × TakesOff old.unread words new.unread × Spares (turn_at old.stage words) store own reply
-
--- The next turn of a client whose pass knew the one and then knows the other answered its request with this reply.
-pub record Turned (was now : Knowledge) (old new : Progress) (reply : Reply) : Type 0 where
-  pub own : List Placed
-  pub went : Went was now own
-  pub answers : Answers was.number own was.watched now.watched old new reply
-  pub spared : Spared old (after now.seen) own new reply
 
 -- what a turn did: it answered the request, or the pass knows what it knew
 abbrev pub IsDue : (was now : Knowledge) → Progress → Due → Progress → Type 0

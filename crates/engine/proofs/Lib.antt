@@ -1,2 +1,3 @@
 pub mod New
 pub mod Calls
+pub mod SizeRows

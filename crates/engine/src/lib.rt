@@ -185,6 +185,8 @@ impl Engine {
         ensures one { (knows first.new).seen ≡ (knows second.new).seen }
         ensures first_learned { Learned (knows first.old) (knows first.new) }
         ensures second_learned { Learned (knows second.old) (knows second.new) }
+        ensures first_told { (knows first.new).notes ≡ (knows first.old).notes }
+        ensures second_told { (knows second.new).notes ≡ (knows second.old).notes }
     {
         self.gates.meet(first, second);
     }

@@ -10,7 +10,7 @@ use gates::{Latch, Open, Point};
 use std::alloc::Global;
 use std::process::Abort;
 use std::sync::Wait;
-use std::sync::atomic::{AtomicBool, Ordering};
+use std::sync::atomic::{AtomicBool, AtomicU64, Ordering};
 use std::test::Fail;
 use std::thread::{Threads, join, sleep};
 use std::time::{Clock, Duration};
@@ -793,6 +793,46 @@ fn two_calls<R: Threads + Wait + Clock + Sync>(rt: &R, alloc: Global) -> Result<
 #[test]
 fn call_two_is_answered_while_call_one_is_held(rt: HostRuntime) -> Result<(), Fail> {
     assert!(rt; two_calls(&rt, rt.alloc())?);
+    Ok(())
+}
+
+/// Remembers where calls were, by a digit each: 1 before, 2 holding, 3 after.
+#[derive(Drop)]
+struct Trail {
+    digits: AtomicU64,
+}
+
+impl Latch for Trail {
+    fn at(&self, _pass: u64, point: Point) {
+        let digit = match point {
+            Point::Before => 1,
+            Point::Holding => 2,
+            Point::After => 3,
+        };
+        let so_far = self.digits.load(Ordering::SeqCst);
+        self.digits.store(
+            so_far.wrapping_mul(10).wrapping_add(digit),
+            Ordering::SeqCst,
+        );
+    }
+}
+
+#[test]
+fn a_latch_is_told_where_each_call_is(rt: HostRuntime) -> Result<(), Fail> {
+    let alloc = rt.alloc();
+    let (engine, mut pass, _other) = with_two(alloc)?;
+    let trail = Trail {
+        digits: AtomicU64::new(0),
+    };
+    let key = Word::from_slice(alloc, b"n")?;
+    let value = Word::from_slice(alloc, b"2")?;
+    let request = "INCR n";
+    let due = ":1";
+    let exchange = Exchange { request, due };
+    assert!(rt; is_due(&rt, alloc, &trail, &engine, &mut pass, exchange));
+    assert!(rt; engine.get(&rt, &mut pass, &key, &trail).is_ok());
+    assert!(rt; engine.set(&rt, &mut pass, &key, value, &trail).is_ok());
+    assert_eq!(rt; trail.digits.load(Ordering::SeqCst), 123_123_123);
     Ok(())
 }
 

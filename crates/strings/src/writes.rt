@@ -172,7 +172,7 @@ fn weight_of(write: &Write) -> usize
 }
 
 /// Whether one of the writes is to the key.
-fn writes_to(writes: &[Write], key: &Word) -> bool
+pub fn writes_to(writes: &[Write], key: &Word) -> bool
     ensures { result ≡ writes_key writes.now key.now }
 {
     for write in writes {

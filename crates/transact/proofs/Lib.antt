@@ -2,6 +2,7 @@ pub mod Watched
 pub mod Shards
 pub mod Stores
 pub mod Become
+pub mod Places
 pub mod Keys
 pub mod Begun
 pub mod Plans

@@ -17,6 +17,12 @@ pub store_changed : (old mid new : Shard) (key : Bytes) (place : Option (Option 
 store_changed old mid new key place same is k =
     ap flat (is k) ∙ flat_cond (bytes_eq key k) place (place_of mid k) ∙ ap (λ p. cond (bytes_eq key k) (flat place) (flat p)) (same k)
 
+-- which places a shard has once a key's place is changed
+pub places_changed : (old mid new : Shard) (key : Bytes) (place : Option (Option Bytes)) → ((k : Bytes) → place_of mid k ≡ place_of old k)
+    → ((k : Bytes) → place_of new k ≡ update bytes_eq (place_of mid) key place k)
+    → (k : Bytes) → place_of new k ≡ update bytes_eq (place_of old) key place k
+places_changed old mid new key place same is k = is k ∙ ap (λ p. cond (bytes_eq key k) place p) (same k)
+
 some_cond : (b : Bool) (value : Option Bytes) (place : Option (Option Bytes)) → IsSome place → IsSome (cond b (Some value) place)
 some_cond true value place some = refl
 some_cond false value place some = some

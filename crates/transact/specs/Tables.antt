@@ -5,7 +5,7 @@ use Rattle.words.specs.History.{History, Pair, after, is_among}
 use Rattle.words.specs.Watches.{Marks, touched, begun, mark_at}
 use Rattle.words.specs.Stripes.{stripe_of, IsPart}
 use Rattle.gates.specs.Rule.{Meaning}
-use Rattle.transact.specs.Shards.{HasPlace}
+use Rattle.transact.specs.Shards.{HasPlace, place_of}
 use Rattle.transact.specs.declared.shard.Shard.{Shard}
 
 -- what becomes of marks: of a key, for a session
@@ -41,11 +41,6 @@ any_marked marks number (key ∷ keys) = unwrap_or (marks key number) false || a
 abbrev pub keys_written : List Write → List Bytes
 keys_written [] = []
 keys_written (write ∷ writes) = write.0 ∷ keys_written writes
-
--- each of the writes is a deletion
-abbrev pub AreDeletions : List Write → Type 0
-AreDeletions [] = Unit {0}
-AreDeletions (write ∷ writes) = (write.1 ≡ None) × AreDeletions writes
 
 -- the values of keys
 abbrev pub values_of : Store → List Bytes → List Write
@@ -104,6 +99,23 @@ module _ {T : Type 0} where
 -- there is a place for the key in its part
 abbrev pub IsReady : ℕ → (ℕ → Option Shard) → Bytes → Type 0
 IsReady n parts key = (part : Shard) × (parts (stripe_of n key) ≡ Some part) × HasPlace part key
+
+-- the place that a part has of a key, where there is the part
+abbrev pub place_in : Bytes → Option Shard → Option (Option Bytes)
+place_in key None = None
+place_in key (Some part) = place_of part key
+
+-- the places that parts have together
+abbrev pub joined_places : ℕ → (ℕ → Option Shard) → Bytes → Option (Option Bytes)
+joined_places n parts key = place_in key (parts (stripe_of n key))
+
+-- a key has a place only where it has a value
+abbrev pub IsTidy : ℕ → (ℕ → Option Shard) → Bytes → Type 0
+IsTidy n parts key = joined_places n parts key ≢ Some None
+
+-- Each key that these write has a place only where it has a value, and so has each other key that had none without.
+abbrev pub AreTidied : ℕ → List Write → (before later : ℕ → Option Shard) → Type 0
+AreTidied n writes before later = (key : Bytes) → (writes_key writes key ≡ false → IsTidy n before key) → IsTidy n later key
 
 -- there is a place for each key that is written
 abbrev pub AreReady : ℕ → (ℕ → Option Shard) → List Write → Type 0

@@ -3,8 +3,10 @@
 ghost use Rattle.std.specs.Prelude.{◌≡◌, ◌≤◌, ℕ, List, [], ◌∷◌, None, IsSome, Some, IfOk, OnOk, OnErr, IsOk, is_none, length, unwrap_or, false};
 ghost use Rattle.words.specs.declared.word.TheConstants.{WORD_INLINE};
 ghost use Rattle.words.specs.Stripes as striping;
+ghost use Rattle.std.specs.Map.{update};
+ghost use Rattle.std.specs.Str.{bytes_eq};
 ghost use Rattle.transact.specs.Shards.{shard_meaning};
-ghost use Rattle.transact.specs.Tables.{Became, IsReady, begins, clears, joined, joined_marks, stays, touches};
+ghost use Rattle.transact.specs.Tables.{Became, IsReady, begins, clears, joined, joined_marks, joined_places, stays, touches};
 
 use crate::shard::Shard;
 use gates::Parts;
@@ -93,6 +95,7 @@ pub(crate) fn write<P: Parts<Shard>>(parts: &mut P, stripes: usize, key: &Word, 
     requires ready { IsReady stripes (P.part_of parts.old) key.now }
     ensures became { Became shard_meaning stripes ((key.now, value) ∷ []) (touches ((key.now, value) ∷ [])) (P.part_of parts.old) (P.part_of parts.new) }
     ensures kept { (k : List ℕ) → IsReady stripes (P.part_of parts.old) k → IsReady stripes (P.part_of parts.new) k }
+    ensures places { (k : List ℕ) → joined_places stripes (P.part_of parts.new) k ≡ update bytes_eq (joined_places stripes (P.part_of parts.old)) key.now (Some value) k }
     ensures open { P.is_open parts.new }
     ensures keeps { P.keeps parts.old parts.new }
 {
@@ -159,6 +162,7 @@ pub(crate) fn delete<P: Parts<Shard>>(parts: &mut P, stripes: usize, key: &Word)
     requires some { 1 ≤ stripes }
     requires there { IsSome (P.part_of parts.old (striping.stripe_of stripes key.now)) }
     ensures became { Became shard_meaning stripes ((key.now, None) ∷ []) (touches ((key.now, None) ∷ [])) (P.part_of parts.old) (P.part_of parts.new) }
+    ensures places { (k : List ℕ) → joined_places stripes (P.part_of parts.new) k ≡ update bytes_eq (joined_places stripes (P.part_of parts.old)) key.now None k }
     ensures open { P.is_open parts.new }
     ensures keeps { P.keeps parts.old parts.new }
 {
@@ -192,6 +196,7 @@ pub(crate) fn clear<P: Parts<Shard>>(parts: &mut P, stripes: usize, seat: u64, k
     requires some { 1 ≤ stripes }
     requires there { IsSome (P.part_of parts.old (striping.stripe_of stripes key.now)) }
     ensures became { Became shard_meaning stripes [] (clears seat (key.now ∷ [])) (P.part_of parts.old) (P.part_of parts.new) }
+    ensures places { (k : List ℕ) → joined_places stripes (P.part_of parts.new) k ≡ joined_places stripes (P.part_of parts.old) k }
     ensures open { P.is_open parts.new }
     ensures keeps { P.keeps parts.old parts.new }
 {

@@ -11,7 +11,7 @@ ghost use Rattle.words.specs.Session.{Asked, operation_of};
 ghost use Rattle.gates.specs.Passes.{AreWatched};
 ghost use Rattle.transact.specs.Shards.{shard_meaning};
 ghost use Rattle.transact.specs.Tables as tables;
-ghost use Rattle.transact.specs.Tables.{AllRead, AreReady, AreThere, Became, HasBegun, Stand, begins, clears, joined, joined_marks, keys_written, stays, touches_and_clears};
+ghost use Rattle.transact.specs.Tables.{AllRead, AreReady, AreThere, AreTidied, Became, HasBegun, Stand, begins, clears, joined, joined_marks, keys_written, stays, touches_and_clears};
 ghost use Rattle.transact.specs.Calls.{asked_of, call_keys};
 ghost use Rattle.transact.specs.Memory.{AllHave, AsksInPlace, IsPlannedInPlace, IsShortOn};
 ghost use Rattle.transact.specs.Submits.{asked_for};
@@ -369,6 +369,7 @@ impl Planned {
         requires ready { AreReady stripes (P.part_of parts.old) self.writes }
         requires there { AreThere stripes (P.part_of parts.old) (keys_ended call.now) }
         ensures became { Became shard_meaning stripes self.writes (touches_and_clears self.writes seat (keys_ended call.now)) (P.part_of parts.old) (P.part_of parts.new) }
+        ensures tidy { AreTidied stripes self.writes (P.part_of parts.old) (P.part_of parts.new) }
         ensures reply { result ≡ self.reply }
         ensures open { P.is_open parts.new }
         ensures keeps { P.keeps parts.old parts.new }

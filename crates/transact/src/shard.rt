@@ -163,6 +163,7 @@ impl Shard {
         ensures value { (k : List ℕ) → shard_store self.new k ≡ update bytes_eq (shard_store self.old) key.now value k }
         ensures marks { (k : List ℕ) (number : ℕ) → shard_marks self.new k number ≡ touched (bytes_eq key.now k) (shard_marks self.old k number) }
         ensures kept { (k : List ℕ) → HasPlace self.old k → HasPlace self.new k }
+        ensures places { (k : List ℕ) → place_of self.new k ≡ update bytes_eq (place_of self.old) key.now (Some value) k }
     {
         self.touch(key); // for a deletion too
         self.replace(key, value);
@@ -172,6 +173,7 @@ impl Shard {
     pub fn delete(&mut self, key: &Word)
         ensures value { (k : List ℕ) → shard_store self.new k ≡ update bytes_eq (shard_store self.old) key.now None k }
         ensures marks { (k : List ℕ) (number : ℕ) → shard_marks self.new k number ≡ touched (bytes_eq key.now k) (shard_marks self.old k number) }
+        ensures places { (k : List ℕ) → place_of self.new k ≡ update bytes_eq (place_of self.old) key.now None k }
     {
         self.touch(key);
         self.remove(key);
@@ -214,7 +216,7 @@ impl Shard {
         ensures ok { OnOk result ((k : List ℕ) (s : ℕ) → shard_marks self.new k s ≡ begun_if (are_these key.now seat k s) (shard_marks self.old k s)) }
         ensures begun { IfOk result (λ begun. begun ≡ is_none (shard_marks self.old key.now seat)) }
         ensures err { OnErr result ((k : List ℕ) (s : ℕ) → shard_marks self.new k s ≡ shard_marks self.old k s) }
-        ensures kept { (k : List ℕ) → HasPlace self.old k → HasPlace self.new k }
+        ensures places { (k : List ℕ) → place_of self.new k ≡ place_of self.old k }
     {
         self.marks.add(key, seat)
     }
@@ -224,7 +226,7 @@ impl Shard {
     pub fn clear(&mut self, key: &Word, seat: u64)
         ensures same { (k : List ℕ) → shard_store self.new k ≡ shard_store self.old k }
         ensures marks { (k : List ℕ) (s : ℕ) → shard_marks self.new k s ≡ cleared (are_these key.now seat k s) (shard_marks self.old k s) }
-        ensures kept { (k : List ℕ) → HasPlace self.old k → HasPlace self.new k }
+        ensures places { (k : List ℕ) → place_of self.new k ≡ place_of self.old k }
     {
         self.marks.clear_key(key, seat)
     }

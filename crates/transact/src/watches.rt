@@ -1,10 +1,10 @@
 //! Watches that begin and end.
 
-ghost use Rattle.std.specs.Prelude.{◌≡◌, ◌≤◌, [], ◌∷◌, ℕ, Option, OnOk, OnErr};
+ghost use Rattle.std.specs.Prelude.{◌≡◌, ◌≤◌, [], ◌∷◌, ℕ, List, Option, OnOk, OnErr};
 ghost use Rattle.transact.specs.declared.shard.Shard.{Shard};
 ghost use Rattle.transact.specs.Plans.{keys_ended};
 ghost use Rattle.transact.specs.Shards.{shard_meaning};
-ghost use Rattle.transact.specs.Tables.{AreThere, Became, HasBegun, begins, clears, stays};
+ghost use Rattle.transact.specs.Tables.{AreThere, Became, HasBegun, begins, clears, joined_places, stays};
 
 use crate::call::{Call, Watching};
 use crate::cells::{begin, clear};
@@ -18,6 +18,7 @@ pub fn forget<P: Parts<Shard>>(parts: &mut P, stripes: usize, seat: u64, watchin
     requires some { 1 ≤ stripes }
     requires there { AreThere stripes (P.part_of parts.old) watching.now }
     ensures became { Became shard_meaning stripes [] (clears seat watching.now) (P.part_of parts.old) (P.part_of parts.new) }
+    ensures places { (k : List ℕ) → joined_places stripes (P.part_of parts.new) k ≡ joined_places stripes (P.part_of parts.old) k }
     ensures open { P.is_open parts.new }
     ensures keeps { P.keeps parts.old parts.new }
 {
@@ -30,6 +31,7 @@ pub(crate) fn end_watches<P: Parts<Shard>>(parts: &mut P, stripes: usize, seat: 
     requires some { 1 ≤ stripes }
     requires there { AreThere stripes (P.part_of parts.old) (keys_ended call.now) }
     ensures became { Became shard_meaning stripes [] (clears seat (keys_ended call.now)) (P.part_of parts.old) (P.part_of parts.new) }
+    ensures places { (k : List ℕ) → joined_places stripes (P.part_of parts.new) k ≡ joined_places stripes (P.part_of parts.old) k }
     ensures open { P.is_open parts.new }
     ensures keeps { P.keeps parts.old parts.new }
 {
@@ -47,6 +49,7 @@ pub(crate) fn clear_all<P: Parts<Shard>>(parts: &mut P, stripes: usize, seat: u6
     requires some { 1 ≤ stripes }
     requires there { AreThere stripes (P.part_of parts.old) keys.now }
     ensures became { Became shard_meaning stripes [] (clears seat keys.now) (P.part_of parts.old) (P.part_of parts.new) }
+    ensures places { (k : List ℕ) → joined_places stripes (P.part_of parts.new) k ≡ joined_places stripes (P.part_of parts.old) k }
     ensures open { P.is_open parts.new }
     ensures keeps { P.keeps parts.old parts.new }
 {

@@ -1,6 +1,7 @@
-use Rattle.std.proofs.Common.{ℕ}
+use Rattle.std.proofs.Common.{ℕ, Some, sym}
 use Rattle.transact.specs.declared.shard.Shard.{Shard}
 use Rattle.transact.proofs.Become.{ready_one}
+use Rattle.transact.proofs.Places.{places_one}
 use Rattle.transact.proofs.cells.write.Goals as goal
 
 pub returns-clause-kept : goal.returns-clause-kept
@@ -10,3 +11,11 @@ returns-clause-kept g c =
     let new : Shard = c.write.new.self in
     ready_one n i (g.P.Parts.part_of c.args.parts.now) (g.P.Parts.part_of (g.P.Parts.with_part c.args.parts.now i new)) c.part.result.now new
     c.part.ensures.value (c.part.ensures.written new) (c.part.ensures.others new) c.write.ensures.kept
+
+pub returns-clause-places : goal.returns-clause-places
+returns-clause-places g c =
+    let n : ℕ = c.args.stripes in
+    let i : ℕ = c.stripe_in-stripe.result in
+    let new : Shard = c.write.new.self in
+    places_one n i (g.P.Parts.part_of c.args.parts.now) (g.P.Parts.part_of (g.P.Parts.with_part c.args.parts.now i new)) c.part.result.now new c.args.key.now (Some c.args.value)
+    c.part.ensures.value (c.part.ensures.written new) (c.part.ensures.others new) (sym c.stripe_in-stripe.ensures) c.write.ensures.places

@@ -1,4 +1,4 @@
-use Rattle.std.proofs.Common.{ℕ, List, [], ◌∷◌, Option, sym, subst, rules}
+use Rattle.std.proofs.Common.{◌∙◌, ℕ, List, [], ◌∷◌, Option, sym, subst, rules}
 use Rattle.words.specs.Store.{Bytes}
 use Rattle.transact.specs.declared.shard.Shard.{Shard}
 use Rattle.transact.specs.Shards.{shard_meaning}
@@ -25,3 +25,6 @@ returns-in-Some-clause-became g t c =
     let d : ℕ → Option Shard = g.P.Parts.part_of c.clear_all.new.parts in
     subst (λ (l : List Bytes). Became shard_meaning n [] (clears own l) a d) (sym c.in-Some.ensures.cases.0)
     (cleared_more shard_meaning n own c.in-Some.key.now c.in-Some.others.now a b d c.clear.ensures.became c.clear_all.ensures.became)
+
+pub returns-in-Some-clause-places : goal.returns-in-Some-clause-places
+returns-in-Some-clause-places g t c = λ k. c.clear_all.ensures.places k ∙ c.clear.ensures.places k

@@ -2,6 +2,7 @@ use Rattle.transact.specs.Shards.{shard_meaning}
 use Rattle.transact.specs.Plans.{keys_ended}
 use Rattle.transact.proofs.Become.{there_after}
 use Rattle.transact.proofs.Begun.{touched_cleared}
+use Rattle.transact.proofs.Places.{tidied_same}
 use Rattle.transact.proofs.plan.Planned.install.Goals as goal
 
 pub end_watches-requires-clause-there : goal.end_watches-requires-clause-there
@@ -12,3 +13,8 @@ pub returns-clause-became : goal.returns-clause-became
 returns-clause-became g c =
     touched_cleared shard_meaning c.args.stripes c.args.seat c.args.self.writes (keys_ended c.args.call.now)
     (g.P.Parts.part_of c.args.parts.now) (g.P.Parts.part_of c.make_writes.new.parts) (g.P.Parts.part_of c.end_watches.new.parts) c.make_writes.ensures.became c.end_watches.ensures.became
+
+pub returns-clause-tidy : goal.returns-clause-tidy
+returns-clause-tidy g c =
+    tidied_same c.args.stripes c.args.self.writes
+    (g.P.Parts.part_of c.args.parts.now) (g.P.Parts.part_of c.make_writes.new.parts) (g.P.Parts.part_of c.end_watches.new.parts) c.end_watches.ensures.places c.make_writes.ensures.tidy
