@@ -20,6 +20,10 @@ module _ {D : Type 0} where
   abbrev pub failed_of : Faulty D → ℕ
   failed_of faulty = faulty.failed
 
+  -- how many writes there were in which the device was not asked
+  abbrev pub refused_of : Faulty D → ℕ
+  refused_of faulty = faulty.refused
+
   -- the next call is one that fails
   abbrev pub fails_next : Faulty D → Bool
   fails_next faulty = list_any (λ (n : ℕ). nat_eq n faulty.calls) faulty.failing.items

@@ -24,3 +24,11 @@ module _ {R : Type 0} where
   -- how many calls of an opening have failed
   abbrev pub failures_of : FileDevice R → ℕ
   failures_of device = device.failures
+
+  -- how often it was asked to write
+  abbrev pub writes_of : FileDevice R → ℕ
+  writes_of device = device.writes
+
+  -- how many receipts it has taken back
+  abbrev pub releases_of : FileDevice R → ℕ
+  releases_of device = device.releases

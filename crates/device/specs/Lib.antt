@@ -1,4 +1,5 @@
-pub mod Failures
+pub mod Counts
+pub mod Free
 pub mod Places
 pub mod Written
 pub mod Files

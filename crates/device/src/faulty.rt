@@ -2,7 +2,7 @@
 
 ghost use Rattle.std.specs.Prelude.{◌≡◌, ◌≢◌, ◌+◌, ◌%◌, ◌^◌, ℕ, IsTrue, IsFalse, IsErr, IfOk, OnOk, OnErr};
 
-use crate::failures::FailureCount;
+use crate::counts::CallCount;
 use crate::{Device, DeviceFault};
 use epoch::{Drained, Retired};
 use records::Page;
@@ -15,11 +15,12 @@ pub struct Faulty<D: Drop> {
     device: D,
     failing: Vec<u64>,
     calls: u64,
-    failed: FailureCount,
+    failed: CallCount,
+    refused: CallCount,
 }
 
 impl<D: Device> Faulty<D> {
-    ghost use Rattle.device.specs.Faults.{device_of, calls_of, failing_of, failed_of, fails_next};
+    ghost use Rattle.device.specs.Faults.{device_of, calls_of, failing_of, failed_of, refused_of, fails_next};
 
     /// An opening that fails the calls with these numbers.
     pub fn new(device: D, failing: Vec<u64>) -> Faulty<D>
@@ -27,12 +28,14 @@ impl<D: Device> Faulty<D> {
         ensures failing { failing_of result ≡ failing.items }
         ensures calls { calls_of result ≡ 0 }
         ensures failed { failed_of result ≡ 0 }
+        ensures refused { refused_of result ≡ 0 }
     {
         Faulty {
             device,
             failing,
             calls: 0,
-            failed: FailureCount::new(),
+            failed: CallCount::new(),
+            refused: CallCount::new(),
         }
     }
 
@@ -51,6 +54,7 @@ impl<D: Device> Faulty<D> {
         ensures device { device_of self.new ≡ device_of self.old }
         ensures failed { IsFalse result → failed_of self.new ≡ failed_of self.old }
         ensures counted { IsTrue result → failed_of self.new ≡ failed_of self.old + 1 }
+        ensures refused { refused_of self.new ≡ refused_of self.old }
     {
         let fails = self.failing.as_slice().contains(&self.calls);
         self.calls = self.calls.wrapping_add(1);
@@ -62,12 +66,16 @@ impl<D: Device> Faulty<D> {
 }
 
 impl<D: Device> Device for Faulty<D> {
-    ghost use Rattle.device.specs.Faults.{device_of, calls_of, failing_of, failed_of, fails_next};
+    ghost use Rattle.device.specs.Faults.{device_of, calls_of, failing_of, failed_of, refused_of, fails_next};
     ghost use Rattle.epoch.specs.Seats.{drained_epoch, retired_epoch, retired_value};
 
     type Receipt = D::Receipt;
 
     ghost failures = { λ f. D.failures f.device + f.failed };
+
+    ghost writes = { λ f. D.writes f.device + f.refused };
+
+    ghost releases = { λ f. D.releases f.device };
 
     ghost serves = { λ f r. D.serves f.device r };
 
@@ -90,8 +98,12 @@ impl<D: Device> Device for Faulty<D> {
         ensures asked { IsFalse (fails_next self.old) → OnErr result (D.failures (device_of self.new) ≡ D.failures (device_of self.old) + 1) }
         ensures calls { calls_of self.new ≡ (calls_of self.old + 1) % 2 ^ 64 }
         ensures failing { failing_of self.new ≡ failing_of self.old }
+        ensures counted { D.writes (device_of self.new) + refused_of self.new ≡ D.writes (device_of self.old) + refused_of self.old + 1 }
+        ensures asked_once { IsFalse (fails_next self.old) → D.writes (device_of self.new) ≡ D.writes (device_of self.old) + 1 }
+        ensures no_release { D.releases (device_of self.new) ≡ D.releases (device_of self.old) }
     {
         if self.next_fails() {
+            self.refused.note();
             return Err(DeviceFault);
         }
         self.device.write(page)
@@ -107,6 +119,8 @@ impl<D: Device> Device for Faulty<D> {
         ensures asked { IsFalse (fails_next self.old) → OnErr result (D.failures (device_of self.new) ≡ D.failures (device_of self.old) + 1) }
         ensures calls { calls_of self.new ≡ (calls_of self.old + 1) % 2 ^ 64 }
         ensures failing { failing_of self.new ≡ failing_of self.old }
+        ensures no_write { D.writes (device_of self.new) + refused_of self.new ≡ D.writes (device_of self.old) + refused_of self.old }
+        ensures no_release { D.releases (device_of self.new) ≡ D.releases (device_of self.old) }
     {
         if self.next_fails() {
             return Err(DeviceFault);
@@ -122,6 +136,8 @@ impl<D: Device> Device for Faulty<D> {
         ensures no_failure { D.failures (device_of self.new) + failed_of self.new ≡ D.failures (device_of self.old) + failed_of self.old }
         ensures calls { calls_of self.new ≡ calls_of self.old }
         ensures failing { failing_of self.new ≡ failing_of self.old }
+        ensures no_write { D.writes (device_of self.new) + refused_of self.new ≡ D.writes (device_of self.old) + refused_of self.old }
+        ensures counted { D.releases (device_of self.new) ≡ D.releases (device_of self.old) + 1 }
     {
         self.device.release(retired, drained);
     }

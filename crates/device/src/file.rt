@@ -5,7 +5,7 @@ ghost use Rattle.records.specs.Page.{number_of};
 ghost use Rattle.device.specs.Written.{page_of};
 ghost use Rattle.device.specs.declared.places.TheConstants.{MAX_PLACES};
 
-use crate::failures::FailureCount;
+use crate::counts::CallCount;
 use crate::places::{MAX_PLACES, Places};
 use crate::{Device, DeviceFault, Shows};
 use epoch::{Drained, Retired};
@@ -111,11 +111,13 @@ pub struct FileDevice<'a, R: Wait> {
     rt: &'a R,
     file: File,
     places: Arc<Mutex<Places>>,
-    failures: FailureCount,
+    failures: CallCount,
+    writes: CallCount,
+    releases: CallCount,
 }
 
 impl<'a, R: Wait> FileDevice<'a, R> {
-    ghost use Rattle.device.specs.Files.{failures_of};
+    ghost use Rattle.device.specs.Files.{failures_of, writes_of, releases_of};
 
     /// Creates the file at a path, or empties it, and gives `n` openings of it, which have not failed.
     ///
@@ -171,7 +173,9 @@ impl<'a, R: Wait> FileDevice<'a, R> {
                 rt,
                 file,
                 places,
-                failures: FailureCount::new(),
+                failures: CallCount::new(),
+                writes: CallCount::new(),
+                releases: CallCount::new(),
             }),
             Err(_) => Err(OpenFault::CannotOpen),
         }
@@ -179,7 +183,9 @@ impl<'a, R: Wait> FileDevice<'a, R> {
 
     // Counts a failure.
     fn fault(&mut self) -> DeviceFault
-        ensures { failures_of self.new ≡ failures_of self.old + 1 }
+        ensures counted { failures_of self.new ≡ failures_of self.old + 1 }
+        ensures no_write { writes_of self.new ≡ writes_of self.old }
+        ensures no_release { releases_of self.new ≡ releases_of self.old }
     {
         self.failures.note();
         DeviceFault
@@ -216,12 +222,16 @@ fn offset(place: u32) -> u64
 }
 
 impl<'a, R: Wait> Device for FileDevice<'a, R> {
-    ghost use Rattle.device.specs.Files.{IsServed, failures_of, page_shown, receipt_number};
+    ghost use Rattle.device.specs.Files.{IsServed, failures_of, writes_of, releases_of, page_shown, receipt_number};
     ghost use Rattle.epoch.specs.Seats.{drained_epoch, retired_epoch};
 
     type Receipt = FileReceipt;
 
     ghost failures = { λ d. d.failures };
+
+    ghost writes = { λ d. d.writes };
+
+    ghost releases = { λ d. d.releases };
 
     ghost serves = { λ d r. IsServed };
 
@@ -234,6 +244,7 @@ impl<'a, R: Wait> Device for FileDevice<'a, R> {
     ghost steady = { λ s d r. absurd s };
 
     fn write(&mut self, page: &Page) -> Result<FileReceipt, DeviceFault> {
+        self.writes.note();
         match self.put(page) {
             Some(place) => Ok(FileReceipt {
                 place,
@@ -250,6 +261,8 @@ impl<'a, R: Wait> Device for FileDevice<'a, R> {
         ensures page { IsServed → OnOk result (page.new ≡ page_shown receipt.now) }
         ensures failure { OnErr result (failures_of self.new ≡ failures_of self.old + 1) }
         ensures no_failure { OnOk result (failures_of self.new ≡ failures_of self.old) }
+        ensures no_write { writes_of self.new ≡ writes_of self.old }
+        ensures no_release { releases_of self.new ≡ releases_of self.old }
     {
         let read = self
             .file
@@ -264,7 +277,10 @@ impl<'a, R: Wait> Device for FileDevice<'a, R> {
     fn release(&mut self, retired: Retired<FileReceipt>, drained: &Drained)
         requires own_epoch { retired_epoch retired ≡ drained_epoch drained.now }
         ensures no_failure { failures_of self.new ≡ failures_of self.old }
+        ensures no_write { writes_of self.new ≡ writes_of self.old }
+        ensures counted { releases_of self.new ≡ releases_of self.old + 1 }
     {
+        self.releases.note();
         let receipt = retired.into_value(drained);
         self.places.lock(self.rt).give_back(receipt.place);
     }

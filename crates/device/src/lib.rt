@@ -24,14 +24,14 @@ use std::alloc::AllocError;
 use std::error::Error;
 use std::fmt;
 
-mod failures;
+mod counts;
 mod faulty;
 mod file;
 mod memory;
 mod places;
 mod releasable;
 
-pub use failures::FailureCount;
+pub use counts::CallCount;
 pub use faulty::Faulty;
 pub use file::{FileDevice, FileReceipt, OpenFault};
 pub use memory::{MemoryDevice, MemoryReceipt};
@@ -82,7 +82,8 @@ pub trait Shows: Drop {
 /// One opening of a device.
 ///
 /// It counts the calls that failed: a call answers `DeviceFault` exactly where the count grows by one
-/// in it, and else the count stays.
+/// in it, and else the count stays. It counts its writes and its releases too, whatever they answer, so
+/// that a caller can say how often it asked the device.
 pub trait Device: Drop {
     ghost use Rattle.epoch.specs.Seats.{drained_epoch, retired_epoch, retired_value};
 
@@ -91,6 +92,12 @@ pub trait Device: Drop {
 
     // How many calls of this opening have failed.
     ghost failures: { Self → ℕ };
+
+    // How often this opening was asked to write.
+    ghost writes: { Self → ℕ };
+
+    // How many receipts this opening has taken back.
+    ghost releases: { Self → ℕ };
 
     // The device, as it is, gives for this receipt the page that it shows.
     ghost serves: { Self → Self.Receipt → Type 0 };
@@ -105,7 +112,9 @@ pub trait Device: Drop {
         ensures still_served { (r : Self.Receipt) → serves self.old r → serves self.new r }
 
         ensures failure { OnErr result (failures self.new ≡ failures self.old + 1) }
-        ensures no_failure { OnOk result (failures self.new ≡ failures self.old) };
+        ensures no_failure { OnOk result (failures self.new ≡ failures self.old) }
+        ensures counted { writes self.new ≡ writes self.old + 1 }
+        ensures no_release { releases self.new ≡ releases self.old };
 
     /// Reads the page that a receipt shows into `page`. After an `Err`, and where the device does not
     /// serve the receipt, `page` may have any bytes.
@@ -114,7 +123,9 @@ pub trait Device: Drop {
         ensures still_served { (r : Self.Receipt) → serves self.old r → serves self.new r }
 
         ensures failure { OnErr result (failures self.new ≡ failures self.old + 1) }
-        ensures no_failure { OnOk result (failures self.new ≡ failures self.old) };
+        ensures no_failure { OnOk result (failures self.new ≡ failures self.old) }
+        ensures no_write { writes self.new ≡ writes self.old }
+        ensures no_release { releases self.new ≡ releases self.old };
 
     /// Takes back a receipt that nobody reads by any more: its own epoch is drained. Its place may be
     /// used anew, and all receipts but it and its copies stay served.
@@ -123,7 +134,9 @@ pub trait Device: Drop {
         ensures still_served { (r : Self.Receipt) → Self.Receipt.identity r ≢ Self.Receipt.identity (retired_value retired)
             → serves self.old r → serves self.new r }
 
-        ensures no_failure { failures self.new ≡ failures self.old };
+        ensures no_failure { failures self.new ≡ failures self.old }
+        ensures no_write { writes self.new ≡ writes self.old }
+        ensures counted { releases self.new ≡ releases self.old + 1 };
 
     // A copy is served where the receipt is.
     ghost copies: { (d : Self) (r s : Self.Receipt) → Self.Receipt.identity r ≡ Self.Receipt.identity s

@@ -2,7 +2,7 @@
 
 ghost use Rattle.std.specs.Prelude.{◌≡◌, ℕ, IfOk, IsOk, replicate};
 
-use crate::failures::FailureCount;
+use crate::counts::CallCount;
 use crate::{Device, DeviceFault, Shows};
 use epoch::{Drained, Retired};
 use records::Page;
@@ -48,33 +48,39 @@ impl Shows for MemoryReceipt {
 
 /// One opening of a device that keeps its pages in memory. It is steady, and each opening reads every
 /// receipt, without a lock: a receipt holds its page, which is freed with its last copy. To a contract
-/// an opening is the number of its failures.
+/// an opening is the numbers of its calls.
 ///
 /// A write takes memory for one page, 16,384 bytes, and fails where it finds none.
 #[derive(Drop)]
 pub struct MemoryDevice {
     alloc: Global,
-    failures: FailureCount,
+    failures: CallCount,
+    writes: CallCount,
+    releases: CallCount,
 }
 
 impl Model for MemoryDevice {
-    ghost use Rattle.std.specs.Prelude.{ℕ};
+    ghost use Rattle.device.specs.Counts.{Calls};
 
-    ghost Value = { ℕ };
+    ghost Value = { Calls };
 
-    ghost view = { λ d. d.failures };
+    ghost view = { λ d. record { failures = d.failures; writes = d.writes; releases = d.releases } };
 }
 
 impl MemoryDevice {
-    /// `n` openings of one device, which have not failed.
+    ghost use Rattle.device.specs.Counts.{no_calls};
+
+    /// `n` openings of one device, which were not called yet.
     pub fn openings(alloc: Global, n: usize) -> Result<Vec<MemoryDevice>, AllocError>
-        ensures { IfOk result (λ v. v.items ≡ replicate n 0) }
+        ensures { IfOk result (λ v. v.items ≡ replicate n no_calls) }
     {
         let mut openings = Vec::with_capacity(alloc, n)?;
         for _ in 0..n {
             openings.push(MemoryDevice {
                 alloc,
-                failures: FailureCount::new(),
+                failures: CallCount::new(),
+                writes: CallCount::new(),
+                releases: CallCount::new(),
             })?;
         }
         Ok(openings)
@@ -82,11 +88,16 @@ impl MemoryDevice {
 }
 
 impl Device for MemoryDevice {
+    ghost use Rattle.device.specs.Counts.{released};
     ghost use Rattle.epoch.specs.Seats.{drained_epoch, retired_epoch};
 
     type Receipt = MemoryReceipt;
 
-    ghost failures = { λ d. d };
+    ghost failures = { λ d. d.failures };
+
+    ghost writes = { λ d. d.writes };
+
+    ghost releases = { λ d. d.releases };
 
     ghost serves = { λ d r. Unit {0} };
 
@@ -99,6 +110,7 @@ impl Device for MemoryDevice {
     ghost steady = { λ s d r. tt };
 
     fn write(&mut self, page: &Page) -> Result<MemoryReceipt, DeviceFault> {
+        self.writes.note();
         let mut copy = Page::new(0);
         copy.copy_from(page);
         match Arc::new(self.alloc, copy) {
@@ -123,8 +135,9 @@ impl Device for MemoryDevice {
     /// Frees the page with the last copy of its receipt.
     fn release(&mut self, retired: Retired<MemoryReceipt>, drained: &Drained)
         requires own_epoch { retired_epoch retired ≡ drained_epoch drained.now }
-        ensures unchanged { self.new ≡ self.old }
+        ensures counted { self.new ≡ released self.old }
     {
+        self.releases.note();
         drop(retired.into_value(drained));
     }
 }

@@ -1,7 +1,8 @@
 // The places of a file.
 
-ghost use Rattle.std.specs.Prelude.{◌≡◌, ◌≢◌, ◌<◌, ◌≤◌, ℕ, [], vec_len, vec_capacity, IfOk, IfSome, IfNone};
+ghost use Rattle.std.specs.Prelude.{◌≡◌, ◌≢◌, ◌<◌, ◌≤◌, ◌↔◌, ℕ, [], slice_get, vec_len, vec_capacity, IfOk, IfSome, IfNone, IsTrue};
 ghost use Rattle.device.specs.declared.places.TheConstants.{MAX_PLACES};
+ghost use Rattle.device.specs.Free.{times, spare, free_places};
 
 use std::alloc::{AllocError, Global};
 use std::sync::{Arc, Mutex};
@@ -14,8 +15,8 @@ pub const MAX_PLACES: usize = 64 * 65_536;
 pub(crate) enum Place {
     /// A page lies there, or is being written.
     Taken,
-    /// Nothing. It comes with the place that was released before it and is free too.
-    Free(Option<u32>),
+    /// Nothing.
+    Free,
 }
 
 /// The places of a file, by number. Those released are used again, the last one first, before the file
@@ -23,14 +24,19 @@ pub(crate) enum Place {
 #[derive(Drop)]
 pub(crate) struct Places {
     places: Vec<Place>,
-    /// The free place that was released last.
-    released: Option<u32>,
+    /// The places that are free, the one that was released last at the end.
+    free: Vec<u32>,
     ghost room: { MAX_PLACES ≤ vec_capacity places },
+    ghost free_room: { MAX_PLACES ≤ vec_capacity free },
     ghost most: { vec_len places ≤ MAX_PLACES },
+    // Each place that is free stands in the list once, and no other place stands there.
+    ghost listed: { (place : ℕ) → times place free.items ≡ spare (slice_get places.items place) },
+    // So the list is as long as there are free places.
+    ghost counted: { vec_len free ≡ free_places places.items },
 }
 
 impl Places {
-    ghost use Rattle.device.specs.Places.{IsTaken, count_of, StaySame};
+    ghost use Rattle.device.specs.Places.{IsTaken, AreAllTaken, count_of, StaySame};
 
     /// No place is taken.
     pub(crate) fn new(alloc: Global) -> Result<Places, AllocError>
@@ -38,7 +44,7 @@ impl Places {
     {
         Ok(Places {
             places: Vec::with_capacity(alloc, MAX_PLACES)?,
-            released: None,
+            free: Vec::with_capacity(alloc, MAX_PLACES)?,
         })
     }
 
@@ -51,22 +57,23 @@ impl Places {
         }
     }
 
-    /// Takes a place that is free.
+    /// Takes a place that is free. One behind all others is taken only where no other is free.
     pub(crate) fn take(&mut self) -> Option<u32>
         ensures was_free { IfSome result (λ place. ¬ IsTaken self.old place) }
         ensures taken { IfSome result (λ place. IsTaken self.new place) }
         ensures others { IfSome result (λ place. StaySame place self.old self.new) }
         ensures number { IfSome result (λ place. place < MAX_PLACES) }
+        ensures again { IfSome result (λ place. count_of self.old ≤ place → AreAllTaken self.old) }
         ensures full { IfNone result (count_of self.old ≡ MAX_PLACES) }
+        ensures none_free { IfNone result (AreAllTaken self.old) }
     {
-        if let Some(place) = self.released {
-            if let Some(&Place::Free(earlier)) = self.places.get(place as usize) {
+        match self.free.pop() {
+            Some(place) => {
                 self.places[place as usize] = Place::Taken;
-                self.released = earlier;
-                return Some(place);
+                Some(place)
             }
+            None => self.grow(),
         }
-        self.grow()
     }
 
     // Takes a place behind all others.
@@ -85,14 +92,21 @@ impl Places {
         Some(place as u32)
     }
 
+    // Whether a page lies at a place.
+    fn is_taken(&self, place: u32) -> bool
+        ensures { IsTrue result ↔ IsTaken self.now place }
+    {
+        self.places.get(place as usize) == Some(&Place::Taken)
+    }
+
     /// Makes a place free. One that is free stays so.
     pub(crate) fn give_back(&mut self, place: u32)
         ensures free { ¬ IsTaken self.new place }
         ensures others { StaySame place self.old self.new }
     {
-        if self.places.get(place as usize) == Some(&Place::Taken) {
-            self.places[place as usize] = Place::Free(self.released);
-            self.released = Some(place);
+        if self.is_taken(place) {
+            self.places[place as usize] = Place::Free;
+            self.free.push_reserved(place);
         }
     }
 }

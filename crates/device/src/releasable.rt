@@ -1,6 +1,6 @@
 // A receipt with its epoch drained.
 
-ghost use Rattle.std.specs.Prelude.{◌≡◌, ◌≢◌, IfOk, IfErr, OnErr};
+ghost use Rattle.std.specs.Prelude.{◌≡◌, ◌≢◌, ◌+◌, IfOk, IfErr, OnErr};
 ghost use Rattle.epoch.specs.Seats.{IsOutside, WasBlocked, HasScanned, known, drained_epoch, retired_epoch, retired_value};
 
 use crate::{Device, Shows};
@@ -50,6 +50,8 @@ impl<R: Shows> Releasable<R> {
             → D.serves device.old r → D.serves device.new r }
 
         ensures no_failure { D.failures device.new ≡ D.failures device.old }
+        ensures no_write { D.writes device.new ≡ D.writes device.old }
+        ensures counted { D.releases device.new ≡ D.releases device.old + 1 }
     {
         let Releasable { retired, drained } = self;
         device.release(retired, &drained);

@@ -1,6 +1,6 @@
 // Each call failing in turn, through a device that fails on demand.
 
-use crate::file::{length_of, numbers_after_releases, opened};
+use crate::file::{Released, length_of, numbers_after_releases, opened};
 use device::{Device, DeviceFault, Faulty, MemoryDevice};
 use records::Page;
 use std::alloc::Global;
@@ -73,17 +73,21 @@ fn numbers_through<R: Wait + Files<File = File>>(
     rt: &R,
     alloc: Global,
     path: &str,
+    released: Released,
 ) -> Option<[Option<u64>; 3]> {
     let device = opened(rt, alloc, path)?;
     let mut device = Faulty::new(device, Vec::new(alloc));
-    numbers_after_releases(alloc, &mut device)
+    numbers_after_releases(alloc, &mut device, released)
 }
 
 #[test]
 fn a_release_comes_to_the_device_below(rt: HostRuntime) {
     let path = "faulty_released.pages";
-    let numbers = numbers_through(&rt, rt.alloc(), path);
+    let numbers = numbers_through(&rt, rt.alloc(), path, Released::First);
     assert!(rt; numbers == Some([Some(1), Some(2), Some(3)]));
+    assert!(rt; length_of(&rt, path) == Some(3 * 16_384));
+    let numbers = numbers_through(&rt, rt.alloc(), path, Released::Second);
+    assert!(rt; numbers == Some([Some(0), Some(2), Some(3)]));
     assert!(rt; length_of(&rt, path) == Some(3 * 16_384));
     assert!(rt; fs::remove_file(&rt, path).is_ok());
 }

@@ -77,7 +77,9 @@ fn an_opening_reads_what_another_wrote(rt: HostRuntime) {
 fn epochs(alloc: Global) -> Option<(Epochs, EpochSeat)>
     ensures { IfSome result (λ made. IsOutside made.0 made.1) }
 {
-    let (epochs, mut seats) = Epochs::new(alloc, 1).ok()?;
+    let Ok((epochs, mut seats)) = Epochs::new(alloc, 1) else {
+        return None;
+    };
     let seat = seats.pop()?;
     Some((epochs, seat))
 }
@@ -98,20 +100,48 @@ fn release<D: Device>(
     Some(())
 }
 
-// Writes two pages, and releases the first by its receipt and by a copy. Gives the second's receipt.
+// Releases a page twice: by a copy of its receipt, and by the receipt.
 fn release_twice<D: Device>(
+    epochs: &Epochs,
+    seat: &mut EpochSeat,
+    device: &mut D,
+    receipt: D::Receipt,
+) -> Option<()>
+    requires { IsOutside epochs.now seat.old }
+{
+    let copy = receipt.again().ok()?;
+    release(epochs, seat, device, copy)?;
+    release(epochs, seat, device, receipt)
+}
+
+// Which of two pages is released.
+#[derive(Clone, Copy)]
+pub(crate) enum Released {
+    First,
+    Second,
+}
+
+// Writes pages 0 and 1, and releases one of them twice. Gives the other's receipt.
+fn written_and_released<D: Device>(
     device: &mut D,
     epochs: &Epochs,
     seat: &mut EpochSeat,
+    released: Released,
 ) -> Option<D::Receipt>
     requires { IsOutside epochs.now seat.old }
 {
     let first = device.write(&Page::new(0)).ok()?;
     let second = device.write(&Page::new(1)).ok()?;
-    let copy = first.again().ok()?;
-    release(epochs, seat, device, copy);
-    release(epochs, seat, device, first);
-    Some(second)
+    match released {
+        Released::First => {
+            release_twice(epochs, seat, device, first)?;
+            Some(second)
+        }
+        Released::Second => {
+            release_twice(epochs, seat, device, second)?;
+            Some(first)
+        }
+    }
 }
 
 // The numbers of the pages that are read after two more writes: by a receipt from before, and by theirs.
@@ -125,13 +155,14 @@ fn numbers_after<D: Device>(device: &mut D, before: &D::Receipt) -> Option<[Opti
     ])
 }
 
-// The same, where a place was released twice.
+// The same, where one of the two pages from before was released twice.
 pub(crate) fn numbers_after_releases<D: Device>(
     alloc: Global,
     device: &mut D,
+    released: Released,
 ) -> Option<[Option<u64>; 3]> {
     let (epochs, mut seat) = epochs(alloc)?;
-    let kept = release_twice(device, &epochs, &mut seat)?;
+    let kept = written_and_released(device, &epochs, &mut seat, released)?;
     numbers_after(device, &kept)
 }
 
@@ -140,16 +171,26 @@ fn numbers_in_file<R: Wait + Files<File = File>>(
     rt: &R,
     alloc: Global,
     path: &str,
+    released: Released,
 ) -> Option<[Option<u64>; 3]> {
     let mut device = opened(rt, alloc, path)?;
-    numbers_after_releases(alloc, &mut device)
+    numbers_after_releases(alloc, &mut device, released)
 }
 
 #[test]
 fn a_released_place_is_used_again(rt: HostRuntime) {
     let path = "released.pages";
-    let numbers = numbers_in_file(&rt, rt.alloc(), path);
+    let numbers = numbers_in_file(&rt, rt.alloc(), path, Released::First);
     assert!(rt; numbers == Some([Some(1), Some(2), Some(3)]));
+    assert!(rt; length_of(&rt, path) == Some(3 * SIZE));
+    assert!(rt; fs::remove_file(&rt, path).is_ok());
+}
+
+#[test]
+fn the_place_that_was_released_is_used_again(rt: HostRuntime) {
+    let path = "second_released.pages";
+    let numbers = numbers_in_file(&rt, rt.alloc(), path, Released::Second);
+    assert!(rt; numbers == Some([Some(0), Some(2), Some(3)]));
     assert!(rt; length_of(&rt, path) == Some(3 * SIZE));
     assert!(rt; fs::remove_file(&rt, path).is_ok());
 }

@@ -23,6 +23,7 @@ fn write_and_read<D: Device>(
     ensures honest { D.Receipt.is_honest → OnOk result (seen.new ≡ page.now) }
     ensures steady { D.is_steady → OnOk result (seen.new ≡ page.now) }
     ensures fault { IsErrOf result Trouble.Device → D.failures device.old < D.failures device.new }
+    ensures once { D.writes device.new ≡ D.writes device.old + 1 }
 {
     let Ok(receipt) = device.write(page) else {
         return Err(Trouble::Device);

@@ -1,5 +1,6 @@
 -- Each step keeps the rule.
-use Rattle.std.proofs.Common.{◌≡◌, ◌≢◌, ℕ, zero, suc, ◌+◌, ◌-◌, ◌%◌, ◌^◌, ◌<◌, ◌≤◌, ◌⊎◌, Bool, true, false, List, [], ◌∷◌, ◌++◌, cond, min, nat_lt, length, get_or, set, slice_index, slice_set, MatchBool, sym, refl, ap, subst, ◌∙◌, arith, eq-eqb, ne_eqb, inl, inr, ⊎_elim, length-set, get_or-set_other, get_or-set_same, lt-ltb, le-ltb, mod-eq_of_lt}
+use Rattle.std.proofs.Common.{◌≡◌, ◌≢◌, ℕ, zero, suc, ◌+◌, ◌-◌, ◌%◌, ◌^◌, ◌<◌, ◌≤◌, ◌⊎◌, Bool, true, false, List, [], ◌∷◌, ◌++◌, cond, min, nat_eq, nat_lt, length, get_or, set, replicate, slice_index, slice_set, MatchBool, sym, refl, ap, subst, ◌∙◌, arith, eq-eqb, ne_eqb, inl, inr, ⊎_elim, length-set, get_or-set_other, get_or-set_same, lt-ltb, le-ltb, mod-eq_of_lt}
+use Rattle.std.proofs.lemmas.List.{length-replicate}
 use Rattle.std.proofs.lemmas.Bool.{cases_lt, true≢false, false≢true}
 use mathlib.Core.Logic.{dite}
 use mathlib.Core.Option.{Option, none, some, some-injective, some-ne-none}
@@ -9,7 +10,7 @@ use Rattle.atomic_table.specs.Table.{State, Me, step, keeps, Allows, Splits, Joi
 use Rattle.epoch.specs.declared.view.View.{View}
 use Rattle.epoch.specs.declared.view.Note.TheVariants.{Worn}
 use Rattle.epoch.specs.Clear.{Clear}
-use Rattle.epoch.specs.Rule.{epoch_word, word_of, StayAt, ClearBelow, Stands, armed_by, count_of, total, AreBelow, FitsView, Ruled}
+use Rattle.epoch.specs.Rule.{epoch_word, word_of, StayAt, ClearBelow, Stands, armed_by, count_of, advances_of, total, AreBelow, FitsView, Ruled}
 use Rattle.epoch.specs.Plays.{standing, unmet, token, learning, setting, validating, noting, advancing, beginning, least, passing, Validates, Arms, Advances, Begins, Passes, Compares}
 use Rattle.epoch.proofs.Lists.{at_set, each_set, at_snoc, set_else, total-append, total-set, total-below, total-less}
 
@@ -38,6 +39,10 @@ word_stays words i x = let apart : word_of i ≢ epoch_word = (λ e. omega arith
 bool_one : (b : Bool) → cond b 1 0 ≤ 1
 bool_one true = omega arith
 bool_one false = omega arith
+
+none_yet : (b : Bool) → ◌≡◌ {A = ℕ} (cond b 0 0) 0
+none_yet true = refl
+none_yet false = refl
 
 below_on : (a b : ℕ) (xs : List ℕ) → a ≤ b → AreBelow a xs → AreBelow b xs
 below_on a b [] le all = tt
@@ -82,6 +87,13 @@ module _ {S : Type 0} (seats : ℕ) (s : State S View) (ruled : Ruled seats s) (
       (λ t. (v, ap (get_elem? s.views) t.0 ∙ at, ap (λ (x : View). x.first) (sym t.1) ∙ first, ap (λ (x : View). x.count) (sym t.1) ∙ count))
       (λ t. (a, t.1, refl, refl)) (at_set s.views id i w a there)
 
+  -- a step that advances nothing leaves the number of advances
+  same_advances : (w : View) → w.count ≡ v.count → w.advanced ≡ v.advanced → epoch_in s.words ≡ 1 + total advances_of (set s.views id w)
+  same_advances w count advanced =
+      let same : advances_of w ≡ advances_of v =
+      ap (λ (n : ℕ). cond (nat_eq n 0) 0 (length w.advanced)) count ∙ ap (λ (l : List ℕ). cond (nat_eq v.count 0) 0 (length l)) advanced in
+      omega (arith, same, total-set advances_of s.views id v w at, ruled.counted)
+
   -- One step of the seat. It changes no other seat's word, and the epoch only grows.
   moves : (words : List ℕ) (homes : List (Option S)) (w : View) → length words ≡ length s.words → epoch_in s.words ≤ epoch_in words
       → ((number : ℕ) → number < seats → (Stands v number → ⊥) → slice_index words (word_of number) ≡ slice_index s.words (word_of number))
@@ -89,9 +101,10 @@ module _ {S : Type 0} (seats : ℕ) (s : State S View) (ruled : Ruled seats s) (
       → w.first ≡ v.first → w.count ≡ v.count
       → (w.valid ≡ true → ((v.valid ≡ true) × (w.own ≡ v.own)) ⊎ ((v.count ≡ 1) × (epoch_in s.words ≡ w.own)))
       → armed_by w ≤ w.count → epoch_in words + total armed_by (set s.views id w) ≤ 2 ^ 62 + seats → AreBelow (epoch_in words) w.advanced
+      → epoch_in words ≡ 1 + total advances_of (set s.views id w)
       → ClearBelow (epoch_in words) w.bound w.passed (set s.views id w)
       → Ruled {S = S} seats record { words = words; homes = homes; views = set s.views id w }
-  moves words homes w same_size grows others own first count stays ready room past scan =
+  moves words homes w same_size grows others own first count stays ready room past counted scan =
       let f = mine in
       let stays' : w.valid ≡ true → ((v.valid ≡ true) × (w.own ≡ v.own)) ⊎ (epoch_in s.words ≡ w.own) = (λ e. ⊎_elim (λ t. inl t) (λ t. inr t.1) (stays e)) in
       let each : (seat : ℕ) (u : View) → get_elem? (set s.views id w) seat ≡ some u → FitsView seats words (set s.views id w) u =
@@ -103,7 +116,7 @@ module _ {S : Type 0} (seats : ℕ) (s : State S View) (ruled : Ruled seats s) (
             let t = f.word number st in (t.0, own number t.0 st);
         stay = λ e. ⊎_elim
             (λ t. let r = f.stay t.0 in (count ∙ r.0, omega (arith, r.1, t.1), omega (arith, r.2, t.1)))
-            (λ t. (count ∙ t.0, omega (arith, ruled.begun, t.1), omega (arith, t.1))) (stays e);
+            (λ t. (count ∙ t.0, omega (arith, ruled.counted, t.1), omega (arith, t.1))) (stays e);
         past = past;
         scan = scan;
       }
@@ -122,7 +135,7 @@ module _ {S : Type 0} (seats : ℕ) (s : State S View) (ruled : Ruled seats s) (
       record {
         wide = same_size ∙ ruled.wide;
         few = ruled.few;
-        begun = omega (arith, ruled.begun);
+        counted = counted;
         room = room;
         dealt = omega (arith, total-set count_of s.views id v w at, ruled.dealt);
         apart = λ i j a b ne at_a at_b number in_a in_b.
@@ -138,12 +151,13 @@ module _ {S : Type 0} (seats : ℕ) (s : State S View) (ruled : Ruled seats s) (
   -- A step that changes no word
   looks : (homes : List (Option S)) (w : View) → w.own ≡ v.own → w.first ≡ v.first → w.count ≡ v.count
       → (w.valid ≡ true → (v.valid ≡ true) ⊎ ((v.count ≡ 1) × (epoch_in s.words ≡ w.own)))
-      → armed_by w ≤ w.count → epoch_in s.words + total armed_by (set s.views id w) ≤ 2 ^ 62 + seats → AreBelow (epoch_in s.words) w.advanced
+      → armed_by w ≤ w.count → epoch_in s.words + total armed_by (set s.views id w) ≤ 2 ^ 62 + seats → w.advanced ≡ v.advanced
       → ClearBelow (epoch_in s.words) w.bound w.passed (set s.views id w)
       → Ruled {S = S} seats record { words = s.words; homes = homes; views = set s.views id w }
-  looks homes w own first count stays ready room past scan =
+  looks homes w own first count stays ready room advanced scan =
       moves s.words homes w refl (omega arith) (λ _ _ _. refl) (λ number below stands. (mine.word number stands).1 ∙ sym own) first count
-      (λ e. ⊎_elim (λ t. inl (t, own)) (λ t. inr t) (stays e)) ready room past scan
+      (λ e. ⊎_elim (λ t. inl (t, own)) (λ t. inr t) (stays e)) ready room
+      (subst (λ l. AreBelow (epoch_in s.words) l) (sym advanced) mine.past) (same_advances w count advanced) scan
 
   -- the same where the seat stays armed or not, and its scan is what it was
   sees : (homes : List (Option S)) (w : View) → w.own ≡ v.own → w.first ≡ v.first → w.count ≡ v.count → w.armed ≡ v.armed → w.advanced ≡ v.advanced
@@ -153,7 +167,7 @@ module _ {S : Type 0} (seats : ℕ) (s : State S View) (ruled : Ruled seats s) (
   sees homes w own first count armed advanced stays scan =
       let same : armed_by w ≡ armed_by v = ap (λ b. cond b 1 0) armed in
       looks homes w own first count stays (omega (arith, mine.ready))
-      (omega (arith, total-set armed_by s.views id v w at, ruled.room)) (subst (λ l. AreBelow (epoch_in s.words) l) (sym advanced) mine.past) scan
+      (omega (arith, total-set armed_by s.views id v w at, ruled.room)) advanced scan
 
   -- what the seat has scanned stays clear, where its stay stays
   scan_on : (w : View) (bound number : ℕ) → w.own ≡ v.own → w.first ≡ v.first → (w.valid ≡ true → (v.valid ≡ true) ⊎ (epoch_in s.words ≡ w.own))
@@ -197,6 +211,7 @@ module _ {S : Type 0} (seats slots id : ℕ) where
       refl refl (λ h. absurd (never h)) f.ready
       (omega (arith, same_epoch, total-set armed_by s.views id v w at, ruled.room))
       (subst (λ (k : ℕ). AreBelow k v.advanced) (sym same_epoch) f.past)
+      (omega (arith, same_epoch, same_advances seats s ruled id v at w refl refl))
       (clear_on seats s ruled id v at (epoch_in later) w v.bound v.passed (omega (arith, same_epoch)) (λ h. absurd (never h)) refl f.scan) in (
         w,
         keeps,
@@ -220,7 +235,7 @@ module _ {S : Type 0} (seats slots id : ℕ) where
         loaded (Ruled {S = S} seats) s epoch_word id w
             (sees seats s ruled id v at s.homes w refl refl refl refl refl (λ h. inr (single, stays h))
             (scan_on seats s ruled id v at w v.bound v.passed refl refl (λ h. inr (stays h)) f.scan)),
-        (ruled.begun, refl),
+        (omega (arith, ruled.counted), refl),
       )
 
   -- A look at the epoch word
@@ -240,7 +255,7 @@ module _ {S : Type 0} (seats slots id : ℕ) where
         keeps,
         tt,
         loaded (Ruled {S = S} seats) s epoch_word id w (looks seats s ruled id v at s.homes w refl refl refl (λ h. inl h) (omega arith)
-            (omega (arith, total-set armed_by s.views id v w at, ruled.dealt)) f.past
+            (omega (arith, total-set armed_by s.views id v w at, ruled.dealt)) refl
             (scan_on seats s ruled id v at w v.bound v.passed refl refl (λ h. inl h) f.scan)),
         subst (λ b. MatchBool b (Same (w, m.1) (record v { armed = true }, m.1)) (Same (w, m.1) (noting v Worn, m.1))) (sym (lt-ltb found (2 ^ 62) below)) refl,
       ))
@@ -272,6 +287,8 @@ module _ {S : Type 0} (seats slots id : ℕ) where
       let next : (found + 1) % 2 ^ 64 ≡ found + 1 = mod-eq_of_lt fits_word in
       let later = set s.words epoch_word ((found + 1) % 2 ^ 64) in
       let now : epoch_in later ≡ found + 1 = get_or-set_same s.words epoch_word ((found + 1) % 2 ^ 64) 0 (omega (arith, ruled.wide)) ∙ next in
+      let were : advances_of v ≡ length v.advanced = ap (λ (n : ℕ). cond (nat_eq n 0) 0 (length v.advanced)) single in
+      let one_more : advances_of w ≡ suc (length v.advanced) = ap (λ (n : ℕ). cond (nat_eq n 0) 0 (length w.advanced)) single in
       let one_at_most : (b : Bool) → cond b 1 0 ≤ 1 = bool_one in (
         w,
         keeps,
@@ -287,6 +304,7 @@ module _ {S : Type 0} (seats slots id : ℕ) where
             (λ above. let none : armed_by w ≡ 0 = ap (λ b. cond b 1 0) (le-ltb found (2 ^ 62) above) in omega (arith, sum, none, now))
             (cases_lt found (2 ^ 62)))
             (omega (arith, now), below_on found (epoch_in later) v.advanced (omega (arith, now)) f.past)
+            (omega (arith, now, were, one_more, total-set advances_of s.views id v w at, ruled.counted))
             (clear_on seats s ruled id v at (epoch_in later) w v.bound v.passed (omega (arith, now)) (λ h. inl (h, refl)) refl f.scan),
         refl,
       )
@@ -375,10 +393,11 @@ module _ {S : Type 0} (seats id : ℕ) where
       → (left.valid ≡ true → (v.valid ≡ true) × (left.count ≡ v.count)) → (right.valid ≡ true → ⊥)
       → ((number : ℕ) → Stands right number → Stands v number × (right.own ≡ v.own) × (Stands left number → ⊥))
       → armed_by left ≤ left.count → armed_by right ≤ right.count → armed_by left + armed_by right ≤ armed_by v
+      → advances_of left + advances_of right ≡ advances_of v
       → ((epoch : ℕ) → AreBelow epoch v.advanced → AreBelow epoch left.advanced × AreBelow epoch right.advanced)
       → ((epoch : ℕ) (views : List View) → ClearBelow epoch v.bound v.passed views → ClearBelow epoch left.bound left.passed views × ClearBelow epoch right.bound right.passed views)
       → Splits (Ruled {S = S} seats) id v left right
-  splits v left right first counts own stays never rights ready_left ready_right armed past scans s ruled at =
+  splits v left right first counts own stays never rights ready_left ready_right armed advances past scans s ruled at =
       let f = mine seats s ruled id v at in
       let epoch = epoch_in s.words in
       let set_views = set s.views id left in
@@ -426,7 +445,7 @@ module _ {S : Type 0} (seats id : ℕ) where
       record {
         wide = ruled.wide;
         few = ruled.few;
-        begun = ruled.begun;
+        counted = omega (arith, ruled.counted, total-append advances_of set_views (right ∷ []), total-set advances_of s.views id v left at);
         room = omega (arith, ruled.room, total-append armed_by set_views (right ∷ []), total-set armed_by s.views id v left at);
         dealt = omega (arith, ruled.dealt, total-append count_of set_views (right ∷ []), total-set count_of s.views id v left at);
         apart = λ i j a b ne at_a at_b number in_a in_b. ⊎_elim
@@ -449,14 +468,15 @@ module _ {S : Type 0} (seats id : ℕ) where
       splits v (standing v.first 1) (standing (v.first + 1) (v.count - 1)) refl (omega arith) (sym (ap (λ (x : View). x.own) is))
       (λ e. absurd (false≢true e)) (λ e. false≢true e)
       (λ number stands. ((omega (arith, stands.0), omega (arith, stands.1)), sym (ap (λ (x : View). x.own) is), λ left. omega (arith, left.1, stands.0)))
-      (omega arith) (omega arith) (omega arith) (λ _ _. (tt, tt))
+      (omega arith) (omega arith) (omega arith)
+      (omega (arith, ap advances_of is, none_yet (nat_eq count 0), none_yet (nat_eq (v.count - 1) 0))) (λ _ _. (tt, tt))
       (λ epoch views c. ((omega arith, λ j u there valid below. absurd (omega arith)), (omega arith, λ j u there valid below. absurd (omega arith))))
 
   -- a token of what a seat knows
   pub tells : (v : View) → armed_by v ≤ v.count → Splits (Ruled {S = S} seats) id v v (token v)
   tells v ready =
       splits v v (token v) refl (omega arith) refl (λ e. (e, refl)) (λ e. false≢true e) (λ number stands. absurd (omega (arith, stands.0, stands.1)))
-      ready (omega arith) (omega arith) (λ epoch past. (past, past)) (λ epoch views c. (c, c))
+      ready (omega arith) (omega arith) (omega arith) (λ epoch past. (past, past)) (λ epoch views c. (c, c))
 
   -- the same of any view
   pub tells_any : (v : View) → Splits (Ruled {S = S} seats) id v v (token v)
@@ -474,9 +494,17 @@ module _ {S : Type 0} (seats id : ℕ) where
       let s1 : State S View = record { words = s.words; homes = s.homes; views = set s.views id both } in
       let spent = standing 0 0 in
       let zero_armed : armed_by w ≡ 0 = ap (λ b. cond b 1 0) unarmed in
+      let no_advances : advances_of w ≡ 0 = ap (λ (n : ℕ). cond (nat_eq n 0) 0 (length w.advanced)) nobody in
       moves seats s1 one other w at_both s.words s.homes spent refl (omega arith) (λ _ _ _. refl) (λ number below stands. absurd (omega (arith, stands.0, stands.1)))
       (sym first) (sym nobody) (λ e. absurd (false≢true e)) (omega arith)
-      (omega (arith, total-set armed_by s1.views other w spent at_both, one.room)) tt (omega arith, λ j u there valid below. absurd (omega arith))
+      (omega (arith, total-set armed_by s1.views other w spent at_both, one.room)) tt
+      (omega (arith, no_advances, total-set advances_of s1.views other w spent at_both, one.counted)) (omega arith, λ j u there valid below. absurd (omega arith))
+
+-- each of so many words is 0
+zero_everywhere : (n i : ℕ) → slice_index (replicate n 0) i ≡ 0
+zero_everywhere zero i = refl
+zero_everywhere (suc n) zero = refl
+zero_everywhere (suc n) (suc i) = zero_everywhere n i
 
 -- The table as it opens
 module _ {S : Type 0} (seats : ℕ) where
@@ -496,7 +524,7 @@ module _ {S : Type 0} (seats : ℕ) where
       record {
         wide = wide;
         few = few;
-        begun = omega (arith, begun);
+        counted = omega (arith, begun, none_yet (nat_eq seats 0));
         room = omega (arith, begun);
         dealt = omega arith;
         apart = λ i j a b ne at_a at_b number in_a in_b.
@@ -504,3 +532,13 @@ module _ {S : Type 0} (seats : ℕ) where
         views = each;
         clear = all_clear seats words views each;
       }
+
+  -- the words of a new table: the epoch word is 1, and the others are 0
+  pub opens_anew : (words : List ℕ) → words ≡ set (replicate (word_of seats) 0) epoch_word 1 → seats < 2 ^ 62 → Ruled {S = S} seats (opening words [] (unmet seats))
+  opens_anew words is few =
+      let zeros : List ℕ = replicate (word_of seats) 0 in
+      let wide : length zeros ≡ word_of seats = length-replicate (word_of seats) 0 in
+      let apart : (number : ℕ) → word_of number ≢ epoch_word = (λ number e. omega arith) in
+      opens words (ap length is ∙ length-set zeros epoch_word 1 ∙ wide)
+      (ap epoch_in is ∙ get_or-set_same zeros epoch_word 1 0 (omega (arith, wide)))
+      (λ number. ap (λ (l : List ℕ). slice_index l (word_of number)) is ∙ get_or-set_other zeros epoch_word (word_of number) 1 0 (apart number) ∙ zero_everywhere (word_of seats) (word_of number)) few

@@ -1,5 +1,5 @@
 -- The rule of the epochs: what is shared, what each seat knows, and what holds of both between any two steps.
-use Rattle.std.specs.Prelude.{◌≡◌, ◌≢◌, ℕ, ◌+◌, ◌*◌, ◌^◌, ◌<◌, ◌≤◌, List, [], ◌∷◌, true, cond, length, slice_index}
+use Rattle.std.specs.Prelude.{◌≡◌, ◌≢◌, ℕ, ◌+◌, ◌*◌, ◌^◌, ◌<◌, ◌≤◌, List, [], ◌∷◌, true, cond, nat_eq, length, slice_index}
 use mathlib.Core.Option.{some}
 use lib.ListN.{get_elem?}
 use Rattle.atomic_table.specs.Table.{State}
@@ -39,6 +39,10 @@ armed_by v = cond v.armed 1 0
 abbrev pub count_of : View → ℕ
 count_of v = v.count
 
+-- how often a view's seat has advanced the epoch; what stands for no seat only knows of advances
+abbrev pub advances_of : View → ℕ
+advances_of v = cond (nat_eq v.count 0) 0 (length v.advanced)
+
 -- a sum over all views
 abbrev pub total : {V : Type 0} → (V → ℕ) → List V → ℕ
 total f [] = 0
@@ -65,7 +69,8 @@ pub record FitsView (seats : ℕ) (words : List ℕ) (views : List View) (v : Vi
 pub record Ruled {S : Type 0} (seats : ℕ) (s : State S View) : Type 0 where
   pub wide : length s.words ≡ word_of seats
   pub few : seats < 2 ^ 62
-  pub begun : 1 ≤ slice_index s.words epoch_word
+  -- the epoch of a new table is 1, and each advance of a seat adds 1
+  pub counted : slice_index s.words epoch_word ≡ 1 + total advances_of s.views
   -- the epoch word never wraps: once it is 2^62, each seat adds to it at most once more
   pub room : slice_index s.words epoch_word + total armed_by s.views ≤ 2 ^ 62 + seats
   pub dealt : total count_of s.views ≡ seats

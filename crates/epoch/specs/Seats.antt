@@ -1,5 +1,5 @@
 -- Seats, stays, retirements and drained epochs, as contracts name them.
-use Rattle.std.specs.Prelude.{◌≡◌, ℕ, ◌<◌, ◌≤◌, List, ◌∷◌, ◌++◌, true, false, slice_index}
+use Rattle.std.specs.Prelude.{◌≡◌, ℕ, ◌+◌, ◌<◌, ◌≤◌, List, [], ◌∷◌, ◌++◌, true, false, slice_index}
 use mathlib.Core.Option.{some}
 use lib.ListN.{get_elem?}
 use Rattle.atomic_table.specs.Table.{State}
@@ -13,7 +13,7 @@ use Rattle.epoch.specs.declared.epochs.Inside.{Inside}
 use Rattle.epoch.specs.declared.epochs.Drained.{Drained}
 use Rattle.epoch.specs.declared.epochs.Retired.{Retired}
 use Rattle.epoch.specs.Clear.{Clear}
-use Rattle.epoch.specs.Rule.{Ruled, StayAt, epoch_word, word_of}
+use Rattle.epoch.specs.Rule.{Ruled, StayAt, advances_of, epoch_word, total, word_of}
 
 -- which epochs they are
 abbrev pub id_of : Epochs → TableId
@@ -22,6 +22,11 @@ id_of epochs = epochs.table.shared.table_id
 -- how many seats they have
 abbrev pub seats_of : Epochs → ℕ
 seats_of epochs = epochs.seats
+
+-- At each moment between two steps the epoch word is 1 and the advances of all seats.
+abbrev pub CountsAdvances : Epochs → Type 0
+CountsAdvances epochs =
+    (s : State ℕ View) → Ruled (seats_of epochs) s → slice_index s.words epoch_word ≡ 1 + total advances_of s.views
 
 -- which seat it is
 abbrev pub number_of : EpochSeat → ℕ
@@ -68,6 +73,11 @@ StaysIn epochs inside =
     × (slice_index s.words (word_of (number_of inside.seat)) ≡ stay_epoch inside)
     × (1 ≤ stay_epoch inside)
     × (stay_epoch inside ≤ slice_index s.words epoch_word)
+
+-- the seat has advanced past nothing, and was told nothing
+pub record KnowsNothing (seat : EpochSeat) : Type 0 where
+  pub advanced : (known seat).advanced ≡ []
+  pub notes : (known seat).notes ≡ []
 
 -- what the seat was told, and what it advanced past, are the same
 pub record KnowsTheSame (before later : View) : Type 0 where

@@ -80,9 +80,9 @@ fn word_index(number: usize) -> usize
 
 impl Epochs {
     ghost use Rattle.epoch.specs.Plays.{unmet};
-    ghost use Rattle.epoch.specs.Seats.{id_of, seats_of, known, seat_in, stay_epoch, IsSeatOf, IsOutside, IsInside, KnowsTheSame, AdvancedPast, WasWorn, WasBlocked, KeepsStay, IsScanning, drained_of, drained_epoch, retired_of, retired_epoch, retired_value, StaysIn, StaysClear, StaysOver, HasScanned};
+    ghost use Rattle.epoch.specs.Seats.{id_of, seats_of, CountsAdvances, known, seat_in, stay_epoch, IsSeatOf, IsOutside, IsInside, KnowsNothing, KnowsTheSame, AdvancedPast, WasWorn, WasBlocked, KeepsStay, IsScanning, drained_of, drained_epoch, retired_of, retired_epoch, retired_value, StaysIn, StaysClear, StaysOver, HasScanned};
 
-    /// Epochs with so many seats, and the seats. The present epoch is 1.
+    /// Epochs with so many seats, and the seats. The present epoch is 1, and each advance adds 1 to it.
     ///
     /// # Errors
     ///
@@ -92,6 +92,8 @@ impl Epochs {
         ensures seats { IfOk result (λ made. seats_of made.0 ≡ seats) }
         ensures count { IfOk result (λ made. vec_len made.1 ≡ seats) }
         ensures outside { IfOk result (λ made. All (IsOutside made.0) made.1.items) }
+        ensures nothing { IfOk result (λ made. All KnowsNothing made.1.items) }
+        ensures epoch { IfOk result (λ made. CountsAdvances made.0) }
     {
         let mut words = vec![in alloc; 0u64; word_index(seats)]?;
         words[EPOCH] = 1;
@@ -110,6 +112,7 @@ impl Epochs {
         requires room { seats_of self.now ≤ vec_capacity dealt }
         ensures count { vec_len result ≡ seats_of self.now }
         ensures outside { All (IsOutside self.now) result.items }
+        ensures nothing { All KnowsNothing result.items }
     {
         let mut others = seat;
         for number in 0..self.seats {

@@ -3,17 +3,19 @@ use Rattle.std.proofs.Common.{◌≡◌, ℕ, ◌+◌, ◌*◌, ◌<◌, ◌≤�
 use Rattle.std.specs.List.{Contains}
 use Rattle.std.proofs.lemmas.List.Elements.{Contains-append_cases}
 use Rattle.std.proofs.lemmas.Bool.{cases_Bool}
-use Rattle.std.specs.Prelude.{slice_index_or}
+use Rattle.std.specs.Prelude.{slice_index_or, Option, None, IsSome}
 use Rattle.records.specs.Fields.{u16_at}
 use Rattle.records.specs.Page.{used_end}
 use Rattle.records.specs.Records.{Stored, size_of, placed, end_from, records_of, IsLaidOut, value_bytes, value_of_kind, fields_at, IsRecordAt}
 use Rattle.hybrid.proofs.Placed.{Split, split_at, placed-append, end_from-append, end_from-le}
-use Rattle.hybrid.specs.Log.{newest, IsAppended, begin_of}
-use Rattle.std.proofs.Common.{true, false, ◌==◌, Bool, zero-add}
+use Rattle.hybrid.specs.Log.{Log, newest, IsAppended, begin_of}
+use Rattle.std.proofs.Common.{true, false, ◌==◌, Bool, zero-add, append_assoc}
 use Rattle.std.proofs.lemmas.List.{length-take}
 use Rattle.hybrid.specs.HybridLog.{IsGrown, HasRoom, HybridLog, log_of, SameContents}
-use Rattle.hybrid.specs.Staging.{IsLive, IsDead, IsCopied, AreShort, AreMarked}
+use Rattle.hybrid.specs.Staging.{IsLive, IsDead, IsCopied, IsGoneOver, AreAdded, AreShort, AreMarked}
+use Rattle.hybrid.specs.Writing.{IsAdded}
 use Rattle.hybrid.proofs.Tail.{grown-none, grown-more}
+use Rattle.hybrid.proofs.Parts.{right}
 use Rattle.hybrid.proofs.Logs.{some_is, cons_cases, here, there, newest-put, newest-put_same, contents-newest, contents-alike}
 
 -- ---- going over the records of a page
@@ -76,6 +78,58 @@ step page at r laid c = go split split.after refl
               (right (placed 16 before) ((at, r) ∷ placed (at + size_of r) (x ∷ after)) (at + size_of r, x) (there (at, r) (placed (at + size_of r) (x ∷ after)) (at + size_of r, x) (here (at + size_of r, x) (placed (at + size_of r + size_of x) after)))),
         )
 
+-- ---- which records are added
+
+-- the records from `at` on lead from here to where all lead from the start
+pub record IsAdding (old now : HybridLog) (page : List ℕ) (at : ℕ) : Type 0 where
+  pub before : List (ℕ × Stored)
+  pub rest : List Stored
+  pub whole : records_of page ≡ before ++ placed at rest
+  pub end : used_end page ≡ end_from at rest
+  pub leads : (new : HybridLog) → AreAdded (log_of old) old.oldest (placed at rest) now new → AreAdded (log_of old) old.oldest (records_of page) old new
+
+adding-start : (old : HybridLog) (page : List ℕ) → IsLaidOut page → IsAdding old old page 16
+adding-start old page laid = record {
+  before = [];
+  rest = laid.stored;
+  whole = laid.records;
+  end = laid.used;
+  leads = λ new more. subst (λ (ps : List (ℕ × Stored)). AreAdded (log_of old) old.oldest ps old new) (sym laid.records) more;
+}
+
+adding-step : (old now next : HybridLog) (page : List ℕ) (at : ℕ) (r : Stored) → IsStep page at r → IsGoneOver (log_of old) (old.oldest * 16384 + at) r now next → IsAdding old now page at → IsAdding old next page (at + size_of r)
+adding-step old now next page at r s over h = go h.rest h.whole h.end h.leads
+  where
+    go : (rest : List Stored) → records_of page ≡ h.before ++ placed at rest → used_end page ≡ end_from at rest
+        → ((new : HybridLog) → AreAdded (log_of old) old.oldest (placed at rest) now new → AreAdded (log_of old) old.oldest (records_of page) old new) → IsAdding old next page (at + size_of r)
+    go [] whole end leads = absurd (omega (arith, end, s.within))
+    go (x ∷ rest) whole end leads =
+        let listed : Contains (records_of page) (at, x) = subst (λ (ps : List (ℕ × Stored)). Contains ps (at, x)) (sym whole) (right h.before (placed at (x ∷ rest)) (at, x) (here (at, x) (placed (at + size_of x) rest))) in
+        let same : x ≡ r = elim (s.before at x listed (omega arith)) [ inl low ↦ absurd (omega (arith, low)) | inr e ↦ e.1 ] in
+        subst (λ (y : Stored). IsAdding old next page (at + size_of y)) same (record {
+          before = h.before ++ (at, x) ∷ [];
+          rest = rest;
+          whole = whole ∙ sym (append_assoc h.before ((at, x) ∷ []) (placed (at + size_of x) rest));
+          end = end;
+          leads = λ new more. leads new (next, subst (λ (y : Stored). IsGoneOver (log_of old) (old.oldest * 16384 + at) y now next) (sym same) over, more);
+        })
+
+adding-all : (old now : HybridLog) (page : List ℕ) (at : ℕ) → IsAdding old now page at → ((r : Stored) → Contains (records_of page) (at, r) → ⊥) → AreAdded (log_of old) old.oldest (records_of page) old now
+adding-all old now page at h no_more = go h.rest h.whole h.leads
+  where
+    go : (rest : List Stored) → records_of page ≡ h.before ++ placed at rest → ((new : HybridLog) → AreAdded (log_of old) old.oldest (placed at rest) now new → AreAdded (log_of old) old.oldest (records_of page) old new) → AreAdded (log_of old) old.oldest (records_of page) old now
+    go [] whole leads = leads now refl
+    go (x ∷ rest) whole leads = absurd (no_more x (subst (λ (ps : List (ℕ × Stored)). Contains ps (at, x)) (sym whole) (right h.before (placed at (x ∷ rest)) (at, x) (here (at, x) (placed (at + size_of x) rest)))))
+
+over-live : (log : Log) (address to : ℕ) (r : Stored) (now next : HybridLog) → IsLive log address r → IsAdded now next to r.key r.value → IsGoneOver log address r now next
+over-live log address to r now next live added = record { live = λ _. (to, added); other = λ dead. absurd (dead live) }
+
+over-dead : (log : Log) (address : ℕ) (r : Stored) (now : HybridLog) → IsDead log address r → IsGoneOver log address r now now
+over-dead log address r now dead = record {
+  live = λ live. absurd (let bad : IsSome {T = List ℕ} None = subst (λ (v : Option (List ℕ)). IsSome v) (dead live.newest) live.value in cc);
+  other = λ _. refl;
+}
+
 -- ---- what is done when the records before `at` have been gone over
 
 pub record IsDone (old now : HybridLog) (page : List ℕ) (at : ℕ) : Type 0 where
@@ -83,6 +137,7 @@ pub record IsDone (old now : HybridLog) (page : List ℕ) (at : ℕ) : Type 0 wh
   pub first : (key : List ℕ) (a : ℕ) (r : Stored) → newest (log_of now) key ≡ Some (a, r) → a < begin_of (old.oldest + 1) → newest (log_of old) key ≡ Some (a, r)
   pub dead : (o : ℕ) (r : Stored) → Contains (records_of page) (o, r) → o < at → IsDead (log_of now) (old.oldest * 16384 + o) r
   pub place : IsPlace (records_of page) (used_end page) at
+  pub adding : IsAdding old now page at
 
 pub done-start : (old : HybridLog) (page : List ℕ) → IsLaidOut page → IsDone old old page 16
 done-start old page laid = record {
@@ -90,6 +145,7 @@ done-start old page laid = record {
   first = λ key a r e lt. e;
   dead = λ o r c lt. absurd (omega (arith, placed-from 16 laid.stored o r (subst (λ (ps : List (ℕ × Stored)). Contains ps (o, r)) laid.records c)));
   place = begins laid.stored laid.records laid.used;
+  adding = adding-start old page laid;
 }
   where
     begins : (rs : List Stored) → records_of page ≡ placed 16 rs → used_end page ≡ end_from 16 rs → IsPlace (records_of page) (used_end page) 16
@@ -111,12 +167,13 @@ done-skip old now page at r laid c short gone done =
             ap (λ (x : Stored). x.value) e.1 ∙ gone (done.first r.key (old.oldest * 16384 + at) r h_here small)
       ];
       place = s.place;
+      adding = adding-step old now now page at r s (over-dead (log_of old) (old.oldest * 16384 + at) r now gone) done.adding;
     }
 
 pub done-copy : (old now next : HybridLog) (page : List ℕ) (at t : ℕ) (r : Stored) → IsLaidOut page → Contains (records_of page) (at, r) → used_end page ≤ 16384 → IsLive (log_of old) (old.oldest * 16384 + at) r
-    → IsAppended (log_of now) (log_of next) t r.key r.value → begin_of (old.oldest + 1) ≤ t
+    → IsAdded now next t r.key r.value → begin_of (old.oldest + 1) ≤ t
     → IsDone old now page at → IsDone old next page (at + size_of r)
-done-copy old now next page at t r laid c short live put far done =
+done-copy old now next page at t r laid c short live added far done =
     let s = step page at r laid c in
     record {
       same = same;
@@ -135,8 +192,12 @@ done-copy old now next page at t r laid c short live put far done =
         ]
       ];
       place = s.place;
+      adding = adding-step old now next page at r s (over-live (log_of old) (old.oldest * 16384 + at) t r now next live added) done.adding;
     }
   where
+    put : IsAppended (log_of now) (log_of next) t r.key r.value
+    put = added.log
+
     cases : (q : List ℕ) → ((put.put.key ≡ q) × (newest (log_of next) q ≡ Some (t, put.put))) ⊎ (newest (log_of next) q ≡ newest (log_of now) q)
     cases q = rw put.log (newest-put (log_of now) t put.put q)
 
@@ -155,6 +216,7 @@ pub done-all : (old now : HybridLog) (page : List ℕ) (at : ℕ) → IsLaidOut 
 done-all old now page at laid done no_more = elim done.place [
   | inl end ↦ record {
     same = done.same;
+    added = adding-all old now page at done.adding no_more;
     dead = λ o r c. done.dead o r c (omega (arith, end, laid.used, placed-from 16 laid.stored o r (subst (λ (ps : List (ℕ × Stored)). Contains ps (o, r)) laid.records c)));
   }
   | inr more ↦ absurd (no_more more.0 more.1)
@@ -168,6 +230,7 @@ pub record IsCopying (old now : HybridLog) (page : List ℕ) (live : List Bool) 
   pub grown : IsGrown old now used
   pub room : HasRoom now weight
   pub left : 32768 ≤ weight + 2 * at
+  pub light : used + 32 ≤ 2 * at
   pub low : 16 ≤ at
   pub high : at ≤ 16384
   pub done : IsLaidOut page → AreShort (records_of page) → AreMarked (log_of old) old.oldest (records_of page) live → IsDone old now page at
@@ -205,6 +268,7 @@ copying-start p page live weight room enough = record {
   grown = grown-none p;
   room = room;
   left = omega arith;
+  light = omega arith;
   low = omega arith;
   high = omega arith;
   done = λ laid short marked. done-start p page laid;
@@ -234,6 +298,7 @@ copying-skip old now page live at weight whole s is e found dead h =
       grown = h.grown;
       room = h.room;
       left = omega (arith, h.left);
+      light = omega (arith, h.light);
       low = omega (arith, h.low);
       high = omega (arith, read.within);
       done = λ laid short marked.
@@ -246,7 +311,7 @@ pub copying-copy : (old now next : HybridLog) (page : List ℕ) (live : List Boo
     → (IsLaidOut page → (r : Stored) → Contains (records_of page) (at, r) → s ≡ r)
     → slice_index_or live (at / 8) false ≡ true
     → 48 + length s.key + length (value_bytes s.value) ≤ weight
-    → HasRoom next (weight - (48 + length s.key + length (value_bytes s.value))) → IsGrown now next (48 + length s.key + length (value_bytes s.value)) → IsAppended (log_of now) (log_of next) t s.key s.value → begin_of now.resident.oldest ≤ t → old.oldest < old.resident.oldest
+    → HasRoom next (weight - (48 + length s.key + length (value_bytes s.value))) → IsGrown now next (48 + length s.key + length (value_bytes s.value)) → IsAdded now next t s.key s.value → begin_of now.resident.oldest ≤ t → old.oldest < old.resident.oldest
     → IsCopying old now page live at weight whole → IsCopying old next page live (at + size_of s) (weight - (48 + length s.key + length (value_bytes s.value))) whole
 copying-copy old now next page live at weight whole t s is e found mark enough room grown put far cold h =
     let read = read-fits page at s is e in
@@ -256,6 +321,7 @@ copying-copy old now next page live at weight whole t s is e found mark enough r
       grown = grown-more old now next h.used (48 + length s.key + length (value_bytes s.value)) h.grown grown;
       room = room;
       left = omega (arith, h.left, read.value);
+      light = omega (arith, h.light, read.value);
       low = omega (arith, h.low);
       high = omega (arith, read.within);
       done = λ laid short marked.

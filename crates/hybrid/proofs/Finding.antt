@@ -3,7 +3,7 @@ use Rattle.std.proofs.Common.{◌≡◌, ℕ, ◌-◌, ◌*◌, ◌/◌, ◌%◌
 use Rattle.std.specs.List.{Contains}
 use Rattle.records.specs.Records.{Stored, records_of, IsLaidOut}
 use Rattle.frames.specs.Resident.{next_number}
-use Rattle.hybrid.specs.Hash.{hash_of}
+use Rattle.words.specs.Stripes.{hash_of}
 use Rattle.hybrid.specs.Log.{Log, begin_of, top}
 use Rattle.hybrid.specs.HybridLog.{HybridLog, Kept, IsHybridLog, bucket_of, log_of, page_at, shown_page, cold, receipt_at, receipt_of}
 use Rattle.hybrid.specs.Lookups.{Leads}

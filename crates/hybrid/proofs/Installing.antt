@@ -6,12 +6,12 @@ use Rattle.std.proofs.lemmas.Bool.{cases_Bool}
 use Rattle.std.proofs.lemmas.List.{drop_all}
 use Rattle.std.specs.Prelude.{slice_index_or}
 use Rattle.records.specs.Records.{Stored, value_bytes, with_value}
-use Rattle.hybrid.specs.Log.{contents, IsAppended}
-use Rattle.hybrid.specs.HybridLog.{HybridLog, HasRoom, IsGrown, log_of}
+use Rattle.hybrid.specs.Log.{contents}
+use Rattle.hybrid.specs.HybridLog.{HybridLog, HasRoom, IsGrown, log_of, tail_of}
 use Rattle.hybrid.specs.Lookups.{IsInPlace}
 use Rattle.hybrid.proofs.Logs.{some_is}
 use Rattle.hybrid.proofs.Tail.{grown-none, grown-more}
-use Rattle.hybrid.specs.Writing.{OneWrite, IsWritten, AreInstalled, AreFit, load, written}
+use Rattle.hybrid.specs.Writing.{OneWrite, IsAdded, IsWritten, AreInstalled, AreFit, load, written}
 
 -- what keys have goes by what they had, key by key
 written-alike : (f g : List ℕ → Option (List ℕ)) (ws : List OneWrite) (q : List ℕ) → ((k : List ℕ) → f k ≡ g k) → written f ws q ≡ written g ws q
@@ -30,16 +30,17 @@ pub record IsInstalling (old now : HybridLog) (all rest : List OneWrite) (weight
   pub same : (q : List ℕ) → written (contents (log_of now)) rest q ≡ written (contents (log_of old)) all q
   pub leads : (new : HybridLog) → AreInstalled now rest new → AreInstalled old all new
 
-pub written-in_place : (old new : HybridLog) (key : List ℕ) (value : Option (List ℕ)) (address : ℕ) → IsInPlace old key (length (value_bytes value)) address → log_of new ≡ map (with_value address value) (log_of old) → IsWritten old key value new
-written-in_place old new key value address there log = record {
+pub written-in_place : (old new : HybridLog) (key : List ℕ) (value : Option (List ℕ)) (address : ℕ) → IsInPlace old key (length (value_bytes value)) address → log_of new ≡ map (with_value address value) (log_of old) → tail_of new ≡ tail_of old → IsWritten old key value new
+written-in_place old new key value address there log tail = record {
   in_place = λ other also.
       let it : (address, there.stored) ≡ (other, also.stored) = some_is (address, there.stored) (other, also.stored) (sym there.newest ∙ also.newest) in
       log ∙ ap (λ (a : ℕ). map (with_value a value) (log_of old)) (ap (λ (e : ℕ × Stored). e.0) it);
+  stays = λ other also. tail;
   at_tail = λ none. absurd (none address there);
 }
 
-pub written-at_tail : (old new : HybridLog) (key : List ℕ) (value : Option (List ℕ)) (address : ℕ) → ((other : ℕ) → IsInPlace old key (length (value_bytes value)) other → ⊥) → IsAppended (log_of old) (log_of new) address key value → IsWritten old key value new
-written-at_tail old new key value address none put = record { in_place = λ other there. absurd (none other there); at_tail = λ _. (address, put) }
+pub written-at_tail : (old new : HybridLog) (key : List ℕ) (value : Option (List ℕ)) (address : ℕ) → ((other : ℕ) → IsInPlace old key (length (value_bytes value)) other → ⊥) → IsAdded old new address key value → IsWritten old key value new
+written-at_tail old new key value address none put = record { in_place = λ other there. absurd (none other there); stays = λ other there. absurd (none other there); at_tail = λ _. (address, put) }
 
 pub install-start : (p : HybridLog) (all : List OneWrite) (weight : ℕ) → HasRoom p weight → load all ≤ weight → AreFit all → IsInstalling p p all all weight weight
 install-start p all weight room left fits = record { used = 0; parts = zero-add weight; grown = grown-none p; room = room; left = left; fits = fits; same = λ q. refl; leads = λ new done. done }

@@ -112,5 +112,5 @@ pub record IsMarkLoop (honest : Type 0) (right : Type 0) (p : HybridLog) (page :
   pub marked : honest → right → p.oldest < p.resident.oldest → (k : Kept) → receipt_of p p.oldest ≡ Some k → page ≡ k.shown → IsMarking p page live at
 
 -- a lookup for a record of the oldest page leads there
-pub needed-of : (p : HybridLog) (number : ℕ) (e : ℕ × Stored) → Contains (records_of (page_at p p.oldest)) e → Leads p e.1.key number → IsNeeded p number
-needed-of p number e listed leads = record { entry = e; listed = listed; leads = leads }
+pub needed-of : (p : HybridLog) (number : ℕ) (e : ℕ × Stored) → Contains (records_of (page_at p p.oldest)) e → IsSome e.1.value → Leads p e.1.key number → IsNeeded p number
+needed-of p number e listed value leads = record { entry = e; listed = listed; value = value; leads = leads }

@@ -8,7 +8,7 @@ use Rattle.std.proofs.lemmas.Bool.{cases_eq, eq-eqb, ne_eqb}
 use Rattle.records.specs.Page.{number_of, used_end}
 use Rattle.records.specs.Records.{Stored, size_of, size_for, value_bytes, new_record, records_of, IsLaidOut, IsPlaced}
 use Rattle.frames.specs.Resident.{next_number, page_of, first_mutable}
-use Rattle.hybrid.specs.Hash.{hash_of}
+use Rattle.words.specs.Stripes.{hash_of}
 use Rattle.hybrid.specs.Log.{Log, log_from, page_log, newest_first, addressed, AllLaid, IsAppended, Joins, begin_of}
 use Rattle.hybrid.specs.HybridLog.{HybridLog, IsHybridLog, IsPut, bucket_of, pages_of, page_at, log_of, tail_bytes}
 use Rattle.hybrid.proofs.Parts.{address-in, from-page_log, top-below, number-at}
@@ -128,6 +128,7 @@ pub record IsPutIn (now new : HybridLog) (a : ℕ) (key : List ℕ) (value : Opt
   pub appended : IsAppended (log_of now) (log_of new) a key value
   pub put : IsPut now new
   pub bytes : tail_bytes new ≡ tail_bytes now + size_for (length key) (length (value_bytes value))
+  pub address : a ≡ begin_of (next_number now.resident - 1) + tail_bytes now
   pub resident : begin_of now.resident.oldest ≤ a
 
 pub put-from : (v now : HybridLog) (number offset link hash : ℕ) (page w heads key : List ℕ) (value : Option (List ℕ)) → v ≡ now → IsHybridLog v → number ≡ next_number v.resident - 1 → page ≡ page_of v.resident number → IsLaidOut w → number_of w ≡ number_of page
@@ -151,11 +152,13 @@ put-from v now number offset link hash page w heads key value same is at there l
     ap (λ (k : ℕ). slice_index_or (set v.resident.pages (number - v.resident.oldest) w) k []) last_at ∙ get_or-set_same v.resident.pages (number - v.resident.oldest) w [] (omega (arith, t.last, is.tail)) in
     let tail_end : used_end (slice_index_or (set v.resident.pages (number - v.resident.oldest) w) (length (set v.resident.pages (number - v.resident.oldest) w) - 1) []) ≡ used_end w = ap used_end tail_page in
     let bytes : tail_bytes new ≡ tail_bytes v + size_for (length key) (length (value_bytes value)) = omega (arith, tail_end, end, t.end) in
+    let address : a ≡ begin_of (next_number v.resident - 1) + tail_bytes v = omega (arith, offset_is, t.end, t.last) in
     let resident : begin_of v.resident.oldest ≤ a = omega (arith, offset_is, t.low, t.last, is.tail) in
     subst (λ (q : HybridLog). IsPutIn q new a key value) same (record {
       is = done.is;
       appended = record { put = r; key_is = refl; hash_is = hashed; value_is = refl; capacity = refl; log = done.log };
       put = done.put;
       bytes = bytes;
+      address = address;
       resident = resident;
     })

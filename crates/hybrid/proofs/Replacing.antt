@@ -6,7 +6,7 @@ use Rattle.std.proofs.lemmas.List.{length-map, length-take-le, get_or-append_rig
 use Rattle.records.specs.Page.{number_of}
 use Rattle.records.specs.Records.{Stored, size_of, IsLaidOut}
 use Rattle.frames.specs.Resident.{next_number, page_of, first_mutable, with_page}
-use Rattle.hybrid.specs.Hash.{hash_of}
+use Rattle.words.specs.Stripes.{hash_of}
 use Rattle.hybrid.specs.Log.{Log, log_from, AllLaid, IsLinked, Joins, begin_of}
 use Rattle.hybrid.specs.HybridLog.{HybridLog, IsHybridLog, IsPut, bucket_of, pages_of, page_at, log_of, shown_page, cold}
 
@@ -81,5 +81,5 @@ replaced p number w heads log is mutable below laid numbered is_log size linked 
         limited = is.limited;
       };
       log = log_is;
-      put = record { oldest = refl; kept = refl; first = refl; count = count; frames = refl; stripes = refl; unreleased = refl; places = refl };
+      put = record { oldest = refl; kept = refl; first = refl; count = count; frames = refl; buckets = size; stripes = refl; unreleased = refl; places = refl };
     }

@@ -1,5 +1,5 @@
 -- The number of each size of a stripe's log.
-use Rattle.std.specs.Prelude.{ℕ, ◌≡◌, List, [], ◌∷◌, refl}
+use Rattle.std.specs.Prelude.{◌≡◌, [], ◌∷◌, refl}
 use Rattle.hybrid.specs.declared.stripe.TheConstants.{RECORD_MAX, CLEAN_WEIGHT, CLOSED_MIN, CALL_PAGES, LAST_PAGE}
 
 sizes : RECORD_MAX ∷ CLEAN_WEIGHT ∷ CLOSED_MIN ∷ CALL_PAGES ∷ [] ≡ 8728 ∷ 32736 ∷ 7640 ∷ 7 ∷ []

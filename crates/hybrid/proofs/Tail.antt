@@ -1,13 +1,16 @@
 -- The tail page.
 use Rattle.std.proofs.Common.{◌≡◌, ℕ, zero, suc, ◌+◌, ◌-◌, ◌*◌, ◌<◌, ◌≤◌, ◌⊎◌, inl, inr, List, [], ◌∷◌, ◌++◌, length, take, map, replicate, ◌/◌, Option, None, refl, sym, ap, ◌∙◌, subst, arith, length-append, append_assoc, add-zero}
-use Rattle.std.specs.Prelude.{slice_index_or}
+use Rattle.std.specs.Prelude.{slice_index_or, nat_lt}
+use Rattle.std.proofs.Common.{true, false}
+use Rattle.std.proofs.lemmas.Bool.{lt-ltb, le-ltb}
 use Rattle.std.proofs.lemmas.List.{length-map, length-take-le, get_or-append_right, append-nil, replicate-append-replicate}
 use Rattle.records.specs.Page.{empty_page, used_end}
-use Rattle.records.specs.Records.{size_for, IsLaidOut}
+use Rattle.records.specs.Records.{size_for, value_bytes, IsLaidOut}
 use Rattle.hybrid.proofs.Placed.{end_from-le}
 use Rattle.frames.specs.Resident.{Resident, next_number, IsEmptyPage, with_opened}
-use Rattle.hybrid.specs.Log.{AllLaid}
-use Rattle.hybrid.specs.HybridLog.{HybridLog, Kept, IsHybridLog, IsPut, IsGrown, HasFrames, HasRoom, pages_of, shown_page, cold, free, tail_bytes, with_page_opened}
+use Rattle.hybrid.specs.Log.{Log, AllLaid, IsAppended, begin_of}
+use Rattle.hybrid.specs.HybridLog.{HybridLog, Kept, IsHybridLog, IsPut, IsGrown, HasFrames, HasRoom, pages_of, shown_page, cold, free, tail_bytes, tail_of, log_of, with_page_opened}
+use Rattle.hybrid.specs.Writing.{IsAdded}
 
 pub laid-at : (n : ℕ) (ps : List (List ℕ)) (i : ℕ) → AllLaid n ps → i < length ps → IsLaidOut (slice_index_or ps i [])
 laid-at n [] i laid lt = absurd (omega arith)
@@ -39,6 +42,7 @@ grown-put a b x s small bytes p = record {
   first = p.first;
   next = omega (arith, p.first, p.count);
   frames = p.frames;
+  buckets = p.buckets;
   stripes = p.stripes;
   unreleased = p.unreleased;
   places = p.places;
@@ -47,7 +51,7 @@ grown-put a b x s small bytes p = record {
 }
 
 -- a put into a page that was opened for it
-pub grown-opened : (a b : HybridLog) (x s : ℕ) → s ≤ x → s ≤ 8728 → 16368 < tail_bytes a + s → tail_bytes b ≡ s → IsPut (with_page_opened a) b → IsGrown a b x
+pub grown-opened : (a b : HybridLog) (x s : ℕ) → s ≤ x → s ≤ 8728 → 16368 ≤ tail_bytes a + s → tail_bytes b ≡ s → IsPut (with_page_opened a) b → IsGrown a b x
 grown-opened a b x s small short full bytes p = record {
   opened = 1;
   few = omega arith;
@@ -56,6 +60,7 @@ grown-opened a b x s small short full bytes p = record {
   first = p.first;
   next = omega (arith, p.first, p.count, length-append a.resident.pages (empty_page (next_number a.resident) ∷ []));
   frames = p.frames;
+  buckets = p.buckets;
   stripes = p.stripes;
   unreleased = p.unreleased;
   places = p.places;
@@ -64,7 +69,7 @@ grown-opened a b x s small short full bytes p = record {
 }
 
 pub grown-none : (p : HybridLog) → IsGrown p p 0
-grown-none p = record { opened = 0; few = omega arith; oldest = refl; kept = sym (append-nil p.kept); first = refl; next = sym (add-zero (next_number p.resident)); frames = refl; stripes = refl; unreleased = refl; places = refl; bytes = omega arith; closed = inl refl }
+grown-none p = record { opened = 0; few = omega arith; oldest = refl; kept = sym (append-nil p.kept); first = refl; next = sym (add-zero (next_number p.resident)); frames = refl; buckets = refl; stripes = refl; unreleased = refl; places = refl; bytes = omega arith; closed = inl refl }
 
 few-so : (opened tail weight : ℕ) → (opened ≡ 0) ⊎ (7640 * (opened - 1) + tail ≤ weight) → opened ≤ weight / 7640 + 1
 few-so opened tail weight (inl e) = omega (arith, e)
@@ -87,6 +92,7 @@ grown-more a b c u v f g =
       first = g.first ∙ f.first;
       next = omega (arith, f.next, g.next);
       frames = g.frames ∙ f.frames;
+      buckets = g.buckets ∙ f.buckets;
       stripes = g.stripes ∙ f.stripes;
       unreleased = g.unreleased ∙ f.unreleased;
       places = g.places ∙ f.places;
@@ -105,6 +111,7 @@ grown-less a b u w le f =
       first = f.first;
       next = f.next;
       frames = f.frames;
+      buckets = f.buckets;
       stripes = f.stripes;
       unreleased = f.unreleased;
       places = f.places;
@@ -134,16 +141,16 @@ room-put a b w x s small fits put bytes has = record {
 }
 
 -- where the tail page is full a frame is free, and the page that is opened there has room
-pub room-frames : (a : HybridLog) (w x s : ℕ) → s ≤ x → x ≤ w → 16368 < tail_bytes a + s → HasRoom a w → HasFrames a w
+pub room-frames : (a : HybridLog) (w x s : ℕ) → s < x → x ≤ w → 16368 ≤ tail_bytes a + s → HasRoom a w → HasFrames a w
 room-frames a w x s small fits full has = elim has.room [
   | inl l ↦ absurd (omega (arith, l, small, fits, full))
   | inr h ↦ h
 ]
 
-pub room-opened : (a : HybridLog) (w x s : ℕ) → s ≤ x → x ≤ w → 1 ≤ x → s ≤ 8728 → 16368 < tail_bytes a + s → HasFrames a w → 0 < free a
+pub room-opened : (a : HybridLog) (w x s : ℕ) → s ≤ x → x ≤ w → 1 ≤ x → s ≤ 8728 → 16368 ≤ tail_bytes a + s → HasFrames a w → 0 < free a
 room-opened a w x s small fits some short full h = elim h.frames [ inl l ↦ omega (arith, l) | inr l ↦ omega (arith, l) ]
 
-pub room-put-opened : (a b : HybridLog) (w x s : ℕ) → s ≤ x → x ≤ w → 1 ≤ x → s ≤ 8728 → 16368 < tail_bytes a + s → IsPut (with_page_opened a) b → tail_bytes b ≡ s → HasFrames a w → HasRoom b (w - x)
+pub room-put-opened : (a b : HybridLog) (w x s : ℕ) → s ≤ x → x ≤ w → 1 ≤ x → s ≤ 8728 → 16368 ≤ tail_bytes a + s → IsPut (with_page_opened a) b → tail_bytes b ≡ s → HasFrames a w → HasRoom b (w - x)
 room-put-opened a b w x s small fits some short full put bytes h =
     let more : length (a.resident.pages ++ empty_page (next_number a.resident) ∷ []) ≡ length a.resident.pages + 1 = length-append a.resident.pages (empty_page (next_number a.resident) ∷ []) in
     record {
@@ -157,9 +164,49 @@ room-put-opened a b w x s small fits some short full put bytes h =
 pub size-small : (k v : ℕ) → size_for k v ≤ 48 + k + v
 size-small k v = omega arith
 
+pub size-less : (k v : ℕ) → size_for k v < 48 + k + v
+size-less k v = omega arith
+
 -- a record of a key and a value that fit is no larger than the largest
 pub size-short : (k v : ℕ) → k ≤ 512 → v ≤ 8192 → size_for k v ≤ 8728
 size-short k v a b = omega arith
 
 pub opened-tail-from : (v now : HybridLog) (frames : Resident) → v ≡ now → frames ≡ with_opened v.resident → IsEmptyPage (next_number v.resident) (empty_page (next_number v.resident)) → used_end (slice_index_or frames.pages (length frames.pages - 1) []) - 16 ≡ 0
 opened-tail-from v now frames same fr empty = ap (λ (r : Resident). used_end (slice_index_or r.pages (length r.pages - 1) []) - 16) fr ∙ opened-tail v empty
+
+-- ---- where a record goes
+
+-- a put into the tail page, into which the record fits
+pub added-put : (a b : HybridLog) (address : ℕ) (key : List ℕ) (value : Option (List ℕ)) → tail_bytes a + size_for (length key) (length (value_bytes value)) ≤ 16368 → IsPut a b
+    → tail_bytes b ≡ tail_bytes a + size_for (length key) (length (value_bytes value)) → address ≡ begin_of (next_number a.resident - 1) + tail_bytes a
+    → IsAppended (log_of a) (log_of b) address key value → IsAdded a b address key value
+added-put a b address key value fits put bytes at log =
+    let size : ℕ = size_for (length key) (length (value_bytes value)) in
+    let page : next_number b.resident - 1 ≡ next_number a.resident - 1 = omega (arith, put.first, put.count) in
+    let f : nat_lt 16368 (tail_bytes a + size) ≡ false = le-ltb 16368 (tail_bytes a + size) fits in
+    let tail : tail_of b ≡ record { page = next_number a.resident - 1; bytes = tail_bytes a + size } = λ i. record { page = page i; bytes = bytes i } in
+    record { log = log; tail = rw f tail; end = omega (arith, at, page, bytes) }
+
+-- a put into a page that was opened for it, since the record does not fit into the tail page
+pub added-opened : (a mid b : HybridLog) (address : ℕ) (key : List ℕ) (value : Option (List ℕ)) → 16368 < tail_bytes a + size_for (length key) (length (value_bytes value)) → 0 < length a.resident.pages
+    → mid ≡ with_page_opened a → log_of mid ≡ log_of a → tail_bytes mid ≡ 0 → IsPut mid b → tail_bytes b ≡ tail_bytes mid + size_for (length key) (length (value_bytes value))
+    → address ≡ begin_of (next_number mid.resident - 1) + tail_bytes mid → IsAppended (log_of mid) (log_of b) address key value → IsAdded a b address key value
+added-opened a mid b address key value full some opened same empty put bytes_mid at log =
+    let size : ℕ = size_for (length key) (length (value_bytes value)) in
+    let more : length (a.resident.pages ++ empty_page (next_number a.resident) ∷ []) ≡ length a.resident.pages + 1 = length-append a.resident.pages (empty_page (next_number a.resident) ∷ []) in
+    let next : next_number mid.resident ≡ next_number a.resident + 1 = ap (λ (q : HybridLog). next_number q.resident) opened ∙ omega (arith, more) in
+    let page : next_number b.resident - 1 ≡ next_number a.resident - 1 + 1 = omega (arith, put.first, put.count, next, some) in
+    let bytes : tail_bytes b ≡ size = omega (arith, bytes_mid, empty) in
+    let t : nat_lt 16368 (tail_bytes a + size) ≡ true = lt-ltb 16368 (tail_bytes a + size) full in
+    let tail : tail_of b ≡ record { page = next_number a.resident - 1 + 1; bytes = size } = λ i. record { page = page i; bytes = bytes i } in
+    record {
+      log = subst (λ (l : Log). IsAppended l (log_of b) address key value) same log;
+      tail = rw t tail;
+      end = omega (arith, at, empty, bytes, put.first, put.count);
+    }
+
+-- a write in place
+pub tail-stays : (a b : HybridLog) → IsPut a b → tail_bytes b ≡ tail_bytes a → tail_of b ≡ tail_of a
+tail-stays a b put bytes =
+    let page : next_number b.resident - 1 ≡ next_number a.resident - 1 = omega (arith, put.first, put.count) in
+    λ i. record { page = page i; bytes = bytes i }

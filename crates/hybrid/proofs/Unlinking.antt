@@ -4,8 +4,8 @@ use Rattle.std.specs.Prelude.{slice_index_or}
 use Rattle.std.specs.List.{Contains}
 use Rattle.records.specs.Records.{Stored, records_of}
 use Rattle.hybrid.specs.Log.{Log, contents, newest, page_log}
-use Rattle.hybrid.specs.HybridLog.{HybridLog, Kept, IsGrown, IsCut, receipt_of, log_of, SameContents}
-use Rattle.hybrid.specs.Staging.{IsCopied}
+use Rattle.hybrid.specs.HybridLog.{HybridLog, Kept, IsGrown, IsCut, page_at, receipt_of, log_of, without_oldest_page, SameContents}
+use Rattle.hybrid.specs.Staging.{AreAdded, IsCleaned, IsCopied}
 use Rattle.hybrid.proofs.Logs.{some_is, contents-without}
 use Rattle.hybrid.proofs.Parts.{from-page_log, IsIn}
 
@@ -33,3 +33,11 @@ cleaned-same old mid new page k r w grown copied cut e f same q =
     let whole : newest (log_of mid) x.1.key ≡ Some x = subst (λ (l : Log). newest l x.1.key ≡ Some x) (sym cut.log) h in
     copied.dead i.offset x.1 listed (whole ∙ ap (λ (n : ℕ). Some (n, x.1)) at) in
     sym (contents-without (log_of new) (page_log mid.oldest r.shown) q dead) ∙ ap (λ (l : Log). contents l q) (sym cut.log) ∙ copied.same q
+
+-- which records were added
+pub cleaned-added : (old mid new : HybridLog) (page : List ℕ) → IsCopied old mid page → page ≡ page_at old old.oldest → new ≡ without_oldest_page mid → IsCleaned old new
+cleaned-added old mid new page copied same left = record {
+  mid = mid;
+  added = subst (λ (p : List ℕ). AreAdded (log_of old) old.oldest (records_of p) old mid) same copied.added;
+  left = left;
+}

@@ -7,7 +7,7 @@ use Rattle.records.specs.Page.{empty_page, used_end}
 use Rattle.frames.specs.Resident.{Resident, next_number, page_of, first_mutable, without_oldest, with_opened}
 use Rattle.hybrid.specs.declared.stripe.TheConstants.{CLOSED_MIN, RECORD_MAX}
 use Rattle.words.specs.declared.limits.TheConstants.{FRAMES_MIN}
-use Rattle.hybrid.specs.Hash.{hash_of}
+use Rattle.words.specs.Stripes.{hash_of}
 use Rattle.hybrid.specs.Log.{Log, contents, log_from, AllLaid, IsLinked, Joins, begin_of, page_log}
 
 -- a receipt that is kept: what it has in common with its copies, and the page that it shows
@@ -104,6 +104,20 @@ free p = p.resident.frames - length p.resident.pages
 abbrev pub tail_bytes : HybridLog → ℕ
 tail_bytes p = used_end (slice_index_or p.resident.pages (length p.resident.pages - 1) []) - HEADER_SIZE
 
+-- where a log ends: the number of its tail page, and the bytes of records in it
+pub record Tail : Type 0 where
+  pub page : ℕ
+  pub bytes : ℕ
+
+abbrev pub tail_of : HybridLog → Tail
+tail_of p = record { page = next_number p.resident - 1; bytes = tail_bytes p }
+
+-- where it ends after one record more, of this size: the tail page stays where the record fits into it, and only else
+-- is the next one opened
+abbrev pub tail_with : Tail → ℕ → Tail
+tail_with tail size =
+    if nat_lt (PAGE_SIZE - HEADER_SIZE) (tail.bytes + size) then record { page = tail.page + 1; bytes = size } else record { page = tail.page; bytes = tail.bytes + size }
+
 -- the most pages that writes of this weight can open: none where they fit in the tail page, else one, and one more for
 -- each page that they close, which holds more than CLOSED_MIN bytes of them
 abbrev pub pages_for : HybridLog → ℕ → ℕ
@@ -127,6 +141,7 @@ pub record IsGrown (old new : HybridLog) (weight : ℕ) : Type 0 where
   pub first : new.resident.oldest ≡ old.resident.oldest
   pub next : next_number new.resident ≡ next_number old.resident + opened
   pub frames : new.resident.frames ≡ old.resident.frames
+  pub buckets : length new.heads ≡ length old.heads
   pub stripes : new.stripes ≡ old.stripes
   pub unreleased : new.unreleased ≡ old.unreleased
   pub places : new.places ≡ old.places
@@ -167,6 +182,7 @@ pub record IsPut (old new : HybridLog) : Type 0 where
   pub first : new.resident.oldest ≡ old.resident.oldest
   pub count : length new.resident.pages ≡ length old.resident.pages
   pub frames : new.resident.frames ≡ old.resident.frames
+  pub buckets : length new.heads ≡ length old.heads
   pub stripes : new.stripes ≡ old.stripes
   pub unreleased : new.unreleased ≡ old.unreleased
   pub places : new.places ≡ old.places

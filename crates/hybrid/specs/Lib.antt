@@ -1,4 +1,3 @@
-pub mod Hash
 pub mod Log
 pub mod HybridLog
 pub mod Lookups

@@ -6,7 +6,7 @@ use Rattle.records.specs.declared.pages.TheConstants.{PAGE_SIZE, HEADER_SIZE}
 use Rattle.records.specs.declared.entries.TheConstants.{RECORD_HEADER}
 use Rattle.records.specs.Page.{number_of}
 use Rattle.records.specs.Records.{Stored, value_bytes, size_for, records_of, IsLaidOut}
-use Rattle.hybrid.specs.Hash.{hash_of}
+use Rattle.words.specs.Stripes.{hash_of}
 
 abbrev pub Log : Type 0
 Log = List (ℕ × Stored)

@@ -10,7 +10,7 @@ abbrev pub MatchFault : Fault → Type 0 → Type 0 → Type 0
 MatchFault fault.DeviceFault P Q = P
 MatchFault fault.StoreFull P Q = Q
 
--- no place may be taken
+-- no place may be taken on the device, or no page may be opened: the tail page is the last
 abbrev pub IsFull : HybridLog → Type 0
 IsFull p = (p.unreleased ≡ p.places) ⊎ (LAST_PAGE < next_number p.resident)
 

@@ -1,17 +1,18 @@
 -- Pages that were read outside, and the records that a cleaner copies.
-use Rattle.std.specs.Prelude.{◌≡◌, ℕ, ◌+◌, ◌*◌, ◌/◌, List, Bool, true, false, Some, None, IsSome, slice_index_or, replicate, drop, ◌++◌, ◌≤◌}
+use Rattle.std.specs.Prelude.{◌≡◌, ℕ, ◌+◌, ◌*◌, ◌/◌, List, [], ◌∷◌, Bool, true, false, Some, None, IsSome, slice_index_or, replicate, length, drop, ◌++◌, ◌≤◌}
 use Rattle.std.specs.List.{All, Contains}
 use Rattle.records.specs.Records.{Stored, records_of, size_of}
 use Rattle.frames.specs.Resident.{IsResident}
 use Rattle.hybrid.specs.Log.{Log, newest}
 use Rattle.frames.specs.Resident.{next_number}
 use Rattle.records.specs.declared.pages.TheConstants.{PAGE_SIZE}
-use Rattle.hybrid.specs.declared.stripe.TheConstants.{RECORD_MAX}
+use Rattle.hybrid.specs.declared.stripe.TheConstants.{CLEAN_WEIGHT, CLOSED_MIN, RECORD_MAX}
 use Rattle.hybrid.specs.declared.stripe.clean.Cleaned.{Cleaned}
 use Rattle.hybrid.specs.declared.stripe.clean.Cleaned.TheVariants as answer
 use Rattle.hybrid.specs.declared.stripe.room.Room.{Room}
-use Rattle.hybrid.specs.HybridLog.{HybridLog, Kept, page_at, receipt_of, SameContents, log_of}
+use Rattle.hybrid.specs.HybridLog.{HybridLog, Kept, page_at, receipt_of, SameContents, log_of, without_oldest_page}
 use Rattle.hybrid.specs.Lookups.{Leads}
+use Rattle.hybrid.specs.Writing.{IsAdded}
 
 -- a page, and the receipt that it was read by
 pub record StagedPage : Type 0 where
@@ -32,10 +33,11 @@ pub record IsMissing (p : HybridLog) (staged : List StagedPage) (number : ℕ) :
   pub away : IsResident p.resident number → ⊥
   pub unread : IsStaged staged kept.identity → ⊥
 
--- the lookup of the key of one of the oldest page's records comes to the page of this number
+-- one of the oldest page's records has a value, and the lookup of its key comes to the page of this number
 pub record IsNeeded (p : HybridLog) (number : ℕ) : Type 0 where
   pub entry : ℕ × Stored
   pub listed : Contains (records_of (page_at p p.oldest)) entry
+  pub value : IsSome entry.1.value
   pub leads : Leads p entry.1.key number
 
 -- no record is longer than a write makes one
@@ -56,20 +58,42 @@ abbrev pub AreMarked : Log → ℕ → List (ℕ × Stored) → List Bool → Ty
 AreMarked log number records live =
     (offset : ℕ) (r : Stored) → Contains records (offset, r) → (slice_index_or live (offset / 8) false ≡ true → IsLive log (number * PAGE_SIZE + offset) r) × (slice_index_or live (offset / 8) false ≡ false → IsDead log (number * PAGE_SIZE + offset) r)
 
--- the page of this number has no record left that counts, and all keys have what they had
+-- a record that was gone over: where it is live, one of its key and value was added at the tail, and else nothing has changed
+pub record IsGoneOver (log : Log) (address : ℕ) (r : Stored) (old new : HybridLog) : Type 0 where
+  pub live : IsLive log address r → (to : ℕ) × IsAdded old new to r.key r.value
+  pub other : (IsLive log address r → ⊥) → new ≡ old
+
+-- for the live ones of these records of the page with this number, and for no others, records were added, in their order
+abbrev pub AreAdded : Log → ℕ → List (ℕ × Stored) → HybridLog → HybridLog → Type 0
+AreAdded log number [] old new = old ≡ new
+AreAdded log number (e ∷ es) old new = (mid : HybridLog) × IsGoneOver log (number * PAGE_SIZE + e.0) e.1 old mid × AreAdded log number es mid new
+
+-- the oldest page, of these bytes, has no record left that counts: the live ones were added at the tail, and no others,
+-- and all keys have what they had
 pub record IsCopied (old new : HybridLog) (page : List ℕ) : Type 0 where
   pub same : SameContents old new
+  pub added : AreAdded (log_of old) old.oldest (records_of page) old new
   pub dead : (offset : ℕ) (r : Stored) → Contains (records_of page) (offset, r) → IsDead (log_of new) (old.oldest * PAGE_SIZE + offset) r
 
--- the oldest page has left the log: `opened` pages have come at the tail
+-- the oldest page has left the log: `opened` pages have come at the tail, no more than its records can open
 pub record IsUnlinked (old new : HybridLog) : Type 0 where
   pub opened : ℕ
+  pub few : opened ≤ CLEAN_WEIGHT / CLOSED_MIN + 1
   pub oldest : new.oldest ≡ old.oldest + 1
   pub kept : new.kept ≡ drop 1 (old.kept ++ replicate opened None)
   pub first : new.resident.oldest ≡ old.resident.oldest
   pub next : next_number new.resident ≡ next_number old.resident + opened
+  pub frames : new.resident.frames ≡ old.resident.frames
+  pub buckets : length new.heads ≡ length old.heads
+  pub stripes : new.stripes ≡ old.stripes
   pub unreleased : new.unreleased ≡ old.unreleased
   pub places : new.places ≡ old.places
+
+-- the live records of the oldest page were added at the tail, and no others; then the page left the log
+pub record IsCleaned (old new : HybridLog) : Type 0 where
+  pub mid : HybridLog
+  pub added : AreAdded (log_of old) old.oldest (records_of (page_at old old.oldest)) old mid
+  pub left : new ≡ without_oldest_page mid
 
 abbrev pub MatchCleaned : {R : Type 0} → Cleaned R → (R → Type 0) → (ℕ → Room → Type 0) → Type 0 → Type 0
 MatchCleaned (answer.Unlinked receipt) P Q S = P receipt

@@ -4,9 +4,9 @@ use Rattle.std.specs.Map.{update}
 use Rattle.std.specs.Str.{bytes_eq}
 use Rattle.words.specs.declared.limits.TheConstants.{VALUE_BYTES_MAX, WEIGHT_OF_KEY}
 use Rattle.records.specs.declared.entries.TheConstants.{KEY_BYTES_MAX}
-use Rattle.records.specs.Records.{value_bytes, with_value}
-use Rattle.hybrid.specs.Log.{IsAppended}
-use Rattle.hybrid.specs.HybridLog.{HybridLog, log_of}
+use Rattle.records.specs.Records.{value_bytes, size_for, with_value}
+use Rattle.hybrid.specs.Log.{IsAppended, begin_of}
+use Rattle.hybrid.specs.HybridLog.{HybridLog, log_of, tail_of, tail_with}
 use Rattle.hybrid.specs.Lookups.{IsInPlace}
 
 -- a write: a key, and its new value, or none where it is deleted
@@ -32,10 +32,18 @@ abbrev pub AreFit : List OneWrite → Type 0
 AreFit [] = Unit {0}
 AreFit (w ∷ writes) = Fits w.0 w.1 × AreFit writes
 
--- one write: in place, exactly where the newest record of the key lies in the mutable part and has room, else at the tail
+-- one record more at the tail, of this key and value, at this address: it ends where the log now ends
+pub record IsAdded (old new : HybridLog) (address : ℕ) (key : List ℕ) (value : Option (List ℕ)) : Type 0 where
+  pub log : IsAppended (log_of old) (log_of new) address key value
+  pub tail : tail_of new ≡ tail_with (tail_of old) (size_for (length key) (length (value_bytes value)))
+  pub end : address + size_for (length key) (length (value_bytes value)) ≡ begin_of (tail_of new).page + (tail_of new).bytes
+
+-- one write: in place, exactly where the newest record of the key lies in the mutable part and has room, and the log ends
+-- where it did; else at the tail
 pub record IsWritten (old : HybridLog) (key : List ℕ) (value : Option (List ℕ)) (new : HybridLog) : Type 0 where
   pub in_place : (address : ℕ) → IsInPlace old key (length (value_bytes value)) address → log_of new ≡ map (with_value address value) (log_of old)
-  pub at_tail : ((address : ℕ) → IsInPlace old key (length (value_bytes value)) address → ⊥) → (address : ℕ) × IsAppended (log_of old) (log_of new) address key value
+  pub stays : (address : ℕ) → IsInPlace old key (length (value_bytes value)) address → tail_of new ≡ tail_of old
+  pub at_tail : ((address : ℕ) → IsInPlace old key (length (value_bytes value)) address → ⊥) → (address : ℕ) × IsAdded old new address key value
 
 -- the writes, one after the other
 abbrev pub AreInstalled : HybridLog → List OneWrite → HybridLog → Type 0

@@ -11,7 +11,6 @@
 //! memory.
 #![tactic(auto)]
 
-mod hash;
 mod staged;
 mod stripe;
 mod write;

@@ -173,6 +173,7 @@ impl<R: Shows> Stripe<R> {
     fn tail_end(&self) -> usize
         ensures end { result ≡ used_end (slice_index_or self.now.resident.pages (length self.now.resident.pages - 1) []) }
         ensures laid_out { (HEADER_SIZE ≤ result) × (result ≤ PAGE_SIZE) }
+        ensures pages { 0 < length self.now.resident.pages }
     {
         match self.frames.page(self.frames.next_number() - 1) {
             Some(page) => page.used_end() as usize,

@@ -131,6 +131,19 @@ left_here whole count oldest later held left are lt = (
   },
 )
 
+-- no piece is empty, also where some bytes have been taken off
+pub filled_pieces : (oldest : Bytes) (later : List Bytes) → AreFilled later → AreFilled (as_piece oldest ++ later)
+filled_pieces [] later filled = filled
+filled_pieces (byte ∷ bytes) later filled = (omega arith, filled)
+
+pub filled_without : (n : ℕ) (pieces : List Bytes) → AreFilled pieces → AreFilled (without n pieces)
+filled_without zero pieces filled = filled
+filled_without (suc n) [] filled = tt
+filled_without (suc n) (piece ∷ pieces) filled = by_test (nat_le (length piece) (suc n)) refl (filled_without (suc n - length piece) pieces filled.1) where
+  by_test : (b : Bool) → nat_le (length piece) (suc n) ≡ b → AreFilled (without (suc n - length piece) pieces) → AreFilled (cond b (without (suc n - length piece) pieces) (drop (suc n) piece ∷ pieces))
+  by_test true e rest = rest
+  by_test false e rest = (omega (arith, leb-false (length piece) (suc n) e, length-drop (suc n) piece), filled.1)
+
 -- the bytes that are left
 pub joined-without : (n : ℕ) (pieces : List Bytes) → joined (without n pieces) ≡ drop n (joined pieces)
 joined-without zero pieces = refl

@@ -10,14 +10,16 @@ use Rattle.words.specs.Spelling.{header, bulk_string, spelling, bytes_of, AreSho
 use Rattle.words.specs.declared.word.TheConstants.{WORD_INLINE, WORDS_INLINE}
 use Rattle.words.specs.Stream.{Word, Front, Whole, Part, front, front_from}
 use Rattle.resp_read.specs.declared.reader.ReadFault.{ReadFault}
-use Rattle.resp_read.specs.declared.reader.Step.TheVariants.{Goes, Gives}
+use Rattle.resp_read.specs.declared.reader.ReadFault.TheVariants.{Protocol, OutOfMemory}
+use Rattle.resp_read.specs.declared.reader.Step.TheVariants.{Goes, Gives, Waits, Fails}
+use Rattle.resp_read.specs.Faults.{TellsFault, IsTakenUpTo}
 use Rattle.resp_read.specs.Lines.{BeginsWithLine}
 use Rattle.resp_read.specs.Looks.{HasWord, HasWords}
 use Rattle.resp_read.specs.Memory.{AreInline, FitInline, NeedsMemory}
-use Rattle.resp_read.specs.Pieces.{joined, as_piece, without}
+use Rattle.resp_read.specs.Pieces.{joined, as_piece, without, AreFilled}
 use Rattle.resp_read.specs.Taking.{Takes, TakesNext, GoesOn}
-use Rattle.resp_read.specs.Unread.{Held, taken_off, unread, HasTakenOff, KeepsWords, IsPartOfOne, IsTakenUp, IsBetween, IsBegun}
-use Rattle.resp_read.proofs.PieceLemmas.{joined-push, joined-without, without-without}
+use Rattle.resp_read.specs.Unread.{Held, taken_off, unread, HasTakenOff, KeepsWords, IsPartOfOne, IsLeftOver, IsTakenUp, IsBetween, IsBegun}
+use Rattle.resp_read.proofs.PieceLemmas.{joined-push, joined-without, without-without, filled_without}
 use Rattle.resp_read.proofs.RequestLemmas.{words_lead, bulk_leads, begun_leads, AreShort-push, AreShort-append, bytes_of-push, bytes_of-append, flat_map-push, request_front}
 
 pub regroup : (a b c d : Bytes) → (a ++ b) ++ (c ++ d) ≡ (a ++ (b ++ c)) ++ d
@@ -106,12 +108,12 @@ unread_fed held piece =
     ap (λ (b : Bytes). taken_off held.count held.words ++ b) (joined-push held.pieces piece) ∙ sym (append_assoc (taken_off held.count held.words) (joined held.pieces) piece)
 
 -- the state of a reader as it is seen
-abbrev pub held_of : (due : ℕ) (words pieces : List Bytes) → Held
-held_of due words pieces = record { count = due + length words; words = words; pieces = pieces }
+abbrev pub held_of : (due : ℕ) (words pieces : List Bytes) (lacks : Bool) → Held
+held_of due words pieces lacks = record { count = due + length words; words = words; pieces = pieces; lacks_memory = lacks }
 
 -- the line of a count is taken off
-pub count_taken : (old : Held) (pieces : List Bytes) (value width : ℕ) → old.count ≡ 0 → old.words ≡ [] → BeginsWithLine 42 value width (joined old.pieces) → 1 ≤ value → pieces ≡ without width old.pieces → Takes old Goes (held_of value old.words pieces)
-count_taken old pieces value width none no_words line some left_is = (
+pub count_taken : (old : Held) (pieces : List Bytes) (value width : ℕ) (lacks : Bool) → old.count ≡ 0 → old.words ≡ [] → BeginsWithLine 42 value width (joined old.pieces) → 1 ≤ value → pieces ≡ without width old.pieces → Takes old Goes (held_of value old.words pieces lacks)
+count_taken old pieces value width lacks none no_words line some left_is = (
   record { same = same; taken = record { many = width; left = left_is }; kept = record { more = []; words = sym (append-nil old.words); count = inl none } },
   omega (arith, ap length joined_is, length-drop width (joined old.pieces), line.some, line.within),
 )
@@ -127,15 +129,15 @@ count_taken old pieces value width none no_words line some left_is = (
         ap (λ (n : ℕ). header 42 n ++ flat_map bulk_string old.words) count_is
         ∙ (ap (λ (ws : List Bytes). header 42 value ++ flat_map bulk_string ws) no_words ∙ append-nil (header 42 value))
 
-    same : unread (held_of value old.words pieces) ≡ unread old
+    same : unread (held_of value old.words pieces lacks) ≡ unread old
     same =
-        unread_begun (held_of value old.words pieces) (omega arith)
+        unread_begun (held_of value old.words pieces lacks) (omega arith)
         ∙ (ap (λ (b : Bytes). b ++ joined pieces) spelled ∙ (ap (λ (b : Bytes). header 42 value ++ b) joined_is ∙ (sym line.begins ∙ sym (unread_between old none))))
 
 -- what stands at the front goes by what stands where a word is due
-pub begun_front : (due size : ℕ) (words pieces : List Bytes) (what : Front) → IsBegun due size words → 0 < due → ((left : ℕ) → due ≡ suc left → front_from (Word left size) (joined pieces) ≡ what) → front (unread (held_of due words pieces)) ≡ what
-begun_front due size words pieces what begun some tells =
-    ap front (unread_begun (held_of due words pieces) (omega arith))
+pub begun_front : (due size : ℕ) (words pieces : List Bytes) (lacks : Bool) (what : Front) → IsBegun due size words → 0 < due → ((left : ℕ) → due ≡ suc left → front_from (Word left size) (joined pieces) ≡ what) → front (unread (held_of due words pieces lacks)) ≡ what
+begun_front due size words pieces lacks what begun some tells =
+    ap front (unread_begun (held_of due words pieces lacks) (omega arith))
     ∙ (begun_leads words (due + length words) (due - 1) (joined pieces) (omega arith) begun.most begun.short (omega (arith, begun.together, begun.room))
     ∙ (ap (λ (k : ℕ). front_from (Word (due - 1) k) (joined pieces)) begun.together ∙ tells (due - 1) (omega arith)))
 
@@ -150,9 +152,9 @@ word_leads bytes size start long left word =
     ∙ ap (λ (k : ℕ). front_from (Word left (size + k)) (drop (start + long + 2) bytes)) (word_long bytes size start long word))
 
 -- what stands at the front of a request with a word at the front that found no memory
-pub refused_front : (due size start long : ℕ) (words pieces : List Bytes) (what : Front) → IsBegun due size words → 0 < due → HasWord (joined pieces) size start long → ((left : ℕ) × (due - 1 ≡ suc left) × (front_from (Word left (size + long)) (drop (start + long + 2) (joined pieces)) ≡ what)) → front (unread (held_of due words pieces)) ≡ what
-refused_front due size start long words pieces what begun some word tells =
-    begun_front due size words pieces what begun some (λ left is. at_left left is)
+pub refused_front : (due size start long : ℕ) (words pieces : List Bytes) (lacks : Bool) (what : Front) → IsBegun due size words → 0 < due → HasWord (joined pieces) size start long → ((left : ℕ) × (due - 1 ≡ suc left) × (front_from (Word left (size + long)) (drop (start + long + 2) (joined pieces)) ≡ what)) → front (unread (held_of due words pieces lacks)) ≡ what
+refused_front due size start long words pieces lacks what begun some word tells =
+    begun_front due size words pieces lacks what begun some (λ left is. at_left left is)
   where
     at_left : (left : ℕ) → due ≡ suc left → front_from (Word left size) (joined pieces) ≡ what
     at_left left is =
@@ -168,9 +170,9 @@ too_large : (words : List Bytes) (word : Bytes) (others : List Bytes) → (WORD_
 too_large words word others (inl long) fit = absurd (omega (arith, inline_there words word others fit.1))
 too_large words word others (inr many) fit = absurd (omega (arith, fit.0, length-append words (word ∷ others)))
 
-pub refused_whole : (due size start long : ℕ) (words pieces : List Bytes) → IsBegun due size words → 0 < due → HasWord (joined pieces) size start long → (WORD_INLINE < long) ⊎ (WORDS_INLINE ≤ length words) → HasWords (drop (start + long + 2) (joined pieces)) (due - 1) (size + long) → NeedsMemory (unread (held_of due words pieces))
+pub refused_whole : (due size start long : ℕ) (words pieces : List Bytes) (lacks : Bool) → IsBegun due size words → 0 < due → HasWord (joined pieces) size start long → (WORD_INLINE < long) ⊎ (WORDS_INLINE ≤ length words) → HasWords (drop (start + long + 2) (joined pieces)) (due - 1) (size + long) → NeedsMemory (unread (held_of due words pieces lacks))
 unfolding spelling
-refused_whole due size start long words pieces begun some word large rest = record {
+refused_whole due size start long words pieces lacks begun some word large rest = record {
   words = words ++ next ∷ rest.words;
   more = rest.more;
   request = record {
@@ -196,9 +198,9 @@ refused_whole due size start long words pieces begun some word large rest = reco
     joined_is =
         word.begins ∙ (ap (λ (b : Bytes). bulk_string (take long (drop start (joined pieces))) ++ b) rest.begins ∙ sym (append_assoc (bulk_string (take long (drop start (joined pieces)))) (flat_map bulk_string rest.words) rest.more))
 
-    spelled : unread (held_of due words pieces) ≡ (header 42 (length (words ++ take long (drop start (joined pieces)) ∷ rest.words)) ++ flat_map bulk_string (words ++ take long (drop start (joined pieces)) ∷ rest.words)) ++ rest.more
+    spelled : unread (held_of due words pieces lacks) ≡ (header 42 (length (words ++ take long (drop start (joined pieces)) ∷ rest.words)) ++ flat_map bulk_string (words ++ take long (drop start (joined pieces)) ∷ rest.words)) ++ rest.more
     spelled =
-        unread_begun (held_of due words pieces) (omega arith)
+        unread_begun (held_of due words pieces lacks) (omega arith)
         ∙ (ap (λ (b : Bytes). (header 42 (due + length words) ++ flat_map bulk_string words) ++ b) joined_is
         ∙ (ap (λ (n : ℕ). (header 42 n ++ flat_map bulk_string words) ++ (flat_map bulk_string (take long (drop start (joined pieces)) ∷ rest.words) ++ rest.more)) count_is
         ∙ (regroup (header 42 (length (words ++ take long (drop start (joined pieces)) ∷ rest.words))) (flat_map bulk_string words) (flat_map bulk_string (take long (drop start (joined pieces)) ∷ rest.words)) rest.more
@@ -213,24 +215,41 @@ pub word_is_there : (due size start long : ℕ) (words pieces : List Bytes) → 
 word_is_there due size start long words pieces begun word = subst (λ (k : ℕ). HasWord (joined pieces) k start long) begun.together word
 
 -- a part of a line or of a word is left
-pub part_of_count : (held : Held) → held.count ≡ 0 → length (joined held.pieces) ≤ 6 → IsTakenUp held
-part_of_count held none few = inl (subst (λ (n : ℕ). IsPartOfOne n held.words (joined held.pieces)) (sym none) few)
+pub part_of_count : (held : Held) → held.count ≡ 0 → length (joined held.pieces) ≤ 6 → IsLeftOver false held.count held.words (joined held.pieces)
+part_of_count held none few = subst (λ (n : ℕ). IsPartOfOne n held.words (joined held.pieces)) (sym none) few
 
 part_after : (count size : ℕ) (words : List Bytes) (bytes : Bytes) → 0 < count → bytes_of words ≡ size → front_from (Word 0 size) bytes ≡ Part → IsPartOfOne count words bytes
 part_after zero size words bytes some together tells = absurd (omega arith)
 part_after (suc n) size words bytes some together tells = ap (λ (k : ℕ). front_from (Word 0 k) bytes) together ∙ tells
 
-pub part_of_word : (due size : ℕ) (words pieces : List Bytes) → IsBegun due size words → 0 < due → front_from (Word 0 size) (joined pieces) ≡ Part → IsTakenUp (held_of due words pieces)
-part_of_word due size words pieces begun some tells = inl (part_after (due + length words) size words (joined pieces) (omega arith) begun.together tells)
+pub part_of_word : (due size : ℕ) (words pieces : List Bytes) → IsBegun due size words → 0 < due → front_from (Word 0 size) (joined pieces) ≡ Part → IsLeftOver false (due + length words) words (joined pieces)
+part_of_word due size words pieces begun some tells = part_after (due + length words) size words (joined pieces) (omega arith) begun.together tells
 
--- or a word that takes memory
-pub large_is_left : (due size start long : ℕ) (words pieces : List Bytes) → HasWord (joined pieces) size start long → (WORD_INLINE < long) ⊎ (WORDS_INLINE ≤ length words) → IsTakenUp (held_of due words pieces)
-large_is_left due size start long words pieces word large = inr (
-  take long (drop start (joined pieces)),
-  drop (start + long + 2) (joined pieces),
-  word.begins,
-  subst (λ (k : ℕ). (WORD_INLINE < k) ⊎ (WORDS_INLINE ≤ length words)) (sym (word_long (joined pieces) size start long word)) large,
+-- or a word that found no memory
+pub large_is_left : (due size start long : ℕ) (words pieces : List Bytes) → 0 < due → HasWord (joined pieces) size start long → (WORD_INLINE < long) ⊎ (WORDS_INLINE ≤ length words) → IsLeftOver true (due + length words) words (joined pieces)
+large_is_left due size start long words pieces some word large = (
+  omega arith,
+  (
+    take long (drop start (joined pieces)),
+    drop (start + long + 2) (joined pieces),
+    word.begins,
+    subst (λ (k : ℕ). (WORD_INLINE < k) ⊎ (WORDS_INLINE ≤ length words)) (sym (word_long (joined pieces) size start long word)) large,
+  ),
 )
+
+-- a word that found no memory is left only where one is due
+pub due_where_refused : (refused : Bool) (count : ℕ) (words : List Bytes) (bytes : Bytes) → IsLeftOver refused count words bytes → IsTrue refused → 0 < count
+due_where_refused true count words bytes left is = left.0
+due_where_refused false count words bytes left is = absurd (false≢true is)
+
+-- the note of it is kept only where a word is due
+pub noted_begun : (due size : ℕ) (words : List Bytes) (refused : Bool) → IsBegun due size words → (IsTrue refused → 0 < due + length words) → due ≡ 0 → refused ≡ false
+noted_begun due size words false begun some none = refl
+noted_begun due size words true begun some none = absurd (omega (arith, none, some refl, ap length (begun.none none)))
+
+pub unread_noted : (held : Held) (refused : Bool) → unread (record held { lacks_memory = refused }) ≡ unread held
+unfolding unread
+unread_noted held refused = refl
 
 -- a word is taken off
 pub record IsTaken (due size start long : ℕ) (words pieces words_new pieces_new : List Bytes) : Type 0 where
@@ -270,8 +289,8 @@ taken_begun due size start long words pieces words_new pieces_new taken more = r
   room = taken.there.room;
 }
 
-pub taken_goes : (due size start long : ℕ) (words pieces words_new pieces_new : List Bytes) → IsTaken due size start long words pieces words_new pieces_new → 0 < due - 1 → Takes (held_of due words pieces) Goes (held_of (due - 1) words_new pieces_new)
-taken_goes due size start long words pieces words_new pieces_new taken more = (
+pub taken_goes : (due size start long : ℕ) (words pieces words_new pieces_new : List Bytes) (lacks : Bool) → IsTaken due size start long words pieces words_new pieces_new → 0 < due - 1 → Takes (held_of due words pieces lacks) Goes (held_of (due - 1) words_new pieces_new lacks)
+taken_goes due size start long words pieces words_new pieces_new lacks taken more = (
   record { same = same; taken = record { many = start + long + 2; left = taken.left_are }; kept = record { more = take long (drop start (joined pieces)) ∷ []; words = taken.words_are; count = inr count_is } },
   omega (arith, ap length (taken_joined due size start long words pieces words_new pieces_new taken), length-drop (start + long + 2) (joined pieces), taken.there.within),
 )
@@ -279,15 +298,15 @@ taken_goes due size start long words pieces words_new pieces_new taken more = (
     count_is : (due - 1) + length words_new ≡ due + length words
     count_is = omega (arith, taken.some, taken_count due size start long words pieces words_new pieces_new taken)
 
-    same : unread (held_of (due - 1) words_new pieces_new) ≡ unread (held_of due words pieces)
+    same : unread (held_of (due - 1) words_new pieces_new lacks) ≡ unread (held_of due words pieces lacks)
     same =
-        unread_begun (held_of (due - 1) words_new pieces_new) (omega arith)
+        unread_begun (held_of (due - 1) words_new pieces_new lacks) (omega arith)
         ∙ (ap (λ (n : ℕ). (header 42 n ++ flat_map bulk_string words_new) ++ joined pieces_new) count_is
-        ∙ (sym (taken_spelled (due + length words) due size start long words pieces words_new pieces_new taken) ∙ sym (unread_begun (held_of due words pieces) (omega (arith, taken.some)))))
+        ∙ (sym (taken_spelled (due + length words) due size start long words pieces words_new pieces_new taken) ∙ sym (unread_begun (held_of due words pieces lacks) (omega (arith, taken.some)))))
 
-pub taken_gives : (due size start long : ℕ) (words pieces words_new pieces_new : List Bytes) (new : Held) → IsTaken due size start long words pieces words_new pieces_new → due - 1 ≡ 0 → new.count ≡ 0 → new.words ≡ [] → new.pieces ≡ pieces_new → IsRequest words_new × (unread (held_of due words pieces) ≡ spelling words_new ++ unread new) × HasTakenOff (held_of due words pieces) new × IsBetween new
+pub taken_gives : (due size start long : ℕ) (words pieces words_new pieces_new : List Bytes) (lacks : Bool) (new : Held) → IsTaken due size start long words pieces words_new pieces_new → due - 1 ≡ 0 → new.count ≡ 0 → new.words ≡ [] → new.lacks_memory ≡ false → new.pieces ≡ pieces_new → IsRequest words_new × (unread (held_of due words pieces lacks) ≡ spelling words_new ++ unread new) × HasTakenOff (held_of due words pieces lacks) new × IsBetween new
 unfolding spelling
-taken_gives due size start long words pieces words_new pieces_new new taken last none no_words left_are = (
+taken_gives due size start long words pieces words_new pieces_new lacks new taken last none no_words enough left_are = (
   record {
     some = omega (arith, taken_count due size start long words pieces words_new pieces_new taken);
     most = omega (arith, taken.begun.most, taken.some, taken_count due size start long words pieces words_new pieces_new taken);
@@ -296,15 +315,15 @@ taken_gives due size start long words pieces words_new pieces_new new taken last
   },
   spelled,
   record { many = start + long + 2; left = left_are ∙ taken.left_are },
-  (none, no_words),
+  (none, no_words, enough),
 )
   where
     count_is : due + length words ≡ length words_new
     count_is = omega (arith, taken.some, taken_count due size start long words pieces words_new pieces_new taken)
 
-    spelled : unread (held_of due words pieces) ≡ (header 42 (length words_new) ++ flat_map bulk_string words_new) ++ unread new
+    spelled : unread (held_of due words pieces lacks) ≡ (header 42 (length words_new) ++ flat_map bulk_string words_new) ++ unread new
     spelled =
-        unread_begun (held_of due words pieces) (omega (arith, taken.some))
+        unread_begun (held_of due words pieces lacks) (omega (arith, taken.some))
         ∙ (taken_spelled (due + length words) due size start long words pieces words_new pieces_new taken
         ∙ (ap (λ (n : ℕ). (header 42 n ++ flat_map bulk_string words_new) ++ joined pieces_new) count_is ∙ ap (λ (b : Bytes). (header 42 (length words_new) ++ flat_map bulk_string words_new) ++ b) (ap joined (sym left_are) ∙ sym (unread_between new none))))
 
@@ -341,8 +360,47 @@ goes_after old now new first second = record {
   kept = keeps_after old now new first.kept second.kept;
 }
 
+-- whether memory was refused is noted
+pub goes_noted : (old now new : Held) (refused : Bool) → GoesOn old now → new ≡ record now { lacks_memory = refused } → GoesOn old new
+goes_noted old now new refused so_far noted = subst (GoesOn old) (sym noted) still
+  where
+    still : GoesOn old (record now { lacks_memory = refused })
+    still = record {
+      same = unread_noted now refused ∙ so_far.same;
+      taken = record { many = so_far.taken.many; left = so_far.taken.left };
+      kept = record { more = so_far.kept.more; words = so_far.kept.words; count = so_far.kept.count };
+    }
+
+pub waits_after : (old now stepped new : Held) (refused : Bool) (words : List Bytes) → GoesOn old now → Takes now (Waits refused) stepped → new ≡ record stepped { lacks_memory = refused } → TakesNext old (Ok false) words new
+waits_after old now stepped new refused words so_far waits noted = (
+  goes_noted old stepped new refused (subst (GoesOn old) (sym waits.1) so_far) noted,
+  ap front (sym so_far.same) ∙ waits.0,
+  subst IsTakenUp (sym noted) waits.2,
+)
+
+pub fails_after : (old now stepped new : Held) (fault : ReadFault) (words : List Bytes) → GoesOn old now → Takes now (Fails fault) stepped → new ≡ record stepped { lacks_memory = false } → TakesNext old (Err fault) words new
+fails_after old now stepped new fault words so_far fails noted = (
+  goes_noted old stepped new false (subst (GoesOn old) (sym fails.1) so_far) noted,
+  subst (λ (bytes : Bytes). TellsFault bytes fault) so_far.same fails.0,
+  ap (λ (h : Held). h.lacks_memory) noted,
+  subst (IsTakenUpTo fault) (sym noted) (still fault fails.2),
+)
+  where
+    still : (fault : ReadFault) → IsTakenUpTo fault stepped → IsTakenUpTo fault (record stepped { lacks_memory = false })
+    still (Protocol kind) up = tt
+    still OutOfMemory up = up
+
 pub gives_after : (old now new : Held) (words : List Bytes) → GoesOn old now → Takes now (Gives words) new → Takes old (Gives words) new
 gives_after old now new words so_far gives = (gives.0, sym so_far.same ∙ gives.1, taken_off_after old now new so_far.taken gives.2, gives.3)
+
+-- what is taken off leaves no piece empty
+pub filled_after : (old new : Held) → HasTakenOff old new → AreFilled old.pieces → AreFilled new.pieces
+filled_after old new taken filled = subst AreFilled (sym taken.left) (filled_without taken.many old.pieces filled)
+
+pub next_takes_off : (old new : Held) (words : List Bytes) (result : Result Bool ReadFault) → TakesNext old result words new → HasTakenOff old new
+next_takes_off old new words (Ok true) takes = takes.2
+next_takes_off old new words (Ok false) takes = takes.0.taken
+next_takes_off old new words (Err fault) takes = takes.0.taken
 
 -- a request that is given stood at the front
 pub given_front : (old new : Held) (words : List Bytes) → Takes old (Gives words) new → front (unread old) ≡ Whole (unread new)
@@ -362,9 +420,9 @@ pub front_nothing : (held : Held) → unread held ≡ [] → front (unread held)
 unfolding front
 front_nothing held none = rw none refl
 
-pub taken_up_nothing : (held : Held) → unread held ≡ [] → IsTakenUp held
+pub taken_up_nothing : (held : Held) → unread held ≡ [] → held.lacks_memory ≡ false → IsTakenUp held
 unfolding unread header
-taken_up_nothing held none = inl (part held.count none)
+taken_up_nothing held none enough = subst (λ (refused : Bool). IsLeftOver refused held.count held.words (joined held.pieces)) (sym enough) (part held.count none)
   where
     part : (n : ℕ) → taken_off n held.words ++ joined held.pieces ≡ [] → IsPartOfOne n held.words (joined held.pieces)
     part zero none = rw none (omega arith)

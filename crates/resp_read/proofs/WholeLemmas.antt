@@ -1,5 +1,5 @@
 -- A request that stands whole in one piece.
-use Rattle.std.proofs.Common.{ℕ, ◌≡◌, ◌+◌, ◌≤◌, List, [], ◌∷◌, ◌++◌, length, take, drop, refl, sym, ap, ◌∙◌, arith, append_assoc, length-drop}
+use Rattle.std.proofs.Common.{ℕ, ◌≡◌, ◌+◌, ◌≤◌, false, List, [], ◌∷◌, ◌++◌, length, take, drop, refl, sym, ap, ◌∙◌, arith, append_assoc, length-drop}
 use Rattle.std.specs.List.{flat_map}
 use Rattle.std.proofs.lemmas.List.{append-nil, drop-drop, drop-append-le, length-take-le}
 use Rattle.words.specs.declared.limits.TheConstants.{WORDS_MAX}
@@ -52,8 +52,8 @@ all_taken bytes count at size words taken all some most = record {
 }
 
 -- it is taken off
-pub whole_taken : (old new : Held) (oldest more : Bytes) (words : List Bytes) (width : ℕ) → old.count ≡ 0 → new.count ≡ 0 → new.words ≡ [] → joined old.pieces ≡ oldest ++ more → BeginsWithRequest oldest words width → new.pieces ≡ without width old.pieces → Takes old (Gives words) new
-whole_taken old new oldest more words width none still no_words first request left_is = (request.request, spelled, record { many = width; left = left_is }, (still, no_words)) where
+pub whole_taken : (old new : Held) (oldest more : Bytes) (words : List Bytes) (width : ℕ) → old.count ≡ 0 → new.count ≡ 0 → new.words ≡ [] → new.lacks_memory ≡ false → joined old.pieces ≡ oldest ++ more → BeginsWithRequest oldest words width → new.pieces ≡ without width old.pieces → Takes old (Gives words) new
+whole_taken old new oldest more words width none still no_words enough first request left_is = (request.request, spelled, record { many = width; left = left_is }, (still, no_words, enough)) where
   joined_is : joined new.pieces ≡ drop width oldest ++ more
   joined_is = ap joined left_is ∙ (joined-without width old.pieces ∙ (ap (drop width) first ∙ drop-append-le width oldest more request.within))
 

@@ -1,5 +1,5 @@
 -- What a reader holds of the bytes that it was fed and has not given.
-use Rattle.std.specs.Prelude.{ℕ, zero, suc, ◌≡◌, ◌+◌, ◌<◌, ◌≤◌, ◌⊎◌, List, [], ◌++◌, Option, Some, None, length}
+use Rattle.std.specs.Prelude.{ℕ, zero, suc, ◌≡◌, ◌+◌, ◌<◌, ◌≤◌, ◌⊎◌, Bool, true, false, List, [], ◌++◌, Option, Some, None, length}
 use Rattle.std.specs.List.{flat_map}
 use Rattle.words.specs.declared.limits.TheConstants.{WORDS_MAX, REQUEST_BYTES_MAX}
 use Rattle.words.specs.declared.word.TheConstants.{WORD_INLINE, WORDS_INLINE}
@@ -8,12 +8,13 @@ use Rattle.words.specs.Spelling.{header, bulk_string, bytes_of, AreShort}
 use Rattle.words.specs.Stream.{Word, Part, front_from}
 use Rattle.resp_read.specs.Pieces.{joined, without}
 
--- The count of the request at the front, 0 where it has not been taken off the pieces; the words of it that have been taken off; and
--- the pieces that are left, oldest first.
+-- The count of the request at the front, 0 where it has not been taken off the pieces; the words of it that have been taken off; the
+-- pieces that are left, oldest first; and whether the reader waits with a whole word at their front, since memory was refused for it.
 pub record Held : Type 0 where
   pub count : ℕ
   pub words : List Bytes
   pub pieces : List Bytes
+  pub lacks_memory : Bool
 
 -- the bytes of what has been taken off: the line of the count and the words, as spelled
 abbrev pub taken_off : ℕ → List Bytes → Bytes
@@ -45,14 +46,19 @@ abbrev pub StartsWithLarge : List Bytes → Bytes → Type 0
 StartsWithLarge words bytes =
     (word more : Bytes) × (bytes ≡ bulk_string word ++ more) × ((WORD_INLINE < length word) ⊎ (WORDS_INLINE ≤ length words))
 
--- All that stood whole at the front of the pieces has been taken off: a part of one line or of one word is left. But a word that takes
--- memory may be left, and what stands after it.
+-- What is left in the pieces of a request that has not come whole. Where no memory was refused that is a part of one line or of one word.
+-- Where some was, it is the whole word for which it was refused, one that takes memory, and what stands after it.
+abbrev pub IsLeftOver : (refused : Bool) → (count : ℕ) → List Bytes → Bytes → Type 0
+IsLeftOver false count words bytes = IsPartOfOne count words bytes
+IsLeftOver true count words bytes = (0 < count) × StartsWithLarge words bytes
+
+-- all that stood whole at the front of the pieces has been taken off, but for a word that found no memory and what stands after it
 abbrev pub IsTakenUp : Held → Type 0
-IsTakenUp held = IsPartOfOne held.count held.words (joined held.pieces) ⊎ StartsWithLarge held.words (joined held.pieces)
+IsTakenUp held = IsLeftOver held.lacks_memory held.count held.words (joined held.pieces)
 
 -- nothing of a request has been taken off
 abbrev pub IsBetween : Held → Type 0
-IsBetween held = (held.count ≡ 0) × (held.words ≡ [])
+IsBetween held = (held.count ≡ 0) × (held.words ≡ []) × (held.lacks_memory ≡ false)
 
 -- the words that are kept, if there are some
 abbrev pub kept : Option (List Bytes) → List Bytes

@@ -5,6 +5,7 @@
 
 mod lines;
 mod look;
+mod oldest;
 mod pieces;
 mod reader;
 mod whole;

@@ -2,8 +2,9 @@
 
 ghost use Rattle.std.specs.Prelude.{◌≡◌, ◌+◌, ◌≤◌, ◌<◌, ◌^◌, ◌⊎◌, ℕ, List, [], ◌++◌, length, take, drop, slice_get, option_copied, IsOk, IfOk, IfErr, OnOk, OnErr, IfSome};
 ghost use Rattle.words.specs.declared.word.TheConstants.{WORD_INLINE};
-ghost use Rattle.resp_read.specs.Pieces.{joined, as_piece, without};
+ghost use Rattle.resp_read.specs.Pieces.{joined, as_piece, without, AreFilled};
 
+use crate::oldest::Oldest;
 use bytes::Bytes;
 use smallvec::SmallVec;
 use std::alloc::{AllocError, Global};
@@ -55,8 +56,7 @@ impl Wanted {
 /// The oldest stands beside the others, since nearly always it is the only one.
 #[derive(Drop)]
 pub(crate) struct Pieces {
-    /// Empty where there is no piece.
-    oldest: Bytes,
+    oldest: Oldest,
     later: VecDeque<Bytes>,
     /// How many bytes the pieces have together.
     held: usize,
@@ -79,7 +79,7 @@ impl Pieces {
         ensures { result ≡ [] }
     {
         Pieces {
-            oldest: Bytes::new(),
+            oldest: Oldest::none(),
             later: VecDeque::new(alloc),
             held: 0,
         }
@@ -104,12 +104,20 @@ impl Pieces {
         self.oldest.as_slice()
     }
 
+    /// Each of the pieces has bytes. It does nothing.
+    #[inline(always)]
+    pub(crate) fn are_filled(&self)
+        ensures { AreFilled self.now }
+    {
+        let _held = self.held;
+    }
+
     /// The piece with so many pieces before it.
     pub(crate) fn get(&self, index: usize) -> Option<&[u8]>
         ensures value { option_copied result ≡ slice_get self.now index }
         ensures filled { IfSome result (λ piece. 0 < length piece.now) }
     {
-        if self.oldest.is_empty() {
+        if self.oldest.is_none() {
             return None;
         }
         if index == 0 {
@@ -135,8 +143,8 @@ impl Pieces {
         if piece.is_empty() {
             return Ok(());
         }
-        if self.oldest.is_empty() {
-            self.oldest = piece;
+        if self.oldest.is_none() {
+            self.oldest = Oldest::of(piece);
             self.held = held;
             return Ok(());
         }
@@ -160,9 +168,9 @@ impl Pieces {
         while left >= self.oldest.len() {
             left -= self.oldest.len();
             match self.later.pop_front() {
-                Some(piece) => self.oldest = piece,
+                Some(piece) => self.oldest = Oldest::of(piece),
                 None => {
-                    self.oldest = Bytes::new();
+                    self.oldest = Oldest::none();
                     return;
                 }
             }

@@ -1,9 +1,9 @@
 //! A client's bytes on their way to requests.
 
-ghost use Rattle.std.specs.Prelude.{◌≡◌, ◌≤◌, ◌<◌, ◌⊎◌, [], ◌∷◌, ◌++◌, length, slice_get, option_copied, OnOk, OnErr, IsOk, IfOk, IfErr, IfSome, IfNone, OnSome, IsTrue, IsFalse};
+ghost use Rattle.std.specs.Prelude.{◌≡◌, ◌≤◌, ◌<◌, ◌⊎◌, [], ◌∷◌, ◌++◌, false, length, slice_get, option_copied, OnOk, OnErr, IsOk, IfOk, IfErr, IfSome, IfNone, OnSome, IsTrue, IsFalse};
 ghost use Rattle.words.specs.Spelling.{spelling, bytes_of, IsRequest};
 ghost use Rattle.words.specs.Stream.{front, Part, Whole};
-ghost use Rattle.resp_read.specs.Pieces.{as_piece, joined};
+ghost use Rattle.resp_read.specs.Pieces.{AreFilled, as_piece, joined};
 ghost use Rattle.resp_read.specs.Unread.{unread, kept, HasTakenOff, KeepsWords, IsTakenUp, IsBetween};
 
 use crate::lines::Line;
@@ -39,7 +39,8 @@ pub enum ReadFault {
 /// their place, when it has come whole in however many pieces, and not looked at before. What is looked at
 /// again each time [`next`] is asked is a line that has not come whole, of at most 6 bytes, the length line
 /// of a word that has not, of at most 7, and the first byte of its line end. Where memory was refused for a
-/// word of a request that has not come whole, the word stays in the pieces until it can be kept.
+/// word of a request that has not come whole, and only there, the word stays in the pieces until it can be
+/// kept: [`lacks_memory`] tells it.
 ///
 /// # Memory
 ///
@@ -52,6 +53,7 @@ pub enum ReadFault {
 /// one block, and uses a block again once none of its pieces is kept.
 ///
 /// [`next`]: Reader::next
+/// [`lacks_memory`]: Reader::lacks_memory
 /// [`PART_BYTES_MAX`]: words::limits::PART_BYTES_MAX
 #[derive(Drop)]
 pub struct Reader {
@@ -62,17 +64,19 @@ pub struct Reader {
     /// How many bytes the words of it have that were taken off.
     size: usize,
     words: Option<Words>,
+    /// Whether memory was refused for the word at the front, for which the reader waits.
+    lacks_memory: bool,
 }
 
 impl Model for Reader {
-    ghost use Rattle.std.specs.Prelude.{◌+◌, length};
+    ghost use Rattle.std.specs.Prelude.{◌≡◌, ◌+◌, length, false};
     ghost use Rattle.resp_read.specs.Unread.{Held, kept, IsBegun};
 
     ghost Value = { Held };
 
-    ghost view = { λ reader. record { count = reader.due + length (kept reader.words); words = kept reader.words; pieces = reader.pieces } };
+    ghost view = { λ reader. record { count = reader.due + length (kept reader.words); words = kept reader.words; pieces = reader.pieces; lacks_memory = reader.lacks_memory } };
 
-    ghost invariant = { λ reader. IsBegun reader.due reader.size (kept reader.words) };
+    ghost invariant = { λ reader. IsBegun reader.due reader.size (kept reader.words) × (reader.due ≡ 0 → reader.lacks_memory ≡ false) };
 }
 
 /// What one step takes off the front.
@@ -82,14 +86,15 @@ enum Step {
     Goes,
     /// The last word of a request.
     Gives(Words),
-    /// Nothing: a part of a request is left.
-    Waits,
+    /// Nothing: a part of a request is left. It is a part of a line or of a word, or it begins with a whole
+    /// word for which memory was refused.
+    Waits { refused: bool },
     /// Nothing, and this is why.
     Fails(ReadFault),
 }
 
 impl Reader {
-    ghost use Rattle.resp_read.specs.Faults.{TellsFault};
+    ghost use Rattle.resp_read.specs.Faults.{TellsFault, IsTakenUpTo};
     ghost use Rattle.resp_read.specs.Looks.{HasWord};
     ghost use Rattle.resp_read.specs.Taking.{Takes, TakesWhole, TakesNext};
 
@@ -105,6 +110,7 @@ impl Reader {
             due: 0,
             size: 0,
             words: None,
+            lacks_memory: false,
         }
     }
 
@@ -137,9 +143,18 @@ impl Reader {
     #[inline(always)]
     pub fn is_empty(&self) -> bool
         ensures none { IsTrue result → unread self.now ≡ [] }
+        ensures between { IsTrue result → IsBetween self.now }
         ensures some { IsFalse result → 0 < length (unread self.now) }
     {
         self.due == 0 && self.pieces.held() == 0
+    }
+
+    /// Whether the reader waits with a whole word at the front of its pieces, since memory was refused for it
+    /// when it was last asked. It asks for it again when it is asked again.
+    pub fn lacks_memory(&self) -> bool
+        ensures { result ≡ self.now.lacks_memory }
+    {
+        self.lacks_memory
     }
 
     /// Takes the first request and gives its words, or `None` where more bytes are due. After a
@@ -158,12 +173,14 @@ impl Reader {
         ensures err { OnErr result (unread self.new ≡ unread self.old) }
 
         // Of the pieces only the front is taken off: whole lines and words, as they come, so none is
-        // read again. What was taken off is kept until it is given.
+        // read again. A piece with no bytes left is not kept. What was taken off is kept until it is given.
         ensures pieces { HasTakenOff self.old self.new }
+        ensures filled { AreFilled self.new.pieces }
         ensures between { IfOk result (λ given. OnSome given (IsBetween self.new)) }
         ensures takes_up { IfOk result (λ given. IfNone given (IsTakenUp self.new)) }
         ensures keeps { IfOk result (λ given. IfNone given (KeepsWords self.old self.new)) }
         ensures err_keeps { OnErr result (KeepsWords self.old self.new) }
+        ensures err_takes_up { IfErr result (λ fault. IsTakenUpTo fault self.new) }
     {
         let mut words = Words::one(self.alloc, Word::empty(self.alloc));
         match self.next_into(&mut words) {
@@ -194,11 +211,14 @@ impl Reader {
 
         // What is taken off the pieces, and what is kept, as by `next`.
         ensures pieces { HasTakenOff self.old self.new }
+        ensures filled { AreFilled self.new.pieces }
         ensures between { IfOk result (λ given. IsTrue given → IsBetween self.new) }
         ensures takes_up { IfOk result (λ given. IsFalse given → IsTakenUp self.new) }
         ensures keeps { IfOk result (λ given. IsFalse given → KeepsWords self.old self.new) }
         ensures err_keeps { OnErr result (KeepsWords self.old self.new) }
+        ensures err_takes_up { IfErr result (λ fault. IsTakenUpTo fault self.new) }
     {
+        self.are_filled();
         if self.is_empty() {
             return Ok(false);
         }
@@ -206,6 +226,14 @@ impl Reader {
             return Ok(true);
         }
         self.next_by_steps(words)
+    }
+
+    /// Each of the pieces has bytes. It does nothing.
+    #[inline(always)]
+    fn are_filled(&self)
+        ensures { AreFilled self.now.pieces }
+    {
+        self.pieces.are_filled();
     }
 
     /// Takes the first request step by step.
@@ -222,13 +250,27 @@ impl Reader {
                     *words = given;
                     return Ok(true);
                 }
-                Step::Waits => {
+                Step::Waits { refused } => {
                     part_is_a_beginning();
+                    self.note(refused);
                     return Ok(false);
                 }
-                Step::Fails(fault) => return Err(fault),
+                Step::Fails(fault) => {
+                    self.note(false);
+                    return Err(fault);
+                }
             }
         }
+    }
+
+    /// Notes whether memory was refused for the word at the front.
+    #[inline]
+    fn note(&mut self, refused: bool)
+        requires { IsTrue refused → 0 < self.old.count }
+        ensures noted { self.new ≡ record self.old { lacks_memory = refused } }
+        ensures unread { unread self.new ≡ unread self.old }
+    {
+        self.lacks_memory = refused;
     }
 
     /// Takes the first request, if nothing of it has been taken off, it stands whole in the oldest piece
@@ -258,7 +300,7 @@ impl Reader {
         }
         match look_at_word(self.alloc, &self.pieces, 0, self.size) {
             Look::Whole { start, long } => self.take_word(start, long),
-            Look::Part => Step::Waits,
+            Look::Part => Step::Waits { refused: false },
             Look::Faulty(fault) => Step::Fails(ReadFault::Protocol(fault)),
         }
     }
@@ -275,7 +317,7 @@ impl Reader {
                 self.due = value;
                 Step::Goes
             }
-            Line::Part => Step::Waits,
+            Line::Part => Step::Waits { refused: false },
             Line::Faulty(fault) => Step::Fails(ReadFault::Protocol(fault)),
         }
     }
@@ -300,6 +342,7 @@ impl Reader {
             return Step::Goes;
         }
         self.size = 0;
+        self.lacks_memory = false;
         match self.words.take() {
             Some(words) => Step::Gives(words),
             None => unreachable!(),
@@ -318,7 +361,7 @@ impl Reader {
         let at = start + long + 2;
         match look_at_rest(self.alloc, &self.pieces, at, self.due - 1, self.size + long) {
             Rest::Whole => Step::Fails(ReadFault::OutOfMemory),
-            Rest::Part => Step::Waits,
+            Rest::Part => Step::Waits { refused: true },
             Rest::Faulty(fault) => Step::Fails(ReadFault::Protocol(fault)),
         }
     }

@@ -358,6 +358,33 @@ fn whole_words_are_taken_off_and_parts_are_not(rt: HostRuntime) -> Result<(), Fa
     feed_two_requests(&rt, &mut reader)
 }
 
+/// A long word is taken off too. Where memory is refused for it once (`rt try --test --fail-alloc`) the reader
+/// tells it, and takes the word off when it is asked again.
+fn wait_after_a_long_word(rt: &impl Abort, reader: &mut Reader) -> Result<(), Fail> {
+    feed(
+        reader,
+        b"*3\r\n$3\r\nSET\r\n$26\r\nabcdefghijklmnopqrstuvwxyz\r\n$5\r\nhe",
+    )?;
+    assert!(rt; waits(reader));
+    if reader.lacks_memory() {
+        check_kept(
+            rt,
+            reader,
+            &[b"$26\r\nabcdefghijklmnopqrstuvwxyz\r\n$5\r\nhe"],
+        );
+        assert!(rt; waits(reader));
+    }
+    assert!(rt; !reader.lacks_memory());
+    check_kept(rt, reader, &[b"$5\r\nhe"]);
+    Ok(())
+}
+
+#[test]
+fn long_words_are_taken_off_while_more_is_due(rt: HostRuntime) -> Result<(), Fail> {
+    let mut reader = Reader::new(rt.alloc());
+    wait_after_a_long_word(&rt, &mut reader)
+}
+
 /// Every byte once, after and before others.
 fn every_byte(alloc: Global, before: &[u8], after: &[u8]) -> Result<Vec<u8>, Fail> {
     let mut all = before.to_vec(alloc)?;

@@ -1,19 +1,21 @@
 // The cleaner's step.
 
-ghost use Rattle.std.specs.Prelude.{◌≡◌, ◌≢◌, ◌+◌, ◌<◌, ◌≤◌, ◌↔◌, IsTrue, IsSome, IfOk, IfErr, IfSome, Some, ◌⊎◌, ⊤};
+ghost use Rattle.std.specs.Prelude.{◌≡◌, ◌≢◌, ◌+◌, ◌<◌, ◌≤◌, ◌↔◌, IsTrue, IsSome, IfOk, IfErr, IfSome, Some, option_map, ◌⊎◌, ⊤};
 ghost use Rattle.std.specs.List.{Contains};
 ghost use Rattle.std.specs.Option.{option_copied};
 ghost use Rattle.records.specs.Records.{records_of, IsLaidOut};
+ghost use Rattle.hybrid.specs.Log.{newest};
+ghost use Rattle.hybrid.specs.Lookups.{Leads};
 ghost use Rattle.hybrid.specs.HybridLog.{count_kept, log_of, HasRoom, IsCut, IsGrown, without_oldest_page, receipt_of, Kept, SameContents};
-ghost use Rattle.hybrid.specs.Staging.{AreRight, AreShort, IsMissing, AreMarked, IsCopied, IsNeeded, IsUnlinked, MatchCleaned};
+ghost use Rattle.hybrid.specs.Staging.{AreRight, AreShort, IsMissing, AreMarked, IsCleaned, IsCopied, IsNeeded, IsUnlinked, MatchCleaned};
 
-use crate::hash::hash_of;
 use crate::staged::Staged;
 use crate::stripe::room::Room;
 use crate::stripe::{CLEAN_WEIGHT, RECORD_MAX, Stripe};
 use crate::write::length_of;
 use device::Shows;
 use records::{HEADER_SIZE, PAGE_SIZE, Page, RECORD_HEADER, record_at};
+use words::hash::hash_of;
 use words::limits::WEIGHT_OF_KEY;
 
 /// What a step of the cleaner did.
@@ -32,12 +34,13 @@ const SLOTS: usize = 2048;
 
 impl<R: Shows> Stripe<R> {
     /// Copies the records of the oldest page that still count to the tail, and takes the page out of
-    /// the log, where it is not resident. A tombstone is dropped.
+    /// the log, where it is not resident. A tombstone is dropped, and its key is not looked up.
     pub fn clean_oldest(&mut self, staged: &Staged<R>, room: Room) -> Cleaned<R>
         requires room { HasRoom self.old room.weight }
         requires enough { CLEAN_WEIGHT ≤ room.weight }
         ensures same { R.is_honest → AreRight staged.now → SameContents self.old self.new }
         ensures unlinked { MatchCleaned result (λ r. IsUnlinked self.old self.new × (receipt_of self.old self.old.oldest ≡ Some (record { identity = R.identity r; shown = R.shown r })) × ((k : Kept) → Contains self.new.kept (Some k) → k.shown ≢ R.shown r)) (λ number rest. ⊤) ⊤ }
+        ensures added { R.is_honest → AreRight staged.now → MatchCleaned result (λ r. IsCleaned self.old self.new) (λ number rest. ⊤) ⊤ }
         ensures counted { MatchCleaned result (λ r. count_kept self.new.kept < self.new.unreleased) (λ number rest. ⊤) ⊤ }
         ensures cold { MatchCleaned result (λ r. ⊤) (λ number rest. (self.new ≡ self.old) × (rest ≡ room) × IsMissing self.old staged.now number) ⊤ }
         ensures needed { R.is_honest → AreRight staged.now → MatchCleaned result (λ r. ⊤) (λ number rest. (number ≡ self.old.oldest) ⊎ IsNeeded self.old number) ⊤ }
@@ -83,11 +86,33 @@ impl<R: Shows> Stripe<R> {
         let mut at = HEADER_SIZE;
         let base = self.oldest() * PAGE_SIZE as u64;
         while let Ok(record) = record_at(page, at) {
-            let newest = self.newest_address(record.key, staged)?;
-            live[at / 8] = is_live(newest, base + at as u64, record.value);
+            let marked = self.is_live(record.key, record.value, base + at as u64, staged)?;
+            live[at / 8] = marked;
             at += RECORD_HEADER + record.key.len() + record.capacity;
         }
         Ok(live)
+    }
+
+    // Whether the record of a key at an address is live: it has a value, and is the newest of the key.
+    // The key of a tombstone is not looked up.
+    fn is_live(
+        &self,
+        key: &[u8],
+        value: Option<&[u8]>,
+        address: u64,
+        staged: &Staged<R>,
+    ) -> Result<bool, u64>
+        ensures live { R.is_honest → AreRight staged.now → IfOk result (λ live. IsTrue live ↔ ((option_map (λ e. e.0) (newest (log_of self.now) key.now) ≡ Some address) × IsSome (option_copied value.entry))) }
+        ensures needed { R.is_honest → AreRight staged.now → IfErr result (λ number. IsSome (option_copied value.entry) × Leads self.now key.now number) }
+        ensures cold { IfErr result (λ number. IsMissing self.now staged.now number) }
+    {
+        if value.is_none() {
+            return Ok(false);
+        }
+        match self.newest_address(key, staged)? {
+            Some(at) => Ok(at == address),
+            None => Ok(false),
+        }
     }
 
     // Copies the marked records of the oldest page to the tail.
@@ -95,7 +120,7 @@ impl<R: Shows> Stripe<R> {
         requires room { HasRoom self.old weight }
         requires enough { CLEAN_WEIGHT ≤ weight }
         requires cold { self.old.oldest < self.old.resident.oldest }
-        ensures grown { IsGrown self.old self.new weight }
+        ensures grown { IsGrown self.old self.new CLEAN_WEIGHT }
         ensures copied { IsLaidOut page.now → AreShort (records_of page.now) → AreMarked (log_of self.old) self.old.oldest (records_of page.now) live.now → IsCopied self.old self.new page.now }
     {
         let mut weight = weight;
@@ -132,15 +157,5 @@ impl<R: Shows> Stripe<R> {
         };
         let Some(receipt) = first else { unreachable!() };
         receipt
-    }
-}
-
-// Whether the newest record of a key stands at this address, and this is its value.
-fn is_live(newest: Option<u64>, address: u64, value: Option<&[u8]>) -> bool
-    ensures { IsTrue result ↔ ((newest ≡ Some address) × IsSome (option_copied value.entry)) }
-{
-    match newest {
-        Some(at) => at == address && value.is_some(),
-        None => false,
     }
 }

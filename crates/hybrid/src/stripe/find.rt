@@ -7,15 +7,15 @@ ghost use Rattle.records.specs.Read.{shown};
 ghost use Rattle.frames.specs.Resident.{first_mutable, next_number};
 ghost use Rattle.hybrid.specs.Log.{begin_of, newest, contents};
 ghost use Rattle.hybrid.specs.HybridLog.{log_of, page_at};
-ghost use Rattle.hybrid.specs.Hash.{hash_of};
+ghost use Rattle.words.specs.Stripes.{hash_of};
 ghost use Rattle.hybrid.specs.Lookups.{Leads, MatchLookup, IsInPlace, IsResidentAt};
 ghost use Rattle.hybrid.specs.Staging.{AreRight, IsMissing};
 
-use crate::hash::hash_of;
 use crate::staged::Staged;
 use crate::stripe::Stripe;
 use device::Shows;
 use records::{HEADER_SIZE, PAGE_SIZE, Page, Record, record_at};
+use words::hash::hash_of;
 
 /// What a lookup of a key gives.
 #[derive(Clone, Copy, Debug)]

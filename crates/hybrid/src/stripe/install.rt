@@ -6,26 +6,26 @@ ghost use Rattle.std.specs.Str.{bytes_eq};
 ghost use Rattle.std.specs.Option.{option_copied};
 ghost use Rattle.frames.specs.Resident.{next_number};
 ghost use Rattle.records.specs.Records.{value_bytes, size_for, with_value};
-ghost use Rattle.hybrid.specs.Hash.{hash_of};
+ghost use Rattle.words.specs.Stripes.{hash_of};
 ghost use Rattle.hybrid.specs.Log.{IsAppended, begin_of, contents};
 ghost use Rattle.hybrid.specs.HybridLog.{HasRoom, IsGrown, IsPut, free, log_of, tail_bytes, with_page_opened};
 ghost use Rattle.hybrid.specs.Lookups.{IsInPlace, IsRoomy};
-ghost use Rattle.hybrid.specs.Writing.{IsWritten, AreInstalled, Fits, AreFit, load, written};
+ghost use Rattle.hybrid.specs.Writing.{IsAdded, IsWritten, AreInstalled, Fits, AreFit, load, written};
 
-use crate::hash::hash_of;
 use crate::stripe::room::Room;
 use crate::stripe::{RECORD_MAX, Stripe};
 use crate::write::{Write, length_of};
 use device::Shows;
 use records::{HEADER_SIZE, KEY_BYTES_MAX, PAGE_SIZE, overwrite, put_record, record_size};
+use words::hash::hash_of;
 use words::limits::WEIGHT_OF_KEY;
 
 impl<R: Shows> Stripe<R> {
     /// Makes these writes, in order. It cannot fail, and takes no memory.
     ///
     /// A new value goes into the newest record of its key, in place, where that lies in the mutable part
-    /// and has room for it; else a new record goes to the tail. A deletion is a tombstone, by the same
-    /// rule.
+    /// and has room for it; else a new record goes to the tail: into the tail page where it fits there,
+    /// and only else into a page that is opened behind it. A deletion is a tombstone, by the same rule.
     pub fn install<W: Write>(&mut self, room: Room, writes: &[W])
         requires room { HasRoom self.old room.weight }
         requires load { load (map (λ w. (W.key w, W.value w)) writes.now) ≤ room.weight }
@@ -91,7 +91,7 @@ impl<R: Shows> Stripe<R> {
         requires within { WEIGHT_OF_KEY + length key.now + length (value_bytes (option_copied value)) ≤ weight }
         requires key { length key.now ≤ KEY_BYTES_MAX }
         requires fits { size_for (length key.now) (length (value_bytes (option_copied value))) ≤ RECORD_MAX }
-        ensures log { IsAppended (log_of self.old) (log_of self.new) result key.now (option_copied value.entry) }
+        ensures added { IsAdded self.old self.new result key.now (option_copied value.entry) }
         ensures resident { begin_of self.old.resident.oldest ≤ result }
         ensures room { HasRoom self.new (weight - (WEIGHT_OF_KEY + length key.now + length (value_bytes (option_copied value.entry)))) }
         ensures grown { IsGrown self.old self.new (WEIGHT_OF_KEY + length key.now + length (value_bytes (option_copied value.entry))) }
@@ -126,6 +126,7 @@ impl<R: Shows> Stripe<R> {
         requires fits { size_for (length key.now) (length (value_bytes (option_copied value))) ≤ RECORD_MAX }
         requires room { tail_bytes self.old + size_for (length key.now) (length (value_bytes (option_copied value))) ≤ PAGE_SIZE - HEADER_SIZE }
         ensures log { IsAppended (log_of self.old) (log_of self.new) result key.now (option_copied value.entry) }
+        ensures address { result ≡ begin_of (next_number self.old.resident - 1) + tail_bytes self.old }
         ensures resident { begin_of self.old.resident.oldest ≤ result }
         ensures bytes { tail_bytes self.new ≡ tail_bytes self.old + size_for (length key.now) (length (value_bytes (option_copied value.entry))) }
         ensures put { IsPut self.old self.new }

@@ -43,6 +43,10 @@ impl<R: Shows> Stripe<R> {
         ensures needless { pages_for self.old weight ≤ free self.old → self.new ≡ self.old }
         ensures fault { IfErr result (λ fault. MatchFault fault (D.failures device.new ≡ D.failures device.old + 1) (IsFull self.new × (D.failures device.new ≡ D.failures device.old))) }
         ensures no_fault { OnOk result (D.failures device.new ≡ D.failures device.old) }
+
+        // It asks the device once for each place that it takes, and once more where the device fails.
+        ensures writes { OnOk result (D.writes device.new + self.old.unreleased ≡ D.writes device.old + self.new.unreleased) }
+        ensures asked { IfErr result (λ fault. MatchFault fault (D.writes device.new + self.old.unreleased ≡ D.writes device.old + self.new.unreleased + 1) (D.writes device.new + self.old.unreleased ≡ D.writes device.old + self.new.unreleased)) }
         ensures needed { OnErr result (0 < pages_for self.old weight) }
         ensures needful { OnErr result ((LAST_PAGE < next_number self.new.resident) ⊎ ((receipt_of self.new self.new.resident.oldest ≡ None) × (free self.new < pages_for self.old weight))) }
         ensures last { OnOk result (0 < pages_for self.old weight → next_number self.new.resident ≤ LAST_PAGE) }
@@ -105,6 +109,8 @@ impl<R: Shows> Stripe<R> {
         ensures log { log_of self.new ≡ log_of self.old }
         ensures fault { IfErr result (λ fault. MatchFault fault (D.failures device.new ≡ D.failures device.old + 1) ((self.new.unreleased ≡ self.new.places) × (D.failures device.new ≡ D.failures device.old))) }
         ensures no_fault { OnOk result (D.failures device.new ≡ D.failures device.old) }
+        ensures writes { OnOk result (D.writes device.new + self.old.unreleased ≡ D.writes device.old + self.new.unreleased) }
+        ensures asked { IfErr result (λ fault. MatchFault fault (D.writes device.new ≡ D.writes device.old + 1) (D.writes device.new ≡ D.writes device.old)) }
     {
         if self.has_receipt() {
             return Ok(());

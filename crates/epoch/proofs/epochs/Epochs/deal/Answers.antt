@@ -2,7 +2,7 @@ use Rattle.std.proofs.Common.{◌≡◌, ◌∙◌, ◌+◌, ◌-◌, ℕ, [], A
 use Rattle.atomic_table.specs.Table.{Me}
 use Rattle.epoch.specs.declared.view.View.{View}
 use Rattle.epoch.specs.Plays.{standing}
-use Rattle.epoch.specs.Seats.{IsOutside}
+use Rattle.epoch.specs.Seats.{IsOutside, KnowsNothing}
 use Rattle.epoch.specs.declared.epochs.EpochSeat.{EpochSeat}
 use Rattle.std.proofs.lemmas.List.Elements.{All-push}
 use Rattle.epoch.proofs.Steps.{deals}
@@ -49,4 +49,7 @@ loop-number-preserved c =
             cleared = ap (λ (m : Me ℕ View). m.0.own) me;
             none = ap (λ (m : Me ℕ View). m.0.valid) me;
           }),
+      subst (All KnowsNothing) (sym c.push_reserved.ensures.items)
+          (All-push KnowsNothing c.loop-number.dealt.items seat i.5
+          record { advanced = ap (λ (m : Me ℕ View). m.0.advanced) me; notes = ap (λ (m : Me ℕ View). m.0.notes) me }),
     )

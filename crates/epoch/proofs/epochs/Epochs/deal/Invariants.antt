@@ -1,9 +1,9 @@
 use Rattle.std.proofs.Common.{◌≡◌, ◌-◌, ◌≤◌, [], All, vec_len, vec_capacity}
-use Rattle.epoch.specs.Seats.{id_of, IsOutside}
+use Rattle.epoch.specs.Seats.{id_of, IsOutside, KnowsNothing}
 use Rattle.epoch.specs.Plays.{standing}
 use Rattle.epoch.proofs.epochs.Epochs.deal.Given as goal
 
--- so many seats were dealt, each outside; the others wait
+-- so many seats were dealt, each outside and new; the others wait
 abbrev pub invariant-loop-number : goal.invariant-loop-number
 invariant-loop-number l =
     (l.others.table_id ≡ id_of l.self)
@@ -11,3 +11,4 @@ invariant-loop-number l =
     × (vec_len l.dealt ≡ l.number)
     × (l.self.seats ≤ vec_capacity l.dealt)
     × All (IsOutside l.self) l.dealt.items
+    × All KnowsNothing l.dealt.items

@@ -1,8 +1,8 @@
-use Rattle.std.proofs.Common.{◌≡◌, ◌+◌, ◌<◌, ap, subst, arith, length}
+use Rattle.std.proofs.Common.{◌≡◌, ◌+◌, ◌<◌, ◌≤◌, ap, subst, arith, length}
 use Rattle.std.specs.Option.{option_copied}
 use Rattle.records.specs.Records.{value_bytes, size_for}
 use Rattle.hybrid.specs.HybridLog.{HybridLog, IsPut, tail_bytes}
-use Rattle.hybrid.proofs.Tail.{grown-put, grown-opened, room-put, room-frames, room-opened, room-put-opened, size-small}
+use Rattle.hybrid.proofs.Tail.{added-put, added-opened, grown-put, grown-opened, room-put, room-frames, room-opened, room-put-opened, size-small, size-less}
 use Rattle.hybrid.proofs.stripe.Stripe.append.Goals as goal
 
 pub put-requires-clause-room : goal.put-requires-clause-room
@@ -27,8 +27,8 @@ open_page-requires-clause-room g c =
     let k = length c.args.key.now in
     let v = length (value_bytes (option_copied c.args.value)) in
     let same = ap (size_for k) c.length_of.ensures in
-    let full : 16368 < tail_bytes c.args.self.now + size_for k v = omega (arith, c.if-record_size-free.false, c.record_size.ensures, same, c.tail_end-free.ensures.end, c.tail_end-free.ensures.laid_out) in
-    let frames = room-frames c.args.self.now c.args.weight (48 + k + v) (size_for k v) (size-small k v) c.requires.within full c.requires.room in
+    let full : 16368 ≤ tail_bytes c.args.self.now + size_for k v = omega (arith, c.if-record_size-free.false, c.record_size.ensures, same, c.tail_end-free.ensures.end, c.tail_end-free.ensures.laid_out) in
+    let frames = room-frames c.args.self.now c.args.weight (48 + k + v) (size_for k v) (size-less k v) c.requires.within full c.requires.room in
     room-opened c.args.self.now c.args.weight (48 + k + v) (size_for k v) (size-small k v) c.requires.within (omega arith) c.requires.fits full frames
 
 pub open_page-requires-clause-numbers : goal.open_page-requires-clause-numbers
@@ -36,8 +36,8 @@ open_page-requires-clause-numbers g c =
     let k = length c.args.key.now in
     let v = length (value_bytes (option_copied c.args.value)) in
     let same = ap (size_for k) c.length_of.ensures in
-    let full : 16368 < tail_bytes c.args.self.now + size_for k v = omega (arith, c.if-record_size-free.false, c.record_size.ensures, same, c.tail_end-free.ensures.end, c.tail_end-free.ensures.laid_out) in
-    (room-frames c.args.self.now c.args.weight (48 + k + v) (size_for k v) (size-small k v) c.requires.within full c.requires.room).numbers
+    let full : 16368 ≤ tail_bytes c.args.self.now + size_for k v = omega (arith, c.if-record_size-free.false, c.record_size.ensures, same, c.tail_end-free.ensures.end, c.tail_end-free.ensures.laid_out) in
+    (room-frames c.args.self.now c.args.weight (48 + k + v) (size_for k v) (size-less k v) c.requires.within full c.requires.room).numbers
 
 pub put-requires-2-clause-room : goal.put-requires-2-clause-room
 put-requires-2-clause-room g c = omega (arith, c.open_page.ensures.tail, c.requires.fits)
@@ -47,8 +47,8 @@ returns-clause-room g c =
     let k = length c.args.key.now in
     let v = length (value_bytes (option_copied c.args.value)) in
     let same = ap (size_for k) c.length_of.ensures in
-    let full : 16368 < tail_bytes c.args.self.now + size_for k v = omega (arith, c.if-record_size-free.false, c.record_size.ensures, same, c.tail_end-free.ensures.end, c.tail_end-free.ensures.laid_out) in
-    let frames = room-frames c.args.self.now c.args.weight (48 + k + v) (size_for k v) (size-small k v) c.requires.within full c.requires.room in
+    let full : 16368 ≤ tail_bytes c.args.self.now + size_for k v = omega (arith, c.if-record_size-free.false, c.record_size.ensures, same, c.tail_end-free.ensures.end, c.tail_end-free.ensures.laid_out) in
+    let frames = room-frames c.args.self.now c.args.weight (48 + k + v) (size_for k v) (size-less k v) c.requires.within full c.requires.room in
     let put = subst (λ (q : HybridLog). IsPut q c.put-2.new.self) c.open_page.ensures.log c.put-2.ensures.put in
     let bytes : tail_bytes c.put-2.new.self ≡ size_for k v = omega (arith, c.put-2.ensures.bytes, c.open_page.ensures.tail) in
     room-put-opened c.args.self.now c.put-2.new.self c.args.weight (48 + k + v) (size_for k v) (size-small k v) c.requires.within (omega arith) c.requires.fits full put bytes frames
@@ -58,7 +58,24 @@ returns-clause-grown g c =
     let k = length c.args.key.now in
     let v = length (value_bytes (option_copied c.args.value)) in
     let same = ap (size_for k) c.length_of.ensures in
-    let full : 16368 < tail_bytes c.args.self.now + size_for k v = omega (arith, c.if-record_size-free.false, c.record_size.ensures, same, c.tail_end-free.ensures.end, c.tail_end-free.ensures.laid_out) in
+    let full : 16368 ≤ tail_bytes c.args.self.now + size_for k v = omega (arith, c.if-record_size-free.false, c.record_size.ensures, same, c.tail_end-free.ensures.end, c.tail_end-free.ensures.laid_out) in
     let put = subst (λ (q : HybridLog). IsPut q c.put-2.new.self) c.open_page.ensures.log c.put-2.ensures.put in
     let bytes : tail_bytes c.put-2.new.self ≡ size_for k v = omega (arith, c.put-2.ensures.bytes, c.open_page.ensures.tail) in
     grown-opened c.args.self.now c.put-2.new.self (48 + k + v) (size_for k v) (size-small k v) c.requires.fits full bytes put
+
+pub returns-then-record_size-free-clause-added : goal.returns-then-record_size-free-clause-added
+returns-then-record_size-free-clause-added g c =
+    let k = length c.args.key.now in
+    let v = length (value_bytes (option_copied c.args.value)) in
+    let same = ap (size_for k) c.length_of.ensures in
+    let fits : tail_bytes c.args.self.now + size_for k v ≤ 16368 = omega (arith, c.if-record_size-free.true, c.record_size.ensures, same, c.tail_end-free.ensures.end, c.tail_end-free.ensures.laid_out) in
+    added-put c.args.self.now c.put.new.self c.put.result c.args.key.now (option_copied c.args.value) fits c.put.ensures.put c.put.ensures.bytes c.put.ensures.address c.put.ensures.log
+
+pub returns-clause-added : goal.returns-clause-added
+returns-clause-added g c =
+    let k = length c.args.key.now in
+    let v = length (value_bytes (option_copied c.args.value)) in
+    let same = ap (size_for k) c.length_of.ensures in
+    let full : 16368 < tail_bytes c.args.self.now + size_for k v = omega (arith, c.if-record_size-free.false, c.record_size.ensures, same, c.tail_end-free.ensures.end, c.tail_end-free.ensures.laid_out) in
+    added-opened c.args.self.now c.open_page.new.self c.put-2.new.self c.put-2.result c.args.key.now (option_copied c.args.value) full c.tail_end-free.ensures.pages
+    c.open_page.ensures.log c.open_page.ensures.records c.open_page.ensures.tail c.put-2.ensures.put c.put-2.ensures.bytes c.put-2.ensures.address c.put-2.ensures.log

@@ -58,11 +58,11 @@ loop-record-preserved g c =
     let read = read-fits c.args.page.now c.loop-record.at (shown c.in-Ok.record) c.in-Ok.ensures.exact.0 c.in-Ok.ensures.exact.1 in
     rw c.length_of.ensures
     (copying-copy c.args.self.now c.loop-record.self c.append.new.self c.args.page.now c.args.live.now c.loop-record.at c.loop-record.weight c.args.weight c.append.result (shown c.in-Ok.record) c.in-Ok.ensures.exact.0 c.in-Ok.ensures.exact.1 c.in-Ok.ensures.found
-    c.if-not-live-at.false (omega (arith, read.within, read.value, c.loop-record.invariant.left)) c.append.ensures.room c.append.ensures.grown c.append.ensures.log c.append.ensures.resident c.requires.cold c.loop-record.invariant)
+    c.if-not-live-at.false (omega (arith, read.within, read.value, c.loop-record.invariant.left)) c.append.ensures.room c.append.ensures.grown c.append.ensures.added c.append.ensures.resident c.requires.cold c.loop-record.invariant)
 
 pub returns-clause-copied : goal.returns-clause-copied
 returns-clause-copied g c = λ laid short marked.
     done-all c.args.self.now c.loop-record.self c.args.page.now c.loop-record.at laid (c.loop-record.invariant.done laid short marked) (λ r listed. c.in_default.ensures.found laid r listed)
 
 pub returns-clause-grown : goal.returns-clause-grown
-returns-clause-grown g c = grown-less c.args.self.now c.loop-record.self c.loop-record.invariant.used c.args.weight (omega (arith, c.loop-record.invariant.parts)) c.loop-record.invariant.grown
+returns-clause-grown g c = grown-less c.args.self.now c.loop-record.self c.loop-record.invariant.used 32736 (omega (arith, c.loop-record.invariant.light, c.loop-record.invariant.high)) c.loop-record.invariant.grown

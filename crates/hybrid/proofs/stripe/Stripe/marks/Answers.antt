@@ -35,12 +35,12 @@ loop-record-preserved g c =
     record {
       low = omega (arith, c.loop-record.invariant.low);
       high = omega (arith, read.within);
-      size = length-set c.loop-record.live _ c.is_live.result ∙ c.loop-record.invariant.size;
+      size = length-set c.loop-record.live _ c.in_ok-marked.marked ∙ c.loop-record.invariant.size;
       marked = λ honest right lt k e same.
           let laid : IsLaidOut c.args.page.now = rw same (oldest c.args.self.now k c.oldest.ensures.log lt e).laid in
-          let test = rw c.oldest.ensures.number at c.is_live.ensures in
-          marking-step c.args.self.now c.args.page.now c.loop-record.live c.loop-record.at (shown c.in-Ok.record) c.is_live.result laid c.in-Ok.ensures.exact.0 (c.in-Ok.ensures.found laid) c.loop-record.invariant.size
-          (λ listed. mark-is c.args.self.now k c.loop-record.at (shown c.in-Ok.record) c.in_ok-newest.newest c.is_live.result c.oldest.ensures.log lt e (subst (λ (page : List ℕ). Contains (records_of page) (c.loop-record.at, shown c.in-Ok.record)) same listed) (c.in_ok-newest.ensures.found honest right) test)
+          let test = rw c.oldest.ensures.number at c.in_ok-marked.ensures.live honest right in
+          marking-step c.args.self.now c.args.page.now c.loop-record.live c.loop-record.at (shown c.in-Ok.record) c.in_ok-marked.marked laid c.in-Ok.ensures.exact.0 (c.in-Ok.ensures.found laid) c.loop-record.invariant.size
+          (λ listed. mark-is c.args.self.now k c.loop-record.at (shown c.in-Ok.record) _ c.in_ok-marked.marked c.oldest.ensures.log lt e (subst (λ (page : List ℕ). Contains (records_of page) (c.loop-record.at, shown c.in-Ok.record)) same listed) refl test)
           (c.loop-record.invariant.marked honest right lt k e same);
     }
 
@@ -49,11 +49,11 @@ returns-clause-live g c = λ honest right lt k e same.
     let laid : IsLaidOut c.args.page.now = rw same (oldest c.args.self.now k c.oldest.ensures.log lt e).laid in
     marking-all c.args.self.now c.args.page.now c.loop-record.live c.loop-record.at laid (c.loop-record.invariant.marked honest right lt k e same) (λ r listed. c.in_default.ensures.found laid r listed)
 
-pub returns-in_err-newest-clause-needed : goal.returns-in_err-newest-clause-needed
-returns-in_err-newest-clause-needed g c = λ honest right lt k e same.
+pub returns-in_err-marked-clause-needed : goal.returns-in_err-marked-clause-needed
+returns-in_err-marked-clause-needed g c = λ honest right lt k e same.
     let laid : IsLaidOut c.args.page.now = rw same (oldest c.args.self.now k c.oldest.ensures.log lt e).laid in
     let listed = listed c.args.page.now c.loop-record.at (shown c.in-Ok.record) (c.loop-record.invariant.marked honest right lt k e same).place c.in-Ok.ensures.exact.0.used (c.in-Ok.ensures.found laid) in
     let there = page-cold c.args.self.now c.args.self.now.oldest k c.oldest.ensures.log (omega arith) lt e in
-    let need = needed-of c.args.self.now _ (c.loop-record.at, shown c.in-Ok.record) (subst (λ (page : List ℕ). Contains (records_of page) (c.loop-record.at, shown c.in-Ok.record)) (same ∙ sym there) listed) (c.in_err-newest.ensures.leads honest right) in
+    let need = needed-of c.args.self.now _ (c.loop-record.at, shown c.in-Ok.record) (subst (λ (page : List ℕ). Contains (records_of page) (c.loop-record.at, shown c.in-Ok.record)) (same ∙ sym there) listed) (c.in_err-marked.ensures.needed honest right).0 (c.in_err-marked.ensures.needed honest right).1 in
     let p = err_from_is_err_and c.from_residual.result c.from_residual.ensures.1 in
     rw (p.1, p.2) need

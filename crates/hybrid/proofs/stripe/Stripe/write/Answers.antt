@@ -3,7 +3,7 @@ use Rattle.std.specs.Option.{option_copied}
 use Rattle.records.specs.Records.{value_bytes}
 use Rattle.hybrid.specs.HybridLog.{log_of, tail_bytes}
 use Rattle.hybrid.specs.Lookups.{IsInPlace}
-use Rattle.hybrid.proofs.Tail.{size-short, room-put, grown-put}
+use Rattle.hybrid.proofs.Tail.{size-short, room-put, grown-put, tail-stays}
 use Rattle.hybrid.proofs.Placing.{roomy}
 use Rattle.hybrid.proofs.Installing.{written-in_place, written-at_tail}
 use Rattle.hybrid.proofs.Overwriting.{contents-appended}
@@ -23,16 +23,16 @@ append-requires-clause-fits g c = size-short (length c.args.key.now) (length (va
 pub returns-in-None-clause-written : goal.returns-in-None-clause-written
 returns-in-None-clause-written g c =
     written-at_tail c.args.self.now c.append.new.self c.args.key.now (option_copied c.args.value) c.append.result
-    (λ other there. c.in-None.ensures other (subst (λ n. IsInPlace c.args.self.now c.args.key.now n other) (sym c.length_of.ensures) there)) c.append.ensures.log
+    (λ other there. c.in-None.ensures other (subst (λ n. IsInPlace c.args.self.now c.args.key.now n other) (sym c.length_of.ensures) there)) c.append.ensures.added
 
 pub returns-in-None-clause-contents : goal.returns-in-None-clause-contents
 returns-in-None-clause-contents g c = λ other.
-    contents-appended (log_of c.args.self.now) (log_of c.append.new.self) c.append.result c.args.key.now (option_copied c.args.value) other c.append.ensures.log
+    contents-appended (log_of c.args.self.now) (log_of c.append.new.self) c.append.result c.args.key.now (option_copied c.args.value) other c.append.ensures.added.log
 
 pub returns-in-Some-clause-written : goal.returns-in-Some-clause-written
 returns-in-Some-clause-written g c =
     let there = subst (λ n. IsInPlace c.args.self.now c.args.key.now n c.in-Some.address) c.length_of.ensures c.in-Some.ensures in
-    written-in_place c.args.self.now c.overwrite.new.self c.args.key.now (option_copied c.args.value) c.in-Some.address there c.overwrite.ensures.log
+    written-in_place c.args.self.now c.overwrite.new.self c.args.key.now (option_copied c.args.value) c.in-Some.address there c.overwrite.ensures.log (tail-stays c.args.self.now c.overwrite.new.self c.overwrite.ensures.put c.overwrite.ensures.bytes)
 
 pub returns-in-Some-clause-contents : goal.returns-in-Some-clause-contents
 returns-in-Some-clause-contents g c = λ other.

@@ -7,8 +7,8 @@ use Rattle.resp_read.proofs.reader.Reader.feed.Goals.{in-Ok, in-Err}
 pub returns-clause-unread : goal.returns-clause-unread
 returns-clause-unread c =
     elim c.match-push.branch [
-      | in-Ok w ↦ on_ok_holds c.match-push.result (ap (λ (ps : List (List ℕ)). unread (held_of c.self.inside.due (kept c.self.inside.words) ps)) w.in-Ok.ensures.ok
-          ∙ (unread_fed (held_of c.self.inside.due (kept c.self.inside.words) c.self.inside.pieces) c.args.piece ∙ ap (λ (h : Held). unread h ++ c.args.piece) c.self.view_is))
+      | in-Ok w ↦ on_ok_holds c.match-push.result (ap (λ (ps : List (List ℕ)). unread (held_of c.self.inside.due (kept c.self.inside.words) ps c.self.inside.lacks_memory)) w.in-Ok.ensures.ok
+          ∙ (unread_fed (held_of c.self.inside.due (kept c.self.inside.words) c.self.inside.pieces c.self.inside.lacks_memory) c.args.piece ∙ ap (λ (h : Held). unread h ++ c.args.piece) c.self.view_is))
       | in-Err w ↦ rw w.result-is tt
     ]
 

@@ -11,9 +11,9 @@ pub returns-in-Number : goal.returns-in-Number
 returns-in-Number c =
     let e = c.in-Number.ensures in
     let none : c.self.inside.due + length (kept c.self.inside.words) ≡ 0 = subst (λ (h : Held). h.count ≡ 0) (sym c.self.view_is) c.requires in
-    let nothing : kept c.self.inside.words ≡ [] = c.self.invariant.none (omega arith) in
-    subst (λ (h : Held). Takes h Goes (held_of c.in-Number.value (kept c.self.inside.words) c.skip.new.self)) c.self.view_is
-    (count_taken (held_of c.self.inside.due (kept c.self.inside.words) c.self.inside.pieces) c.skip.new.self c.in-Number.value c.in-Number.width none nothing e.0 e.1 c.skip.ensures)
+    let nothing : kept c.self.inside.words ≡ [] = c.self.invariant.0.none (omega arith) in
+    subst (λ (h : Held). Takes h Goes (held_of c.in-Number.value (kept c.self.inside.words) c.skip.new.self c.self.inside.lacks_memory)) c.self.view_is
+    (count_taken (held_of c.self.inside.due (kept c.self.inside.words) c.self.inside.pieces c.self.inside.lacks_memory) c.skip.new.self c.in-Number.value c.in-Number.width c.self.inside.lacks_memory none nothing e.0 e.1 c.skip.ensures)
 
 pub returns-in-Part : goal.returns-in-Part
 returns-in-Part c =
@@ -21,4 +21,4 @@ returns-in-Part c =
 
 pub returns-in-Faulty : goal.returns-in-Faulty
 returns-in-Faulty c =
-    (ap front (unread_between c.args.self.now c.requires ∙ ap (λ (h : Held). joined h.pieces) (sym c.self.view_is)) ∙ c.in-Faulty.ensures, refl)
+    (ap front (unread_between c.args.self.now c.requires ∙ ap (λ (h : Held). joined h.pieces) (sym c.self.view_is)) ∙ c.in-Faulty.ensures, refl, tt)

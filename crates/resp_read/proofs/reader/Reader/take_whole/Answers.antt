@@ -9,7 +9,7 @@ use Rattle.resp_read.proofs.reader.Reader.take_whole.Goals as goal
 pub returns : goal.returns
 returns c =
     let words = kept c.self.inside.words in
-    let nothing : kept c.self.inside.words ≡ [] = c.self.invariant.none (omega (arith, c.if-self-gt0.false)) in
+    let nothing : kept c.self.inside.words ≡ [] = c.self.invariant.0.none (omega (arith, c.if-self-gt0.false)) in
     let none : c.self.inside.due + length (kept c.self.inside.words) ≡ 0 = rw nothing (omega (arith, c.if-self-gt0.false)) in
-    subst (λ (h : Held). Takes h (Gives c.request_in.new.words) (held_of c.self.inside.due words c.skip.new.self)) c.self.view_is
-    (whole_taken (held_of c.self.inside.due words c.self.inside.pieces) (held_of c.self.inside.due words c.skip.new.self) c.oldest.result.now c.oldest.ensures.first.0 c.request_in.new.words c.request_in.new.at none none nothing c.oldest.ensures.first.1 (c.if-not-request_in.ensures refl) c.skip.ensures)
+    subst (λ (h : Held). Takes h (Gives c.request_in.new.words) (held_of c.self.inside.due words c.skip.new.self c.self.inside.lacks_memory)) c.self.view_is
+    (whole_taken (held_of c.self.inside.due words c.self.inside.pieces c.self.inside.lacks_memory) (held_of c.self.inside.due words c.skip.new.self c.self.inside.lacks_memory) c.oldest.result.now c.oldest.ensures.first.0 c.request_in.new.words c.request_in.new.at none none nothing (c.self.invariant.1 (omega (arith, c.if-self-gt0.false))) c.oldest.ensures.first.1 (c.if-not-request_in.ensures refl) c.skip.ensures)

@@ -1,5 +1,5 @@
 use Rattle.std.proofs.Common.{rules}
-use Rattle.device.proofs.failures.FailureCount.note.Goals as goal
+use Rattle.device.proofs.counts.CallCount.note.Goals as goal
 
 pub returns : goal.returns
 returns c = search rules

@@ -1,6 +1,0 @@
-use Rattle.std.proofs.Common.{◌≡◌, drop}
-use Rattle.hybrid.specs.Hash.{hash_of, hash_onto}
-use Rattle.hybrid.proofs.hash.hash_of.Given as goal
-
-abbrev pub invariant-loop-byte : goal.invariant-loop-byte
-invariant-loop-byte l = hash_onto l.hash (drop l.byte-index l.key) ≡ hash_of l.key
