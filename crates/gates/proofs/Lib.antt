@@ -7,3 +7,4 @@ pub mod Steps
 pub mod Bits
 pub mod Holding
 pub mod Turning
+pub mod SizeRows

@@ -2,6 +2,7 @@
 use Rattle.std.specs.Prelude.{ℕ, ◌≡◌, List, [], ◌∷◌, refl}
 use Rattle.std.proofs.Common.{arith}
 use Rattle.words.specs.declared.limits.TheConstants.{WORDS_MAX, WORD_BYTES_MAX, REQUEST_BYTES_MAX, PART_BYTES_MAX, KEY_BYTES_MAX, VALUE_BYTES_MAX, TRANSACTION_COMMANDS_MAX, TRANSACTION_WORDS_MAX, TRANSACTION_BYTES_MAX, WATCHED_KEYS_MAX, WEIGHT_MAX, WEIGHT_OF_KEY, STRIPES_MAX, STRIPES_DEFAULT, BUCKETS_MAX, BUCKETS_DEFAULT, FRAMES_MIN, FRAMES_MAX, FRAMES_DEFAULT, PLACES_MIN, PLACES_MAX, PLACES_DEFAULT, CLIENTS_MAX, CLIENTS_DEFAULT}
+use Rattle.words.specs.declared.word.TheConstants.{WORD_INLINE, WORDS_INLINE}
 use Rattle.words.specs.Sizes.{AreInRange}
 
 words_of_a_request : WORDS_MAX ≡ 128
@@ -10,8 +11,16 @@ words_of_a_request = refl
 bytes_of_a_word : WORD_BYTES_MAX ≡ 8192
 bytes_of_a_word = refl
 
+-- the bytes of a word, and the words of a request, that are held without an allocation
+inline : WORD_INLINE ∷ WORDS_INLINE ∷ [] ≡ 22 ∷ 4 ∷ []
+inline = refl
+
 bytes_of_a_request : REQUEST_BYTES_MAX ≡ 65536
 bytes_of_a_request = refl
+
+-- 6 for the count, 9 beside the data of each of 128 words, and the data
+bytes_of_a_part : PART_BYTES_MAX ≡ 66694
+bytes_of_a_part = refl
 
 bytes_of_a_key : KEY_BYTES_MAX ≡ 512
 bytes_of_a_key = refl
