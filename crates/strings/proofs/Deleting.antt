@@ -1,9 +1,9 @@
 -- A step of DEL: a key that is there is deleted, a missing one is passed over.
 use Rattle.std.proofs.Common.{◌∙◌, ap, sym, arith, append_assoc}
-use Rattle.std.specs.Prelude.{ℕ, suc, ◌≡◌, ◌+◌, Bool, true, false, List, [], ◌∷◌, ◌++◌, length, Option, None, if◌then◌else◌}
+use Rattle.std.specs.Prelude.{ℕ, suc, ◌≡◌, ◌+◌, true, false, List, [], ◌∷◌, ◌++◌, length, None, if◌then◌else◌}
 use Rattle.std.specs.Map.{update}
 use Rattle.std.specs.Str.{bytes_eq}
-use Rattle.words.specs.Store.{Bytes, Store, Write, empty, written}
+use Rattle.words.specs.Store.{Bytes, Write, empty, written}
 use Rattle.words.specs.Answers.{is_some, deletions}
 use Rattle.strings.proofs.Shows.{written-append}
 use Rattle.strings.specs.declared.overlay.Overlay.{Overlay}

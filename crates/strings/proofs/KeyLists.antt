@@ -1,6 +1,6 @@
 -- The keys of settings, and of commands of several keys.
-use Rattle.std.proofs.Common.{◌∙◌, ap, sym, inl, inr, ◌⊎◌, ◌<◌, subst}
-use Rattle.std.specs.Prelude.{ℕ, zero, suc, ◌≡◌, ◌+◌, List, [], ◌∷◌, length, Option, Some, None, slice_get, option_map, refl}
+use Rattle.std.proofs.Common.{ap, inl, inr, ◌⊎◌}
+use Rattle.std.specs.Prelude.{ℕ, zero, suc, ◌≡◌, List, [], ◌∷◌, length, Some, slice_get, option_map, refl}
 use Rattle.words.specs.declared.command.Command.{Command}
 use Rattle.words.specs.declared.command.Command.TheVariants.{Exists, Del, MGet, MSet, MSetNx}
 use Rattle.words.specs.Store.{Bytes}

@@ -1,6 +1,6 @@
 -- What a list of writes shows at a key: its last write of the key.
 use Rattle.std.proofs.Common.{◌∙◌, ap, Bor}
-use Rattle.std.specs.Prelude.{◌≡◌, refl, Bool, true, false, cond, List, [], ◌∷◌, ◌++◌, Option, Some, None, MatchOption}
+use Rattle.std.specs.Prelude.{◌≡◌, refl, true, false, cond, List, [], ◌∷◌, ◌++◌, Option, Some, None, MatchOption}
 use Rattle.std.specs.Str.{bytes_eq}
 use Rattle.std.specs.Map.{update}
 use Rattle.words.specs.Store.{Bytes, Store, Write, written}

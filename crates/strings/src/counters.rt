@@ -5,7 +5,7 @@ ghost use Rattle.std.specs.Fmt.{signed_decimal};
 ghost use Rattle.words.specs.Commands.{IsInline};
 ghost use Rattle.words.specs.Answers as answers;
 ghost use Rattle.words.specs.Answers.{answer};
-ghost use Rattle.strings.specs.Overlays.{shown, HasRoom};
+ghost use Rattle.strings.specs.Overlays.{shown, HasRoom, NeedsNoMemory};
 
 use crate::growing::refused;
 use crate::overlay::Overlay;
@@ -54,7 +54,7 @@ pub(crate) fn add(
     ensures reply { IfOk result (λ reply. reply ≡ (answer (shown overlay.old) (Command.Add key.now number)).0) }
     ensures writes { OnOk result (overlay.new.writes ≡ overlay.old.writes ++ (answer (shown overlay.old) (Command.Add key.now number)).1) }
     ensures found { overlay.new.found ≡ overlay.old.found }
-    ensures memory { HasRoom overlay.old → IsInline key.now → IsOk result }
+    ensures memory { NeedsNoMemory overlay.old (Command.Add key.now number) → IsOk result }
 {
     let Some(old) = number_at(overlay, key) else {
         return Ok(refused(Refusal::NotAnInteger));
@@ -75,7 +75,7 @@ pub(crate) fn subtract(
     ensures reply { IfOk result (λ reply. reply ≡ (answer (shown overlay.old) (Command.Subtract key.now number)).0) }
     ensures writes { OnOk result (overlay.new.writes ≡ overlay.old.writes ++ (answer (shown overlay.old) (Command.Subtract key.now number)).1) }
     ensures found { overlay.new.found ≡ overlay.old.found }
-    ensures memory { HasRoom overlay.old → IsInline key.now → IsOk result }
+    ensures memory { NeedsNoMemory overlay.old (Command.Subtract key.now number) → IsOk result }
 {
     let Some(old) = number_at(overlay, key) else {
         return Ok(refused(Refusal::NotAnInteger));

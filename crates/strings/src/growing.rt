@@ -5,7 +5,7 @@ ghost use Rattle.words.specs.declared.limits.TheConstants.{VALUE_BYTES_MAX};
 ghost use Rattle.words.specs.Commands.{IsInline};
 ghost use Rattle.words.specs.Answers as answers;
 ghost use Rattle.words.specs.Answers.{answer, value_of};
-ghost use Rattle.strings.specs.Overlays.{shown, HasRoom};
+ghost use Rattle.strings.specs.Overlays.{shown, HasRoom, NeedsNoMemory};
 
 use crate::overlay::Overlay;
 use crate::reading::bytes_at;
@@ -61,7 +61,7 @@ pub(crate) fn append(
     ensures reply { IfOk result (λ reply. reply ≡ (answer (shown overlay.old) (Command.Append key.now value.now)).0) }
     ensures writes { OnOk result (overlay.new.writes ≡ overlay.old.writes ++ (answer (shown overlay.old) (Command.Append key.now value.now)).1) }
     ensures found { overlay.new.found ≡ overlay.old.found }
-    ensures memory { HasRoom overlay.old → IsInline key.now → IsInline (value_of (shown overlay.old key.now) ++ value.now) → IsOk result }
+    ensures memory { NeedsNoMemory overlay.old (Command.Append key.now value.now) → IsOk result }
 {
     let old = bytes_at(overlay, key);
     let more = value.as_slice();
@@ -75,7 +75,9 @@ pub(crate) fn append(
 /// Fills bytes up to a length with zero bytes.
 fn pad(bytes: &mut SmallVec<u8, 22>, len: usize) -> Result<(), OutOfMemory>
     requires { length bytes.old.items ≤ len }
-    ensures { OnOk result (bytes.new.items ≡ bytes.old.items ++ replicate (len - length bytes.old.items) 0) }
+    ensures bytes { OnOk result (bytes.new.items ≡ bytes.old.items ++ replicate (len - length bytes.old.items) 0) }
+    ensures room { len ≤ bytes.old.capacity → IsOk result }
+    ensures capacity { bytes.old.capacity ≤ bytes.new.capacity }
 {
     bytes.resize(len, 0)
 }
@@ -84,7 +86,8 @@ fn pad(bytes: &mut SmallVec<u8, 22>, len: usize) -> Result<(), OutOfMemory>
 /// allocation of its size at most.
 fn overlaid(alloc: Global, old: &[u8], offset: usize, more: &[u8]) -> Result<Word, OutOfMemory>
     requires { offset + length more.now ≤ VALUE_BYTES_MAX }
-    ensures { IfOk result (λ word. word ≡ answers.overlaid old.now offset more.now) }
+    ensures bytes { IfOk result (λ word. word ≡ answers.overlaid old.now offset more.now) }
+    ensures inline { IsInline (answers.overlaid old.now offset more.now) → IsOk result }
 {
     let past = offset + more.len();
     let mut bytes: SmallVec<u8, 22> = SmallVec::with_capacity(alloc, past.max(old.len()))?;
@@ -101,7 +104,9 @@ fn overlay_on(
 ) -> Result<(), OutOfMemory>
     requires within { offset + length more.now ≤ VALUE_BYTES_MAX }
     requires empty { bytes.old.items ≡ [] }
-    ensures { OnOk result (bytes.new.items ≡ answers.overlaid old.now offset more.now) }
+    requires room { (offset + length more.now ≤ bytes.old.capacity) × (length old.now ≤ bytes.old.capacity) }
+    ensures bytes { OnOk result (bytes.new.items ≡ answers.overlaid old.now offset more.now) }
+    ensures succeeds { IsOk result }
 {
     let past = offset + more.len();
     bytes.extend_from_slice(&old[..offset.min(old.len())])?;
@@ -124,6 +129,7 @@ pub(crate) fn set_range(
     ensures reply { IfOk result (λ reply. reply ≡ (answer (shown overlay.old) (Command.SetRange key.now offset value.now)).0) }
     ensures writes { OnOk result (overlay.new.writes ≡ overlay.old.writes ++ (answer (shown overlay.old) (Command.SetRange key.now offset value.now)).1) }
     ensures found { overlay.new.found ≡ overlay.old.found }
+    ensures memory { NeedsNoMemory overlay.old (Command.SetRange key.now offset value.now) → IsOk result }
 {
     let old = bytes_at(overlay, key);
     let more = value.as_slice();

@@ -1,10 +1,11 @@
 //! Commands that set and delete.
 
-ghost use Rattle.std.specs.Prelude.{◌≡◌, [], ◌∷◌, ◌++◌, length, IfOk, OnOk, IsOk, option_copied, Some, None, if◌then◌else◌};
+ghost use Rattle.std.specs.Prelude.{◌≡◌, ◌-◌, ◌≤◌, [], ◌∷◌, ◌++◌, length, IfOk, OnOk, IsOk, option_copied, Some, None, if◌then◌else◌};
 ghost use Rattle.words.specs.Commands.{IsInline};
 ghost use Rattle.words.specs.Answers as answers;
 ghost use Rattle.words.specs.Answers.{answer, value_of, deletions, writes_set};
-ghost use Rattle.strings.specs.Overlays.{shown, HasRoom};
+ghost use Rattle.strings.specs.Overlays.{shown, HasRoom, AreInline, NeedsNoMemory};
+ghost use Rattle.strings.specs.declared.writes.TheConstants.{WRITES_INLINE};
 
 use crate::overlay::Overlay;
 use crate::reading::{copy, value_copy};
@@ -49,7 +50,7 @@ pub(crate) fn set(
     ensures reply { IfOk result (λ reply. reply ≡ (answer (shown overlay.old) (Command.Set key.now value.now when)).0) }
     ensures writes { OnOk result (overlay.new.writes ≡ overlay.old.writes ++ (answer (shown overlay.old) (Command.Set key.now value.now when)).1) }
     ensures found { overlay.new.found ≡ overlay.old.found }
-    ensures memory { HasRoom overlay.old → IsInline key.now → IsInline value.now → IsOk result }
+    ensures memory { NeedsNoMemory overlay.old (Command.Set key.now value.now when) → IsOk result }
 {
     if !allows(when, overlay.value(key.as_slice())) {
         return Ok(CommandReply::bulk(None));
@@ -68,7 +69,7 @@ pub(crate) fn set_if_missing(
     ensures reply { IfOk result (λ reply. reply ≡ (answer (shown overlay.old) (Command.SetNx key.now value.now)).0) }
     ensures writes { OnOk result (overlay.new.writes ≡ overlay.old.writes ++ (answer (shown overlay.old) (Command.SetNx key.now value.now)).1) }
     ensures found { overlay.new.found ≡ overlay.old.found }
-    ensures memory { HasRoom overlay.old → IsInline key.now → IsInline value.now → IsOk result }
+    ensures memory { NeedsNoMemory overlay.old (Command.SetNx key.now value.now) → IsOk result }
 {
     if overlay.has(key.as_slice()) {
         return Ok(CommandReply::integer(0));
@@ -103,7 +104,7 @@ pub(crate) fn get_and_delete(
     ensures reply { IfOk result (λ reply. reply ≡ (answer (shown overlay.old) (Command.GetDel key.now)).0) }
     ensures writes { OnOk result (overlay.new.writes ≡ overlay.old.writes ++ (answer (shown overlay.old) (Command.GetDel key.now)).1) }
     ensures found { overlay.new.found ≡ overlay.old.found }
-    ensures memory { HasRoom overlay.old → IsInline key.now → IsInline (value_of (shown overlay.old key.now)) → IsOk result }
+    ensures memory { NeedsNoMemory overlay.old (Command.GetDel key.now) → IsOk result }
 {
     let old = value_copy(alloc, overlay, key)?;
     if old.is_some() {
@@ -121,6 +122,7 @@ pub(crate) fn delete(
     ensures reply { IfOk result (λ reply. reply ≡ answers.number (length (deletions (shown overlay.old) keys.now))) }
     ensures writes { OnOk result (overlay.new.writes ≡ overlay.old.writes ++ deletions (shown overlay.old) keys.now) }
     ensures found { overlay.new.found ≡ overlay.old.found }
+    ensures memory { NeedsNoMemory overlay.old (Command.Del keys.now) → IsOk result }
 {
     let mut count: usize = 0;
     for key in keys {
@@ -140,6 +142,7 @@ fn write_all(
 ) -> Result<(), OutOfMemory>
     ensures writes { OnOk result (overlay.new.writes ≡ overlay.old.writes ++ writes_set settings.now) }
     ensures found { overlay.new.found ≡ overlay.old.found }
+    ensures memory { AreInline (writes_set settings.now) → length (writes_set settings.now) ≤ WRITES_INLINE - length overlay.old.writes → IsOk result }
 {
     for (key, value) in settings {
         write_copy(alloc, overlay, key, value)?;
@@ -156,6 +159,7 @@ pub(crate) fn set_all(
     ensures reply { IfOk result (λ reply. reply ≡ answers.line Line.Done) }
     ensures writes { OnOk result (overlay.new.writes ≡ overlay.old.writes ++ writes_set settings.now) }
     ensures found { overlay.new.found ≡ overlay.old.found }
+    ensures memory { AreInline (writes_set settings.now) → length (writes_set settings.now) ≤ WRITES_INLINE - length overlay.old.writes → IsOk result }
 {
     write_all(alloc, overlay, settings)?;
     Ok(CommandReply::line(Line::Done))
@@ -182,6 +186,7 @@ pub(crate) fn set_all_if_missing(
     ensures reply { IfOk result (λ reply. reply ≡ (answer (shown overlay.old) (Command.MSetNx settings.now)).0) }
     ensures writes { OnOk result (overlay.new.writes ≡ overlay.old.writes ++ (answer (shown overlay.old) (Command.MSetNx settings.now)).1) }
     ensures found { overlay.new.found ≡ overlay.old.found }
+    ensures memory { NeedsNoMemory overlay.old (Command.MSetNx settings.now) → IsOk result }
 {
     if any_there(overlay, settings) {
         return Ok(CommandReply::integer(0));

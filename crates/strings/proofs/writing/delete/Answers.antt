@@ -1,5 +1,5 @@
-use Rattle.std.proofs.Common.{◌≡◌, ◌∷◌, ◌∙◌, ◌+◌, ap, sym, arith, rules, drop, true, false}
-use Rattle.std.proofs.lemmas.List.{drop_more}
+use Rattle.std.proofs.Common.{length, ◌∷◌, ◌∙◌, ◌+◌, ap, sym, arith, drop}
+use Rattle.std.proofs.lemmas.List.{drop_more, length-append}
 use Rattle.words.specs.Answers.{is_some}
 use Rattle.strings.specs.declared.overlay.Overlay.{Overlay}
 use Rattle.strings.specs.Overlays.{shown}
@@ -18,9 +18,11 @@ loop-key-preserved c =
           let step = deleted_writes c.loop-key.overlay c.if-has.overlay c.key-item.result _ _ split _ _ c.loop-key.invariant.writes
           c.loop-key.count c.loop-key.invariant.counts (test ∙ w.if-has.true) found
           (ap (λ (overlay : Overlay). overlay.writes) w.overlay-is ∙ w.in_ok-write.ensures.writes) in
-          record { found = found ∙ c.loop-key.invariant.found; writes = step.0; counts = omega (arith, step.1); below = omega arith }
+          let longer = ap (λ (overlay : Overlay). length overlay.writes) w.overlay-is ∙ ap length w.in_ok-write.ensures.writes ∙ length-append c.loop-key.overlay.writes _ in
+          record { found = found ∙ c.loop-key.invariant.found; more = omega (arith, longer, c.loop-key.invariant.more); writes = step.0; counts = omega (arith, step.1); below = omega arith }
       | else-has w ↦
           let step = passed_over c.loop-key.overlay c.if-has.overlay c.key-item.result _ _ split _ _ c.loop-key.invariant.writes
           c.loop-key.count c.loop-key.invariant.counts (test ∙ w.if-has.false) w.overlay-is in
-          record { found = ap (λ (overlay : Overlay). overlay.found) w.overlay-is ∙ c.loop-key.invariant.found; writes = step.0; counts = omega (arith, step.1); below = omega arith }
+          let same = ap (λ (overlay : Overlay). length overlay.writes) w.overlay-is in
+          record { found = ap (λ (overlay : Overlay). overlay.found) w.overlay-is ∙ c.loop-key.invariant.found; more = omega (arith, same, c.loop-key.invariant.more); writes = step.0; counts = omega (arith, step.1); below = omega arith }
     ]
