@@ -1,1 +1,6 @@
 mod Unique
+mod Arguments
+mod Texts
+mod Numbers
+mod Parsed
+mod Rows

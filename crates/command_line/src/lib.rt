@@ -1,13 +1,15 @@
 //! The command line of `garnetd`, in a crate of its own: to prove it takes a fraction of what the program takes.
 #![tactic(auto)]
 
-ghost use Rattle.std.specs.Prelude.{ℕ, ◌<◌, ◌≤◌, ◌^◌, IfSome, IfNone, codes};
-ghost use Rattle.command_line.specs.Given.{Gives, GivesOrDefault};
+ghost use Rattle.std.specs.Prelude.{ℕ, ◌≡◌, ◌<◌, ◌≤◌, ◌^◌, IfErr, IfNone, IfOk, IfSome, codes, map, true};
+ghost use Rattle.clap.specs.Words.{FailsBy, app_of, fault_of, kind_of, rule_of, takes};
+ghost use Rattle.command_line.specs.Given.{Gives, GivesOrDefault, text_in};
+ghost use Rattle.command_line.specs.CommandLine.{AskFor, accept_option, garnetd, port_option, stripes_option, workers_option};
 ghost use Rattle.server.specs.Settings.{AreInRange};
 ghost use Rattle.words.specs.declared.limits.TheConstants.{STRIPES_DEFAULT, CLIENTS_DEFAULT};
 
 use clap::error::ErrorKind;
-use clap::{Arg, ArgMatches, Command, Error, value_parser};
+use clap::{Arg, ArgAction, ArgMatches, Command, Error, value_parser};
 use server::{ACCEPT_MAX, Options};
 use std::alloc::{AllocError, Global};
 use std::convert::AsStr;
@@ -19,19 +21,35 @@ use words::limits::{CLIENTS_DEFAULT, CLIENTS_MAX, STRIPES_DEFAULT, STRIPES_MAX};
 ///
 /// What the parser says of a command line that it refuses, and of one that asks for help or for the
 /// version.
-pub fn options_of<'a, S: AsStr>(alloc: Global, words: &'a [S]) -> Result<Options, Error> {
+pub fn options_of<'a, S: AsStr>(alloc: Global, words: &'a [S]) -> Result<Options, Error>
+    ensures ok { IfOk result (AskFor (map S.text words.entry.now)) }
+    // Where the command takes the words, an error is for want of memory.
+    ensures taken { IfErr result (λ e. takes garnetd (map S.text words.entry.now) ≡ true → kind_of e ≡ ErrorKind.OutOfMemory) }
+    // Options come only where no step of the parse fails, and else the kind of error of the first that does, or that of
+    // want of memory.
+    ensures kinds { FailsBy (fault_of garnetd (map S.text words.entry.now)) result }
+{
     let ranges = Ranges::new(alloc)?;
     read(alloc, &ranges, words)
 }
 
 /// What these words ask for.
-fn read<'a, S: AsStr>(alloc: Global, ranges: &'a Ranges, words: &'a [S]) -> Result<Options, Error> {
+fn read<'a, S: AsStr>(alloc: Global, ranges: &'a Ranges, words: &'a [S]) -> Result<Options, Error>
+    ensures ok { IfOk result (AskFor (map S.text words.entry.now)) }
+    ensures taken { IfErr result (λ e. takes garnetd (map S.text words.entry.now) ≡ true → kind_of e ≡ ErrorKind.OutOfMemory) }
+    ensures kinds { FailsBy (fault_of garnetd (map S.text words.entry.now)) result }
+{
     let mut command = command(alloc, ranges)?;
     read_by(&mut command, words)
 }
 
 /// What these words ask for, read by this command.
-fn read_by<'a, S: AsStr>(command: &mut Command<'a>, words: &'a [S]) -> Result<Options, Error> {
+fn read_by<'a, S: AsStr>(command: &mut Command<'a>, words: &'a [S]) -> Result<Options, Error>
+    ensures ok { app_of command.old ≡ garnetd → IfOk result (AskFor (map S.text words.entry.now)) }
+    ensures taken { app_of command.old ≡ garnetd
+        → IfErr result (λ e. takes garnetd (map S.text words.entry.now) ≡ true → kind_of e ≡ ErrorKind.OutOfMemory) }
+    ensures kinds { app_of command.old ≡ garnetd → FailsBy (fault_of garnetd (map S.text words.entry.now)) result }
+{
     let matches = command.try_get_matches_from_mut(words)?;
     match given(&matches) {
         Some(options) => Ok(options),
@@ -67,7 +85,9 @@ impl Ranges {
 }
 
 /// The command line that is parsed.
-fn command<'a>(alloc: Global, ranges: &'a Ranges) -> Result<Command<'a>, AllocError> {
+fn command<'a>(alloc: Global, ranges: &'a Ranges) -> Result<Command<'a>, AllocError>
+    ensures { IfOk result (λ command. app_of command ≡ garnetd) }
+{
     Command::new(alloc, "garnetd")
         .version("0.1.0")
         .about(
@@ -79,35 +99,47 @@ fn command<'a>(alloc: Global, ranges: &'a Ranges) -> Result<Command<'a>, AllocEr
         .arg(workers(alloc, ranges.workers.as_str()))
 }
 
-fn port<'a>(alloc: Global) -> Arg<'a> {
+fn port<'a>(alloc: Global) -> Arg<'a>
+    ensures { rule_of result ≡ port_option }
+{
     Arg::new(alloc, "port")
         .long("port")
+        .action(ArgAction::Set)
         .value_name("P")
         .value_parser(value_parser!(u16))
         .required(true)
         .help("Port of 127.0.0.1, 0 to 65535 (0: any free one); no default")
 }
 
-fn accept<'a>(alloc: Global, help: &'a str) -> Arg<'a> {
+fn accept<'a>(alloc: Global, help: &'a str) -> Arg<'a>
+    ensures { rule_of result ≡ accept_option }
+{
     Arg::new(alloc, "accept")
         .long("accept")
+        .action(ArgAction::Set)
         .value_name("N")
         .value_parser(value_parser!(u32).range(1..=i64::from(ACCEPT_MAX)))
         .required(true)
         .help(help)
 }
 
-fn stripes<'a>(alloc: Global, help: &'a str) -> Arg<'a> {
+fn stripes<'a>(alloc: Global, help: &'a str) -> Arg<'a>
+    ensures { rule_of result ≡ stripes_option }
+{
     Arg::new(alloc, "stripes")
         .long("stripes")
+        .action(ArgAction::Set)
         .value_name("S")
         .value_parser(value_parser!(usize).range(1..=STRIPES_MAX as i64))
         .help(help)
 }
 
-fn workers<'a>(alloc: Global, help: &'a str) -> Arg<'a> {
+fn workers<'a>(alloc: Global, help: &'a str) -> Arg<'a>
+    ensures { rule_of result ≡ workers_option }
+{
     Arg::new(alloc, "workers")
         .long("workers")
+        .action(ArgAction::Set)
         .value_name("W")
         .value_parser(value_parser!(usize).range(1..=CLIENTS_MAX as i64))
         .help(help)
@@ -116,14 +148,14 @@ fn workers<'a>(alloc: Global, help: &'a str) -> Arg<'a> {
 /// The options that a parsed command line gives, or `None` where one that has no default is not given, or
 /// one is not in its range.
 fn given(matches: &ArgMatches<'_>) -> Option<Options>
-    ensures port { IfSome result (λ options. Gives matches.now (codes "port") options.port) }
-    ensures accept { IfSome result (λ options. Gives matches.now (codes "accept") options.accept) }
-    ensures stripes { IfSome result (λ options. GivesOrDefault matches.now (codes "stripes") STRIPES_DEFAULT options.stripes) }
-    ensures workers { IfSome result (λ options. GivesOrDefault matches.now (codes "workers") CLIENTS_DEFAULT options.workers) }
-    ensures none { IfNone result ((port accept stripes workers : ℕ) → Gives matches.now (codes "port") port → port < 2 ^ 16
-        → Gives matches.now (codes "accept") accept
-        → GivesOrDefault matches.now (codes "stripes") STRIPES_DEFAULT stripes
-        → GivesOrDefault matches.now (codes "workers") CLIENTS_DEFAULT workers
+    ensures port { IfSome result (λ options. Gives (text_in matches.now (codes "port")) options.port) }
+    ensures accept { IfSome result (λ options. Gives (text_in matches.now (codes "accept")) options.accept) }
+    ensures stripes { IfSome result (λ options. GivesOrDefault (text_in matches.now (codes "stripes")) STRIPES_DEFAULT options.stripes) }
+    ensures workers { IfSome result (λ options. GivesOrDefault (text_in matches.now (codes "workers")) CLIENTS_DEFAULT options.workers) }
+    ensures none { IfNone result ((port accept stripes workers : ℕ) → Gives (text_in matches.now (codes "port")) port → port < 2 ^ 16
+        → Gives (text_in matches.now (codes "accept")) accept
+        → GivesOrDefault (text_in matches.now (codes "stripes")) STRIPES_DEFAULT stripes
+        → GivesOrDefault (text_in matches.now (codes "workers")) CLIENTS_DEFAULT workers
         → AreInRange accept stripes workers → ⊥) }
 {
     let port = given_port(matches)?;
@@ -135,23 +167,23 @@ fn given(matches: &ArgMatches<'_>) -> Option<Options>
 
 /// The port, or `None` where no number of 16 bits is given.
 fn given_port(matches: &ArgMatches<'_>) -> Option<u16>
-    ensures some { IfSome result (λ port. Gives matches.now (codes "port") port) }
-    ensures none { IfNone result ((port : ℕ) → Gives matches.now (codes "port") port → port < 2 ^ 16 → ⊥) }
+    ensures some { IfSome result (λ port. Gives (text_in matches.now (codes "port")) port) }
+    ensures none { IfNone result ((port : ℕ) → Gives (text_in matches.now (codes "port")) port → port < 2 ^ 16 → ⊥) }
 {
     matches.get_one("port")
 }
 
 /// How many connections are accepted, or `None` where no number of 32 bits is given.
 fn given_accept(matches: &ArgMatches<'_>) -> Option<u32>
-    ensures some { IfSome result (λ accept. Gives matches.now (codes "accept") accept) }
-    ensures none { IfNone result ((accept : ℕ) → Gives matches.now (codes "accept") accept → accept < 2 ^ 32 → ⊥) }
+    ensures some { IfSome result (λ accept. Gives (text_in matches.now (codes "accept")) accept) }
+    ensures none { IfNone result ((accept : ℕ) → Gives (text_in matches.now (codes "accept")) accept → accept < 2 ^ 32 → ⊥) }
 {
     matches.get_one("accept")
 }
 
 /// The number of an option that may be left out.
 fn given_or(matches: &ArgMatches<'_>, option: &str, default: usize) -> usize
-    ensures { GivesOrDefault matches.now option.now default result }
+    ensures { GivesOrDefault (text_in matches.now option.now) default result }
 {
     match matches.get_one(option) {
         Some(number) => number,

@@ -1,7 +1,12 @@
 //! The command line of `replay`.
 
+ghost use Rattle.std.specs.Prelude.{◌≡◌, IfErr, IfOk, map, option_map, true};
+ghost use Rattle.clap.specs.Words.{FailsBy, app_of, fault_of, kind_of, takes};
+ghost use Rattle.clap.specs.declared.error.kind.ErrorKind.TheVariants.{OutOfMemory};
+ghost use Rattle.replay.specs.CommandLine.{file_named, replay};
+
 use clap::{Arg, Command, Error};
-use std::alloc::Global;
+use std::alloc::{AllocError, Global};
 use std::convert::AsStr;
 
 /// The file that a command line names, the program's name its first word; or `None` where it names none.
@@ -10,16 +15,30 @@ use std::convert::AsStr;
 ///
 /// What the parser says of a command line that it refuses, and of one that asks for help or for the
 /// version.
-pub fn file_of<'a, S: AsStr>(alloc: Global, words: &'a [S]) -> Result<Option<&'a str>, Error> {
+pub fn file_of<'a, S: AsStr>(alloc: Global, words: &'a [S]) -> Result<Option<&'a str>, Error>
+    ensures ok { IfOk result (λ file. option_map (λ name. name.now) file ≡ file_named (map S.text words.entry.now)) }
+    // Where the command takes the words, an error is for want of memory.
+    ensures taken { IfErr result (λ e. takes replay (map S.text words.entry.now) ≡ true → kind_of e ≡ OutOfMemory) }
+    // An answer comes only where no step of the parse fails, and else the kind of error of the first that does, or that of
+    // want of memory.
+    ensures kinds { FailsBy (fault_of replay (map S.text words.entry.now)) result }
+{
+    let command = command(alloc)?;
+    let matches = command.try_get_matches_from(words)?;
+    Ok(matches.get_str("file"))
+}
+
+/// The command line that is parsed.
+fn command<'a>(alloc: Global) -> Result<Command<'a>, AllocError>
+    ensures { IfOk result (λ command. app_of command ≡ replay) }
+{
     let file = Arg::new(alloc, "file")
         .value_name("FILE")
         .help("File of the schedule; standard input where none is named");
-    let command = Command::new(alloc, "replay")
+    Command::new(alloc, "replay")
         .version("0.1.0")
         .about("Runs a schedule of the simulated world, and prints what each client was told")
-        .arg(file)?;
-    let matches = command.try_get_matches_from(words)?;
-    Ok(matches.get_str("file"))
+        .arg(file)
 }
 
 #[cfg(test)]

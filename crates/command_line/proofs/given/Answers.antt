@@ -16,6 +16,6 @@ pub returns-clause-none : goal.returns-clause-none
 returns-clause-none c =
     none_where c.new.result (AreInRange c.in_ok-accept.accept c.given_or-stripes.result c.given_or-workers.result) _ c.new.ensures.in_range.1
     (λ refused port accept stripes workers given_port low given_accept given_stripes given_workers range.
-    refused (in_range_too c.args.matches.now c.in_ok-accept.accept c.given_or-stripes.result c.given_or-workers.result accept stripes workers
+    refused (in_range_too _ _ _ c.in_ok-accept.accept c.given_or-stripes.result c.given_or-workers.result accept stripes workers
     (search rules) (search rules) c.given_or-stripes.ensures (search rules) c.given_or-workers.ensures
     given_accept given_stripes given_workers range))
