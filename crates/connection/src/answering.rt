@@ -110,9 +110,11 @@ fn answer_idle<T: Wait, L: Latch>(
         }
         Brief::Set => {
             watches_follow_entries();
-            let value = words.pop();
+            let mut value = words.pop();
             let key = &words.as_slice()[1];
-            Due::Line(line_of(engine.set(rt, pass, key, value, latch)))
+            let line = line_of(engine.set(rt, pass, key, &mut value, latch));
+            let _ = words.push(value); // what the key had is let go with the words
+            Due::Line(line)
         }
         Brief::Ping => Due::Line(Line::Pong),
         Brief::Other => answer_obeyed(rt, latch, client, words, engine, pass),

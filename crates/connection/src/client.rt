@@ -114,6 +114,12 @@ impl Client {
         Words::one(self.alloc, Word::empty(self.alloc))
     }
 
+    /// Lets go what the words hold of the last request. A client waits for its reply, so that is done once the
+    /// reply is written.
+    pub(crate) fn let_go(&self, words: &mut Words) {
+        *words = self.no_words();
+    }
+
     /// Whether nothing is left of what it was fed, and its session has not ended: it wants more input.
     #[inline]
     pub(crate) fn wants_input(&self) -> bool

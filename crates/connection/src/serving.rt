@@ -131,6 +131,7 @@ fn converse_with<T: Wait, L: Latch, R: ReadReady, W: Write>(
         ) {
             return ended;
         }
+        client.let_go(words);
     }
 }
 
@@ -174,9 +175,9 @@ pub(crate) fn forget<T: Wait, L: Latch>(
 /// at most two blocks. Each piece costs 40 bytes in the reader's list beside its own, so a client that sends
 /// one byte a piece costs 41 bytes a byte, or 81 just after the list has doubled. Only where memory was
 /// refused for a word do whole words stay in the pieces: then the request's 66,694 bytes stand in at most six
-/// blocks. The words of the last request stay until those of the next take their place, 65,536 bytes at most. The
-/// output buffer has 65,536 bytes. A transaction keeps at most 128 commands with 65,536 bytes of
-/// words, and a session at most 128 watched keys.
+/// blocks. The words of a request, 65,536 bytes at most, and the value that its SET has replaced stay until the
+/// reply is written. The output buffer has 65,536 bytes. A transaction keeps at most 128 commands with 65,536
+/// bytes of words, and a session at most 128 watched keys.
 pub fn serve<T: Wait, L: Latch, R: ReadReady, W: Write>(
     rt: &T,
     alloc: Global,

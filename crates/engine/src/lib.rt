@@ -129,7 +129,8 @@ impl Engine {
     }
 
     /// The same as [`submit_with`](Engine::submit_with) of a SET without an option, whose key stays the
-    /// caller's. The value moves into the store. It is answered by a line.
+    /// caller's. The value moves into the store. What is left in its place, such as what the key had, is the
+    /// caller's to let go, who knows when nobody waits. It is answered by a line.
     ///
     /// # Errors
     ///
@@ -139,17 +140,17 @@ impl Engine {
         rt: &R,
         pass: &mut Pass,
         key: &Word,
-        value: Word,
+        value: &mut Word,
         latch: &L,
     ) -> Result<Line, Fault>
         requires rests { Rests self.now pass.old }
         ensures rests { Rests self.now pass.new }
-        ensures done { IfReply (answer_of result) (λ reply. IsDone (stripes_asked (stripe_count self.now) (set_call key.now value)) (asked_of (set_call key.now value)) reply (knows pass.old) (knows pass.new)) }
-        ensures undone { IfFault (answer_of result) (λ fault. IsUndone (stripes_asked (stripe_count self.now) (set_call key.now value)) (asked_of (set_call key.now value)) fault (knows pass.old) (knows pass.new)) }
+        ensures done { IfReply (answer_of result) (λ reply. IsDone (stripes_asked (stripe_count self.now) (set_call key.now value.old)) (asked_of (set_call key.now value.old)) reply (knows pass.old) (knows pass.new)) }
+        ensures undone { IfFault (answer_of result) (λ fault. IsUndone (stripes_asked (stripe_count self.now) (set_call key.now value.old)) (asked_of (set_call key.now value.old)) fault (knows pass.old) (knows pass.new)) }
     {
         let number = pass.number();
         latch.at(number, Point::Before);
-        let answer = submit_set(rt, &self.gates, pass, key, value, latch);
+        let answer = submit_set(rt, self.alloc, &self.gates, pass, key, value, latch);
         latch.at(number, Point::After);
         answer
     }

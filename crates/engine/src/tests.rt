@@ -825,13 +825,13 @@ fn a_latch_is_told_where_each_call_is(rt: HostRuntime) -> Result<(), Fail> {
         digits: AtomicU64::new(0),
     };
     let key = Word::from_slice(alloc, b"n")?;
-    let value = Word::from_slice(alloc, b"2")?;
+    let mut value = Word::from_slice(alloc, b"2")?;
     let request = "INCR n";
     let due = ":1";
     let exchange = Exchange { request, due };
     assert!(rt; is_due(&rt, alloc, &trail, &engine, &mut pass, exchange));
     assert!(rt; engine.get(&rt, &mut pass, &key, &trail).is_ok());
-    assert!(rt; engine.set(&rt, &mut pass, &key, value, &trail).is_ok());
+    assert!(rt; engine.set(&rt, &mut pass, &key, &mut value, &trail).is_ok());
     assert_eq!(rt; trail.digits.load(Ordering::SeqCst), 123_123_123);
     Ok(())
 }

@@ -10,6 +10,7 @@ ghost use Rattle.transact.specs.Tables.{Became, IsReady, begins, clears, joined,
 
 use crate::shard::Shard;
 use gates::Parts;
+use std::alloc::Global;
 use words::hash::stripe_of;
 use words::word::{OutOfMemory, Word};
 
@@ -101,6 +102,26 @@ pub(crate) fn write<P: Parts<Shard>>(parts: &mut P, stripes: usize, key: &Word, 
 {
     let stripe = stripe_in(&*parts, stripes, key);
     parts.part(stripe).write(key, value)
+}
+
+/// Writes a key that has a place, to which the value moves. What the key had is left in place of the value, for
+/// the caller to let go.
+pub(crate) fn trade<P: Parts<Shard>>(
+    alloc: Global,
+    parts: &mut P,
+    stripes: usize,
+    key: &Word,
+    value: &mut Word,
+)
+    requires open { P.is_open parts.old }
+    requires some { 1 ≤ stripes }
+    requires ready { IsReady stripes (P.part_of parts.old) key.now }
+    ensures became { Became shard_meaning stripes ((key.now, Some value.old) ∷ []) (touches ((key.now, Some value.old) ∷ [])) (P.part_of parts.old) (P.part_of parts.new) }
+    ensures open { P.is_open parts.new }
+    ensures keeps { P.keeps parts.old parts.new }
+{
+    let stripe = stripe_in(&*parts, stripes, key);
+    parts.part(stripe).trade(alloc, key, value);
 }
 
 /// Gives a key this value, and tells what it had. Marks stay. It takes no memory for a key that has a value.

@@ -77,15 +77,17 @@ impl Shard {
         }
     }
 
-    /// Gives a key that has a place this value, or none, at its place. It takes no memory.
+    /// Gives a key that has a place this value, or none, at its place, and gives back what it had. It takes no
+    /// memory.
     #[tactic(auto, unfolding(crate::specs::Shards::place_of))]
-    fn replace(&mut self, key: &Word, value: Option<Word>)
+    fn replace(&mut self, key: &Word, value: Option<Word>) -> Option<Word>
         requires place { HasPlace self.old key.now }
         ensures places { (k : List ℕ) → place_of self.new k ≡ update bytes_eq (place_of self.old) key.now (Some value) k }
         ensures marks { self.new.marks ≡ self.old.marks }
     {
-        if let Some(place) = self.map.get_mut(key) {
-            *place = value;
+        match self.map.get_mut(key) {
+            Some(place) => mem::replace(place, value),
+            None => unreachable!(),
         }
     }
 
@@ -138,7 +140,7 @@ impl Shard {
         ensures value { (k : List ℕ) → shard_store self.new k ≡ update bytes_eq (shard_store self.old) key.now value k }
         ensures marks { shard_marks self.new ≡ shard_marks self.old }
     {
-        self.replace(key, value);
+        let _ = self.replace(key, value);
     }
 
     /// Makes a place for a key that has none. It takes no memory where the key has one.
@@ -166,7 +168,21 @@ impl Shard {
         ensures places { (k : List ℕ) → place_of self.new k ≡ update bytes_eq (place_of self.old) key.now (Some value) k }
     {
         self.touch(key); // for a deletion too
-        self.replace(key, value);
+        let _ = self.replace(key, value);
+    }
+
+    /// Writes a key that has a place: the value moves there, and its marks are touched. What the key had is left
+    /// in place of the value, for the caller to let go. It takes no memory.
+    pub fn trade(&mut self, alloc: Global, key: &Word, value: &mut Word)
+        requires { HasPlace self.old key.now }
+        ensures value { (k : List ℕ) → shard_store self.new k ≡ update bytes_eq (shard_store self.old) key.now (Some value.old) k }
+        ensures marks { (k : List ℕ) (number : ℕ) → shard_marks self.new k number ≡ touched (bytes_eq key.now k) (shard_marks self.old k number) }
+    {
+        self.touch(key);
+        let value_now = mem::replace(value, Word::empty(alloc));
+        if let Some(value_before) = self.replace(key, Some(value_now)) {
+            *value = value_before;
+        }
     }
 
     /// Deletes a key, with its place, and touches its marks. It takes no memory.

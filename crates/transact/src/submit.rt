@@ -19,7 +19,7 @@ ghost use Rattle.transact.specs.Memory.{NeedsSome, PlansMore, get_call, set_call
 ghost use Rattle.transact.specs.Submits.{HasDone, HasEntry, HasFailed, IfFault, IfReply, Did, DidNot, HeardBusy, IsRefused, MayBeSubmitted, WasRefused, asked_for, setting_asked, stripes_asked};
 
 use crate::call::{Answer, Busy, Call, Watching};
-use crate::cells::{exchange, make_place, restore, touch, value_of, write};
+use crate::cells::{exchange, make_place, restore, touch, trade, value_of};
 use crate::plan::plan;
 use crate::shard::Shard;
 use crate::stripes::{keys_of, with_key};
@@ -154,13 +154,14 @@ fn enter_get(
 }
 
 /// Runs a SET without an option over the parts that are held. A value that weighs too much is refused by the
-/// reply. It takes memory only for a key that has no value.
+/// reply. It takes memory only for a key that has no value. What is left in place of the value is to be let go.
 fn enter_set(
+    alloc: Global,
     held: &mut Held<'_, Shard>,
     stripes: usize,
     seat: u64,
     key: &Word,
-    value: Word,
+    value: &mut Word,
 ) -> Result<Line, Fault>
     requires open { IsOpen held.old }
     requires fresh { has_committed held.old ≡ false }
@@ -168,62 +169,64 @@ fn enter_set(
     requires stripes { stripes ≡ stripes_of (gates_of held.old) }
     requires seat { seat ≡ (known_to held.old).number }
     requires fit { AllFit shard_meaning stripes (known_to held.old) (held_taken held.old) (held_parts held.old) }
-    requires there { AreThere stripes (part_at (held_parts held.old)) (call_keys (set_call key.now value)) }
+    requires there { AreThere stripes (part_at (held_parts held.old)) (call_keys (set_call key.now value.old)) }
     ensures open { IsOpen held.new }
     ensures gates { gates_of held.new ≡ gates_of held.old }
     ensures pass { borrow_of held.new ≡ borrow_of held.old }
     ensures fit { AllFit shard_meaning stripes (known_to held.new) (held_taken held.new) (held_parts held.new) }
-    ensures did { IfReply (answer_of result) (λ reply. let entry : Entry = record { session = seat; operation = operation_of (known_to held.old).watched (asked_for (set_call key.now value)); reply = reply } in Did entry (known_to held.old) (known_to held.new)) }
+    ensures did { IfReply (answer_of result) (λ reply. let entry : Entry = record { session = seat; operation = operation_of (known_to held.old).watched (asked_for (set_call key.now value.old)); reply = reply } in Did entry (known_to held.old) (known_to held.new)) }
     ensures fault { IfFault (answer_of result) (λ fault. DidNot (known_to held.old).watched (known_to held.old) (known_to held.new)) }
     ensures told { IfReply (answer_of result) (λ reply. (known_to held.new).notes ≡ (known_to held.old).notes) }
     ensures refused { IfFault (answer_of result) (λ fault. IsRefused fault (known_to held.old) (known_to held.new)) }
     ensures seen { IfFault (answer_of result) (λ fault. (known_to held.new).seen ≡ (known_to held.old).seen) }
-    ensures memory { IfFault (answer_of result) (λ fault. NeedsSome fault (known_to held.old) (asked_for (set_call key.now value))) }
+    ensures memory { IfFault (answer_of result) (λ fault. NeedsSome fault (known_to held.old) (asked_for (set_call key.now value.old))) }
 {
-    if weighs_too_much(key, &value) {
-        return refuse_set(held, stripes, seat, key, &value);
+    if weighs_too_much(key, value) {
+        return refuse_set(held, stripes, seat, key, value);
     }
     if value.len() <= WORD_INLINE {
-        enter_short_set(held, stripes, seat, key, &value)
+        enter_short_set(held, stripes, seat, key, value)
     } else {
-        enter_long_set(held, stripes, seat, key, value)
+        enter_long_set(alloc, held, stripes, seat, key, value)
     }
 }
 
 /// Runs a SET without an option of any value that does not weigh too much: makes a place for its key, commits
-/// its one entry, and moves the value to the place.
+/// its one entry, and moves the value to the place. What the key had is left in place of the value, since it takes
+/// time to let that go, and the stripe is held here.
 fn enter_long_set(
+    alloc: Global,
     held: &mut Held<'_, Shard>,
     stripes: usize,
     seat: u64,
     key: &Word,
-    value: Word,
+    value: &mut Word,
 ) -> Result<Line, Fault>
     requires open { IsOpen held.old }
-    requires light { nat_lt WEIGHT_MAX (WEIGHT_OF_KEY + length key.now + length value) ≡ false }
+    requires light { nat_lt WEIGHT_MAX (WEIGHT_OF_KEY + length key.now + length value.old) ≡ false }
     requires fresh { has_committed held.old ≡ false }
     requires some { 1 ≤ stripes }
     requires stripes { stripes ≡ stripes_of (gates_of held.old) }
     requires seat { seat ≡ (known_to held.old).number }
     requires fit { AllFit shard_meaning stripes (known_to held.old) (held_taken held.old) (held_parts held.old) }
-    requires there { AreThere stripes (part_at (held_parts held.old)) (call_keys (set_call key.now value)) }
+    requires there { AreThere stripes (part_at (held_parts held.old)) (call_keys (set_call key.now value.old)) }
     ensures open { IsOpen held.new }
     ensures gates { gates_of held.new ≡ gates_of held.old }
     ensures pass { borrow_of held.new ≡ borrow_of held.old }
     ensures fit { AllFit shard_meaning stripes (known_to held.new) (held_taken held.new) (held_parts held.new) }
-    ensures did { IfReply (answer_of result) (λ reply. let entry : Entry = record { session = seat; operation = operation_of (known_to held.old).watched (asked_for (set_call key.now value)); reply = reply } in Did entry (known_to held.old) (known_to held.new)) }
+    ensures did { IfReply (answer_of result) (λ reply. let entry : Entry = record { session = seat; operation = operation_of (known_to held.old).watched (asked_for (set_call key.now value.old)); reply = reply } in Did entry (known_to held.old) (known_to held.new)) }
     ensures fault { IfFault (answer_of result) (λ fault. DidNot (known_to held.old).watched (known_to held.old) (known_to held.new)) }
     ensures told { IfReply (answer_of result) (λ reply. (known_to held.new).notes ≡ (known_to held.old).notes) }
     ensures refused { IfFault (answer_of result) (λ fault. IsRefused fault (known_to held.old) (known_to held.new)) }
     ensures seen { IfFault (answer_of result) (λ fault. (known_to held.new).seen ≡ (known_to held.old).seen) }
-    ensures memory { IfFault (answer_of result) (λ fault. NeedsSome fault (known_to held.old) (asked_for (set_call key.now value))) }
+    ensures memory { IfFault (answer_of result) (λ fault. NeedsSome fault (known_to held.old) (asked_for (set_call key.now value.old))) }
 {
     if let Err(_) = make_place(held, stripes, key) {
         return Err(Fault::OutOfMemory);
     }
-    match commit_line(held, key, &value, Line::Done) {
+    match commit_line(held, key, value, Line::Done) {
         Ok(_) => {
-            write(held, stripes, key, Some(value));
+            trade(alloc, held, stripes, key, value);
             Ok(Line::Done)
         }
         Err(_) => Err(Fault::CommitsWornOut),
@@ -461,8 +464,8 @@ fn enter_one(
     ensures memory { IfFault result.answer (λ fault. NeedsSome fault (known_to held.new) (asked_for (Call.One command))) }
 {
     match command {
-        Command::Set(key, value, When::Always) => Entered {
-            answer: Answer::of_line(enter_set(held, stripes, seat, &key, value)),
+        Command::Set(key, mut value, When::Always) => Entered {
+            answer: Answer::of_line(enter_set(alloc, held, stripes, seat, &key, &mut value)),
             ends: false,
         },
         Command::Get(key) => Entered {
@@ -563,33 +566,35 @@ pub fn submit_get<R: Wait, L: Latch>(
 }
 
 /// The same as [`submit`] of a SET without an option, whose key stays the caller's and whose value moves into
-/// the store. It is answered by a line.
+/// the store. What is left in its place, such as what the key had, is the caller's to let go. It is answered by a
+/// line.
 ///
 /// # Errors
 ///
 /// The fault that [`submit`] answers.
 pub fn submit_set<R: Wait, L: Latch>(
     rt: &R,
+    alloc: Global,
     gates: &Gates<Shard>,
     pass: &mut Pass<Shard>,
     key: &Word,
-    value: Word,
+    value: &mut Word,
     latch: &L,
 ) -> Result<Line, Fault>
     requires own { IsResting gates.now pass.old }
     ensures own { IsResting gates.now pass.new }
-    ensures did { IfReply (answer_of result) (λ reply. HasDone (set_call key.now value) reply (known pass.old) (known pass.new)) }
-    ensures fault { IfFault (answer_of result) (λ fault. HasFailed (set_call key.now value) (known pass.old) (known pass.new)) }
-    ensures told { IfReply (answer_of result) (λ reply. HeardBusy (stripes_asked (stripes_of gates.now) (set_call key.now value)) (known pass.old) (known pass.new)) }
-    ensures refused { IfFault (answer_of result) (λ fault. WasRefused fault (stripes_asked (stripes_of gates.now) (set_call key.now value)) (known pass.old) (known pass.new)) }
-    ensures memory { IfFault (answer_of result) (λ fault. NeedsSome fault (known pass.new) (asked_for (set_call key.now value))) }
+    ensures did { IfReply (answer_of result) (λ reply. HasDone (set_call key.now value.old) reply (known pass.old) (known pass.new)) }
+    ensures fault { IfFault (answer_of result) (λ fault. HasFailed (set_call key.now value.old) (known pass.old) (known pass.new)) }
+    ensures told { IfReply (answer_of result) (λ reply. HeardBusy (stripes_asked (stripes_of gates.now) (set_call key.now value.old)) (known pass.old) (known pass.new)) }
+    ensures refused { IfFault (answer_of result) (λ fault. WasRefused fault (stripes_asked (stripes_of gates.now) (set_call key.now value.old)) (known pass.old) (known pass.new)) }
+    ensures memory { IfFault (answer_of result) (λ fault. NeedsSome fault (known pass.new) (asked_for (set_call key.now value.old))) }
 {
     let stripes = gates.stripes();
     let seat = pass.number();
     let wanted = with_key(Sorted::none(), key, stripes);
     let mut held = gates.take(rt, pass, &wanted);
     latch.at(seat, Point::Holding);
-    let answer = enter_set(&mut held, stripes, seat, key, value);
+    let answer = enter_set(alloc, &mut held, stripes, seat, key, value);
     held.give();
     answer
 }
@@ -654,8 +659,8 @@ pub fn submit<R: Wait, L: Latch>(
         Call::One(Command::Get(key)) => {
             Answer::of_value(submit_get(rt, gates, pass, &key, latch))
         }
-        Call::One(Command::Set(key, value, When::Always)) => {
-            Answer::of_line(submit_set(rt, gates, pass, &key, value, latch))
+        Call::One(Command::Set(key, mut value, When::Always)) => {
+            Answer::of_line(submit_set(rt, alloc, gates, pass, &key, &mut value, latch))
         }
         call => submit_any(rt, alloc, gates, pass, call, latch),
     }

@@ -43,8 +43,8 @@ returns-in-Set-clause-due g c =
     let left : c.pop-value.new.self ≡ set.name ∷ set.key ∷ [] = off.0 in
     let same : c.index-as_slice-1-in-Set.result ≡ set.key = search (rules, left) in
     let value : c.pop-value.result ≡ set.value = off.1 in
-    turned_set _ _ _ c.args.words.now (answer_of c.set.result) (line_reply c.line_of.result) _ c.watches_follow_entries-in-Set.ensures.entry c.watches_follow_entries-in-Set.ensures.fault
-    c.requires.attends c.requires.idle c.requires.request set (rw (same, value) at c.set.ensures.done) (rw (same, value) at c.set.ensures.undone) c.line_of.ensures
+    turned_set _ _ _ c.args.words.now (answer_of c.set.result) (line_reply c.line_of-line.result) _ c.watches_follow_entries-in-Set.ensures.entry c.watches_follow_entries-in-Set.ensures.fault
+    c.requires.attends c.requires.idle c.requires.request set (rw (same, value) at c.set.ensures.done) (rw (same, value) at c.set.ensures.undone) c.line_of-line.ensures
 
 pub returns-in-Set-clause-attends : goal.returns-in-Set-clause-attends
 returns-in-Set-clause-attends g c =
@@ -53,8 +53,8 @@ returns-in-Set-clause-attends g c =
     let left : c.pop-value.new.self ≡ set.name ∷ set.key ∷ [] = off.0 in
     let same : c.index-as_slice-1-in-Set.result ≡ set.key = search (rules, left) in
     let value : c.pop-value.result ≡ set.value = off.1 in
-    let turned = turned_set _ _ _ c.args.words.now (answer_of c.set.result) (line_reply c.line_of.result) _ c.watches_follow_entries-in-Set.ensures.entry c.watches_follow_entries-in-Set.ensures.fault
-    c.requires.attends c.requires.idle c.requires.request set (rw (same, value) at c.set.ensures.done) (rw (same, value) at c.set.ensures.undone) c.line_of.ensures in
+    let turned = turned_set _ _ _ c.args.words.now (answer_of c.set.result) (line_reply c.line_of-line.result) _ c.watches_follow_entries-in-Set.ensures.entry c.watches_follow_entries-in-Set.ensures.fault
+    c.requires.attends c.requires.idle c.requires.request set (rw (same, value) at c.set.ensures.done) (rw (same, value) at c.set.ensures.undone) c.line_of-line.ensures in
     attends_turned _ _ _ _ _ turned
 
 pub returns-in-Ping-clause-due : goal.returns-in-Ping-clause-due

@@ -14,15 +14,15 @@ returns-in-Err-clause-fit c = fit_kept c.args.stripes c.args.held.now c.make_pla
 
 pub returns-in-Err-clause-memory : goal.returns-in-Err-clause-memory
 returns-in-Err-clause-memory c =
-    refused_place c.args.stripes c.args.seat c.args.held.now c.args.key.now c.args.value false c.make_place.result c.in-Err.field-0 c.requires.seat c.requires.fit c.requires.there
+    refused_place c.args.stripes c.args.seat c.args.held.now c.args.key.now c.args.value.now false c.make_place.result c.in-Err.field-0 c.requires.seat c.requires.fit c.requires.there
     (sym c.requires.light) refl c.in-Err.is c.make_place.ensures.memory
 
 pub returns-in-Ok-clause-fit : goal.returns-in-Ok-clause-fit
 returns-in-Ok-clause-fit c =
-    set_made c.args.stripes c.args.seat c.in-Ok.field-0 c.args.key.now c.args.value c.args.held.now c.make_place.new.parts c.commit_line.new.held c.write.new.parts c.requires.stripes c.requires.seat
+    set_made c.args.stripes c.args.seat c.in-Ok.field-0 c.args.key.now c.args.value.now c.args.held.now c.make_place.new.parts c.commit_line.new.held c.trade.new.parts c.requires.stripes c.requires.seat
     c.requires.light c.requires.fit c.make_place.ensures.keeps c.make_place.ensures.became c.commit_line.ensures.parts c.commit_line.ensures.taken c.in-Ok.ensures.ok
-    c.write.ensures.became
-    c.write.ensures.keeps
+    c.trade.ensures.became
+    c.trade.ensures.keeps
 
 pub returns-in-Err-commit_line-clause-fit : goal.returns-in-Err-commit_line-clause-fit
 returns-in-Err-commit_line-clause-fit c =

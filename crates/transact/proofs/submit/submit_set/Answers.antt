@@ -23,23 +23,23 @@ pub returns-clause-did : goal.returns-clause-did
 returns-clause-did g c =
     let before : Knowledge = known c.args.pass.now in
     let last = c.give.ensures.known in
-    subst (λ (k : Knowledge). IfReply (answer_of c.enter_set-answer.result) (λ reply. HasDone (set_call c.args.key.now c.args.value) reply before k)) (sym (search (rules, last)))
-    (done_alone (answer_of c.enter_set-answer.result) (Set c.args.key.now c.args.value Always) c.number-seat.result before (known_to c.take-held.result) (known_to c.enter_set-answer.new.held) (search rules)
+    subst (λ (k : Knowledge). IfReply (answer_of c.enter_set-answer.result) (λ reply. HasDone (set_call c.args.key.now c.args.value.now) reply before k)) (sym (search (rules, last)))
+    (done_alone (answer_of c.enter_set-answer.result) (Set c.args.key.now c.args.value.now Always) c.number-seat.result before (known_to c.take-held.result) (known_to c.enter_set-answer.new.held) (search rules)
     c.take-held.ensures.learned c.enter_set-answer.ensures.did)
 
 pub returns-clause-fault : goal.returns-clause-fault
 returns-clause-fault g c =
     let before : Knowledge = known c.args.pass.now in
     let last = c.give.ensures.known in
-    subst (λ (k : Knowledge). IfFault (answer_of c.enter_set-answer.result) (λ fault. HasFailed (set_call c.args.key.now c.args.value) before k)) (sym (search (rules, last)))
-    (failed_alone (answer_of c.enter_set-answer.result) (Set c.args.key.now c.args.value Always) before (known_to c.take-held.result) (known_to c.enter_set-answer.new.held) refl
+    subst (λ (k : Knowledge). IfFault (answer_of c.enter_set-answer.result) (λ fault. HasFailed (set_call c.args.key.now c.args.value.now) before k)) (sym (search (rules, last)))
+    (failed_alone (answer_of c.enter_set-answer.result) (Set c.args.key.now c.args.value.now Always) before (known_to c.take-held.result) (known_to c.enter_set-answer.new.held) refl
     c.take-held.ensures.learned c.enter_set-answer.ensures.fault)
 
 pub returns-clause-told : goal.returns-clause-told
 returns-clause-told g c =
     let before : Knowledge = known c.args.pass.now in
-    let stripes : List ℕ = stripes_asked (stripes_of c.args.gates.now) (set_call c.args.key.now c.args.value) in
-    let same : c.with_key-wanted.result ≡ stripes = c.with_key-wanted.ensures.exact ∙ ap (λ (s : List ℕ). stripes_with c.stripes-stripes.result s (c.args.key.now ∷ [])) c.none.ensures ∙ ap (λ (n : ℕ). stripes_asked n (set_call c.args.key.now c.args.value)) c.stripes-stripes.ensures.count in
+    let stripes : List ℕ = stripes_asked (stripes_of c.args.gates.now) (set_call c.args.key.now c.args.value.now) in
+    let same : c.with_key-wanted.result ≡ stripes = c.with_key-wanted.ensures.exact ∙ ap (λ (s : List ℕ). stripes_with c.stripes-stripes.result s (c.args.key.now ∷ [])) c.none.ensures ∙ ap (λ (n : ℕ). stripes_asked n (set_call c.args.key.now c.args.value.now)) c.stripes-stripes.ensures.count in
     let last = c.give.ensures.known in
     subst (λ (k : Knowledge). IfReply (answer_of c.enter_set-answer.result) (λ reply. HeardBusy stripes before k)) (sym (search (rules, last)))
     (told_behind_as (answer_of c.enter_set-answer.result) c.with_key-wanted.result stripes before (known_to c.take-held.result) (known_to c.enter_set-answer.new.held)
@@ -48,8 +48,8 @@ returns-clause-told g c =
 pub returns-clause-refused : goal.returns-clause-refused
 returns-clause-refused g c =
     let before : Knowledge = known c.args.pass.now in
-    let stripes : List ℕ = stripes_asked (stripes_of c.args.gates.now) (set_call c.args.key.now c.args.value) in
-    let same : c.with_key-wanted.result ≡ stripes = c.with_key-wanted.ensures.exact ∙ ap (λ (s : List ℕ). stripes_with c.stripes-stripes.result s (c.args.key.now ∷ [])) c.none.ensures ∙ ap (λ (n : ℕ). stripes_asked n (set_call c.args.key.now c.args.value)) c.stripes-stripes.ensures.count in
+    let stripes : List ℕ = stripes_asked (stripes_of c.args.gates.now) (set_call c.args.key.now c.args.value.now) in
+    let same : c.with_key-wanted.result ≡ stripes = c.with_key-wanted.ensures.exact ∙ ap (λ (s : List ℕ). stripes_with c.stripes-stripes.result s (c.args.key.now ∷ [])) c.none.ensures ∙ ap (λ (n : ℕ). stripes_asked n (set_call c.args.key.now c.args.value.now)) c.stripes-stripes.ensures.count in
     let last = c.give.ensures.known in
     subst (λ (k : Knowledge). IfFault (answer_of c.enter_set-answer.result) (λ fault. WasRefused fault stripes before k)) (sym (search (rules, last)))
     (refused_behind_as (answer_of c.enter_set-answer.result) c.with_key-wanted.result stripes before (known_to c.take-held.result) (known_to c.enter_set-answer.new.held) (known_to c.enter_set-answer.new.held)
