@@ -1,5 +1,5 @@
 -- A device that fails on demand.
-use Rattle.std.specs.Prelude.{ℕ, List, Bool, nat_eq}
+use Rattle.std.specs.Prelude.{ℕ, List, Bool, nat_eq, ◌+◌}
 use Rattle.std.specs.List.{list_any}
 use Rattle.device.specs.declared.faulty.Faulty.{Faulty}
 
@@ -16,13 +16,17 @@ module _ {D : Type 0} where
   abbrev pub calls_of : Faulty D → ℕ
   calls_of faulty = faulty.calls
 
-  -- how many calls failed in which the device was not asked
-  abbrev pub failed_of : Faulty D → ℕ
-  failed_of faulty = faulty.failed
-
   -- how many writes there were in which the device was not asked
+  abbrev pub refused_writes_of : Faulty D → ℕ
+  refused_writes_of faulty = faulty.refused_writes
+
+  -- how many reads there were in which the device was not asked
+  abbrev pub refused_reads_of : Faulty D → ℕ
+  refused_reads_of faulty = faulty.refused_reads
+
+  -- how many calls there were in which it was not asked: they failed
   abbrev pub refused_of : Faulty D → ℕ
-  refused_of faulty = faulty.refused
+  refused_of faulty = faulty.refused_writes + faulty.refused_reads
 
   -- the next call is one that fails
   abbrev pub fails_next : Faulty D → Bool

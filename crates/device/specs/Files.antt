@@ -29,6 +29,10 @@ module _ {R : Type 0} where
   abbrev pub writes_of : FileDevice R → ℕ
   writes_of device = device.writes
 
+  -- how often it was asked to read
+  abbrev pub reads_of : FileDevice R → ℕ
+  reads_of device = device.reads
+
   -- how many receipts it has taken back
   abbrev pub releases_of : FileDevice R → ℕ
   releases_of device = device.releases

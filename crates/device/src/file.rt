@@ -1,6 +1,6 @@
 // A device that keeps its pages in a file.
 
-ghost use Rattle.std.specs.Prelude.{◌≡◌, ◌<◌, ◌+◌, ◌*◌, ℕ, IfOk, IfSome, OnOk, OnErr, All, vec_len, Some};
+ghost use Rattle.std.specs.Prelude.{◌≡◌, ◌<◌, ◌+◌, ◌*◌, ℕ, IfOk, IfSome, IsNone, OnOk, OnErr, All, vec_len, Some};
 ghost use Rattle.records.specs.Page.{number_of};
 ghost use Rattle.device.specs.Written.{page_of};
 ghost use Rattle.device.specs.declared.places.TheConstants.{MAX_PLACES};
@@ -80,7 +80,11 @@ impl Shows for FileReceipt {
 
     ghost is_honest = { ⊥ };
 
+    ghost is_steady = { ⊥ };
+
     ghost one_page = { λ r s e. ap (λ l. drop 2 l) e };
+
+    ghost steady_is_honest = { λ s. s };
 
     fn again(&self) -> Result<FileReceipt, AllocError> {
         Ok(FileReceipt {
@@ -97,9 +101,16 @@ impl Shows for FileReceipt {
     {
         self.place == other.place && self.number == other.number
     }
+
+    /// Always none: the page lies in the file.
+    fn page(&self) -> Option<&Page>
+        ensures { IsNone result }
+    {
+        None
+    }
 }
 
-/// One opening of a device that keeps its pages in a file, the page of place p at byte p times 16,384.
+/// One opening of a device that keeps its pages in a file, the page of place p at byte p times `PAGE_SIZE`.
 /// Each opening has a handle of its own; the openings of a file share the list of places that are taken.
 ///
 /// A write takes a free place, one that was released before the file grows, and fails where the system
@@ -113,11 +124,12 @@ pub struct FileDevice<'a, R: Wait> {
     places: Arc<Mutex<Places>>,
     failures: CallCount,
     writes: CallCount,
+    reads: CallCount,
     releases: CallCount,
 }
 
 impl<'a, R: Wait> FileDevice<'a, R> {
-    ghost use Rattle.device.specs.Files.{failures_of, writes_of, releases_of};
+    ghost use Rattle.device.specs.Files.{failures_of, writes_of, reads_of, releases_of};
 
     /// Creates the file at a path, or empties it, and gives `n` openings of it, which have not failed.
     ///
@@ -175,6 +187,7 @@ impl<'a, R: Wait> FileDevice<'a, R> {
                 places,
                 failures: CallCount::new(),
                 writes: CallCount::new(),
+                reads: CallCount::new(),
                 releases: CallCount::new(),
             }),
             Err(_) => Err(OpenFault::CannotOpen),
@@ -185,6 +198,7 @@ impl<'a, R: Wait> FileDevice<'a, R> {
     fn fault(&mut self) -> DeviceFault
         ensures counted { failures_of self.new ≡ failures_of self.old + 1 }
         ensures no_write { writes_of self.new ≡ writes_of self.old }
+        ensures no_read { reads_of self.new ≡ reads_of self.old }
         ensures no_release { releases_of self.new ≡ releases_of self.old }
     {
         self.failures.note();
@@ -222,8 +236,8 @@ fn offset(place: u32) -> u64
 }
 
 impl<'a, R: Wait> Device for FileDevice<'a, R> {
-    ghost use Rattle.device.specs.Files.{IsServed, failures_of, writes_of, releases_of, page_shown, receipt_number};
-    ghost use Rattle.epoch.specs.Seats.{drained_epoch, retired_epoch};
+    ghost use Rattle.device.specs.Files.{IsServed, failures_of, writes_of, reads_of, releases_of, page_shown, receipt_number};
+    ghost use Rattle.epoch.specs.Seats.{drained_epoch, drained_of, retired_epoch, retired_of};
 
     type Receipt = FileReceipt;
 
@@ -231,15 +245,15 @@ impl<'a, R: Wait> Device for FileDevice<'a, R> {
 
     ghost writes = { λ d. d.writes };
 
+    ghost reads = { λ d. d.reads };
+
     ghost releases = { λ d. d.releases };
+
+    ghost wrote = { λ before page r after. Unit {0} };
 
     ghost serves = { λ d r. IsServed };
 
-    ghost is_steady = { ⊥ };
-
     ghost copies = { λ d r s same served. served };
-
-    ghost honest = { λ s. s };
 
     ghost steady = { λ s d r. absurd s };
 
@@ -261,9 +275,11 @@ impl<'a, R: Wait> Device for FileDevice<'a, R> {
         ensures page { IsServed → OnOk result (page.new ≡ page_shown receipt.now) }
         ensures failure { OnErr result (failures_of self.new ≡ failures_of self.old + 1) }
         ensures no_failure { OnOk result (failures_of self.new ≡ failures_of self.old) }
+        ensures counted { reads_of self.new ≡ reads_of self.old + 1 }
         ensures no_write { writes_of self.new ≡ writes_of self.old }
         ensures no_release { releases_of self.new ≡ releases_of self.old }
     {
+        self.reads.note();
         let read = self
             .file
             .read_exact_at(page.bytes_mut(), offset(receipt.place));
@@ -276,8 +292,10 @@ impl<'a, R: Wait> Device for FileDevice<'a, R> {
     /// Frees the place, for the next write.
     fn release(&mut self, retired: Retired<FileReceipt>, drained: &Drained)
         requires own_epoch { retired_epoch retired ≡ drained_epoch drained.now }
+        requires own_epochs { retired_of retired ≡ drained_of drained.now }
         ensures no_failure { failures_of self.new ≡ failures_of self.old }
         ensures no_write { writes_of self.new ≡ writes_of self.old }
+        ensures no_read { reads_of self.new ≡ reads_of self.old }
         ensures counted { releases_of self.new ≡ releases_of self.old + 1 }
     {
         self.releases.note();

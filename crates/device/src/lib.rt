@@ -8,15 +8,18 @@
 //! A receipt shows the page that was written for it, whatever becomes of the device. Whether a read
 //! gives that page is the device's promise: an honest device serves a receipt, so that reads give its
 //! page, from its write until it is released, and a steady one serves it for good. A device may also
-//! promise neither, as one over a file does, and is then proved safe alone.
+//! promise neither, as one over a file does, and is then proved safe alone. Which of these it promises is
+//! a property of its receipts, so that who keeps receipts knows it without the device.
+//!
+//! A receipt may hold its page, and then lends it without a read.
 //!
 //! A receipt is released once nobody can still read by it: it is retired at an epoch, and comes back to
-//! the device with that epoch drained, as the crate `epoch` has it.
+//! the device with that epoch drained by the epochs that retired it, as the crate `epoch` has it.
 //!
 //! `Device` and `Shows` state this. `MemoryDevice` is steady. `FileDevice` keeps pages in a file.
 //! `Faulty` fails calls of another device on demand, and promises what that device promises.
 
-ghost use Rattle.std.specs.Prelude.{◌≡◌, ◌≢◌, ℕ, ◌+◌, List, Some, codes, IsTrue, IfOk, OnOk, OnErr};
+ghost use Rattle.std.specs.Prelude.{◌≡◌, ◌≢◌, ℕ, ◌+◌, List, Some, codes, IsTrue, IfOk, IfSome, OnOk, OnErr};
 
 use epoch::{Drained, Retired};
 use records::Page;
@@ -32,7 +35,7 @@ mod places;
 mod releasable;
 
 pub use counts::CallCount;
-pub use faulty::Faulty;
+pub use faulty::{Faulty, FaultyReceipt};
 pub use file::{FileDevice, FileReceipt, OpenFault};
 pub use memory::{MemoryDevice, MemoryReceipt};
 pub use places::MAX_PLACES;
@@ -63,6 +66,9 @@ pub trait Shows: Drop {
     // The receipts are those of an honest device.
     ghost is_honest: { Type 0 };
 
+    // The receipts are those of a steady device.
+    ghost is_steady: { Type 0 };
+
     /// A copy: it shows the same page, and has the same identity. `Err` only for want of memory.
     fn again(&self) -> Result<Self, AllocError>
         ensures shown { IfOk result (λ r. shown r ≡ shown self.now) }
@@ -75,17 +81,24 @@ pub trait Shows: Drop {
         ensures copies { identity self.now ≡ identity other.now → IsTrue result }
         ensures only_copies { is_honest → IsTrue result → identity self.now ≡ identity other.now };
 
+    /// The page shown, where the receipt holds it. A device's read gives no other one.
+    fn page(&self) -> Option<&Page>
+        ensures { IfSome result (λ page. page.now ≡ shown self.now) };
+
     // Receipts with one identity show one page.
     ghost one_page: { (r s : Self) → identity r ≡ identity s → shown r ≡ shown s };
+
+    // A steady device is honest.
+    ghost steady_is_honest: { is_steady → is_honest };
 }
 
 /// One opening of a device.
 ///
 /// It counts the calls that failed: a call answers `DeviceFault` exactly where the count grows by one
-/// in it, and else the count stays. It counts its writes and its releases too, whatever they answer, so
-/// that a caller can say how often it asked the device.
+/// in it, and else the count stays. It counts its writes, reads and releases too, whatever they answer,
+/// so that a caller can say how often it asked the device.
 pub trait Device: Drop {
-    ghost use Rattle.epoch.specs.Seats.{drained_epoch, retired_epoch, retired_value};
+    ghost use Rattle.epoch.specs.Seats.{drained_epoch, drained_of, retired_epoch, retired_of, retired_value};
 
     /// What `write` gives.
     type Receipt: Shows;
@@ -96,24 +109,33 @@ pub trait Device: Drop {
     // How often this opening was asked to write.
     ghost writes: { Self → ℕ };
 
+    // How often this opening was asked to read.
+    ghost reads: { Self → ℕ };
+
     // How many receipts this opening has taken back.
     ghost releases: { Self → ℕ };
+
+    // What a write may do: the device before it, the page, the receipt that it gave, and the device after
+    // it. A device whose places are known says more here than every device has to.
+    ghost wrote: { Self → List ℕ → Self.Receipt → Self → Type 0 };
 
     // The device, as it is, gives for this receipt the page that it shows.
     ghost serves: { Self → Self.Receipt → Type 0 };
 
-    // The device is steady.
-    ghost is_steady: { Type 0 };
-
-    /// Writes a page, and gives a receipt that shows it. An honest device then serves the receipt.
+    /// Writes a page, and gives a receipt that shows it. An honest device then serves the receipt, which is
+    /// a new one: it was not served before, but at a steady device. So no receipt that is served has its
+    /// identity, and none is lost with it when it is released.
     fn write(&mut self, page: &Page) -> Result<Self::Receipt, DeviceFault>
         ensures shown { IfOk result (λ r. Self.Receipt.shown r ≡ page.now) }
+        ensures wrote { IfOk result (λ r. wrote self.old page.now r self.new) }
+        ensures fresh { IfOk result (λ r. serves self.old r → Self.Receipt.is_steady) }
         ensures served { Self.Receipt.is_honest → IfOk result (λ r. serves self.new r) }
         ensures still_served { (r : Self.Receipt) → serves self.old r → serves self.new r }
 
         ensures failure { OnErr result (failures self.new ≡ failures self.old + 1) }
         ensures no_failure { OnOk result (failures self.new ≡ failures self.old) }
         ensures counted { writes self.new ≡ writes self.old + 1 }
+        ensures no_read { reads self.new ≡ reads self.old }
         ensures no_release { releases self.new ≡ releases self.old };
 
     /// Reads the page that a receipt shows into `page`. After an `Err`, and where the device does not
@@ -124,27 +146,27 @@ pub trait Device: Drop {
 
         ensures failure { OnErr result (failures self.new ≡ failures self.old + 1) }
         ensures no_failure { OnOk result (failures self.new ≡ failures self.old) }
+        ensures counted { reads self.new ≡ reads self.old + 1 }
         ensures no_write { writes self.new ≡ writes self.old }
         ensures no_release { releases self.new ≡ releases self.old };
 
-    /// Takes back a receipt that nobody reads by any more: its own epoch is drained. Its place may be
-    /// used anew, and all receipts but it and its copies stay served.
+    /// Takes back a receipt that nobody reads by any more: its own epoch is drained, by the epochs that
+    /// retired it. Its place may be used anew, and all receipts but it and its copies stay served.
     fn release(&mut self, retired: Retired<Self::Receipt>, drained: &Drained)
         requires own_epoch { retired_epoch retired ≡ drained_epoch drained.now }
+        requires own_epochs { retired_of retired ≡ drained_of drained.now }
         ensures still_served { (r : Self.Receipt) → Self.Receipt.identity r ≢ Self.Receipt.identity (retired_value retired)
             → serves self.old r → serves self.new r }
 
         ensures no_failure { failures self.new ≡ failures self.old }
         ensures no_write { writes self.new ≡ writes self.old }
+        ensures no_read { reads self.new ≡ reads self.old }
         ensures counted { releases self.new ≡ releases self.old + 1 };
 
     // A copy is served where the receipt is.
     ghost copies: { (d : Self) (r s : Self.Receipt) → Self.Receipt.identity r ≡ Self.Receipt.identity s
         → serves d r → serves d s };
 
-    // A steady device is honest.
-    ghost honest: { is_steady → Self.Receipt.is_honest };
-
     // A steady device serves each receipt, through each opening.
-    ghost steady: { is_steady → (d : Self) (r : Self.Receipt) → serves d r };
+    ghost steady: { Self.Receipt.is_steady → (d : Self) (r : Self.Receipt) → serves d r };
 }

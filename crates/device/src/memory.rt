@@ -1,6 +1,6 @@
 // A device that keeps its pages in memory.
 
-ghost use Rattle.std.specs.Prelude.{◌≡◌, ℕ, IfOk, IsOk, replicate};
+ghost use Rattle.std.specs.Prelude.{◌≡◌, ℕ, IfOk, IsOk, IsSome, IfSome, replicate};
 
 use crate::counts::CallCount;
 use crate::{Device, DeviceFault, Shows};
@@ -33,7 +33,11 @@ impl Shows for MemoryReceipt {
 
     ghost is_honest = { Unit {0} };
 
+    ghost is_steady = { Unit {0} };
+
     ghost one_page = { λ r s e. e };
+
+    ghost steady_is_honest = { λ s. s };
 
     fn again(&self) -> Result<MemoryReceipt, AllocError> {
         Ok(MemoryReceipt {
@@ -44,18 +48,27 @@ impl Shows for MemoryReceipt {
     fn same(&self, other: &MemoryReceipt) -> bool {
         *self.page == *other.page
     }
+
+    /// Always some: a receipt holds its page.
+    fn page(&self) -> Option<&Page>
+        ensures holds { IsSome result }
+        ensures page { IfSome result (λ page. page.now ≡ self.now) }
+    {
+        Some(&self.page)
+    }
 }
 
 /// One opening of a device that keeps its pages in memory. It is steady, and each opening reads every
 /// receipt, without a lock: a receipt holds its page, which is freed with its last copy. To a contract
 /// an opening is the numbers of its calls.
 ///
-/// A write takes memory for one page, 16,384 bytes, and fails where it finds none.
+/// A write takes memory for one page, and fails where it finds none.
 #[derive(Drop)]
 pub struct MemoryDevice {
     alloc: Global,
     failures: CallCount,
     writes: CallCount,
+    reads: CallCount,
     releases: CallCount,
 }
 
@@ -64,7 +77,7 @@ impl Model for MemoryDevice {
 
     ghost Value = { Calls };
 
-    ghost view = { λ d. record { failures = d.failures; writes = d.writes; releases = d.releases } };
+    ghost view = { λ d. record { failures = d.failures; writes = d.writes; reads = d.reads; releases = d.releases } };
 }
 
 impl MemoryDevice {
@@ -80,6 +93,7 @@ impl MemoryDevice {
                 alloc,
                 failures: CallCount::new(),
                 writes: CallCount::new(),
+                reads: CallCount::new(),
                 releases: CallCount::new(),
             })?;
         }
@@ -88,8 +102,8 @@ impl MemoryDevice {
 }
 
 impl Device for MemoryDevice {
-    ghost use Rattle.device.specs.Counts.{released};
-    ghost use Rattle.epoch.specs.Seats.{drained_epoch, retired_epoch};
+    ghost use Rattle.device.specs.Counts.{after_read, after_release};
+    ghost use Rattle.epoch.specs.Seats.{drained_epoch, drained_of, retired_epoch, retired_of};
 
     type Receipt = MemoryReceipt;
 
@@ -97,15 +111,15 @@ impl Device for MemoryDevice {
 
     ghost writes = { λ d. d.writes };
 
+    ghost reads = { λ d. d.reads };
+
     ghost releases = { λ d. d.releases };
+
+    ghost wrote = { λ before page r after. Unit {0} };
 
     ghost serves = { λ d r. Unit {0} };
 
-    ghost is_steady = { Unit {0} };
-
     ghost copies = { λ d r s same served. served };
-
-    ghost honest = { λ s. s };
 
     ghost steady = { λ s d r. tt };
 
@@ -126,8 +140,9 @@ impl Device for MemoryDevice {
     fn read(&mut self, receipt: &MemoryReceipt, page: &mut Page) -> Result<(), DeviceFault>
         ensures succeeds { IsOk result }
         ensures page { page.new ≡ receipt.now }
-        ensures unchanged { self.new ≡ self.old }
+        ensures counted { self.new ≡ after_read self.old }
     {
+        self.reads.note();
         page.copy_from(&receipt.page);
         Ok(())
     }
@@ -135,7 +150,8 @@ impl Device for MemoryDevice {
     /// Frees the page with the last copy of its receipt.
     fn release(&mut self, retired: Retired<MemoryReceipt>, drained: &Drained)
         requires own_epoch { retired_epoch retired ≡ drained_epoch drained.now }
-        ensures counted { self.new ≡ released self.old }
+        requires own_epochs { retired_of retired ≡ drained_of drained.now }
+        ensures counted { self.new ≡ after_release self.old }
     {
         self.releases.note();
         drop(retired.into_value(drained));

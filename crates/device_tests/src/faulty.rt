@@ -1,6 +1,7 @@
 // Each call failing in turn, through a device that fails on demand.
 
 use crate::file::{Released, length_of, numbers_after_releases, opened};
+use crate::memory::number_lent;
 use device::{Device, DeviceFault, Faulty, MemoryDevice};
 use records::Page;
 use std::alloc::Global;
@@ -65,6 +66,24 @@ fn a_failed_write_takes_no_place(rt: HostRuntime) {
     assert!(rt; fails_in_file(&rt, rt.alloc(), path, 0) == Some(true));
     assert!(rt; length_of(&rt, path) == Some(16_384));
     assert!(rt; fs::remove_file(&rt, path).is_ok());
+}
+
+// The number of the page that a receipt of a device that fails at one call lends, if it lends one.
+fn number_lent_through<D: Device>(alloc: Global, device: D) -> Option<Option<u64>> {
+    let mut device = failing_at(alloc, device, 9)?;
+    let receipt = device.write(&Page::new(5)).ok()?;
+    Some(number_lent(&receipt))
+}
+
+// The same in memory, where the receipt below lends its page.
+fn number_lent_through_memory(alloc: Global) -> Option<Option<u64>> {
+    let device = MemoryDevice::openings(alloc, 1).ok()?.pop()?;
+    number_lent_through(alloc, device)
+}
+
+#[test]
+fn a_device_that_fails_lends_no_page(rt: HostRuntime) {
+    assert!(rt; number_lent_through_memory(rt.alloc()) == Some(None));
 }
 
 // The numbers of the pages that are read after a place was released twice, through a device that fails at

@@ -1,11 +1,11 @@
 // Pages in files: places used again, files that were changed, and files that take nothing.
 
 ghost use Rattle.epoch.specs.Seats.{IsOutside};
-ghost use Rattle.std.specs.Prelude.{IfSome};
+ghost use Rattle.std.specs.Prelude.{◌<◌, IfSome};
 
 use device::{Device, DeviceFault, FileDevice, OpenFault, Releasable, Shows};
 use epoch::{EpochSeat, Epochs};
-use records::Page;
+use records::{HEADER_SIZE, PAGE_SIZE, Page};
 use std::alloc::Global;
 use std::fs;
 use std::fs::{File, Files, OpenFile};
@@ -13,7 +13,7 @@ use std::os::unix::fs::FileExt;
 use std::sync::Wait;
 
 /// The bytes of a page.
-const SIZE: u64 = 16_384;
+const SIZE: u64 = PAGE_SIZE as u64;
 
 // The only opening of a file.
 pub(crate) fn opened<'a, R: Wait + Files<File = File>>(
@@ -65,6 +65,77 @@ fn numbers_across<R: Wait + Files<File = File>>(
     numbers_of_two(openings.as_mut_slice())
 }
 
+// A page with this number whose bytes behind the header differ from place to place, and by the seed.
+fn filled_page(number: u64, seed: u8) -> Page {
+    let mut page = Page::new(number);
+    let bytes = page.bytes_mut();
+    for at in HEADER_SIZE..bytes.len() {
+        bytes[at] = (at % 251) as u8 ^ seed;
+    }
+    page
+}
+
+// Whether a receipt gives this page, byte for byte.
+fn gives<D: Device>(device: &mut D, receipt: &D::Receipt, page: &Page) -> bool {
+    let mut seen = Page::new(99);
+    device.read(receipt, &mut seen).is_ok() && seen == *page
+}
+
+// Writes three pages through one opening, and says which of them another one gives byte for byte.
+fn given_across<D: Device>(writer: &mut D, reader: &mut D, pages: &[Page; 3]) -> Option<[bool; 3]> {
+    let first = writer.write(&pages[0]).ok()?;
+    let second = writer.write(&pages[1]).ok()?;
+    let third = writer.write(&pages[2]).ok()?;
+    Some([
+        gives(reader, &first, &pages[0]),
+        gives(reader, &second, &pages[1]),
+        gives(reader, &third, &pages[2]),
+    ])
+}
+
+// The same between the first two of some openings.
+fn given_by_two<D: Device>(openings: &mut [D], pages: &[Page; 3]) -> Option<[bool; 3]> {
+    let (one, others) = openings.split_first_mut()?;
+    let two = others.first_mut()?;
+    given_across(one, two, pages)
+}
+
+// The same in a file, and how many openings it has of the three that were asked for.
+fn given_in_file<R: Wait + Files<File = File>>(
+    rt: &R,
+    alloc: Global,
+    path: &str,
+    pages: &[Page; 3],
+) -> Option<(usize, [bool; 3])> {
+    let mut openings = FileDevice::openings(rt, alloc, path, 3).ok()?;
+    let given = given_by_two(openings.as_mut_slice(), pages)?;
+    Some((openings.len(), given))
+}
+
+// Whether a page lies at a place of a file, byte for byte.
+fn lies_at<R: Files<File = File>>(rt: &R, path: &str, place: u64, page: &Page) -> Option<bool>
+    requires { place < 4 }
+{
+    let file = fs::OpenOptions::new().read(true).open(rt, path).ok()?;
+    let mut seen = Page::new(99);
+    file.read_exact_at(seen.bytes_mut(), place * SIZE).ok()?;
+    Some(seen == *page)
+}
+
+#[test]
+fn a_file_keeps_each_byte(rt: HostRuntime) {
+    let path = "whole.pages";
+    // The second and the third have one number, so their places alone tell them apart.
+    let pages = [filled_page(5, 0), filled_page(6, 3), filled_page(6, 255)];
+    let given = given_in_file(&rt, rt.alloc(), path, &pages);
+    assert!(rt; given == Some((3, [true, true, true])));
+    assert!(rt; length_of(&rt, path) == Some(3 * SIZE));
+    assert!(rt; lies_at(&rt, path, 0, &pages[0]) == Some(true));
+    assert!(rt; lies_at(&rt, path, 1, &pages[1]) == Some(true));
+    assert!(rt; lies_at(&rt, path, 2, &pages[2]) == Some(true));
+    assert!(rt; fs::remove_file(&rt, path).is_ok());
+}
+
 #[test]
 fn an_opening_reads_what_another_wrote(rt: HostRuntime) {
     let path = "two_openings.pages";
@@ -98,6 +169,44 @@ fn release<D: Device>(
     let releasable = Releasable::drain(epochs, seat, retired).ok()?;
     releasable.release(device);
     Some(())
+}
+
+// Whether a receipt that was retired inside a stay is drained inside it, and once the seat stays anew.
+fn drained_inside<R: Wait, T>(
+    rt: &R,
+    epochs: &Epochs,
+    seat: EpochSeat,
+    value: T,
+) -> Option<(bool, bool)>
+where
+    T: Drop,
+    requires { IsOutside epochs.now seat }
+{
+    let mut inside = epochs.enter(rt, seat);
+    let Ok(retired) = epochs.retire_inside(&mut inside, value) else {
+        let _seat = epochs.leave(inside);
+        return None;
+    };
+    let early = Releasable::drain_inside(epochs, &mut inside, retired);
+    let seat = epochs.leave(inside);
+    let Err(retired) = early else {
+        return Some((true, true));
+    };
+    let mut inside = epochs.enter(rt, seat);
+    let late = Releasable::drain_inside(epochs, &mut inside, retired);
+    let _seat = epochs.leave(inside);
+    Some((false, late.is_ok()))
+}
+
+// The same with epochs of its own.
+fn drained_in_own_epochs<R: Wait>(rt: &R, alloc: Global) -> Option<(bool, bool)> {
+    let (epochs, seat) = epochs(alloc)?;
+    drained_inside(rt, &epochs, seat, 7u64)
+}
+
+#[test]
+fn the_own_stay_counts(rt: HostRuntime) {
+    assert!(rt; drained_in_own_epochs(&rt, rt.alloc()) == Some((false, true)));
 }
 
 // Releases a page twice: by a copy of its receipt, and by the receipt.
@@ -239,7 +348,7 @@ fn a_file_cut_short_is_a_fault(rt: HostRuntime) {
 #[test]
 fn other_bytes_are_a_fault_or_another_page(rt: HostRuntime) {
     let path = "other.pages";
-    let (ones, five) = ([255; 16_384], [5, 0, 0, 0, 0, 0, 0, 0, 255]);
+    let (ones, five) = ([255; PAGE_SIZE], [5, 0, 0, 0, 0, 0, 0, 0, 255]);
     assert!(rt; number_after_change(&rt, rt.alloc(), path, &five, SIZE) == Some(5));
     assert!(rt; number_after_change(&rt, rt.alloc(), path, &ones, SIZE).is_none());
     let other = Page::new(6);

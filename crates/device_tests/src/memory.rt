@@ -1,4 +1,5 @@
 ghost use Rattle.std.specs.Prelude.{◌≡◌, ◌+◌, ◌<◌, IfOk, IfSome, IsErrOf, IsTrue, OnErr, OnOk};
+ghost use Rattle.records.specs.Page.{number_of};
 
 use device::{Device, DeviceFault, MemoryDevice, MemoryReceipt, Shows};
 use records::Page;
@@ -21,9 +22,10 @@ fn write_and_read<D: Device>(
 ) -> Result<D::Receipt, Trouble>
     ensures receipt { IfOk result (λ r. D.Receipt.shown r ≡ page.now) }
     ensures honest { D.Receipt.is_honest → OnOk result (seen.new ≡ page.now) }
-    ensures steady { D.is_steady → OnOk result (seen.new ≡ page.now) }
+    ensures steady { D.Receipt.is_steady → OnOk result (seen.new ≡ page.now) }
     ensures fault { IsErrOf result Trouble.Device → D.failures device.old < D.failures device.new }
-    ensures once { D.writes device.new ≡ D.writes device.old + 1 }
+    ensures written_once { D.writes device.new ≡ D.writes device.old + 1 }
+    ensures read_once { OnOk result (D.reads device.new ≡ D.reads device.old + 1) }
 {
     let Ok(receipt) = device.write(page) else {
         return Err(Trouble::Device);
@@ -45,7 +47,7 @@ fn write_and_read_elsewhere<D: Device>(
     seen: &mut Page,
 ) -> Result<D::Receipt, DeviceFault>
     ensures receipt { IfOk result (λ r. D.Receipt.shown r ≡ page.now) }
-    ensures steady { D.is_steady → OnOk result (seen.new ≡ page.now) }
+    ensures steady { D.Receipt.is_steady → OnOk result (seen.new ≡ page.now) }
     ensures fault { OnErr result (D.failures writer.old + D.failures reader.old < D.failures writer.new + D.failures reader.new) }
 {
     let receipt = writer.write(page)?;
@@ -134,6 +136,30 @@ fn sames_in_memory(device: &mut MemoryDevice) -> Option<[bool; 4]> {
 fn a_copy_is_the_same_receipt(rt: HostRuntime) -> Result<(), Fail> {
     let (mut device, _) = two_openings(rt.alloc())?;
     assert!(rt; sames_in_memory(&mut device) == Some([true, true, false, false]));
+    Ok(())
+}
+
+// The number of the page that a receipt lends, if it lends one.
+pub(crate) fn number_lent<R: Shows>(receipt: &R) -> Option<u64> {
+    Some(receipt.page()?.number())
+}
+
+// The same of a receipt in memory, which always lends its page.
+fn number_in_memory(receipt: &MemoryReceipt) -> u64
+    ensures { result ≡ number_of receipt.now }
+{
+    match receipt.page() {
+        Some(page) => page.number(),
+        None => 99,
+    }
+}
+
+#[test]
+fn a_receipt_in_memory_lends_its_page(rt: HostRuntime) -> Result<(), Fail> {
+    let (mut device, _) = two_openings(rt.alloc())?;
+    let receipt = written(&mut device, &Page::new(5))?;
+    assert_eq!(rt; number_in_memory(&receipt), 5);
+    assert!(rt; number_lent(&receipt) == Some(5));
     Ok(())
 }
 

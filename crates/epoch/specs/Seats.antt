@@ -8,6 +8,7 @@ use Rattle.epoch.specs.declared.view.View.{View}
 use Rattle.epoch.specs.declared.view.Note.{Note}
 use Rattle.epoch.specs.declared.view.Note.TheVariants.{Epoch, Word, Worn}
 use Rattle.epoch.specs.declared.epochs.Epochs.{Epochs}
+use Rattle.epoch.specs.declared.epochs.EpochsName.{EpochsName}
 use Rattle.epoch.specs.declared.epochs.EpochSeat.{EpochSeat}
 use Rattle.epoch.specs.declared.epochs.Inside.{Inside}
 use Rattle.epoch.specs.declared.epochs.Drained.{Drained}
@@ -18,6 +19,10 @@ use Rattle.epoch.specs.Rule.{Ruled, StayAt, advances_of, epoch_word, total, word
 -- which epochs they are
 abbrev pub id_of : Epochs → TableId
 id_of epochs = epochs.table.shared.table_id
+
+-- which epochs a name is of
+abbrev pub named_by : EpochsName → TableId
+named_by name = id_of name.named.value
 
 -- how many seats they have
 abbrev pub seats_of : Epochs → ℕ

@@ -10,6 +10,7 @@ use crate::view::View;
 use atomic_table::{Seat, Table};
 use crossbeam_utils::Backoff;
 use std::alloc::{AllocError, Global};
+use std::snapshot::Snapshot;
 use std::sync::Wait;
 
 /// The table's word that counts epochs.
@@ -40,6 +41,13 @@ pub struct EpochSeat {
     /// Whether an advance needs no look at the epoch word first.
     pub(crate) armed: bool,
     pub(crate) seat: Seat<u8, View>,
+}
+
+/// Which epochs some are, to a contract: what was retired and is kept beside a name can be known to belong
+/// to the epochs that gave it. It has no bytes.
+#[derive(Drop)]
+pub struct EpochsName {
+    named: Snapshot<Epochs>,
 }
 
 /// A valid stay in an epoch. It can't be dropped: [`Epochs::leave`] ends it, and gives the seat back.
@@ -80,7 +88,7 @@ fn word_index(number: usize) -> usize
 
 impl Epochs {
     ghost use Rattle.epoch.specs.Plays.{unmet};
-    ghost use Rattle.epoch.specs.Seats.{id_of, seats_of, CountsAdvances, known, seat_in, stay_epoch, IsSeatOf, IsOutside, IsInside, KnowsNothing, KnowsTheSame, AdvancedPast, WasWorn, WasBlocked, KeepsStay, IsScanning, drained_of, drained_epoch, retired_of, retired_epoch, retired_value, StaysIn, StaysClear, StaysOver, HasScanned};
+    ghost use Rattle.epoch.specs.Seats.{id_of, named_by, seats_of, CountsAdvances, known, seat_in, stay_epoch, IsSeatOf, IsOutside, IsInside, KnowsNothing, KnowsTheSame, AdvancedPast, WasWorn, WasBlocked, KeepsStay, IsScanning, drained_of, drained_epoch, retired_of, retired_epoch, retired_value, StaysIn, StaysClear, StaysOver, HasScanned};
 
     /// Epochs with so many seats, and the seats. The present epoch is 1, and each advance adds 1 to it.
     ///
@@ -102,6 +110,15 @@ impl Epochs {
         let epochs = Epochs { table, seats };
         let dealt = epochs.deal(seat, dealt);
         Ok((epochs, dealt))
+    }
+
+    /// The name of these epochs.
+    pub fn name(&self) -> EpochsName
+        ensures { named_by result ≡ id_of self.now }
+    {
+        EpochsName {
+            named: Snapshot::of(self),
+        }
     }
 
     /// Deals out the seats.
@@ -392,8 +409,21 @@ impl Epochs {
     }
 }
 
+/// A value that is wrapped round another one.
+pub trait Wraps {
+    /// The value inside.
+    type Inner;
+
+    // The value inside.
+    ghost inner: { Self → Self.Inner };
+
+    /// Takes the wrapper off.
+    fn into_inner(self) -> Self::Inner
+        ensures { result ≡ inner self };
+}
+
 impl<U> Retired<U> {
-    ghost use Rattle.epoch.specs.Seats.{retired_epoch, retired_value, drained_epoch};
+    ghost use Rattle.epoch.specs.Seats.{retired_epoch, retired_of, retired_value, drained_epoch, drained_of};
 
     /// The epoch of the stamp.
     pub fn epoch(&self) -> u64
@@ -402,9 +432,10 @@ impl<U> Retired<U> {
         self.epoch
     }
 
-    /// The value, for use anew, since its epoch is drained.
+    /// The value, for use anew, since its epoch is drained, by the epochs that retired it.
     pub fn into_value(self, drained: &Drained) -> U
         requires drained { retired_epoch self ≡ drained_epoch drained.now }
+        requires of { retired_of self ≡ drained_of drained.now }
         ensures { result ≡ retired_value self }
     {
         let Retired {
@@ -413,6 +444,26 @@ impl<U> Retired<U> {
             seat: _,
         } = self;
         value
+    }
+}
+
+impl<U: Wraps> Retired<U> {
+    ghost use Rattle.epoch.specs.declared.epochs.Epochs.{Epochs};
+    ghost use Rattle.epoch.specs.Seats.{retired_epoch, retired_of, retired_value, StaysOver};
+
+    /// Takes the wrapper off the value, which stays retired as it is.
+    pub fn into_inner(self) -> Retired<U::Inner>
+        ensures value { retired_value result ≡ U.inner (retired_value self) }
+        ensures epoch { retired_epoch result ≡ retired_epoch self }
+        ensures of { retired_of result ≡ retired_of self }
+        ensures over { (epochs : Epochs) → StaysOver epochs self → StaysOver epochs result }
+    {
+        let Retired { value, epoch, seat } = self;
+        Retired {
+            value: value.into_inner(),
+            epoch,
+            seat,
+        }
     }
 }
 

@@ -14,4 +14,4 @@ pub mod epochs;
 mod rule;
 pub mod view;
 
-pub use epochs::{Drained, EpochSeat, Epochs, Inside, Retired};
+pub use epochs::{Drained, EpochSeat, Epochs, EpochsName, Inside, Retired, Wraps};

@@ -1,9 +1,9 @@
 //! Stays and retirements of one thread and of three.
 
 ghost use Rattle.std.specs.Prelude.{◌≡◌, IfOk, IfSome};
-ghost use Rattle.epoch.specs.Seats.{IsOutside, drained_epoch, retired_epoch};
+ghost use Rattle.epoch.specs.Seats.{IsOutside, drained_epoch, drained_of, id_of, named_by, retired_epoch, retired_of};
 
-use epoch::epochs::{Drained, EpochSeat, Epochs, Retired};
+use epoch::epochs::{Drained, EpochSeat, Epochs, EpochsName, Retired, Wraps};
 use std::alloc::{AllocError, Global};
 use std::sync::Wait;
 use std::test::Fail;
@@ -48,7 +48,8 @@ struct Course {
 
 /// The value, where its epoch is drained.
 fn value_of(retired: Retired<u64>, drained: Option<Drained>) -> Option<u64>
-    requires { IfSome drained (λ d. drained_epoch d ≡ retired_epoch retired) }
+    requires epoch { IfSome drained (λ d. drained_epoch d ≡ retired_epoch retired) }
+    requires of { IfSome drained (λ d. drained_of d ≡ retired_of retired) }
 {
     let drained = drained?;
     Some(retired.into_value(&drained))
@@ -168,6 +169,70 @@ fn the_own_stay_counts(rt: HostRuntime) -> Result<(), Fail> {
     Ok(())
 }
 
+/// A value in a wrapper, retired, beside the name of its epochs.
+#[derive(Drop)]
+struct Kept {
+    name: EpochsName,
+    retired: Retired<Wrapped>,
+    ghost own: { retired_of retired ≡ named_by name },
+}
+
+/// A value in a wrapper.
+#[derive(Drop)]
+struct Wrapped {
+    value: u64,
+}
+
+impl Wraps for Wrapped {
+    type Inner = u64;
+
+    ghost inner = { λ wrapped. wrapped.value };
+
+    fn into_inner(self) -> u64 {
+        let Wrapped { value } = self;
+        value
+    }
+}
+
+/// Retires a value in a wrapper, and keeps it.
+fn keep(epochs: &Epochs, seat: &mut EpochSeat, value: u64) -> Option<Kept>
+    requires { IsOutside epochs.now seat.old }
+    ensures outside { IsOutside epochs.now seat.new }
+    ensures name { IfSome result (λ kept. named_by kept.name ≡ id_of epochs.now) }
+{
+    let retired = epochs.retire(seat, Wrapped { value }).ok()?;
+    Some(Kept {
+        name: epochs.name(),
+        retired,
+    })
+}
+
+/// Drains the epoch of what was kept, by the epochs of its name.
+fn come_back(epochs: &Epochs, seat: &mut EpochSeat, kept: Kept) -> Option<u64>
+    requires outside { IsOutside epochs.now seat.old }
+    requires name { named_by kept.name ≡ id_of epochs.now }
+{
+    let Kept { name: _, retired } = kept;
+    let drained = epochs.drained(seat, retired.epoch());
+    value_of(retired.into_inner(), drained)
+}
+
+/// Keeps a value, and takes it back.
+fn keep_and_come_back(epochs: &Epochs, seat: EpochSeat, value: u64) -> Option<u64>
+    requires { IsOutside epochs.now seat }
+{
+    let mut seat = seat;
+    let kept = keep(epochs, &mut seat, value)?;
+    come_back(epochs, &mut seat, kept)
+}
+
+#[test]
+fn what_is_kept_beside_a_name_comes_back(rt: HostRuntime) -> Result<(), Fail> {
+    let (epochs, seat, _, _) = opened(rt.alloc())?.ok_or("no seats")?;
+    assert!(rt; keep_and_come_back(&epochs, seat, 7) == Some(7));
+    Ok(())
+}
+
 /// Enters and leaves many times.
 fn stay_often<R: Wait>(rt: &R, epochs: &Epochs, seat: EpochSeat) -> EpochSeat
     requires { IsOutside epochs.now seat }
@@ -204,6 +269,7 @@ fn drain(epochs: &Epochs, seat: &mut EpochSeat, e: u64) -> Option<Drained>
     requires { IsOutside epochs.now seat.old }
     ensures outside { IsOutside epochs.now seat.new }
     ensures epoch { IfSome result (λ drained. drained_epoch drained ≡ e) }
+    ensures of { IfSome result (λ drained. drained_of drained ≡ id_of epochs.now) }
 {
     for _ in 0..TRIES {
         if let Some(drained) = epochs.drained(seat, e) {

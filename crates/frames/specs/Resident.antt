@@ -1,6 +1,7 @@
 -- The resident pages of a hybrid log (FASTER, "HybridLog": a read-only part and, at the tail, a mutable part),
 -- as a list by number.
 use Rattle.std.specs.Prelude.{◌≡◌, ℕ, ◌+◌, ◌-◌, ◌/◌, ◌<◌, ◌≤◌, List, [], ◌∷◌, ◌++◌, length, drop, max, slice_index_or, slice_set}
+use Rattle.records.specs.declared.pages.TheConstants.{HEADER_SIZE}
 use Rattle.records.specs.Page.{empty_page, number_of, used_end}
 use Rattle.records.specs.Records.{records_of, IsLaidOut}
 
@@ -32,7 +33,7 @@ IsMutable r number = (first_mutable r ≤ number) × (number < next_number r)
 -- a page with this number and no record
 pub record IsEmptyPage (number : ℕ) (page : List ℕ) : Type 0 where
   pub numbered : number_of page ≡ number
-  pub end : used_end page ≡ 16
+  pub end : used_end page ≡ HEADER_SIZE
   pub records : records_of page ≡ []
   pub laid_out : IsLaidOut page
 

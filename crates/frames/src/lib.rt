@@ -14,6 +14,9 @@ use records::Page;
 use std::alloc::{AllocError, Global};
 use std::marker::Model;
 
+/// The number of a page is below 2 to this power, so that its address and all in it fit a `u64`.
+pub const NUMBER_BITS: u32 = 48;
+
 /// No frame is free.
 #[derive(Clone, Copy, Debug, PartialEq, Eq)]
 pub struct NoFrame;
@@ -22,7 +25,7 @@ pub struct NoFrame;
 ///
 /// The tail page and the `n / 3 - 1` pages before it, of `n` frames, are the mutable part. A page
 /// is opened behind the tail page and dropped before the mutable part, oldest first. Memory for
-/// all frames, 16,384 bytes each, is taken by [`Frames::new`] and used again from page to page.
+/// all frames, `PAGE_SIZE` bytes each, is taken by [`Frames::new`] and used again from page to page.
 #[derive(Drop)]
 pub struct Frames {
     frames: Vec<Page>,
@@ -69,7 +72,7 @@ impl Frames {
     /// The number of the oldest resident page, or of the first page to be opened.
     pub fn oldest(&self) -> u64
         ensures oldest { result ≡ self.now.oldest }
-        ensures in_range { next_number self.now < 2 ^ 48 }
+        ensures in_range { next_number self.now < 2 ^ NUMBER_BITS }
     {
         self.oldest
     }
@@ -78,7 +81,7 @@ impl Frames {
     #[inline]
     pub fn next_number(&self) -> u64
         ensures number { result ≡ next_number self.now }
-        ensures in_range { result < 2 ^ 48 }
+        ensures in_range { result < 2 ^ NUMBER_BITS }
         ensures enough { 3 ≤ self.now.frames }
         ensures fits { length self.now.pages ≤ self.now.frames }
     {
@@ -88,7 +91,7 @@ impl Frames {
     /// The number of the newest page, if a page is resident.
     pub fn tail(&self) -> Option<u64>
         ensures tail { MatchOption result (self.now.pages ≡ []) (λ number. number + 1 ≡ next_number self.now) }
-        ensures in_range { next_number self.now < 2 ^ 48 }
+        ensures in_range { next_number self.now < 2 ^ NUMBER_BITS }
     {
         if self.resident == 0 {
             return None;
@@ -154,8 +157,7 @@ impl Frames {
     /// Opens an empty page behind the tail page, and gives its number. Refused where no frame is
     /// free, and nothing changes then.
     pub fn open_next(&mut self) -> Result<u64, NoFrame>
-        // The newest page's number is below 2^47.
-        requires { next_number self.old ≤ 2 ^ 47 }
+        requires { next_number self.old + 1 < 2 ^ NUMBER_BITS }
         ensures full { IsErr result ↔ (length self.old.pages ≡ self.old.frames) }
         ensures number { IfOk result (λ number. number ≡ next_number self.old) }
         ensures opened { OnOk result (self.new ≡ with_opened self.old) }

@@ -1,10 +1,11 @@
 use super::*;
+use records::PAGE_SIZE;
 use std::process::Abort;
 use std::test::Fail;
 
 // Opens a page if it may be opened.
 fn open(frames: &mut Frames, rt: &impl Abort) -> Result<u64, NoFrame> {
-    assert!(rt; frames.next_number() <= 1 << 47);
+    assert!(rt; frames.next_number() + 1 < 1 << NUMBER_BITS);
     frames.open_next()
 }
 
@@ -59,10 +60,10 @@ fn a_frame_that_is_used_again_holds_an_empty_page(rt: HostRuntime) -> Result<(),
         let empty = Page::new(number);
         if let Some(page) = frames.page_mut(number) {
             assert!(rt; *page == empty);
-            page.bytes_mut()[16383] = (number % 251 + 1) as u8;
+            page.bytes_mut()[PAGE_SIZE - 1] = (number % 251 + 1) as u8;
         }
         for older in frames.oldest()..number + 1 {
-            let mark = frames.page(older).map(|page| page.bytes()[16383]);
+            let mark = frames.page(older).map(|page| page.bytes()[PAGE_SIZE - 1]);
             assert_eq!(rt; mark, Some((older % 251 + 1) as u8));
         }
     }

@@ -9,11 +9,12 @@ use Rattle.records.specs.Page.{used_end}
 use Rattle.records.specs.Records.{Stored, size_of, placed, end_from, records_of, IsLaidOut, value_bytes, value_of_kind, fields_at, IsRecordAt}
 use Rattle.hybrid.proofs.Placed.{Split, split_at, placed-append, end_from-append, end_from-le}
 use Rattle.hybrid.specs.Log.{Log, newest, IsAppended, begin_of}
-use Rattle.std.proofs.Common.{true, false, ◌==◌, Bool, zero-add, append_assoc}
+use Rattle.std.proofs.Common.{true, false, ◌==◌, Bool, cond, zero-add, append_assoc}
 use Rattle.std.proofs.lemmas.List.{length-take}
-use Rattle.hybrid.specs.HybridLog.{IsGrown, HasRoom, HybridLog, log_of, SameContents}
+use Rattle.hybrid.specs.HybridLog.{IsGrown, HasRoom, HybridLog, head_of, log_of, SameContents}
 use Rattle.hybrid.specs.Staging.{IsLive, IsDead, IsCopied, IsGoneOver, AreAdded, AreShort, AreMarked}
-use Rattle.hybrid.specs.Writing.{IsAdded}
+use Rattle.hybrid.specs.Writing.{IsAdded, write_weight}
+use Rattle.hybrid.specs.Weighing.{lives, live_weight}
 use Rattle.hybrid.proofs.Tail.{grown-none, grown-more}
 use Rattle.hybrid.proofs.Parts.{right}
 use Rattle.hybrid.proofs.Logs.{some_is, cons_cases, here, there, newest-put, newest-put_same, contents-newest, contents-alike}
@@ -80,42 +81,74 @@ step page at r laid c = go split split.after refl
 
 -- ---- which records are added
 
--- the records from `at` on lead from here to where all lead from the start
-pub record IsAdding (old now : HybridLog) (page : List ℕ) (at : ℕ) : Type 0 where
+less-left : (one rest weight less : ℕ) → one + rest ≤ weight → weight ≤ one + less → rest ≤ less
+less-left one rest weight less a b = omega arith
+
+left-first : (one rest weight : ℕ) → one + rest ≤ weight → one ≤ weight
+left-first one rest weight a = omega arith
+
+more-than : (one weight : ℕ) → weight ≤ one + weight
+more-than one weight = omega arith
+
+-- the records from `at` on lead from here to where all lead from the start, and the live ones weigh no more than this
+pub record IsAdding (old now : HybridLog) (page : List ℕ) (at weight : ℕ) : Type 0 where
   pub before : List (ℕ × Stored)
   pub rest : List Stored
   pub whole : records_of page ≡ before ++ placed at rest
   pub end : used_end page ≡ end_from at rest
   pub leads : (new : HybridLog) → AreAdded (log_of old) old.oldest (placed at rest) now new → AreAdded (log_of old) old.oldest (records_of page) old new
+  pub left : live_weight (log_of old) old.oldest (placed at rest) ≤ weight
 
-adding-start : (old : HybridLog) (page : List ℕ) → IsLaidOut page → IsAdding old old page 16
-adding-start old page laid = record {
+adding-start : (old : HybridLog) (page : List ℕ) (weight : ℕ) → IsLaidOut page → live_weight (log_of old) old.oldest (records_of page) ≤ weight → IsAdding old old page 16 weight
+adding-start old page weight laid enough = record {
   before = [];
   rest = laid.stored;
   whole = laid.records;
   end = laid.used;
   leads = λ new more. subst (λ (ps : List (ℕ × Stored)). AreAdded (log_of old) old.oldest ps old new) (sym laid.records) more;
+  left = subst (λ (ps : List (ℕ × Stored)). live_weight (log_of old) old.oldest ps ≤ weight) laid.records enough;
 }
 
-adding-step : (old now next : HybridLog) (page : List ℕ) (at : ℕ) (r : Stored) → IsStep page at r → IsGoneOver (log_of old) (old.oldest * 16384 + at) r now next → IsAdding old now page at → IsAdding old next page (at + size_of r)
-adding-step old now next page at r s over h = go h.rest h.whole h.end h.leads
+-- the weight of the record at an offset, where it is live
+abbrev pub weight_at : HybridLog → ℕ → Stored → ℕ
+weight_at p at r = cond (lives (log_of p) (p.oldest * 16384 + at) r) (write_weight r.key r.value) 0
+
+-- the record that begins there
+pub front : (page : List ℕ) (at : ℕ) (r x : Stored) (before : List (ℕ × Stored)) (rest : List Stored) → IsStep page at r → records_of page ≡ before ++ placed at (x ∷ rest) → x ≡ r
+front page at r x before rest s whole =
+    let listed : Contains (records_of page) (at, x) = subst (λ (ps : List (ℕ × Stored)). Contains ps (at, x)) (sym whole) (right before (placed at (x ∷ rest)) (at, x) (here (at, x) (placed (at + size_of x) rest))) in
+    elim (s.before at x listed (omega arith)) [ inl low ↦ absurd (omega (arith, low)) | inr e ↦ e.1 ]
+
+adding-step : (old now next : HybridLog) (page : List ℕ) (at weight less : ℕ) (r : Stored) → IsStep page at r → IsGoneOver (log_of old) (old.oldest * 16384 + at) r now next → weight ≤ weight_at old at r + less
+    → IsAdding old now page at weight → IsAdding old next page (at + size_of r) less
+adding-step old now next page at weight less r s over fewer h = go h.rest h.whole h.end h.leads h.left
   where
     go : (rest : List Stored) → records_of page ≡ h.before ++ placed at rest → used_end page ≡ end_from at rest
-        → ((new : HybridLog) → AreAdded (log_of old) old.oldest (placed at rest) now new → AreAdded (log_of old) old.oldest (records_of page) old new) → IsAdding old next page (at + size_of r)
-    go [] whole end leads = absurd (omega (arith, end, s.within))
-    go (x ∷ rest) whole end leads =
-        let listed : Contains (records_of page) (at, x) = subst (λ (ps : List (ℕ × Stored)). Contains ps (at, x)) (sym whole) (right h.before (placed at (x ∷ rest)) (at, x) (here (at, x) (placed (at + size_of x) rest))) in
-        let same : x ≡ r = elim (s.before at x listed (omega arith)) [ inl low ↦ absurd (omega (arith, low)) | inr e ↦ e.1 ] in
-        subst (λ (y : Stored). IsAdding old next page (at + size_of y)) same (record {
+        → ((new : HybridLog) → AreAdded (log_of old) old.oldest (placed at rest) now new → AreAdded (log_of old) old.oldest (records_of page) old new)
+        → live_weight (log_of old) old.oldest (placed at rest) ≤ weight → IsAdding old next page (at + size_of r) less
+    go [] whole end leads left = absurd (omega (arith, end, s.within))
+    go (x ∷ rest) whole end leads left =
+        let same : x ≡ r = front page at r x h.before rest s whole in
+        let less_x : weight ≤ weight_at old at x + less = subst (λ (y : Stored). weight ≤ weight_at old at y + less) (sym same) fewer in
+        subst (λ (y : Stored). IsAdding old next page (at + size_of y) less) same (record {
           before = h.before ++ (at, x) ∷ [];
           rest = rest;
           whole = whole ∙ sym (append_assoc h.before ((at, x) ∷ []) (placed (at + size_of x) rest));
           end = end;
           leads = λ new more. leads new (next, subst (λ (y : Stored). IsGoneOver (log_of old) (old.oldest * 16384 + at) y now next) (sym same) over, more);
+          left = less-left (weight_at old at x) (live_weight (log_of old) old.oldest (placed (at + size_of x) rest)) weight less left less_x;
         })
 
-adding-all : (old now : HybridLog) (page : List ℕ) (at : ℕ) → IsAdding old now page at → ((r : Stored) → Contains (records_of page) (at, r) → ⊥) → AreAdded (log_of old) old.oldest (records_of page) old now
-adding-all old now page at h no_more = go h.rest h.whole h.leads
+-- there is room for the record at hand
+adding-room : (old now : HybridLog) (page : List ℕ) (at weight : ℕ) (r : Stored) → IsStep page at r → IsAdding old now page at weight → weight_at old at r ≤ weight
+adding-room old now page at weight r s h = go h.rest h.whole h.end h.left
+  where
+    go : (rest : List Stored) → records_of page ≡ h.before ++ placed at rest → used_end page ≡ end_from at rest → live_weight (log_of old) old.oldest (placed at rest) ≤ weight → weight_at old at r ≤ weight
+    go [] whole end left = absurd (omega (arith, end, s.within))
+    go (x ∷ rest) whole end left = subst (λ (y : Stored). weight_at old at y ≤ weight) (front page at r x h.before rest s whole) (left-first (weight_at old at x) (live_weight (log_of old) old.oldest (placed (at + size_of x) rest)) weight left)
+
+adding-all : (old now : HybridLog) (page : List ℕ) (at weight : ℕ) → IsAdding old now page at weight → ((r : Stored) → Contains (records_of page) (at, r) → ⊥) → AreAdded (log_of old) old.oldest (records_of page) old now
+adding-all old now page at weight h no_more = go h.rest h.whole h.leads
   where
     go : (rest : List Stored) → records_of page ≡ h.before ++ placed at rest → ((new : HybridLog) → AreAdded (log_of old) old.oldest (placed at rest) now new → AreAdded (log_of old) old.oldest (records_of page) old new) → AreAdded (log_of old) old.oldest (records_of page) old now
     go [] whole leads = leads now refl
@@ -132,29 +165,29 @@ over-dead log address r now dead = record {
 
 -- ---- what is done when the records before `at` have been gone over
 
-pub record IsDone (old now : HybridLog) (page : List ℕ) (at : ℕ) : Type 0 where
+pub record IsDone (old now : HybridLog) (page : List ℕ) (at weight : ℕ) : Type 0 where
   pub same : SameContents old now
   pub first : (key : List ℕ) (a : ℕ) (r : Stored) → newest (log_of now) key ≡ Some (a, r) → a < begin_of (old.oldest + 1) → newest (log_of old) key ≡ Some (a, r)
   pub dead : (o : ℕ) (r : Stored) → Contains (records_of page) (o, r) → o < at → IsDead (log_of now) (old.oldest * 16384 + o) r
   pub place : IsPlace (records_of page) (used_end page) at
-  pub adding : IsAdding old now page at
+  pub adding : IsAdding old now page at weight
 
-pub done-start : (old : HybridLog) (page : List ℕ) → IsLaidOut page → IsDone old old page 16
-done-start old page laid = record {
+pub begins : (page : List ℕ) (rs : List Stored) → records_of page ≡ placed 16 rs → used_end page ≡ end_from 16 rs → IsPlace (records_of page) (used_end page) 16
+begins page [] records end = inl (sym end)
+begins page (r ∷ rs) records end = inr (r, subst (λ (ps : List (ℕ × Stored)). Contains ps (16, r)) (sym records) (here (16, r) (placed (16 + size_of r) rs)))
+
+pub done-start : (old : HybridLog) (page : List ℕ) (weight : ℕ) → IsLaidOut page → live_weight (log_of old) old.oldest (records_of page) ≤ weight → IsDone old old page 16 weight
+done-start old page weight laid enough = record {
   same = λ key. refl;
   first = λ key a r e lt. e;
   dead = λ o r c lt. absurd (omega (arith, placed-from 16 laid.stored o r (subst (λ (ps : List (ℕ × Stored)). Contains ps (o, r)) laid.records c)));
-  place = begins laid.stored laid.records laid.used;
-  adding = adding-start old page laid;
+  place = begins page laid.stored laid.records laid.used;
+  adding = adding-start old page weight laid enough;
 }
-  where
-    begins : (rs : List Stored) → records_of page ≡ placed 16 rs → used_end page ≡ end_from 16 rs → IsPlace (records_of page) (used_end page) 16
-    begins [] records end = inl (sym end)
-    begins (r ∷ rs) records end = inr (r, subst (λ (ps : List (ℕ × Stored)). Contains ps (16, r)) (sym records) (here (16, r) (placed (16 + size_of r) rs)))
 
-pub done-skip : (old now : HybridLog) (page : List ℕ) (at : ℕ) (r : Stored) → IsLaidOut page → Contains (records_of page) (at, r) → used_end page ≤ 16384 → IsDead (log_of old) (old.oldest * 16384 + at) r
-    → IsDone old now page at → IsDone old now page (at + size_of r)
-done-skip old now page at r laid c short gone done =
+pub done-skip : (old now : HybridLog) (page : List ℕ) (at weight : ℕ) (r : Stored) → IsLaidOut page → Contains (records_of page) (at, r) → used_end page ≤ 16384 → IsDead (log_of old) (old.oldest * 16384 + at) r
+    → IsDone old now page at weight → IsDone old now page (at + size_of r) weight
+done-skip old now page at weight r laid c short gone done =
     let s = step page at r laid c in
     record {
       same = done.same;
@@ -167,13 +200,13 @@ done-skip old now page at r laid c short gone done =
             ap (λ (x : Stored). x.value) e.1 ∙ gone (done.first r.key (old.oldest * 16384 + at) r h_here small)
       ];
       place = s.place;
-      adding = adding-step old now now page at r s (over-dead (log_of old) (old.oldest * 16384 + at) r now gone) done.adding;
+      adding = adding-step old now now page at weight weight r s (over-dead (log_of old) (old.oldest * 16384 + at) r now gone) (more-than (weight_at old at r) weight) done.adding;
     }
 
-pub done-copy : (old now next : HybridLog) (page : List ℕ) (at t : ℕ) (r : Stored) → IsLaidOut page → Contains (records_of page) (at, r) → used_end page ≤ 16384 → IsLive (log_of old) (old.oldest * 16384 + at) r
-    → IsAdded now next t r.key r.value → begin_of (old.oldest + 1) ≤ t
-    → IsDone old now page at → IsDone old next page (at + size_of r)
-done-copy old now next page at t r laid c short live added far done =
+pub done-copy : (old now next : HybridLog) (page : List ℕ) (at t weight : ℕ) (r : Stored) → IsLaidOut page → Contains (records_of page) (at, r) → used_end page ≤ 16384 → IsLive (log_of old) (old.oldest * 16384 + at) r
+    → IsAdded now next t r.key r.value → begin_of (old.oldest + 1) ≤ t → lives (log_of old) (old.oldest * 16384 + at) r ≡ true
+    → IsDone old now page at weight → IsDone old next page (at + size_of r) (weight - write_weight r.key r.value)
+done-copy old now next page at t weight r laid c short live added far is_live done =
     let s = step page at r laid c in
     record {
       same = same;
@@ -192,11 +225,17 @@ done-copy old now next page at t r laid c short live added far done =
         ]
       ];
       place = s.place;
-      adding = adding-step old now next page at r s (over-live (log_of old) (old.oldest * 16384 + at) t r now next live added) done.adding;
+      adding = adding-step old now next page at weight (weight - write_weight r.key r.value) r s (over-live (log_of old) (old.oldest * 16384 + at) t r now next live added) fewer done.adding;
     }
   where
-    put : IsAppended (log_of now) (log_of next) t r.key r.value
+    put : IsAppended (log_of now) (log_of next) t (head_of now r.key) r.key r.value
     put = added.log
+
+    weighs : weight_at old at r ≡ write_weight r.key r.value
+    weighs = ap (λ (b : Bool). cond b (write_weight r.key r.value) 0) is_live
+
+    fewer : weight ≤ weight_at old at r + (weight - write_weight r.key r.value)
+    fewer = subst (λ (n : ℕ). weight ≤ n + (weight - write_weight r.key r.value)) (sym weighs) (omega arith)
 
     cases : (q : List ℕ) → ((put.put.key ≡ q) × (newest (log_of next) q ≡ Some (t, put.put))) ⊎ (newest (log_of next) q ≡ newest (log_of now) q)
     cases q = rw put.log (newest-put (log_of now) t put.put q)
@@ -212,11 +251,11 @@ done-copy old now next page at t r laid c short live added far done =
       | inr n ↦ contents-alike (log_of next) (log_of now) q n ∙ done.same q
     ]
 
-pub done-all : (old now : HybridLog) (page : List ℕ) (at : ℕ) → IsLaidOut page → IsDone old now page at → ((r : Stored) → Contains (records_of page) (at, r) → ⊥) → IsCopied old now page
-done-all old now page at laid done no_more = elim done.place [
+pub done-all : (old now : HybridLog) (page : List ℕ) (at weight : ℕ) → IsLaidOut page → IsDone old now page at weight → ((r : Stored) → Contains (records_of page) (at, r) → ⊥) → IsCopied old now page
+done-all old now page at weight laid done no_more = elim done.place [
   | inl end ↦ record {
     same = done.same;
-    added = adding-all old now page at done.adding no_more;
+    added = adding-all old now page at weight done.adding no_more;
     dead = λ o r c. done.dead o r c (omega (arith, end, laid.used, placed-from 16 laid.stored o r (subst (λ (ps : List (ℕ × Stored)). Contains ps (o, r)) laid.records c)));
   }
   | inr more ↦ absurd (no_more more.0 more.1)
@@ -229,11 +268,9 @@ pub record IsCopying (old now : HybridLog) (page : List ℕ) (live : List Bool) 
   pub parts : used + weight ≡ whole
   pub grown : IsGrown old now used
   pub room : HasRoom now weight
-  pub left : 32768 ≤ weight + 2 * at
-  pub light : used + 32 ≤ 2 * at
   pub low : 16 ≤ at
   pub high : at ≤ 16384
-  pub done : IsLaidOut page → AreShort (records_of page) → AreMarked (log_of old) old.oldest (records_of page) live → IsDone old now page at
+  pub done : IsLaidOut page → AreShort (records_of page) → AreMarked (log_of old) old.oldest (records_of page) live → live_weight (log_of old) old.oldest (records_of page) ≤ whole → IsDone old now page at weight
 
 -- a record that was read lies in the page
 pub record IsRead (at : ℕ) (s : Stored) : Type 0 where
@@ -261,17 +298,15 @@ read-fits page at s is e = subst (λ (x : Stored). IsRead at x) (sym e) (record 
 
 -- the three steps of the loop
 
-pub copying-start : (p : HybridLog) (page : List ℕ) (live : List Bool) (weight : ℕ) → HasRoom p weight → 32736 ≤ weight → IsCopying p p page live 16 weight weight
-copying-start p page live weight room enough = record {
+pub copying-start : (p : HybridLog) (page : List ℕ) (live : List Bool) (weight : ℕ) → HasRoom p weight → IsCopying p p page live 16 weight weight
+copying-start p page live weight room = record {
   used = 0;
   parts = zero-add weight;
   grown = grown-none p;
   room = room;
-  left = omega arith;
-  light = omega arith;
   low = omega arith;
   high = omega arith;
-  done = λ laid short marked. done-start p page laid;
+  done = λ laid short marked enough. done-start p page weight laid enough;
 }
 
 -- what stands at the offset of a page that is laid out
@@ -288,7 +323,7 @@ listed page at s (inr more) lt found = subst (λ (x : Stored). Contains (records
 
 pub copying-skip : (old now : HybridLog) (page : List ℕ) (live : List Bool) (at weight whole : ℕ) (s : Stored) → IsRecordAt page at → s ≡ fields_at page at
     → (IsLaidOut page → (r : Stored) → Contains (records_of page) (at, r) → s ≡ r)
-    → (IsLaidOut page → AreShort (records_of page) → AreMarked (log_of old) old.oldest (records_of page) live → Contains (records_of page) (at, s) → IsDead (log_of old) (old.oldest * 16384 + at) s)
+    → (IsLaidOut page → AreShort (records_of page) → AreMarked (log_of old) old.oldest (records_of page) live → Contains (records_of page) (at, s) → IsDone old now page at weight → IsDead (log_of old) (old.oldest * 16384 + at) s)
     → IsCopying old now page live at weight whole → IsCopying old now page live (at + size_of s) weight whole
 copying-skip old now page live at weight whole s is e found dead h =
     let read = read-fits page at s is e in
@@ -297,14 +332,12 @@ copying-skip old now page live at weight whole s is e found dead h =
       parts = h.parts;
       grown = h.grown;
       room = h.room;
-      left = omega (arith, h.left);
-      light = omega (arith, h.light);
       low = omega (arith, h.low);
       high = omega (arith, read.within);
-      done = λ laid short marked.
-          let before = h.done laid short marked in
+      done = λ laid short marked enough.
+          let before = h.done laid short marked enough in
           let c : Contains (records_of page) (at, s) = listed page at s before.place is.used (found laid) in
-          done-skip old now page at s laid c is.ends_in_page (dead laid short marked c) before;
+          done-skip old now page at weight s laid c is.ends_in_page (dead laid short marked c before) before;
     }
 
 pub copying-copy : (old now next : HybridLog) (page : List ℕ) (live : List Bool) (at weight whole t : ℕ) (s : Stored) → IsRecordAt page at → s ≡ fields_at page at
@@ -320,12 +353,19 @@ copying-copy old now next page live at weight whole t s is e found mark enough r
       parts = omega (arith, h.parts, enough);
       grown = grown-more old now next h.used (48 + length s.key + length (value_bytes s.value)) h.grown grown;
       room = room;
-      left = omega (arith, h.left, read.value);
-      light = omega (arith, h.light, read.value);
       low = omega (arith, h.low);
       high = omega (arith, read.within);
-      done = λ laid short marked.
-          let before = h.done laid short marked in
+      done = λ laid short marked whole_enough.
+          let before = h.done laid short marked whole_enough in
           let c : Contains (records_of page) (at, s) = listed page at s before.place is.used (found laid) in
-          done-copy old now next page at t s laid c is.ends_in_page ((marked at s c).0 mark) put (omega (arith, far, h.grown.first)) before;
+          done-copy old now next page at t weight s laid c is.ends_in_page ((marked at s c).0 mark) put (omega (arith, far, h.grown.first)) (sym (marked at s c).2 ∙ mark) before;
     }
+
+-- a live record for which no room is left: in a page of the log there is none
+pub never-heavy : (old now : HybridLog) (page : List ℕ) (live : List Bool) (at weight : ℕ) (s : Stored) → IsLaidOut page → AreMarked (log_of old) old.oldest (records_of page) live → Contains (records_of page) (at, s) → slice_index_or live (at / 8) false ≡ true
+    → IsDone old now page at weight → weight < write_weight s.key s.value → ⊥
+never-heavy old now page live at weight s laid marked c mark done heavy =
+    let is_live : lives (log_of old) (old.oldest * 16384 + at) s ≡ true = sym (marked at s c).2 ∙ mark in
+    let weighs : weight_at old at s ≡ write_weight s.key s.value = ap (λ (b : Bool). cond b (write_weight s.key s.value) 0) is_live in
+    let fits : write_weight s.key s.value ≤ weight = subst (λ (n : ℕ). n ≤ weight) weighs (adding-room old now page at weight s (step page at s laid c) done.adding) in
+    omega (arith, fits, heavy)

@@ -11,7 +11,7 @@ use Rattle.std.proofs.lemmas.Grind.{get_or_after_one}
 use Rattle.std.proofs.lemmas.Bool.{cases_lt}
 use Rattle.records.specs.Records.{Stored, size_of}
 use Rattle.frames.specs.Resident.{first_mutable, without_oldest}
-use Rattle.hybrid.specs.Log.{Log, log_from, AllLaid, IsLinked, Joins, begin_of}
+use Rattle.hybrid.specs.Log.{Log, log_from, AllLaid, IsLinked, Joins, begin_of, IsShort}
 use Rattle.hybrid.specs.HybridLog.{HybridLog, Kept, IsHybridLog, pages_of, log_of, shown_page, receipt_of, with_dropped, bucket_of}
 
 dropped-pages : (kept : List (Option Kept)) (c : ℕ) (pages : List (List ℕ)) (k : Kept) → slice_index_or kept c None ≡ Some k → k.shown ≡ slice_index_or pages 0 [] → 0 < length pages
@@ -67,7 +67,7 @@ dropped p is some =
             );
         counted = is.counted;
         few = omega (arith, is.few, length-drop 1 p.resident.pages, many);
-        short = subst (All (λ (e : ℕ × Stored). size_of e.1 ≤ 8728)) (sym log) is.short;
+        short = subst (All (λ (e : ℕ × Stored). IsShort e.1)) (sym log) is.short;
         limited = is.limited;
       };
       log = log;

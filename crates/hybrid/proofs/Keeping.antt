@@ -9,8 +9,8 @@ use Rattle.std.proofs.lemmas.List.{get_or-set_same, get_or-set_other}
 use Rattle.std.proofs.lemmas.Bool.{cases_eq}
 use Rattle.records.specs.Records.{Stored, size_of}
 use Rattle.frames.specs.Resident.{page_of, first_mutable}
-use Rattle.hybrid.specs.Log.{Log, log_from, AllLaid, IsLinked, Joins, begin_of}
-use Rattle.hybrid.specs.HybridLog.{HybridLog, Kept, IsHybridLog, pages_of, log_of, shown_page, cold, count_kept, bucket_of, with_receipt}
+use Rattle.hybrid.specs.Log.{Log, log_from, AllLaid, IsLinked, Joins, begin_of, IsShort}
+use Rattle.hybrid.specs.HybridLog.{HybridLog, Kept, IsHybridLog, pages_of, log_of, shown_page, cold, count_kept, bucket_of, receipt_of, with_receipt}
 use Rattle.hybrid.proofs.Logs.{some_is}
 
 take-set : (c i : ℕ) (l : List (Option Kept)) (v : Option Kept) → c ≤ i → take c (set l i v) ≡ take c l
@@ -18,6 +18,14 @@ take-set zero i l v le = refl
 take-set (suc c) i [] v le = refl
 take-set (suc c) zero (x ∷ l) v le = absurd (omega arith)
 take-set (suc c) (suc i) (x ∷ l) v le = ap (λ (m : List (Option Kept)). x ∷ m) (take-set c i l v (omega arith))
+
+-- one receipt more
+pub count-more : (l : List (Option Kept)) (i : ℕ) (k : Kept) → i < length l → slice_index_or l i None ≡ None → count_kept (set l i (Some k)) ≡ count_kept l + 1
+count-more [] i k lt e = absurd (omega (arith, lt))
+count-more (None ∷ l) zero k lt e = omega arith
+count-more (Some x ∷ l) zero k lt e = absurd cc
+count-more (None ∷ l) (suc i) k lt e = count-more l i k (omega (arith, lt)) e
+count-more (Some x ∷ l) (suc i) k lt e = omega (arith, count-more l i k (omega (arith, lt)) e)
 
 count-set : (l : List (Option Kept)) (i : ℕ) (k : Kept) → count_kept (set l i (Some k)) ≤ count_kept l + 1
 count-set [] i k = omega arith
@@ -66,7 +74,7 @@ keeps p i u k is from below shown counts limit =
         ];
         counted = omega (arith, count-set p.kept i k);
         few = is.few;
-        short = subst (All (λ (e : ℕ × Stored). size_of e.1 ≤ 8728)) (sym log) is.short;
+        short = subst (All (λ (e : ℕ × Stored). IsShort e.1)) (sym log) is.short;
         limited = limit;
       };
       log = log;
@@ -89,6 +97,17 @@ pub with-from : {X : Type 0} (f : X → Kept) (items : List (Option X)) (v now :
 with-from f items v now number x same e =
     ap (λ (l : List (Option Kept)). record v { kept = l }) (map-set (option_map f) items (number - v.oldest) (Some x) ∙ ap (λ (l : List (Option Kept)). set l (number - v.oldest) (Some (f x))) (sym e))
     ∙ ap (λ (q : HybridLog). with_receipt q number (f x)) same
+
+-- and so it is counted
+pub counted-from : {X : Type 0} (f : X → Kept) (items : List (Option X)) (v now : HybridLog) (number count : ℕ) (x : X) → v ≡ now → IsHybridLog v → v.kept ≡ map (option_map f) items → v.resident.oldest ≤ number → number < first_mutable now.resident → receipt_of now number ≡ None
+    → count ≡ count_kept (map (option_map f) items) → count + 1 ≡ count_kept (map (option_map f) (set items (number - v.oldest) (Some x)))
+counted-from f items v now number count x same is e from below none_now counts =
+    let none : receipt_of v number ≡ None = subst (λ (q : HybridLog). receipt_of q number ≡ None) (sym same) none_now in
+    let below_v : number < first_mutable v.resident = subst (λ (q : HybridLog). number < first_mutable q.resident) (sym same) below in
+    let inside : number - v.oldest < length v.kept = omega (arith, is.numbered, is.live, is.tail, from, below_v) in
+    let one = count-more v.kept (number - v.oldest) (f x) inside none in
+    let lists : set v.kept (number - v.oldest) (Some (f x)) ≡ map (option_map f) (set items (number - v.oldest) (Some x)) = ap (λ (l : List (Option Kept)). set l (number - v.oldest) (Some (f x))) e ∙ sym (map-set (option_map f) items (number - v.oldest) (Some x)) in
+    omega (arith, counts, one, ap count_kept lists, ap count_kept e)
 
 none-now : {X : Type 0} (o : Option X) → is_some o ≡ false → o ≡ None
 none-now None h = refl

@@ -20,3 +20,6 @@ pub mod Opening
 pub mod Tail
 pub mod Putting
 mod SizeRows
+pub mod Shedding
+pub mod Serving
+pub mod Reading

@@ -6,7 +6,7 @@ use Rattle.std.proofs.lemmas.List.{map-append, length-map, get_or_append_left, t
 use Rattle.records.specs.Page.{empty_page, number_of}
 use Rattle.records.specs.Records.{Stored, size_of, records_of, IsLaidOut}
 use Rattle.frames.specs.Resident.{Resident, next_number, with_opened, IsEmptyPage}
-use Rattle.hybrid.specs.Log.{Log, log_from, page_log, newest_first, AllLaid, IsLinked, Joins, begin_of}
+use Rattle.hybrid.specs.Log.{Log, log_from, page_log, newest_first, AllLaid, IsLinked, Joins, begin_of, IsShort}
 use Rattle.hybrid.specs.HybridLog.{HybridLog, Kept, IsHybridLog, pages_of, log_of, shown_page, cold, count_kept, bucket_of, with_page_opened}
 
 pub page_log-empty : (n : ℕ) (page : List ℕ) → records_of page ≡ [] → page_log n page ≡ []
@@ -26,6 +26,9 @@ count-more : (l : List (Option Kept)) → count_kept (l ++ None ∷ []) ≡ coun
 count-more [] = refl
 count-more (None ∷ l) = count-more l
 count-more (Some k ∷ l) = ap suc (count-more l)
+
+pub opened-count : {X : Type 0} (f : X → Kept) (items : List (Option X)) → count_kept (map (option_map f) (items ++ None ∷ [])) ≡ count_kept (map (option_map f) items)
+opened-count f items = ap count_kept (map-append (option_map f) items (None ∷ [])) ∙ count-more (map (option_map f) items)
 
 beyond : (l : List (Option Kept)) (i : ℕ) (k : Kept) → slice_index_or (l ++ None ∷ []) i None ≡ Some k → slice_index_or l i None ≡ Some k
 beyond [] zero k h = h
@@ -65,7 +68,7 @@ opened p is room few empty =
             (was.0 ∙ sym (get_or_append_left p.resident.pages (empty_page (next_number p.resident) ∷ []) [] (p.oldest + i - p.resident.oldest) (omega (arith, was.1, is.live, from, is.enough, is.tail))), omega (arith, was.1, more));
         counted = omega (arith, is.counted, count-more p.kept);
         few = omega (arith, few, more);
-        short = subst (All (λ (e : ℕ × Stored). size_of e.1 ≤ 8728)) (sym log) is.short;
+        short = subst (All (λ (e : ℕ × Stored). IsShort e.1)) (sym log) is.short;
         limited = is.limited;
       };
       log = log;

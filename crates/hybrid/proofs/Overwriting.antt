@@ -9,9 +9,10 @@ use Rattle.std.proofs.lemmas.List.Elements.{Contains-append_cases, All-contains}
 use Rattle.std.proofs.lemmas.Bool.{cases_Bool, cases_eq, eq-eqb, ne_eqb}
 use Rattle.std.proofs.lemmas.Slice.Eq.{bytes_eq-Decides}
 use Rattle.records.specs.Page.{number_of, used_end}
-use Rattle.records.specs.Records.{Stored, size_of, with_value, records_of, IsLaidOut, IsPlaced, HasRoomAt}
+use Rattle.words.specs.declared.limits.TheConstants.{VALUE_BYTES_MAX}
+use Rattle.records.specs.Records.{Stored, size_of, value_bytes, with_value, records_of, IsLaidOut, IsPlaced, HasRoomAt}
 use Rattle.frames.specs.Resident.{next_number, page_of, first_mutable}
-use Rattle.hybrid.specs.Log.{Log, newest, contents, log_from, page_log, newest_first, addressed, AllLaid, IsAppended, IsLinked, Joins, head, top, begin_of}
+use Rattle.hybrid.specs.Log.{Log, newest, contents, log_from, page_log, newest_first, addressed, AllLaid, IsAppended, IsLinked, Joins, head, top, begin_of, IsShort}
 use Rattle.hybrid.specs.HybridLog.{HybridLog, IsHybridLog, IsPut, bucket_of, pages_of, page_at, log_of, tail_bytes}
 use Rattle.hybrid.specs.Lookups.{IsRoomy}
 use Rattle.hybrid.proofs.Logs.{newest-listed, newest-key, newest-put, newest-put_same, contents-newest, contents-alike}
@@ -154,10 +155,16 @@ changed-linked bucket begin a value (e ∷ log) linked =
 all-tail : (P : ℕ × Stored → Type 0) (x : ℕ × Stored) (xs : Log) → All P (x ∷ xs) → All P xs
 all-tail P x xs all k d lt = all (suc k) d (omega (arith, lt))
 
-changed-short : (a : ℕ) (value : Option (List ℕ)) (log : Log) → All (λ (e : ℕ × Stored). size_of e.1 ≤ 8728) log → All (λ (e : ℕ × Stored). size_of e.1 ≤ 8728) (map (with_value a value) log)
-changed-short a value [] all k d lt = absurd (omega (arith, lt))
-changed-short a value (e ∷ log) all zero d lt = let it : size_of (with_value a value e).1 ≡ size_of e.1 = (with-is a value e).1.1.1 in let was : size_of e.1 ≤ 8728 = all 0 e (omega arith) in omega (arith, it, was)
-changed-short a value (e ∷ log) all (suc k) d lt = changed-short a value log (all-tail (λ (x : ℕ × Stored). size_of x.1 ≤ 8728) e log all) k d (omega (arith, lt))
+short-with : (a : ℕ) (value : Option (List ℕ)) (e : ℕ × Stored) → length (value_bytes value) ≤ VALUE_BYTES_MAX → IsShort e.1 → IsShort (with_value a value e).1
+short-with a value e fits short = elim (cases_Bool (e.0 == a)) [
+  | inl t ↦ rw t (record { size = short.size; fits = record { key_fits = short.fits.key_fits; value_fits = fits } })
+  | inr f ↦ rw f short
+]
+
+changed-short : (a : ℕ) (value : Option (List ℕ)) (log : Log) → length (value_bytes value) ≤ VALUE_BYTES_MAX → All (λ (e : ℕ × Stored). IsShort e.1) log → All (λ (e : ℕ × Stored). IsShort e.1) (map (with_value a value) log)
+changed-short a value [] fits all k d lt = absurd (omega (arith, lt))
+changed-short a value (e ∷ log) fits all zero d lt = short-with a value e fits (all 0 e (omega arith))
+changed-short a value (e ∷ log) fits all (suc k) d lt = changed-short a value log fits (all-tail (λ (x : ℕ × Stored). IsShort x.1) e log all) k d (omega (arith, lt))
 
 -- ---- the stripe
 
@@ -182,9 +189,9 @@ room-at p address size is roomy =
       room = record { stored = roomy.stored; listed = subst (λ (q : List ℕ). Contains (records_of q) (address % 16384, roomy.stored)) page f.listed; fits = roomy.fits };
     }
 
-pub overwritten : (p : HybridLog) (address size : ℕ) (value : Option (List ℕ)) (w : List ℕ) → IsHybridLog p → IsRoomy p address size → IsLaidOut w → number_of w ≡ number_of (page_of p.resident (address / 16384))
+pub overwritten : (p : HybridLog) (address size : ℕ) (value : Option (List ℕ)) (w : List ℕ) → IsHybridLog p → IsRoomy p address size → length (value_bytes value) ≤ VALUE_BYTES_MAX → IsLaidOut w → number_of w ≡ number_of (page_of p.resident (address / 16384))
     → records_of w ≡ map (with_value (address % 16384) value) (records_of (page_of p.resident (address / 16384))) → IsReplaced p (with_bytes p (address / 16384) w p.heads) (map (with_value address value) (log_of p))
-overwritten p address size value w is roomy laid numbered records =
+overwritten p address size value w is roomy fits laid numbered records =
     let at = room-at p address size is roomy in
     let n : ℕ = address / 16384 in
     let page : page_at p n ≡ page_of p.resident n = page-resident p n is (omega (arith, at.low)) in
@@ -196,7 +203,7 @@ overwritten p address size value w is roomy laid numbered records =
     replaced p n w p.heads (map (with_value address value) (log_of p)) is at.low at.high laid (numbered ∙ at.number) log refl
     (changed-linked (bucket_of p) (begin_of p.oldest) address value (log_of p) is.linked)
     (λ b within. changed-joins (bucket_of p) (begin_of p.oldest) address value (log_of p) (slice_index p.heads b) b (is.joined b within))
-    (changed-short address value (log_of p) is.short)
+    (changed-short address value (log_of p) fits is.short)
 
 -- the bytes in the tail page stay, whichever page was written to
 pub tail-same : (p : HybridLog) (number : ℕ) (w heads : List ℕ) → IsHybridLog p → p.resident.oldest ≤ number → number < next_number p.resident → used_end w ≡ used_end (page_of p.resident number) → tail_bytes (with_bytes p number w heads) ≡ tail_bytes p
@@ -262,8 +269,8 @@ contents-changed p address key r value q is new = elim (cases_Bool (bytes_eq key
     ]
 
 -- at the tail
-pub contents-appended : (old new : Log) (address : ℕ) (key : List ℕ) (value : Option (List ℕ)) (q : List ℕ) → IsAppended old new address key value → contents new q ≡ update bytes_eq (contents old) key value q
-contents-appended old new address key value q put = ap (λ (l : Log). contents l q) put.log ∙ elim (cases_Bool (bytes_eq key q)) [
+pub contents-appended : (old new : Log) (address link : ℕ) (key : List ℕ) (value : Option (List ℕ)) (q : List ℕ) → IsAppended old new address link key value → contents new q ≡ update bytes_eq (contents old) key value q
+contents-appended old new address link key value q put = ap (λ (l : Log). contents l q) put.log ∙ elim (cases_Bool (bytes_eq key q)) [
   | inl t ↦
       let same : put.put.key ≡ q = put.key_is ∙ (bytes_eq-Decides key q).0 t in
       rw t (contents-newest ((address, put.put) ∷ old) q (Some (address, put.put)) (newest-put_same old address put.put q same) ∙ put.value_is)
@@ -281,13 +288,14 @@ pub record IsOverwritten (now new : HybridLog) (address : ℕ) (value : Option (
   pub is : IsHybridLog new
   pub log : log_of new ≡ map (with_value address value) (log_of now)
   pub put : IsPut now new
+  pub heads : new.heads ≡ now.heads
   pub bytes : tail_bytes new ≡ tail_bytes now
 
-pub overwritten-from : (v now : HybridLog) (address size : ℕ) (value : Option (List ℕ)) (page w : List ℕ) → v ≡ now → IsHybridLog v → IsRoomy now address size → page ≡ page_of v.resident (address / 16384) → IsLaidOut w → number_of w ≡ number_of page → used_end w ≡ used_end page
+pub overwritten-from : (v now : HybridLog) (address size : ℕ) (value : Option (List ℕ)) (page w : List ℕ) → v ≡ now → IsHybridLog v → IsRoomy now address size → length (value_bytes value) ≤ VALUE_BYTES_MAX → page ≡ page_of v.resident (address / 16384) → IsLaidOut w → number_of w ≡ number_of page → used_end w ≡ used_end page
     → records_of w ≡ map (with_value (address % 16384) value) (records_of page) → IsOverwritten now (with_bytes v (address / 16384) w v.heads) address value
-overwritten-from v now address size value page w same is roomy there laid numbered end records =
+overwritten-from v now address size value page w same is roomy fits there laid numbered end records =
     let roomy_v : IsRoomy v address size = subst (λ (q : HybridLog). IsRoomy q address size) (sym same) roomy in
     let at = room-at v address size is roomy_v in
-    let r = overwritten v address size value w is roomy_v laid (numbered ∙ ap number_of there) (records ∙ ap (λ (q : List ℕ). map (with_value (address % 16384) value) (records_of q)) there) in
+    let r = overwritten v address size value w is roomy_v fits laid (numbered ∙ ap number_of there) (records ∙ ap (λ (q : List ℕ). map (with_value (address % 16384) value) (records_of q)) there) in
     let tail = tail-same v (address / 16384) w v.heads is (omega (arith, at.low)) at.high (end ∙ ap used_end there) in
-    subst (λ (q : HybridLog). IsOverwritten q (with_bytes v (address / 16384) w v.heads) address value) same (record { is = r.is; log = r.log; put = r.put; bytes = tail })
+    subst (λ (q : HybridLog). IsOverwritten q (with_bytes v (address / 16384) w v.heads) address value) same (record { is = r.is; log = r.log; put = r.put; heads = refl; bytes = tail })

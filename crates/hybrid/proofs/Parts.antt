@@ -7,7 +7,7 @@ use Rattle.std.proofs.lemmas.List.{length-drop, get_or_default, length-map, leng
 use Rattle.std.proofs.lemmas.Bool.{cases_lt}
 use Rattle.records.specs.Page.{used_end, number_of}
 use Rattle.records.specs.Records.{Stored, size_of, records_of, IsLaidOut, IsPlaced}
-use Rattle.hybrid.specs.Log.{Log, log_from, page_log, newest_first, addressed, AllLaid, IsLinked, Joins, begin_of, top}
+use Rattle.hybrid.specs.Log.{Log, log_from, page_log, newest_first, addressed, AllLaid, IsLinked, Joins, begin_of, top, IsShort}
 use Rattle.hybrid.specs.HybridLog.{HybridLog, Kept, IsHybridLog, IsCut, pages_of, log_of, shown_page, cold, count_kept, receipt_of, without_oldest_page, bucket_of}
 use Rattle.hybrid.proofs.Logs.{cons_cases, here, there}
 use Rattle.hybrid.proofs.Chains.{AllLive, linked-raised, Joins-raised, linked_back as linked-back}
@@ -112,7 +112,7 @@ pub record IsOldest (p : HybridLog) (k : Kept) : Type 0 where
   pub number : number_of k.shown ≡ p.oldest
   pub rest : AllLaid (p.oldest + 1) (pages_of (without_oldest_page p))
   pub log : log_of p ≡ log_of (without_oldest_page p) ++ page_log p.oldest k.shown
-  pub short : (offset : ℕ) (r : Stored) → Contains (records_of k.shown) (offset, r) → size_of r ≤ 8728
+  pub short : (offset : ℕ) (r : Stored) → Contains (records_of k.shown) (offset, r) → IsShort r
 
 pub oldest : (p : HybridLog) (k : Kept) → IsHybridLog p → p.oldest < p.resident.oldest → receipt_of p p.oldest ≡ Some k → IsOldest p k
 oldest p k is lt e =
@@ -123,7 +123,7 @@ oldest p k is lt e =
       number = laid.1;
       rest = laid.2;
       log = log;
-      short = λ o r c. All-contains (λ (x : ℕ × Stored). size_of x.1 ≤ 8728) (log_of p) (p.oldest * 16384 + o, r) is.short
+      short = λ o r c. All-contains (λ (x : ℕ × Stored). IsShort x.1) (log_of p) (p.oldest * 16384 + o, r) is.short
           (subst (λ (l : Log). Contains l (p.oldest * 16384 + o, r)) (sym log) (right (log_of (without_oldest_page p)) (page_log p.oldest k.shown) (p.oldest * 16384 + o, r) (in-page_log p.oldest k.shown o r c)));
     }
 
@@ -171,7 +171,7 @@ log-without p k is lt e =
           (rw there s.0, omega (arith, s.1));
       counted = omega (arith, is.counted, fewer p.kept);
       few = is.few;
-      short = all-left (λ (x : ℕ × Stored). size_of x.1 ≤ 8728) (log_of next) (page_log p.oldest k.shown) (subst (All (λ (x : ℕ × Stored). size_of x.1 ≤ 8728)) o.log is.short);
+      short = all-left (λ (x : ℕ × Stored). IsShort x.1) (log_of next) (page_log p.oldest k.shown) (subst (All (λ (x : ℕ × Stored). IsShort x.1)) o.log is.short);
       limited = is.limited;
     }
 
@@ -241,6 +241,12 @@ kept-some f items v now same is lt e new i =
 
 pub kept-length : {X : Type 0} (f : X → Kept) (items : List (Option X)) (v : HybridLog) → IsHybridLog v → v.kept ≡ map (option_map f) items → 0 < length items
 kept-length f items v is e = omega (arith, is.numbered, is.tail, is.live, ap length e, length-map items (option_map f))
+
+-- a receipt leaves
+pub one-fewer : {X : Type 0} (f : X → Kept) (items new : List (Option X)) (first : Option X) (x : X) → items ≡ first ∷ new → first ≡ Some x → count_kept (map (option_map f) items) ≡ count_kept (map (option_map f) new) + 1
+one-fewer f items new first x i h =
+    let whole : map (option_map f) items ≡ Some (f x) ∷ map (option_map f) new = ap (map (option_map f)) (i ∙ ap (λ y. y ∷ new) h) in
+    omega (arith, ap count_kept whole)
 
 -- the place of the receipt that leaves is still counted
 pub fewer-kept : {X : Type 0} (f : X → Kept) (items new : List (Option X)) (first : Option X) (x : X) (v : HybridLog) → IsHybridLog v → v.kept ≡ map (option_map f) items → items ≡ first ∷ new → first ≡ Some x → count_kept (map (option_map f) new) < v.unreleased

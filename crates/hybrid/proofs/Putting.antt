@@ -9,10 +9,10 @@ use Rattle.records.specs.Page.{number_of, used_end}
 use Rattle.records.specs.Records.{Stored, size_of, size_for, value_bytes, new_record, records_of, IsLaidOut, IsPlaced}
 use Rattle.frames.specs.Resident.{next_number, page_of, first_mutable}
 use Rattle.words.specs.Stripes.{hash_of}
-use Rattle.hybrid.specs.Log.{Log, log_from, page_log, newest_first, addressed, AllLaid, IsAppended, Joins, begin_of}
-use Rattle.hybrid.specs.HybridLog.{HybridLog, IsHybridLog, IsPut, bucket_of, pages_of, page_at, log_of, tail_bytes}
+use Rattle.hybrid.specs.Log.{Log, log_from, page_log, newest_first, addressed, AllLaid, Fits, IsAppended, IsShort, Joins, begin_of}
+use Rattle.hybrid.specs.HybridLog.{HybridLog, IsHybridLog, IsPut, bucket_of, head_of, pages_of, page_at, log_of, tail_bytes}
 use Rattle.hybrid.proofs.Parts.{address-in, from-page_log, top-below, number-at}
-use Rattle.hybrid.proofs.Tail.{laid-at, used-fits}
+use Rattle.hybrid.proofs.Tail.{laid-at, size-short, used-fits}
 use Rattle.hybrid.proofs.Replacing.{with_bytes, IsReplaced, replaced, page-resident, pages-size}
 
 first-more : (n : ℕ) (rs : List (ℕ × Stored)) (o : ℕ) (r : Stored) → newest_first n (rs ++ (o, r) ∷ []) ≡ (n * 16384 + o, r) ∷ newest_first n rs
@@ -59,7 +59,7 @@ joins-here bucket begin a b e log same at = rw (eq-eqb (bucket e.1.key) b same) 
 -- a record of the key is put into the tail page, which becomes w
 pub put-log : (p : HybridLog) (number a : ℕ) (w heads key : List ℕ) (r : Stored) → IsHybridLog p → number + 1 ≡ next_number p.resident → IsLaidOut w → number_of w ≡ number
     → records_of w ≡ records_of (page_of p.resident number) ++ (used_end (page_of p.resident number), r) ∷ [] → a ≡ number * 16384 + used_end (page_of p.resident number)
-    → r.key ≡ key → r.link ≡ slice_index p.heads (bucket_of p key) → heads ≡ set p.heads (bucket_of p key) a → size_of r ≤ 8728 → 16 ≤ used_end (page_of p.resident number)
+    → r.key ≡ key → r.link ≡ slice_index p.heads (bucket_of p key) → heads ≡ set p.heads (bucket_of p key) a → IsShort r → 16 ≤ used_end (page_of p.resident number)
     → IsReplaced p (with_bytes p number w heads) ((a, r) ∷ log_of p)
 put-log p number a w heads key r is last laid numbered records at same link moved short low =
     let bucket : List ℕ → ℕ = bucket_of p in
@@ -90,7 +90,7 @@ put-log p number a w heads key r is last laid numbered records at same link move
       | inr n ↦ joins-other bucket (begin_of p.oldest) (slice_index heads c) c (a, r) (log_of p) (λ e. n (sym e ∙ here_is))
           (subst (λ (x : ℕ). Joins bucket (begin_of p.oldest) x (log_of p) c) (sym (ap (λ (l : List ℕ). slice_index l c) moved ∙ get_or-set_other p.heads b c a 0 n)) (is.joined c within))
     ])
-    (all-more (λ (e : ℕ × Stored). size_of e.1 ≤ 8728) (a, r) (log_of p) short is.short)
+    (all-more (λ (e : ℕ × Stored). IsShort e.1) (a, r) (log_of p) short is.short)
 
 -- the tail page
 pub record IsTail (v : HybridLog) (number : ℕ) (page : List ℕ) : Type 0 where
@@ -125,7 +125,8 @@ tail-is v number page is at same =
 -- what a put leaves, from the stripe's fields
 pub record IsPutIn (now new : HybridLog) (a : ℕ) (key : List ℕ) (value : Option (List ℕ)) : Type 0 where
   pub is : IsHybridLog new
-  pub appended : IsAppended (log_of now) (log_of new) a key value
+  pub appended : IsAppended (log_of now) (log_of new) a (head_of now key) key value
+  pub heads : new.heads ≡ set now.heads (bucket_of now key) a
   pub put : IsPut now new
   pub bytes : tail_bytes new ≡ tail_bytes now + size_for (length key) (length (value_bytes value))
   pub address : a ≡ begin_of (next_number now.resident - 1) + tail_bytes now
@@ -133,18 +134,21 @@ pub record IsPutIn (now new : HybridLog) (a : ℕ) (key : List ℕ) (value : Opt
 
 pub put-from : (v now : HybridLog) (number offset link hash : ℕ) (page w heads key : List ℕ) (value : Option (List ℕ)) → v ≡ now → IsHybridLog v → number ≡ next_number v.resident - 1 → page ≡ page_of v.resident number → IsLaidOut w → number_of w ≡ number_of page
     → records_of w ≡ records_of page ++ (used_end page, new_record link hash key value) ∷ [] → used_end w ≡ used_end page + size_for (length key) (length (value_bytes value)) → offset ≡ used_end page
-    → hash ≡ hash_of key → link ≡ slice_index v.heads (hash / v.stripes % length v.heads) → heads ≡ set v.heads (hash / v.stripes % length v.heads) (number * 16384 + offset) → size_for (length key) (length (value_bytes value)) ≤ 8728
+    → hash ≡ hash_of key → link ≡ slice_index v.heads (hash / v.stripes % length v.heads) → heads ≡ set v.heads (hash / v.stripes % length v.heads) (number * 16384 + offset) → Fits key value
     → IsPutIn now (with_bytes v number w heads) (number * 16384 + offset) key value
-put-from v now number offset link hash page w heads key value same is at there laid numbered records end offset_is hashed linked moved short =
+put-from v now number offset link hash page w heads key value same is at there laid numbered records end offset_is hashed linked moved fits =
     let t = tail-is v number page is at there in
     let a : ℕ = number * 16384 + offset in
     let r : Stored = new_record link hash key value in
     let b_is : hash / v.stripes % length v.heads ≡ bucket_of v key = ap (λ (h : ℕ). h / v.stripes % length v.heads) hashed in
     let size : size_of r ≡ size_for (length key) (length (value_bytes value)) = omega arith in
+    let short : IsShort r = record { size = omega (arith, size, size-short (length key) (length (value_bytes value)) fits.key_fits fits.value_fits); fits = fits } in
+    let link_is : link ≡ head_of v key = linked ∙ ap (slice_index v.heads) b_is in
+    let heads_are : heads ≡ set v.heads (bucket_of v key) a = moved ∙ ap (λ (b : ℕ). set v.heads b a) b_is in
     let records_there : records_of w ≡ records_of (page_of v.resident number) ++ (used_end (page_of v.resident number), r) ∷ [] = subst (λ (q : List ℕ). records_of w ≡ records_of q ++ (used_end q, r) ∷ []) there records in
     let a_is : a ≡ number * 16384 + used_end (page_of v.resident number) = ap (λ (o : ℕ). number * 16384 + o) (offset_is ∙ ap used_end there) in
     let low : 16 ≤ used_end (page_of v.resident number) = subst (λ (q : List ℕ). 16 ≤ used_end q) there t.low in
-    let done = put-log v number a w heads key r is t.last laid (numbered ∙ t.numbered) records_there a_is refl (linked ∙ ap (slice_index v.heads) b_is) (moved ∙ ap (λ (b : ℕ). set v.heads b a) b_is) (omega (arith, size, short)) low in
+    let done = put-log v number a w heads key r is t.last laid (numbered ∙ t.numbered) records_there a_is refl link_is heads_are short low in
     let new : HybridLog = with_bytes v number w heads in
     let count : length (set v.resident.pages (number - v.resident.oldest) w) ≡ length v.resident.pages = length-set v.resident.pages (number - v.resident.oldest) w in
     let last_at : length (set v.resident.pages (number - v.resident.oldest) w) - 1 ≡ number - v.resident.oldest = omega (arith, count, t.last) in
@@ -156,7 +160,8 @@ put-from v now number offset link hash page w heads key value same is at there l
     let resident : begin_of v.resident.oldest ≤ a = omega (arith, offset_is, t.low, t.last, is.tail) in
     subst (λ (q : HybridLog). IsPutIn q new a key value) same (record {
       is = done.is;
-      appended = record { put = r; key_is = refl; hash_is = hashed; value_is = refl; capacity = refl; log = done.log };
+      appended = record { put = r; link_is = link_is; key_is = refl; hash_is = hashed; value_is = refl; capacity = refl; log = done.log };
+      heads = heads_are;
       put = done.put;
       bytes = bytes;
       address = address;

@@ -7,7 +7,7 @@ use Rattle.records.specs.Page.{number_of}
 use Rattle.records.specs.Records.{Stored, size_of, IsLaidOut}
 use Rattle.frames.specs.Resident.{next_number, page_of, first_mutable, with_page}
 use Rattle.words.specs.Stripes.{hash_of}
-use Rattle.hybrid.specs.Log.{Log, log_from, AllLaid, IsLinked, Joins, begin_of}
+use Rattle.hybrid.specs.Log.{Log, log_from, AllLaid, IsLinked, Joins, begin_of, IsShort}
 use Rattle.hybrid.specs.HybridLog.{HybridLog, IsHybridLog, IsPut, bucket_of, pages_of, page_at, log_of, shown_page, cold}
 
 set-right : (xs ys : List (List ℕ)) (n i : ℕ) (w : List ℕ) → length xs ≡ n → set (xs ++ ys) (n + i) w ≡ xs ++ set ys i w
@@ -50,7 +50,7 @@ pub record IsReplaced (p new : HybridLog) (records : Log) : Type 0 where
 
 pub replaced : (p : HybridLog) (number : ℕ) (w heads : List ℕ) (log : Log) → IsHybridLog p → first_mutable p.resident ≤ number → number < next_number p.resident → IsLaidOut w → number_of w ≡ number
     → log_from p.oldest (set (pages_of p) (number - p.oldest) w) ≡ log → length heads ≡ length p.heads → IsLinked (bucket_of p) (begin_of p.oldest) log
-    → ((b : ℕ) → b < length p.heads → Joins (bucket_of p) (begin_of p.oldest) (slice_index heads b) log b) → All (λ (e : ℕ × Stored). size_of e.1 ≤ 8728) log → IsReplaced p (with_bytes p number w heads) log
+    → ((b : ℕ) → b < length p.heads → Joins (bucket_of p) (begin_of p.oldest) (slice_index heads b) log b) → All (λ (e : ℕ × Stored). IsShort e.1) log → IsReplaced p (with_bytes p number w heads) log
 replaced p number w heads log is mutable below laid numbered is_log size linked joined short =
     let new : HybridLog = with_bytes p number w heads in
     let low : p.resident.oldest ≤ number = omega (arith, mutable) in
@@ -77,9 +77,9 @@ replaced p number w heads log is mutable below laid numbered is_log size linked 
             (was.0 ∙ sym (get_or-set_other p.resident.pages (number - p.resident.oldest) (p.oldest + i - p.resident.oldest) w [] (omega (arith, was.1, mutable, from, is.live))), omega (arith, was.1, count));
         counted = is.counted;
         few = omega (arith, is.few, count);
-        short = subst (All (λ (e : ℕ × Stored). size_of e.1 ≤ 8728)) (sym log_is) short;
+        short = subst (All (λ (e : ℕ × Stored). IsShort e.1)) (sym log_is) short;
         limited = is.limited;
       };
       log = log_is;
-      put = record { oldest = refl; kept = refl; first = refl; count = count; frames = refl; buckets = size; stripes = refl; unreleased = refl; places = refl };
+      put = record { oldest = refl; kept = refl; first = refl; count = count; frames = refl; buckets = size; stripes = refl; unreleased = refl; places = refl; read_only = λ n from lt. get_or-set_other p.resident.pages (number - p.resident.oldest) (n - p.resident.oldest) w [] (omega (arith, mutable, lt, from)) };
     }

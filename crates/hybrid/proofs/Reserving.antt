@@ -6,6 +6,7 @@ use Rattle.std.proofs.lemmas.Bool.{cases_eq, cases_lt, lt-ltb, le-ltb}
 use Rattle.frames.specs.Resident.{Resident, next_number, without_oldest}
 use Rattle.hybrid.specs.HybridLog.{HybridLog, Kept, HasRoom, count_kept, free, log_of, pages_for, receipt_of, tail_bytes, with_dropped, with_receipt}
 use Rattle.hybrid.specs.Reserving.{IsFlushed, IsReserved}
+use Rattle.hybrid.proofs.Keeping.{count-more}
 
 pub record IsReserving (old now : HybridLog) (before failures needed : ℕ) : Type 0 where
   pub count : ℕ
@@ -38,14 +39,6 @@ reserving-start p failures needed numbers = record {
   still = λ enough. refl;
   numbers = numbers;
 }
-
--- one receipt more
-count-more : (l : List (Option Kept)) (i : ℕ) (k : Kept) → i < length l → slice_index_or l i None ≡ None → count_kept (set l i (Some k)) ≡ count_kept l + 1
-count-more [] i k lt e = absurd (omega (arith, lt))
-count-more (None ∷ l) zero k lt e = omega arith
-count-more (Some x ∷ l) zero k lt e = absurd cc
-count-more (None ∷ l) (suc i) k lt e = count-more l i k (omega (arith, lt)) e
-count-more (Some x ∷ l) (suc i) k lt e = omega (arith, count-more l i k (omega (arith, lt)) e)
 
 not-some : (o : Option Kept) (x : Kept) → o ≡ None → o ≡ Some x → ⊥
 not-some None x a b = absurd cc

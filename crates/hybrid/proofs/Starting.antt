@@ -7,7 +7,7 @@ use Rattle.std.proofs.lemmas.Bool.{cases_lt}
 use Rattle.records.specs.Page.{empty_page}
 use Rattle.records.specs.Records.{Stored, size_of, records_of}
 use Rattle.frames.specs.Resident.{Resident, IsEmptyPage, with_opened, next_number, first_mutable}
-use Rattle.hybrid.specs.Log.{Log, log_from, IsLinked, Joins, begin_of}
+use Rattle.hybrid.specs.Log.{Log, log_from, IsLinked, Joins, begin_of, IsShort}
 use Rattle.hybrid.specs.HybridLog.{HybridLog, Kept, IsHybridLog, IsSealed, empty_log, bucket_of, log_of, receipt_at}
 use Rattle.hybrid.proofs.Opening.{page_log-empty}
 use Rattle.hybrid.proofs.Finding.{receipt-there}
@@ -44,7 +44,7 @@ empty-is stripes buckets frames places s b f page =
       shows = λ i k from e. absurd (none-kept i k e);
       counted = omega arith;
       few = omega arith;
-      short = subst (All (λ (e : ℕ × Stored). size_of e.1 ≤ 8728)) (sym log) (λ k d lt. absurd (omega (arith, lt)));
+      short = subst (All (λ (e : ℕ × Stored). IsShort e.1)) (sym log) (λ k d lt. absurd (omega (arith, lt)));
       limited = omega arith;
     }
   where

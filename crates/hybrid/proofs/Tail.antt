@@ -1,15 +1,15 @@
 -- The tail page.
 use Rattle.std.proofs.Common.{◌≡◌, ℕ, zero, suc, ◌+◌, ◌-◌, ◌*◌, ◌<◌, ◌≤◌, ◌⊎◌, inl, inr, List, [], ◌∷◌, ◌++◌, length, take, map, replicate, ◌/◌, Option, None, refl, sym, ap, ◌∙◌, subst, arith, length-append, append_assoc, add-zero}
-use Rattle.std.specs.Prelude.{slice_index_or, nat_lt}
+use Rattle.std.specs.Prelude.{slice_index_or, slice_set, nat_lt}
 use Rattle.std.proofs.Common.{true, false}
 use Rattle.std.proofs.lemmas.Bool.{lt-ltb, le-ltb}
-use Rattle.std.proofs.lemmas.List.{length-map, length-take-le, get_or-append_right, append-nil, replicate-append-replicate}
+use Rattle.std.proofs.lemmas.List.{length-map, length-take-le, get_or-append_right, get_or_append_left, append-nil, replicate-append-replicate}
 use Rattle.records.specs.Page.{empty_page, used_end}
 use Rattle.records.specs.Records.{size_for, value_bytes, IsLaidOut}
 use Rattle.hybrid.proofs.Placed.{end_from-le}
 use Rattle.frames.specs.Resident.{Resident, next_number, IsEmptyPage, with_opened}
 use Rattle.hybrid.specs.Log.{Log, AllLaid, IsAppended, begin_of}
-use Rattle.hybrid.specs.HybridLog.{HybridLog, Kept, IsHybridLog, IsPut, IsGrown, HasFrames, HasRoom, pages_of, shown_page, cold, free, tail_bytes, tail_of, log_of, with_page_opened}
+use Rattle.hybrid.specs.HybridLog.{HybridLog, Kept, IsHybridLog, IsPut, IsGrown, HasFrames, HasRoom, bucket_of, head_of, pages_of, shown_page, cold, free, tail_bytes, tail_of, log_of, with_page_opened}
 use Rattle.hybrid.specs.Writing.{IsAdded}
 
 pub laid-at : (n : ℕ) (ps : List (List ℕ)) (i : ℕ) → AllLaid n ps → i < length ps → IsLaidOut (slice_index_or ps i [])
@@ -46,12 +46,14 @@ grown-put a b x s small bytes p = record {
   stripes = p.stripes;
   unreleased = p.unreleased;
   places = p.places;
+  read_only = p.read_only;
+  none = λ fits. refl;
   bytes = omega (arith, bytes, small);
   closed = inl refl;
 }
 
 -- a put into a page that was opened for it
-pub grown-opened : (a b : HybridLog) (x s : ℕ) → s ≤ x → s ≤ 8728 → 16368 ≤ tail_bytes a + s → tail_bytes b ≡ s → IsPut (with_page_opened a) b → IsGrown a b x
+pub grown-opened : (a b : HybridLog) (x s : ℕ) → s ≤ x → s ≤ 8728 → 16368 < tail_bytes a + s → tail_bytes b ≡ s → IsPut (with_page_opened a) b → IsGrown a b x
 grown-opened a b x s small short full bytes p = record {
   opened = 1;
   few = omega arith;
@@ -64,12 +66,16 @@ grown-opened a b x s small short full bytes p = record {
   stripes = p.stripes;
   unreleased = p.unreleased;
   places = p.places;
+  read_only = λ n from lt.
+      p.read_only n from (omega (arith, lt, length-append a.resident.pages (empty_page (next_number a.resident) ∷ [])))
+      ∙ get_or_append_left a.resident.pages (empty_page (next_number a.resident) ∷ []) [] (n - a.resident.oldest) (omega (arith, lt, from));
+  none = λ fits. absurd (omega (arith, fits, full, small));
   bytes = omega (arith, bytes, small, short, full);
   closed = inr (omega (arith, bytes, small));
 }
 
 pub grown-none : (p : HybridLog) → IsGrown p p 0
-grown-none p = record { opened = 0; few = omega arith; oldest = refl; kept = sym (append-nil p.kept); first = refl; next = sym (add-zero (next_number p.resident)); frames = refl; buckets = refl; stripes = refl; unreleased = refl; places = refl; bytes = omega arith; closed = inl refl }
+grown-none p = record { opened = 0; few = omega arith; oldest = refl; kept = sym (append-nil p.kept); first = refl; next = sym (add-zero (next_number p.resident)); frames = refl; buckets = refl; stripes = refl; unreleased = refl; places = refl; read_only = λ n from lt. refl; none = λ fits. refl; bytes = omega arith; closed = inl refl }
 
 few-so : (opened tail weight : ℕ) → (opened ≡ 0) ⊎ (7640 * (opened - 1) + tail ≤ weight) → opened ≤ weight / 7640 + 1
 few-so opened tail weight (inl e) = omega (arith, e)
@@ -96,6 +102,11 @@ grown-more a b c u v f g =
       stripes = g.stripes ∙ f.stripes;
       unreleased = g.unreleased ∙ f.unreleased;
       places = g.places ∙ f.places;
+      read_only = λ n from lt. g.read_only n (omega (arith, f.first, from)) (omega (arith, lt, f.first, f.next, f.frames)) ∙ f.read_only n from lt;
+      none = λ fits.
+          let one : f.opened ≡ 0 = f.none (omega (arith, fits)) in
+          let other : g.opened ≡ 0 = g.none (omega (arith, fits, f.bytes, one)) in
+          omega (arith, one, other);
       bytes = omega (arith, f.bytes, g.bytes);
       closed = closed;
     }
@@ -115,6 +126,8 @@ grown-less a b u w le f =
       stripes = f.stripes;
       unreleased = f.unreleased;
       places = f.places;
+      read_only = f.read_only;
+      none = λ fits. f.none (omega (arith, fits, le));
       bytes = omega (arith, f.bytes, le);
       closed = closed;
     }
@@ -179,19 +192,20 @@ opened-tail-from v now frames same fr empty = ap (λ (r : Resident). used_end (s
 -- a put into the tail page, into which the record fits
 pub added-put : (a b : HybridLog) (address : ℕ) (key : List ℕ) (value : Option (List ℕ)) → tail_bytes a + size_for (length key) (length (value_bytes value)) ≤ 16368 → IsPut a b
     → tail_bytes b ≡ tail_bytes a + size_for (length key) (length (value_bytes value)) → address ≡ begin_of (next_number a.resident - 1) + tail_bytes a
-    → IsAppended (log_of a) (log_of b) address key value → IsAdded a b address key value
-added-put a b address key value fits put bytes at log =
+    → IsAppended (log_of a) (log_of b) address (head_of a key) key value → b.heads ≡ slice_set a.heads (bucket_of a key) address → IsAdded a b address key value
+added-put a b address key value fits put bytes at log heads =
     let size : ℕ = size_for (length key) (length (value_bytes value)) in
     let page : next_number b.resident - 1 ≡ next_number a.resident - 1 = omega (arith, put.first, put.count) in
     let f : nat_lt 16368 (tail_bytes a + size) ≡ false = le-ltb 16368 (tail_bytes a + size) fits in
     let tail : tail_of b ≡ record { page = next_number a.resident - 1; bytes = tail_bytes a + size } = λ i. record { page = page i; bytes = bytes i } in
-    record { log = log; tail = rw f tail; end = omega (arith, at, page, bytes) }
+    record { log = log; heads = heads; tail = rw f tail; end = omega (arith, at, page, bytes) }
 
 -- a put into a page that was opened for it, since the record does not fit into the tail page
 pub added-opened : (a mid b : HybridLog) (address : ℕ) (key : List ℕ) (value : Option (List ℕ)) → 16368 < tail_bytes a + size_for (length key) (length (value_bytes value)) → 0 < length a.resident.pages
     → mid ≡ with_page_opened a → log_of mid ≡ log_of a → tail_bytes mid ≡ 0 → IsPut mid b → tail_bytes b ≡ tail_bytes mid + size_for (length key) (length (value_bytes value))
-    → address ≡ begin_of (next_number mid.resident - 1) + tail_bytes mid → IsAppended (log_of mid) (log_of b) address key value → IsAdded a b address key value
-added-opened a mid b address key value full some opened same empty put bytes_mid at log =
+    → address ≡ begin_of (next_number mid.resident - 1) + tail_bytes mid → IsAppended (log_of mid) (log_of b) address (head_of mid key) key value → b.heads ≡ slice_set mid.heads (bucket_of mid key) address
+    → IsAdded a b address key value
+added-opened a mid b address key value full some opened same empty put bytes_mid at log heads =
     let size : ℕ = size_for (length key) (length (value_bytes value)) in
     let more : length (a.resident.pages ++ empty_page (next_number a.resident) ∷ []) ≡ length a.resident.pages + 1 = length-append a.resident.pages (empty_page (next_number a.resident) ∷ []) in
     let next : next_number mid.resident ≡ next_number a.resident + 1 = ap (λ (q : HybridLog). next_number q.resident) opened ∙ omega (arith, more) in
@@ -200,7 +214,9 @@ added-opened a mid b address key value full some opened same empty put bytes_mid
     let t : nat_lt 16368 (tail_bytes a + size) ≡ true = lt-ltb 16368 (tail_bytes a + size) full in
     let tail : tail_of b ≡ record { page = next_number a.resident - 1 + 1; bytes = size } = λ i. record { page = page i; bytes = bytes i } in
     record {
-      log = subst (λ (l : Log). IsAppended l (log_of b) address key value) same log;
+      log = subst (λ (l : Log). IsAppended l (log_of b) address (head_of a key) key value) same
+          (subst (λ (n : ℕ). IsAppended (log_of mid) (log_of b) address n key value) (ap (λ (q : HybridLog). head_of q key) opened) log);
+      heads = heads ∙ ap (λ (q : HybridLog). slice_set q.heads (bucket_of q key) address) opened;
       tail = rw t tail;
       end = omega (arith, at, empty, bytes, put.first, put.count);
     }
@@ -210,3 +226,40 @@ pub tail-stays : (a b : HybridLog) → IsPut a b → tail_bytes b ≡ tail_bytes
 tail-stays a b put bytes =
     let page : next_number b.resident - 1 ≡ next_number a.resident - 1 = omega (arith, put.first, put.count) in
     λ i. record { page = page i; bytes = bytes i }
+
+-- the room that is left for more, once writes of some weight were made
+pub room-left : (a b : HybridLog) (u w : ℕ) → IsGrown a b u → 1 ≤ u → u ≤ w → length b.resident.pages ≤ b.resident.frames → HasRoom a w → HasRoom b (w - u)
+room-left a b u w grown some less fits has =
+    let pages : length b.resident.pages ≡ length a.resident.pages + grown.opened = omega (arith, grown.next, grown.first) in
+    record {
+      room = elim has.room [
+        | inl l ↦ inl (omega (arith, l, grown.bytes, less))
+        | inr h ↦ inr (record {
+          frames = elim h.frames [
+            | inl l ↦ inl (omega (arith, l, grown.bytes, grown.frames, pages, fits, less))
+            | inr l ↦ elim grown.closed [
+              | inl none ↦ inr (omega (arith, l, none, grown.frames, pages, fits, less))
+              | inr c ↦ inl (omega (arith, l, c, grown.frames, pages, fits, less))
+            ]
+          ];
+          numbers = omega (arith, h.numbers, grown.few, grown.next, some, less);
+        })
+      ];
+    }
+
+-- there is room for nothing, and for less than there is room for
+pub room-none : (p : HybridLog) → IsHybridLog p → HasRoom p 0
+room-none p is =
+    let fits = used-fits (slice_index_or p.resident.pages (length p.resident.pages - 1) []) (tail-laid p is) in
+    record { room = inl (omega (arith, fits.1)) }
+
+pub room-less : (p : HybridLog) (one other : ℕ) → one ≤ other → HasRoom p other → HasRoom p one
+room-less p one other le has = record {
+  room = elim has.room [
+    | inl l ↦ inl (omega (arith, l, le))
+    | inr h ↦ inr (record {
+      frames = elim h.frames [ inl l ↦ inl (omega (arith, l, le)) | inr l ↦ inr (omega (arith, l, le)) ];
+      numbers = omega (arith, h.numbers, le);
+    })
+  ];
+}

@@ -1,10 +1,10 @@
 -- The cleaner's step as a whole.
-use Rattle.std.proofs.Common.{◌≡◌, ℕ, ◌+◌, ◌-◌, ◌*◌, List, [], ◌∷◌, ◌++◌, replicate, Option, Some, None, sym, ap, ◌∙◌, subst, arith}
+use Rattle.std.proofs.Common.{◌≡◌, ℕ, zero, suc, refl, ◌+◌, ◌-◌, ◌*◌, List, [], ◌∷◌, ◌++◌, replicate, Option, Some, None, sym, ap, ◌∙◌, subst, arith}
 use Rattle.std.specs.Prelude.{slice_index_or}
 use Rattle.std.specs.List.{Contains}
 use Rattle.records.specs.Records.{Stored, records_of}
 use Rattle.hybrid.specs.Log.{Log, contents, newest, page_log}
-use Rattle.hybrid.specs.HybridLog.{HybridLog, Kept, IsGrown, IsCut, page_at, receipt_of, log_of, without_oldest_page, SameContents}
+use Rattle.hybrid.specs.HybridLog.{HybridLog, Kept, IsGrown, IsCut, count_kept, page_at, receipt_of, log_of, without_oldest_page, SameContents}
 use Rattle.hybrid.specs.Staging.{AreAdded, IsCleaned, IsCopied}
 use Rattle.hybrid.proofs.Logs.{some_is, contents-without}
 use Rattle.hybrid.proofs.Parts.{from-page_log, IsIn}
@@ -33,6 +33,16 @@ cleaned-same old mid new page k r w grown copied cut e f same q =
     let whole : newest (log_of mid) x.1.key ≡ Some x = subst (λ (l : Log). newest l x.1.key ≡ Some x) (sym cut.log) h in
     copied.dead i.offset x.1 listed (whole ∙ ap (λ (n : ℕ). Some (n, x.1)) at) in
     sym (contents-without (log_of new) (page_log mid.oldest r.shown) q dead) ∙ ap (λ (l : Log). contents l q) (sym cut.log) ∙ copied.same q
+
+count-none : (kept : List (Option Kept)) (n : ℕ) → count_kept (kept ++ replicate n None) ≡ count_kept kept
+count-none [] zero = refl
+count-none [] (suc n) = count-none [] n
+count-none (None ∷ kept) n = count-none kept n
+count-none (Some k ∷ kept) n = ap suc (count-none kept n)
+
+-- writes keep no receipt
+pub grown-count : (old mid : HybridLog) (w : ℕ) → IsGrown old mid w → count_kept old.kept ≡ count_kept mid.kept
+grown-count old mid w grown = sym (ap count_kept grown.kept ∙ count-none old.kept grown.opened)
 
 -- which records were added
 pub cleaned-added : (old mid new : HybridLog) (page : List ℕ) → IsCopied old mid page → page ≡ page_at old old.oldest → new ≡ without_oldest_page mid → IsCleaned old new

@@ -1,14 +1,15 @@
 -- What a stripe is seen as: a hybrid log (FASTER, "HybridLog") whose oldest pages are on a device, and its index.
 use Rattle.std.specs.Prelude.{◌≡◌, ◌⊎◌, ℕ, suc, ◌+◌, ◌-◌, ◌*◌, ◌/◌, ◌%◌, ◌^◌, ◌<◌, ◌≤◌, List, [], ◌∷◌, ◌++◌, length, map, take, drop, replicate, slice_index, slice_index_or, slice_set, nat_lt, if◌then◌else◌, Option, Some, None, IsSome}
 use Rattle.std.specs.List.{All, Contains}
-use Rattle.records.specs.Records.{Stored, size_of, records_of, IsLaidOut}
+use Rattle.records.specs.Records.{Stored, records_of, IsLaidOut}
 use Rattle.records.specs.declared.pages.TheConstants.{PAGE_SIZE, HEADER_SIZE}
 use Rattle.records.specs.Page.{empty_page, used_end}
+use Rattle.frames.specs.declared.TheConstants.{NUMBER_BITS}
 use Rattle.frames.specs.Resident.{Resident, next_number, page_of, first_mutable, without_oldest, with_opened}
-use Rattle.hybrid.specs.declared.stripe.TheConstants.{CLOSED_MIN, RECORD_MAX}
+use Rattle.hybrid.specs.declared.stripe.TheConstants.{CLOSED_MIN, LAST_PAGE}
 use Rattle.words.specs.declared.limits.TheConstants.{FRAMES_MIN}
 use Rattle.words.specs.Stripes.{hash_of}
-use Rattle.hybrid.specs.Log.{Log, contents, log_from, AllLaid, IsLinked, Joins, begin_of, page_log}
+use Rattle.hybrid.specs.Log.{Log, contents, log_from, AllLaid, IsLinked, IsShort, Joins, begin_of, page_log}
 
 -- a receipt that is kept: what it has in common with its copies, and the page that it shows
 pub record Kept : Type 0 where
@@ -53,6 +54,10 @@ page_at p number = slice_index_or (pages_of p) (number - p.oldest) []
 abbrev pub bucket_of : HybridLog → List ℕ → ℕ
 bucket_of p key = hash_of key / p.stripes % length p.heads
 
+-- the head of its bucket: where the newest record of that bucket stands
+abbrev pub head_of : HybridLog → List ℕ → ℕ
+head_of p key = slice_index p.heads (bucket_of p key)
+
 -- the log of a new stripe: its page 0 is open and has no record
 abbrev pub empty_log : ℕ → ℕ → ℕ → ℕ → HybridLog
 empty_log stripes buckets frames places = record {
@@ -92,8 +97,8 @@ pub record IsHybridLog (p : HybridLog) : Type 0 where
   pub cold_kept : (i : ℕ) → i < cold p → IsSome (slice_index_or p.kept i None)
   pub shows : (i : ℕ) (k : Kept) → cold p ≤ i → slice_index_or p.kept i None ≡ Some k → (k.shown ≡ page_of p.resident (p.oldest + i)) × (p.oldest + i < first_mutable p.resident)
   pub counted : count_kept p.kept ≤ p.unreleased
-  pub few : next_number p.resident < 2 ^ 48
-  pub short : All (λ (e : ℕ × Stored). size_of e.1 ≤ RECORD_MAX) (log_of p)
+  pub few : next_number p.resident < 2 ^ NUMBER_BITS
+  pub short : All (λ (e : ℕ × Stored). IsShort e.1) (log_of p)
   pub limited : p.unreleased ≤ p.places
 
 -- frames without a page
@@ -126,7 +131,7 @@ pages_for p weight = if nat_lt (PAGE_SIZE - HEADER_SIZE) (weight + tail_bytes p)
 -- frames for the pages that writes of this weight can open, and numbers for these pages
 pub record HasFrames (p : HybridLog) (weight : ℕ) : Type 0 where
   pub frames : (weight + tail_bytes p < CLOSED_MIN * (free p + 1)) ⊎ (weight < CLOSED_MIN * free p)
-  pub numbers : next_number p.resident + weight ≤ 2 ^ 47
+  pub numbers : next_number p.resident + weight ≤ 2 * LAST_PAGE
 
 -- writes of this weight find room: in the tail page, or in pages for which there are frames
 pub record HasRoom (p : HybridLog) (weight : ℕ) : Type 0 where
@@ -145,6 +150,10 @@ pub record IsGrown (old new : HybridLog) (weight : ℕ) : Type 0 where
   pub stripes : new.stripes ≡ old.stripes
   pub unreleased : new.unreleased ≡ old.unreleased
   pub places : new.places ≡ old.places
+  -- read-only pages stay as they are
+  pub read_only : (n : ℕ) → old.resident.oldest ≤ n → n < first_mutable old.resident → page_of new.resident n ≡ page_of old.resident n
+  -- none is opened where the writes fit into the tail page
+  pub none : weight + tail_bytes old ≤ PAGE_SIZE - HEADER_SIZE → opened ≡ 0
   -- how the bytes in the tail page and the pages opened go together
   pub bytes : CLOSED_MIN * opened + tail_bytes new ≤ tail_bytes old + weight
   pub closed : (opened ≡ 0) ⊎ (CLOSED_MIN * (opened - 1) + tail_bytes new ≤ weight)
@@ -186,9 +195,11 @@ pub record IsPut (old new : HybridLog) : Type 0 where
   pub stripes : new.stripes ≡ old.stripes
   pub unreleased : new.unreleased ≡ old.unreleased
   pub places : new.places ≡ old.places
+  -- read-only pages stay as they are
+  pub read_only : (n : ℕ) → old.resident.oldest ≤ n → n < first_mutable old.resident → page_of new.resident n ≡ page_of old.resident n
 
 -- the older log is the newer one, and behind it the records of a page that is laid out, each short
 pub record IsCut (older newer : Log) (number : ℕ) (page : List ℕ) : Type 0 where
   pub log : older ≡ newer ++ page_log number page
   pub laid : IsLaidOut page
-  pub short : (offset : ℕ) (r : Stored) → Contains (records_of page) (offset, r) → size_of r ≤ RECORD_MAX
+  pub short : (offset : ℕ) (r : Stored) → Contains (records_of page) (offset, r) → IsShort r

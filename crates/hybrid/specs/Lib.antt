@@ -3,4 +3,8 @@ pub mod HybridLog
 pub mod Lookups
 pub mod Writing
 pub mod Staging
+pub mod Reading
+pub mod Weighing
 pub mod Reserving
+pub mod Shedding
+pub mod Growth

@@ -1,11 +1,13 @@
 -- The log of a stripe (FASTER, "HybridLog"): its records with their addresses, newest first.
 -- An address is a page's number times the bytes of a page, plus an offset in the page.
 use Rattle.std.specs.Prelude.{◌≡◌, ℕ, ◌+◌, ◌-◌, ◌*◌, ◌<◌, ◌≤◌, ◌==◌, cond, List, [], ◌∷◌, ◌++◌, length, Option, Some, None, MatchOption}
+use Rattle.words.specs.declared.limits.TheConstants.{VALUE_BYTES_MAX}
 use Rattle.std.specs.Str.{bytes_eq}
 use Rattle.records.specs.declared.pages.TheConstants.{PAGE_SIZE, HEADER_SIZE}
-use Rattle.records.specs.declared.entries.TheConstants.{RECORD_HEADER}
+use Rattle.records.specs.declared.entries.TheConstants.{KEY_BYTES_MAX, RECORD_HEADER}
 use Rattle.records.specs.Page.{number_of}
-use Rattle.records.specs.Records.{Stored, value_bytes, size_for, records_of, IsLaidOut}
+use Rattle.records.specs.Records.{Stored, size_of, value_bytes, size_for, records_of, IsLaidOut}
+use Rattle.hybrid.specs.declared.stripe.TheConstants.{RECORD_MAX}
 use Rattle.words.specs.Stripes.{hash_of}
 
 abbrev pub Log : Type 0
@@ -80,9 +82,20 @@ IsLinked bucket begin (e ∷ log) = IsNext bucket begin e log × IsLinked bucket
 abbrev pub begin_of : ℕ → ℕ
 begin_of number = number * PAGE_SIZE + HEADER_SIZE
 
--- a log with one record more, of this key and value, which has room for all that its size leaves
-pub record IsAppended (older newer : Log) (address : ℕ) (key : List ℕ) (value : Option (List ℕ)) : Type 0 where
+-- a key and a value that a record may have
+pub record Fits (key : List ℕ) (value : Option (List ℕ)) : Type 0 where
+  pub key_fits : length key ≤ KEY_BYTES_MAX
+  pub value_fits : length (value_bytes value) ≤ VALUE_BYTES_MAX
+
+-- a record that a write makes
+pub record IsShort (r : Stored) : Type 0 where
+  pub size : size_of r ≤ RECORD_MAX
+  pub fits : Fits r.key r.value
+
+-- a log with one record more, of this link, key and value, which has room for all that its size leaves
+pub record IsAppended (older newer : Log) (address link : ℕ) (key : List ℕ) (value : Option (List ℕ)) : Type 0 where
   pub put : Stored
+  pub link_is : put.link ≡ link
   pub key_is : put.key ≡ key
   pub hash_is : put.hash ≡ hash_of key
   pub value_is : put.value ≡ value

@@ -29,3 +29,14 @@ pub record IsReserved (old new : HybridLog) (count : ℕ) : Type 0 where
   pub still : (number : ℕ) (k : Kept) → receipt_of old number ≡ Some k → receipt_of new number ≡ Some k
   pub others : (number : ℕ) → new.resident.oldest ≤ number → receipt_of new number ≡ receipt_of old number
   pub counted : new.unreleased + count_kept old.kept ≡ old.unreleased + count_kept new.kept
+
+-- `serves` is the device's, and `view` shows a receipt.
+module _ {D R : Type 0} (serves : D → R → Type 0) (view : R → Kept) where
+  -- the device serves each receipt that is kept
+  abbrev pub AreServed : HybridLog → D → Type 0
+  AreServed p device = (number : ℕ) (r : R) → receipt_of p number ≡ Some (view r) → serves device r
+
+  -- the device serves each receipt that is kept now and was not
+  abbrev pub AreNewServed : HybridLog → HybridLog → D → Type 0
+  AreNewServed old new device =
+      (number : ℕ) (r : R) → receipt_of new number ≡ Some (view r) → (receipt_of old number ≡ Some (view r)) ⊎ serves device r

@@ -1,18 +1,18 @@
 -- Pages that were read outside, and the records that a cleaner copies.
-use Rattle.std.specs.Prelude.{◌≡◌, ℕ, ◌+◌, ◌*◌, ◌/◌, List, [], ◌∷◌, Bool, true, false, Some, None, IsSome, slice_index_or, replicate, length, drop, ◌++◌, ◌≤◌}
+use Rattle.std.specs.Prelude.{◌≡◌, ℕ, ◌+◌, ◌-◌, ◌*◌, ◌/◌, List, [], ◌∷◌, Bool, true, false, Some, None, IsSome, slice_index_or, replicate, length, drop, ◌++◌, ◌<◌, ◌≤◌}
 use Rattle.std.specs.List.{All, Contains}
-use Rattle.records.specs.Records.{Stored, records_of, size_of}
-use Rattle.frames.specs.Resident.{IsResident}
-use Rattle.hybrid.specs.Log.{Log, newest}
-use Rattle.frames.specs.Resident.{next_number}
-use Rattle.records.specs.declared.pages.TheConstants.{PAGE_SIZE}
-use Rattle.hybrid.specs.declared.stripe.TheConstants.{CLEAN_WEIGHT, CLOSED_MIN, RECORD_MAX}
+use Rattle.records.specs.Records.{Stored, records_of}
+use Rattle.frames.specs.Resident.{IsResident, next_number, first_mutable, page_of}
+use Rattle.hybrid.specs.Log.{Log, IsShort, newest}
+use Rattle.records.specs.declared.pages.TheConstants.{PAGE_SIZE, HEADER_SIZE}
+use Rattle.hybrid.specs.declared.stripe.TheConstants.{CLOSED_MIN}
 use Rattle.hybrid.specs.declared.stripe.clean.Cleaned.{Cleaned}
 use Rattle.hybrid.specs.declared.stripe.clean.Cleaned.TheVariants as answer
 use Rattle.hybrid.specs.declared.stripe.room.Room.{Room}
-use Rattle.hybrid.specs.HybridLog.{HybridLog, Kept, page_at, receipt_of, SameContents, log_of, without_oldest_page}
+use Rattle.hybrid.specs.HybridLog.{HybridLog, Kept, page_at, receipt_of, SameContents, log_of, tail_bytes, without_oldest_page}
 use Rattle.hybrid.specs.Lookups.{Leads}
 use Rattle.hybrid.specs.Writing.{IsAdded}
+use Rattle.hybrid.specs.Weighing.{lives}
 
 -- a page, and the receipt that it was read by
 pub record StagedPage : Type 0 where
@@ -29,6 +29,7 @@ IsStaged staged identity = (s : StagedPage) × Contains staged s × (s.kept.iden
 -- a page of the log that is neither resident nor staged
 pub record IsMissing (p : HybridLog) (staged : List StagedPage) (number : ℕ) : Type 0 where
   pub kept : Kept
+  pub live : p.oldest ≤ number
   pub has : receipt_of p number ≡ Some kept
   pub away : IsResident p.resident number → ⊥
   pub unread : IsStaged staged kept.identity → ⊥
@@ -40,9 +41,9 @@ pub record IsNeeded (p : HybridLog) (number : ℕ) : Type 0 where
   pub value : IsSome entry.1.value
   pub leads : Leads p entry.1.key number
 
--- no record is longer than a write makes one
+-- each record is one that a write makes
 abbrev pub AreShort : List (ℕ × Stored) → Type 0
-AreShort records = (offset : ℕ) (r : Stored) → Contains records (offset, r) → size_of r ≤ RECORD_MAX
+AreShort records = (offset : ℕ) (r : Stored) → Contains records (offset, r) → IsShort r
 
 -- the record is the newest of its key and has a value
 pub record IsLive (log : Log) (address : ℕ) (r : Stored) : Type 0 where
@@ -57,6 +58,7 @@ IsDead log address r = newest log r.key ≡ Some (address, r) → r.value ≡ No
 abbrev pub AreMarked : Log → ℕ → List (ℕ × Stored) → List Bool → Type 0
 AreMarked log number records live =
     (offset : ℕ) (r : Stored) → Contains records (offset, r) → (slice_index_or live (offset / 8) false ≡ true → IsLive log (number * PAGE_SIZE + offset) r) × (slice_index_or live (offset / 8) false ≡ false → IsDead log (number * PAGE_SIZE + offset) r)
+    × (slice_index_or live (offset / 8) false ≡ lives log (number * PAGE_SIZE + offset) r)
 
 -- a record that was gone over: where it is live, one of its key and value was added at the tail, and else nothing has changed
 pub record IsGoneOver (log : Log) (address : ℕ) (r : Stored) (old new : HybridLog) : Type 0 where
@@ -75,10 +77,12 @@ pub record IsCopied (old new : HybridLog) (page : List ℕ) : Type 0 where
   pub added : AreAdded (log_of old) old.oldest (records_of page) old new
   pub dead : (offset : ℕ) (r : Stored) → Contains (records_of page) (offset, r) → IsDead (log_of new) (old.oldest * PAGE_SIZE + offset) r
 
--- the oldest page has left the log: `opened` pages have come at the tail, no more than its records can open
-pub record IsUnlinked (old new : HybridLog) : Type 0 where
+-- the oldest page has left the log: `opened` pages have come at the tail, no more than writes of this weight open, and none
+-- where those fit into the tail page
+pub record IsUnlinked (old new : HybridLog) (weight : ℕ) : Type 0 where
   pub opened : ℕ
-  pub few : opened ≤ CLEAN_WEIGHT / CLOSED_MIN + 1
+  pub few : opened ≤ weight / CLOSED_MIN + 1
+  pub none : weight + tail_bytes old ≤ PAGE_SIZE - HEADER_SIZE → opened ≡ 0
   pub oldest : new.oldest ≡ old.oldest + 1
   pub kept : new.kept ≡ drop 1 (old.kept ++ replicate opened None)
   pub first : new.resident.oldest ≡ old.resident.oldest
@@ -88,6 +92,8 @@ pub record IsUnlinked (old new : HybridLog) : Type 0 where
   pub stripes : new.stripes ≡ old.stripes
   pub unreleased : new.unreleased ≡ old.unreleased
   pub places : new.places ≡ old.places
+  -- read-only pages stay as they are
+  pub read_only : (n : ℕ) → old.resident.oldest ≤ n → n < first_mutable old.resident → page_of new.resident n ≡ page_of old.resident n
 
 -- the live records of the oldest page were added at the tail, and no others; then the page left the log
 pub record IsCleaned (old new : HybridLog) : Type 0 where
@@ -95,7 +101,8 @@ pub record IsCleaned (old new : HybridLog) : Type 0 where
   pub added : AreAdded (log_of old) old.oldest (records_of (page_at old old.oldest)) old mid
   pub left : new ≡ without_oldest_page mid
 
-abbrev pub MatchCleaned : {R : Type 0} → Cleaned R → (R → Type 0) → (ℕ → Room → Type 0) → Type 0 → Type 0
-MatchCleaned (answer.Unlinked receipt) P Q S = P receipt
-MatchCleaned (answer.Cold number room) P Q S = Q number room
-MatchCleaned answer.Nothing P Q S = S
+abbrev pub MatchCleaned : {R : Type 0} → Cleaned R → (R → Type 0) → (ℕ → Room → Type 0) → (ℕ → Type 0) → Type 0 → Type 0
+MatchCleaned (answer.Unlinked receipt) P Q H S = P receipt
+MatchCleaned (answer.Cold number room) P Q H S = Q number room
+MatchCleaned (answer.Heavy weight) P Q H S = H weight
+MatchCleaned answer.Nothing P Q H S = S

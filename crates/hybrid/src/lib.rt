@@ -7,16 +7,17 @@
 //! a receipt for it, and may then leave its frame. The oldest page leaves the log once the records that
 //! still count have been copied to the tail.
 //!
-//! Only `install` changes what keys have. Only `Stripe::new`, `Staged` and the device of `reserve` take
-//! memory.
+//! Only `install_one` changes what keys have. Only `Stripe::new`, `Staged` and the devices that are passed
+//! in take memory.
 #![tactic(auto)]
 
+pub mod laws;
 mod staged;
 mod stripe;
 mod write;
 
-pub use staged::Staged;
-pub use stripe::clean::Cleaned;
+pub use staged::{ReadFault, Staged};
+pub use stripe::clean::{Cleaned, Weighed};
 pub use stripe::find::Lookup;
 pub use stripe::room::{Fault, Room};
 pub use stripe::{CALL_PAGES, CLEAN_WEIGHT, CLOSED_MIN, LAST_PAGE, RECORD_MAX, Stripe};

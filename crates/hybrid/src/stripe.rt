@@ -5,15 +5,16 @@ ghost use Rattle.std.specs.Bool.{OnTrue, OnFalse};
 ghost use Rattle.records.specs.Page.{used_end};
 ghost use Rattle.frames.specs.Resident.{IsResident, next_number, page_of};
 ghost use Rattle.hybrid.specs.HybridLog.{HybridLog, IsHybridLog, IsSealed, count_kept, empty_log, free, receipt_at, receipt_of};
+ghost use Rattle.hybrid.specs.Reserving.{IsFull};
 
 use device::Shows;
-use frames::Frames;
+use frames::{Frames, NUMBER_BITS};
 use index::Index;
-use records::{HEADER_SIZE, PAGE_SIZE, Page};
+use records::{HEADER_SIZE, KEY_BYTES_MAX, PAGE_SIZE, Page, RECORD_HEADER};
 use std::alloc::{AllocError, Global};
 use std::collections::VecDeque;
 use std::marker::Model;
-use words::limits::{FRAMES_MIN, Limits};
+use words::limits::{FRAMES_MIN, Limits, VALUE_BYTES_MAX, WEIGHT_MAX};
 
 pub mod clean;
 pub mod find;
@@ -21,21 +22,22 @@ mod flush;
 mod install;
 pub mod room;
 
-/// The most bytes that a record takes, whose key and value are the longest.
-pub const RECORD_MAX: usize = 8728;
+/// The most bytes that a record takes, whose key and value are the longest: 8,728.
+pub const RECORD_MAX: usize = RECORD_HEADER + KEY_BYTES_MAX + VALUE_BYTES_MAX;
 
-/// The most that the records of one page weigh as writes: the room that the cleaner asks for.
-pub const CLEAN_WEIGHT: usize = 32736;
+/// The most that the records of one page weigh as writes: each no more than twice its bytes. 32,736.
+pub const CLEAN_WEIGHT: usize = 2 * (PAGE_SIZE - HEADER_SIZE);
 
 /// A page is closed only when more than this many of its bytes hold records: else the longest record
-/// would still fit.
-pub const CLOSED_MIN: usize = 7640;
+/// would still fit. 7,640.
+pub const CLOSED_MIN: usize = PAGE_SIZE - HEADER_SIZE - RECORD_MAX;
 
-/// The most pages that the writes of one call open.
-pub const CALL_PAGES: usize = 7;
+/// The most pages that the writes of one call open: 7.
+pub const CALL_PAGES: usize = WEIGHT_MAX / CLOSED_MIN + 1;
 
-/// Where the tail page has this number or a greater one, no page is opened.
-pub const LAST_PAGE: u64 = 1 << 46;
+/// Where the tail page has this number or a greater one, no page is opened. Page numbers have `NUMBER_BITS`
+/// bits, so they do not run out in a call. 2^46.
+pub const LAST_PAGE: u64 = 1 << (NUMBER_BITS - 2);
 
 /// The log of one stripe. Receipts are those of a device.
 #[derive(Drop)]
@@ -48,6 +50,8 @@ pub struct Stripe<R: Shows> {
     oldest: u64,
     /// The stripes of the store: a key's bucket goes by its hash divided by this.
     stripes: u64,
+    /// How many receipts are kept.
+    kept: usize,
     /// The places on the device that were taken and not released.
     unreleased: usize,
     /// The most of those.
@@ -55,15 +59,15 @@ pub struct Stripe<R: Shows> {
 }
 
 impl<R: Shows> Model for Stripe<R> {
-    ghost use Rattle.std.specs.Prelude.{map, option_map, ◌+◌, ◌≤◌};
+    ghost use Rattle.std.specs.Prelude.{map, option_map, ◌≡◌, ◌+◌, ◌≤◌};
     ghost use Rattle.std.specs.VecDeque.{deque_capacity};
-    ghost use Rattle.hybrid.specs.HybridLog.{HybridLog, IsHybridLog};
+    ghost use Rattle.hybrid.specs.HybridLog.{HybridLog, IsHybridLog, count_kept};
 
     ghost Value = { HybridLog };
 
     ghost view = { λ s. record { oldest = s.oldest; kept = map (option_map (λ r. record { identity = R.identity r; shown = R.shown r })) s.receipts.items; resident = s.frames; heads = s.index; stripes = s.stripes; unreleased = s.unreleased; places = s.places } };
 
-    ghost invariant = { λ s. IsHybridLog (record { oldest = s.oldest; kept = map (option_map (λ r. record { identity = R.identity r; shown = R.shown r })) s.receipts.items; resident = s.frames; heads = s.index; stripes = s.stripes; unreleased = s.unreleased; places = s.places }) × (s.places + s.frames.frames ≤ deque_capacity s.receipts) };
+    ghost invariant = { λ s. IsHybridLog (record { oldest = s.oldest; kept = map (option_map (λ r. record { identity = R.identity r; shown = R.shown r })) s.receipts.items; resident = s.frames; heads = s.index; stripes = s.stripes; unreleased = s.unreleased; places = s.places }) × (s.places + s.frames.frames ≤ deque_capacity s.receipts) × (s.kept ≡ count_kept (map (option_map (λ r. record { identity = R.identity r; shown = R.shown r })) s.receipts.items)) };
 }
 
 impl<R: Shows> Stripe<R> {
@@ -85,6 +89,7 @@ impl<R: Shows> Stripe<R> {
             receipts,
             oldest: 0,
             stripes: limits.stripes as u64,
+            kept: 0,
             unreleased: 0,
             places: limits.places,
         })
@@ -111,14 +116,18 @@ impl<R: Shows> Stripe<R> {
         }
     }
 
-    /// Counts one more unreleased place, and says whether it could: not at the limit.
+    /// Counts one more unreleased place, and says whether it could: not where the store is full, at the
+    /// limit of places or at the last page.
     pub fn take_place(&mut self) -> bool
-        ensures limit { IsTrue result ↔ (self.old.unreleased < self.old.places) }
+        ensures limit { IsTrue result ↔ (self.old.unreleased < self.old.places) × (next_number self.old.resident ≤ LAST_PAGE) }
         ensures taken { OnTrue result (self.new ≡ record self.old { unreleased = self.old.unreleased + 1 }) }
-        ensures full { OnFalse result (self.new ≡ self.old) }
+        ensures full { OnFalse result (IsFull self.old × (self.new ≡ self.old)) }
         ensures counted { OnTrue result (count_kept self.new.kept < self.new.unreleased) }
     {
         if self.unreleased >= self.places {
+            return false;
+        }
+        if self.next_number() > LAST_PAGE {
             return false;
         }
         self.unreleased += 1;
@@ -134,12 +143,28 @@ impl<R: Shows> Stripe<R> {
         self.unreleased = self.unreleased.saturating_sub(1);
     }
 
+    /// Whether a place is counted that is none of a receipt that is kept: one that `free_place` may count
+    /// off, or `mark_flushed` may keep a receipt for.
+    pub fn has_spare_place(&self) -> bool
+        ensures { IsTrue result ↔ (count_kept self.now.kept < self.now.unreleased) }
+    {
+        self.kept < self.unreleased
+    }
+
     /// How many places on the device are taken and not released.
     pub fn unreleased(&self) -> usize
         ensures places { result ≡ self.now.unreleased }
         ensures limit { result ≤ self.now.places }
     {
         self.unreleased
+    }
+
+    /// Whether no place may be taken on the device, or no page opened: its places have reached their limit,
+    /// or its tail page is the last.
+    pub fn is_full(&self) -> bool
+        ensures { IsTrue result ↔ IsFull self.now }
+    {
+        self.unreleased >= self.places || self.next_number() > LAST_PAGE
     }
 
     /// The number of the oldest page.
@@ -153,7 +178,7 @@ impl<R: Shows> Stripe<R> {
     // The number of the page that is opened next.
     fn next_number(&self) -> u64
         ensures number { result ≡ next_number self.now.resident }
-        ensures in_range { result < 2 ^ 48 }
+        ensures in_range { result < 2 ^ NUMBER_BITS }
     {
         self.frames.next_number()
     }

@@ -1,8 +1,12 @@
 // What is written.
 
-ghost use Rattle.std.specs.Prelude.{◌≡◌, ℕ, List, Option, length};
+ghost use Rattle.std.specs.Prelude.{◌≡◌, ◌≤◌, ℕ, List, Option, cond, length};
 ghost use Rattle.std.specs.Option.{option_copied};
 ghost use Rattle.records.specs.Records.{value_bytes};
+ghost use Rattle.hybrid.specs.Writing.{write_weight};
+
+use records::{KEY_BYTES_MAX, PAGE_SIZE};
+use words::limits::WEIGHT_OF_KEY;
 
 /// A write: a key, and its new value, or none where the key is deleted.
 ///
@@ -32,5 +36,18 @@ pub(crate) fn length_of(value: Option<&[u8]>) -> usize
     match value {
         Some(bytes) => bytes.len(),
         None => 0,
+    }
+}
+
+// What a write weighs, where it is made.
+pub(crate) fn weight_if(made: bool, key: &[u8], value: Option<&[u8]>) -> usize
+    requires key { length key.now ≤ KEY_BYTES_MAX }
+    requires value { length (value_bytes (option_copied value)) ≤ PAGE_SIZE }
+    ensures { result ≡ cond made (write_weight key.now (option_copied value.entry)) 0 }
+{
+    if made {
+        WEIGHT_OF_KEY + key.len() + length_of(value)
+    } else {
+        0
     }
 }

@@ -2,14 +2,14 @@ ghost use Rattle.std.specs.Prelude.{◌≡◌, ◌≤◌, ◌+◌, length};
 ghost use Rattle.std.specs.Option.{option_copied};
 ghost use Rattle.records.specs.Records.{value_bytes};
 ghost use Rattle.hybrid.specs.HybridLog.{HasRoom};
-ghost use Rattle.hybrid.specs.declared.stripe.TheConstants.{CLEAN_WEIGHT};
 
-use device::{Device, MemoryDevice, MemoryReceipt, Shows};
-use hybrid::{CLEAN_WEIGHT, Cleaned, Fault, Lookup, Room, Staged, Stripe, Write};
+use device::{Device, Faulty, FaultyReceipt, MemoryDevice, MemoryReceipt, Shows};
+use hybrid::{Cleaned, Fault, Lookup, Room, Staged, Stripe, Weighed, Write};
 use records::{KEY_BYTES_MAX, Page, Record, record_at};
 use std::alloc::Global;
 use std::process::Abort;
 use std::test::Fail;
+use words::hash::hash_of;
 use words::limits::{Limits, VALUE_BYTES_MAX, WEIGHT_OF_KEY};
 
 // One write.
@@ -43,10 +43,13 @@ fn length_of(value: Option<&[u8]>) -> usize
     }
 }
 
-// A stripe of a store of one stripe with 12 frames, and its device.
+// A receipt that lends no page.
+type Receipt = FaultyReceipt<MemoryReceipt>;
+
+// A stripe of a store of one stripe with 12 frames, and its device, which has to be read.
 struct Shelf {
-    stripe: Stripe<MemoryReceipt>,
-    device: MemoryDevice,
+    stripe: Stripe<Receipt>,
+    device: Faulty<MemoryDevice>,
 }
 
 impl Drop for Shelf {
@@ -68,7 +71,7 @@ fn new_device(alloc: Global) -> Result<MemoryDevice, Fail> {
 
 fn new_shelf(alloc: Global, buckets: usize, places: usize) -> Result<Shelf, Fail> {
     let limits = Limits::new(1, buckets, 12, places, 1).ok_or("the limits")?;
-    let device = new_device(alloc)?;
+    let device = Faulty::new(new_device(alloc)?, Vec::new(alloc));
     let stripe = Stripe::new(alloc, &limits)?;
     Ok(Shelf { stripe, device })
 }
@@ -80,23 +83,21 @@ impl Shelf {
             return Err(Fault::StoreFull);
         }
         let weight = WEIGHT_OF_KEY + key.len() + length_of(value);
-        let room = self.stripe.reserve(weight, &mut self.device)?;
-        self.stripe.install(room, &[OneWrite { key, value }]);
+        let _room = self.stripe.reserve(weight, &mut self.device)?;
+        self.stripe.install_one(&OneWrite { key, value });
         Ok(())
     }
 }
 
 // Reads a page that a lookup needs.
 fn stage(
-    stripe: &Stripe<MemoryReceipt>,
-    device: &mut MemoryDevice,
-    staged: &mut Staged<MemoryReceipt>,
+    stripe: &Stripe<Receipt>,
+    device: &mut Faulty<MemoryDevice>,
+    staged: &mut Staged<Receipt>,
     number: u64,
 ) -> Option<()> {
     let copy = stripe.receipt(number)?.again().ok()?;
-    let mut page = Page::new(0);
-    device.read(&copy, &mut page).ok()?;
-    staged.add(copy, page).ok()
+    staged.read(copy, device).ok()
 }
 
 // Each answers `None` where something failed.
@@ -109,7 +110,7 @@ impl Shelf {
 
     fn holds_with(
         &mut self,
-        staged: &mut Staged<MemoryReceipt>,
+        staged: &mut Staged<Receipt>,
         key: &[u8],
         value: Option<&[u8]>,
     ) -> Option<bool> {
@@ -142,16 +143,26 @@ impl Shelf {
         self.write(number, &copy)
     }
 
-    // Takes the oldest page out of the log, and says whether it did.
+    // Takes the oldest page out of the log, with room for what lives in it, and says whether it did.
     fn clean(&mut self, alloc: Global) -> Option<bool> {
-        let room = self.stripe.reserve(CLEAN_WEIGHT, &mut self.device).ok()?;
         let mut staged = Staged::new(alloc);
-        self.clean_with(&mut staged, room)
+        for _ in 0..400 {
+            match self.stripe.weigh_oldest(&staged) {
+                Weighed::Resident => return Some(false),
+                Weighed::Cold(number) => {
+                    stage(&self.stripe, &mut self.device, &mut staged, number)?;
+                }
+                Weighed::Live(weight) => {
+                    let room = self.stripe.reserve(weight, &mut self.device).ok()?;
+                    return self.clean_with(&mut staged, room);
+                }
+            }
+        }
+        None
     }
 
-    fn clean_with(&mut self, staged: &mut Staged<MemoryReceipt>, mut room: Room) -> Option<bool>
+    fn clean_with(&mut self, staged: &mut Staged<Receipt>, mut room: Room) -> Option<bool>
         requires room { HasRoom self.old.stripe room.weight }
-        requires enough { CLEAN_WEIGHT ≤ room.weight }
     {
         for _ in 0..400 {
             match self.stripe.clean_oldest(staged, room) {
@@ -160,6 +171,7 @@ impl Shelf {
                     return Some(true);
                 }
                 Cleaned::Nothing => return Some(false),
+                Cleaned::Heavy(_weight) => return None,
                 Cleaned::Cold(number, same) => {
                     stage(&self.stripe, &mut self.device, staged, number)?;
                     room = same;
@@ -172,7 +184,7 @@ impl Shelf {
 
 // Whether this record of page 0 has this link, room for so many bytes, and this value.
 fn shows(
-    stripe: &Stripe<MemoryReceipt>,
+    stripe: &Stripe<Receipt>,
     offset: usize,
     link: u64,
     capacity: usize,
@@ -190,7 +202,7 @@ fn shows(
 }
 
 // Whether page 0 is used up to this place.
-fn ends_at(stripe: &Stripe<MemoryReceipt>, end: u32) -> bool {
+fn ends_at(stripe: &Stripe<Receipt>, end: u32) -> bool {
     match stripe.page(0) {
         Some(page) => page.used_end() == end,
         None => false,
@@ -229,7 +241,7 @@ fn writes_at_the_tail(shelf: &mut Shelf, rt: &impl Abort) {
 }
 
 // Whether the record at offset 48 of page 0 is of this kind.
-fn is_kind(stripe: &Stripe<MemoryReceipt>, kind: u8) -> bool {
+fn is_kind(stripe: &Stripe<Receipt>, kind: u8) -> bool {
     match stripe.page(0) {
         Some(page) => page.bytes()[70] == kind,
         None => false,
@@ -337,7 +349,7 @@ fn reads_where_it_is_full(shelf: &mut Shelf, alloc: Global, rt: &impl Abort) -> 
 }
 
 // Whether this page is the next to be written.
-fn is_sealed(stripe: &Stripe<MemoryReceipt>, number: u64) -> bool {
+fn is_sealed(stripe: &Stripe<Receipt>, number: u64) -> bool {
     matches!(stripe.sealed(), Some(page) if page == number)
 }
 
@@ -355,7 +367,7 @@ fn seals_page_0(shelf: &mut Shelf, rt: &impl Abort) {
 }
 
 // Page 0 with another byte.
-fn another_page(stripe: &Stripe<MemoryReceipt>) -> Page {
+fn another_page(stripe: &Stripe<Receipt>) -> Page {
     let mut other = Page::new(0);
     if let Some(page) = stripe.page(0) {
         other.copy_from(page);
@@ -469,4 +481,148 @@ fn runs_at_random(shelf: &mut Shelf, alloc: Global, rt: &impl Abort) {
         }
     }
     assert!(rt; shelf.stripe.oldest() > 20);
+}
+
+// Deletes the keys below a number, as far as there is room for it, and says how many.
+fn deletes(shelf: &mut Shelf, count: u16) -> usize {
+    let mut deleted = 0;
+    for number in 0..count {
+        if puts(shelf, &key_of(number), None) && deleted < 65_536 {
+            deleted += 1;
+        }
+    }
+    deleted
+}
+
+#[test]
+fn a_full_store_can_be_cleaned(rt: HostRuntime) -> Result<(), Fail> {
+    let mut shelf = new_shelf(rt.alloc(), 4096, 64)?;
+    cleans_where_it_is_full(&mut shelf, rt.alloc(), &rt)
+}
+
+fn cleans_where_it_is_full(shelf: &mut Shelf, alloc: Global, rt: &impl Abort) -> Result<(), Fail> {
+    let count = fill(shelf, 0, 2000)?;
+    assert!(rt; shelf.stripe.is_full() && !shelf.stripe.take_place());
+    let deleted = deletes(shelf, count);
+    assert!(rt; deleted > 15);
+    assert!(rt;
+        shelf.clean(alloc) == Some(true),
+        "of {count} keys {deleted} were deleted"
+    );
+    assert!(rt; !shelf.stripe.is_full());
+    Ok(())
+}
+
+#[test]
+fn a_page_without_a_live_record_wants_no_room(rt: HostRuntime) -> Result<(), Fail> {
+    let mut shelf = new_shelf(rt.alloc(), 4096, 64)?;
+    weighs_nothing(&mut shelf, rt.alloc(), &rt);
+    Ok(())
+}
+
+fn weighs_nothing(shelf: &mut Shelf, alloc: Global, rt: &impl Abort) {
+    let mut staged = Staged::new(alloc);
+    assert!(rt; fills(shelf, 300) && fills(shelf, 15));
+    assert!(rt; shelf.stripe.page(0).is_none());
+    assert!(rt; shelf.stripe.weigh_oldest(&staged) == Weighed::Cold(0));
+    assert!(rt; stage(&shelf.stripe, &mut shelf.device, &mut staged, 0).is_some());
+    assert!(rt; shelf.stripe.weigh_oldest(&staged) == Weighed::Live(0));
+}
+
+#[test]
+fn places_are_counted(rt: HostRuntime) -> Result<(), Fail> {
+    let mut shelf = new_shelf(rt.alloc(), 4096, 64)?;
+    counts_places(&mut shelf, &rt);
+    Ok(())
+}
+
+fn counts_places(shelf: &mut Shelf, rt: &impl Abort) {
+    assert!(rt; fills(shelf, 150));
+    assert!(rt; !shelf.stripe.has_spare_place());
+    assert!(rt; shelf.stripe.take_place());
+    assert!(rt; shelf.stripe.has_spare_place());
+    shelf.stripe.free_place();
+    assert!(rt; shelf.flush() == Some(true));
+    assert!(rt; shelf.stripe.unreleased() == 1 && !shelf.stripe.has_spare_place());
+}
+
+// A page is read once, and then staged, until the pages are let go.
+#[test]
+fn a_cold_page_is_read_once(rt: HostRuntime) -> Result<(), Fail> {
+    let mut shelf = new_shelf(rt.alloc(), 4096, 64)?;
+    reads_once(&mut shelf, rt.alloc(), &rt);
+    Ok(())
+}
+
+fn reads_once(shelf: &mut Shelf, alloc: Global, rt: &impl Abort) {
+    let mut staged = Staged::new(alloc);
+    let value = [0; 1000];
+    assert!(rt; fills(shelf, 300));
+    let before = shelf.device.calls();
+    assert!(rt; shelf.holds_with(&mut staged, &key_of(0), Some(&value)) == Some(true));
+    let once = shelf.device.calls();
+    assert!(rt; once != before);
+    assert!(rt; shelf.holds_with(&mut staged, &key_of(0), Some(&value)) == Some(true));
+    assert!(rt; shelf.device.calls() == once);
+    staged.clear();
+    assert!(rt; is_cold(&shelf.stripe, &staged, 0));
+    assert!(rt; shelf.holds_with(&mut staged, &key_of(0), Some(&value)) == Some(true));
+    assert!(rt; shelf.device.calls().wrapping_sub(once) == once.wrapping_sub(before));
+}
+
+// Whether the lookup of a key is cold.
+fn is_cold<R: Shows>(stripe: &Stripe<R>, staged: &Staged<R>, number: u16) -> bool {
+    let key = key_of(number);
+    matches!(
+        stripe.find_hashed(hash_of(&key), &key, staged),
+        Lookup::Cold(_)
+    )
+}
+
+// Gives a key a value over memory, by its hash.
+fn put_hashed(
+    stripe: &mut Stripe<MemoryReceipt>,
+    device: &mut MemoryDevice,
+    key: &[u8],
+    value: Option<&[u8]>,
+) -> Result<(), Fault> {
+    if key.len() > KEY_BYTES_MAX || length_of(value) > VALUE_BYTES_MAX {
+        return Err(Fault::StoreFull);
+    }
+    let weight = WEIGHT_OF_KEY + key.len() + length_of(value);
+    let _room = stripe.reserve(weight, device)?;
+    stripe.install_one_hashed(hash_of(key), &OneWrite { key, value });
+    Ok(())
+}
+
+// Puts keys of 1,000 bytes below a number over memory.
+fn fills_memory(
+    stripe: &mut Stripe<MemoryReceipt>,
+    device: &mut MemoryDevice,
+    count: u16,
+) -> Result<(), Fault> {
+    for number in 0..count {
+        let value = [(number % 128) as u8; 1000];
+        put_hashed(stripe, device, &key_of(number), Some(&value))?;
+    }
+    Ok(())
+}
+
+#[test]
+fn over_memory_no_lookup_is_cold(rt: HostRuntime) -> Result<(), Fail> {
+    let limits = Limits::new(1, 4096, 12, 4096, 1).ok_or("the limits")?;
+    let mut device = new_device(rt.alloc())?;
+    let mut stripe = Stripe::new(rt.alloc(), &limits)?;
+    fills_memory(&mut stripe, &mut device, 3000)?;
+    is_never_cold(&stripe, rt.alloc(), &rt);
+    Ok(())
+}
+
+fn is_never_cold(stripe: &Stripe<MemoryReceipt>, alloc: Global, rt: &impl Abort) {
+    let staged = Staged::new(alloc);
+    assert!(rt; stripe.page(0).is_none());
+    for number in 0..3001 {
+        assert!(rt; !is_cold(stripe, &staged, number));
+    }
+    assert!(rt; matches!(stripe.weigh_oldest(&staged), Weighed::Live(weight) if weight > 15_000));
 }

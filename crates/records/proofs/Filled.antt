@@ -2,17 +2,18 @@
 use Rattle.std.proofs.Common.{◌≡◌, ℕ, ◌+◌, ◌-◌, ◌<◌, ◌≤◌, List, ◌++◌, length, take, drop, replicate, Option, refl, sym, ap, ◌∙◌, arith, length-append, length-take, length-drop}
 use Rattle.std.proofs.lemmas.List.{take_at, drop_at, drop-drop, drop-replicate, replicate-append-replicate}
 use borrow.Rule.Slice.PartMut.{put_mid}
+use Rattle.records.specs.declared.entries.TheConstants.{RECORD_HEADER}
 use Rattle.records.specs.Records.{value_bytes, filled}
 
 -- a value written into bytes that were all zero: those that follow a key of k bytes in n bytes for a record
 pub filled-blank : (slot before after : List ℕ) (value : Option (List ℕ)) (k n : ℕ)
-    → slot ≡ replicate n 0 → before ≡ drop k (drop 24 slot) → after ≡ value_bytes value ++ drop (length (value_bytes value)) before
-    → after ≡ filled value (n - 24 - k)
+    → slot ≡ replicate n 0 → before ≡ drop k (drop RECORD_HEADER slot) → after ≡ value_bytes value ++ drop (length (value_bytes value)) before
+    → after ≡ filled value (n - RECORD_HEADER - k)
 filled-blank slot before after value k n is_slot is_before is_after =
     let v : ℕ = length (value_bytes value) in
-    let behind_head : drop 24 slot ≡ replicate (n - 24) 0 = ap (λ (s : List ℕ). drop 24 s) is_slot ∙ drop-replicate {X = ℕ} 24 n 0 in
-    let behind_key : before ≡ replicate (n - 24 - k) 0 = is_before ∙ (ap (λ (s : List ℕ). drop k s) behind_head ∙ drop-replicate {X = ℕ} k (n - 24) 0) in
-    let zeros : drop v before ≡ replicate (n - 24 - k - v) 0 = ap (λ (s : List ℕ). drop v s) behind_key ∙ drop-replicate {X = ℕ} v (n - 24 - k) 0 in
+    let behind_head : drop RECORD_HEADER slot ≡ replicate (n - RECORD_HEADER) 0 = ap (λ (s : List ℕ). drop RECORD_HEADER s) is_slot ∙ drop-replicate {X = ℕ} RECORD_HEADER n 0 in
+    let behind_key : before ≡ replicate (n - RECORD_HEADER - k) 0 = is_before ∙ (ap (λ (s : List ℕ). drop k s) behind_head ∙ drop-replicate {X = ℕ} k (n - RECORD_HEADER) 0) in
+    let zeros : drop v before ≡ replicate (n - RECORD_HEADER - k - v) 0 = ap (λ (s : List ℕ). drop v s) behind_key ∙ drop-replicate {X = ℕ} v (n - RECORD_HEADER - k) 0 in
     is_after ∙ ap (λ (s : List ℕ). value_bytes value ++ s) zeros
 
 -- what follows the first n bytes of a value and its zeros, where the value is no longer than that

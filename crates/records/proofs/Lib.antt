@@ -8,3 +8,4 @@ pub mod Rewritten
 pub mod Laid
 pub mod After
 pub mod There
+pub mod SizeRows

@@ -2,6 +2,7 @@
 use Rattle.std.proofs.Common.{◌≡◌, ℕ, zero, suc, ◌+◌, ◌%◌, ◌<◌, ◌≤◌, List, [], ◌∷◌, ◌++◌, length, map, Option, refl, sym, ap, ◌∙◌, arith, length-append, append_assoc, add-zero, eqb, true, false}
 use Rattle.std.specs.List.{All, AllByRecursion, AllPairs, flat_map, slice_index_or}
 use Rattle.std.proofs.lemmas.Bool.Decides.{nat_tests}
+use Rattle.records.specs.declared.pages.TheConstants.{HEADER_SIZE}
 use Rattle.records.specs.Records.{Stored, IsStored, IsPlaced, size_of, spelling, end_from, placed, with_value}
 use Rattle.records.proofs.Spelling.{length-spelling}
 
@@ -87,7 +88,7 @@ with_value-placed value start (b ∷ before) r after =
     rw apart (ap (λ xs. (start, b) ∷ xs) (with_value-placed value (start + size_of b) before r after))
 
 -- each record stands where it may, and before the next one
-pub placed-each : (end start : ℕ) (rs : List Stored) → AllByRecursion IsStored rs → 16 ≤ start → start % 8 ≡ 0 → end_from start rs ≤ end → All (IsPlaced end) (placed start rs)
+pub placed-each : (end start : ℕ) (rs : List Stored) → AllByRecursion IsStored rs → HEADER_SIZE ≤ start → start % 8 ≡ 0 → end_from start rs ≤ end → All (IsPlaced end) (placed start rs)
 placed-each end start [] each low aligned within k d h = absurd (omega (arith, h))
 placed-each end start (r ∷ rs) each low aligned within zero d h =
     record { stored = each.0; past_header = low; aligned = aligned; within = omega (arith, within, end_from-le (start + size_of r) rs) }

@@ -1,11 +1,12 @@
 -- The bytes of a record: their number, and what they say.
 use Rattle.std.proofs.Common.{◌≡◌, ℕ, ◌+◌, ◌-◌, ◌<◌, ◌≤◌, ◌^◌, List, [], ◌++◌, length, take, drop, replicate, Option, None, Some, refl, sym, ap, ◌∙◌, arith, length-append, append_assoc, slice_index, cond, eqb}
 use Rattle.std.proofs.lemmas.List.{take_at, drop_at, drop-drop, get_or-drop, length-replicate}
+use Rattle.records.specs.declared.entries.TheConstants.{RECORD_HEADER, HASH_AT, KEY_LENGTH_AT, VALUE_LENGTH_AT, CAPACITY_AT, KIND_AT, RECORD_FORM_AT, LENGTH_BITS, RECORD_FORM, TOMBSTONE}
 use Rattle.records.specs.Fields.{u16_bytes, u64_bytes, u16_at, u64_at}
 use Rattle.records.specs.Records.{Stored, IsStored, value_bytes, kind_of, size_of, head, filled, spelling, fields_at}
 use Rattle.records.proofs.Numbers.{u16_at-front, u64_at-front, u16_at-add, u64_at-add}
 
-pub length-head : (link hash k v c kind : ℕ) → length (head link hash k v c kind) ≡ 24
+pub length-head : (link hash k v c kind : ℕ) → length (head link hash k v c kind) ≡ RECORD_HEADER
 unfolding head u16_bytes u64_bytes
 length-head link hash k v c kind = refl
 
@@ -25,31 +26,31 @@ pub link-is : (r : Stored) (rest : List ℕ) → r.link < 2 ^ 64 → u64_at (spe
 unfolding u64_at u64_bytes spelling head
 link-is r rest h = u64_at-front r.link [] h
 
-pub hash-is : (r : Stored) (rest : List ℕ) → r.hash < 2 ^ 64 → u64_at (spelling r ++ rest) 8 ≡ r.hash
+pub hash-is : (r : Stored) (rest : List ℕ) → r.hash < 2 ^ 64 → u64_at (spelling r ++ rest) HASH_AT ≡ r.hash
 unfolding u64_at u64_bytes spelling head
 hash-is r rest h = u64_at-front r.hash [] h
 
-pub key_length-is : (r : Stored) (rest : List ℕ) → length r.key < 2 ^ 16 → u16_at (spelling r ++ rest) 16 ≡ length r.key
+pub key_length-is : (r : Stored) (rest : List ℕ) → length r.key < 2 ^ LENGTH_BITS → u16_at (spelling r ++ rest) KEY_LENGTH_AT ≡ length r.key
 unfolding u16_at u16_bytes u64_bytes spelling head
 key_length-is r rest h = u16_at-front (length r.key) [] h
 
-pub value_length-is : (r : Stored) (rest : List ℕ) → length (value_bytes r.value) < 2 ^ 16 → u16_at (spelling r ++ rest) 18 ≡ length (value_bytes r.value)
+pub value_length-is : (r : Stored) (rest : List ℕ) → length (value_bytes r.value) < 2 ^ LENGTH_BITS → u16_at (spelling r ++ rest) VALUE_LENGTH_AT ≡ length (value_bytes r.value)
 unfolding u16_at u16_bytes u64_bytes spelling head
 value_length-is r rest h = u16_at-front (length (value_bytes r.value)) [] h
 
-pub capacity-is : (r : Stored) (rest : List ℕ) → r.capacity < 2 ^ 16 → u16_at (spelling r ++ rest) 20 ≡ r.capacity
+pub capacity-is : (r : Stored) (rest : List ℕ) → r.capacity < 2 ^ LENGTH_BITS → u16_at (spelling r ++ rest) CAPACITY_AT ≡ r.capacity
 unfolding u16_at u16_bytes u64_bytes spelling head
 capacity-is r rest h = u16_at-front r.capacity [] h
 
-pub kind-is : (r : Stored) (rest : List ℕ) → slice_index (spelling r ++ rest) 22 ≡ kind_of r.value
+pub kind-is : (r : Stored) (rest : List ℕ) → slice_index (spelling r ++ rest) KIND_AT ≡ kind_of r.value
 unfolding u16_bytes u64_bytes spelling head
 kind-is r rest = refl
 
-pub form-is : (r : Stored) (rest : List ℕ) → slice_index (spelling r ++ rest) 23 ≡ 1
+pub form-is : (r : Stored) (rest : List ℕ) → slice_index (spelling r ++ rest) RECORD_FORM_AT ≡ RECORD_FORM
 unfolding u16_bytes u64_bytes spelling head
 form-is r rest = refl
 
-pub behind_head : (r : Stored) (rest : List ℕ) → drop 24 (spelling r ++ rest) ≡ r.key ++ (filled r.value r.capacity ++ rest)
+pub behind_head : (r : Stored) (rest : List ℕ) → drop RECORD_HEADER (spelling r ++ rest) ≡ r.key ++ (filled r.value r.capacity ++ rest)
 unfolding u16_bytes u64_bytes spelling head
 behind_head r rest = append_assoc r.key (filled r.value r.capacity) rest
 
@@ -68,9 +69,9 @@ same_stored a b el eh ek ev ec =
     ap with_link el ∙ (ap with_hash eh ∙ (ap with_key ek ∙ (ap with_value ev ∙ ap with_capacity ec)))
 
 -- the value that the kind, the length and the bytes say
-value_from : (value : Option (List ℕ)) (kind n : ℕ) (bytes : List ℕ) → kind ≡ kind_of value → take n bytes ≡ value_bytes value → cond (eqb kind 2) None (Some (take n bytes)) ≡ value
-value_from None kind n bytes ek eb = ap (λ k. cond (eqb k 2) None (Some (take n bytes))) ek
-value_from (Some xs) kind n bytes ek eb = ap (λ k. cond (eqb k 2) None (Some (take n bytes))) ek ∙ ap (λ ys. Some ys) eb
+value_from : (value : Option (List ℕ)) (kind n : ℕ) (bytes : List ℕ) → kind ≡ kind_of value → take n bytes ≡ value_bytes value → cond (eqb kind TOMBSTONE) None (Some (take n bytes)) ≡ value
+value_from None kind n bytes ek eb = ap (λ k. cond (eqb k TOMBSTONE) None (Some (take n bytes))) ek
+value_from (Some xs) kind n bytes ek eb = ap (λ k. cond (eqb k TOMBSTONE) None (Some (take n bytes))) ek ∙ ap (λ ys. Some ys) eb
 
 -- where the bytes of a record stand at an offset, the fields there say that record
 module _ (page : List ℕ) (offset : ℕ) (r : Stored) (rest : List ℕ) (here : drop offset page ≡ spelling r ++ rest) (ok : IsStored r) where
@@ -78,43 +79,43 @@ module _ (page : List ℕ) (offset : ℕ) (r : Stored) (rest : List ℕ) (here :
   unfolding u64_at
   link_at = ap (λ s. u64_at s 0) here ∙ link-is r rest ok.link_fits
 
-  pub hash_at : u64_at page (offset + 8) ≡ r.hash
-  hash_at = u64_at-add page offset 8 ∙ (ap (λ s. u64_at s 8) here ∙ hash-is r rest ok.hash_fits)
+  pub hash_at : u64_at page (offset + HASH_AT) ≡ r.hash
+  hash_at = u64_at-add page offset HASH_AT ∙ (ap (λ s. u64_at s HASH_AT) here ∙ hash-is r rest ok.hash_fits)
 
-  pub key_length_at : u16_at page (offset + 16) ≡ length r.key
-  key_length_at = u16_at-add page offset 16 ∙ (ap (λ s. u16_at s 16) here ∙ key_length-is r rest (omega (arith, ok.key_fits)))
+  pub key_length_at : u16_at page (offset + KEY_LENGTH_AT) ≡ length r.key
+  key_length_at = u16_at-add page offset KEY_LENGTH_AT ∙ (ap (λ s. u16_at s KEY_LENGTH_AT) here ∙ key_length-is r rest (omega (arith, ok.key_fits)))
 
-  pub value_length_at : u16_at page (offset + 18) ≡ length (value_bytes r.value)
-  value_length_at = u16_at-add page offset 18 ∙ (ap (λ s. u16_at s 18) here ∙ value_length-is r rest (omega (arith, ok.value_fits, ok.capacity_fits)))
+  pub value_length_at : u16_at page (offset + VALUE_LENGTH_AT) ≡ length (value_bytes r.value)
+  value_length_at = u16_at-add page offset VALUE_LENGTH_AT ∙ (ap (λ s. u16_at s VALUE_LENGTH_AT) here ∙ value_length-is r rest (omega (arith, ok.value_fits, ok.capacity_fits)))
 
-  pub capacity_at : u16_at page (offset + 20) ≡ r.capacity
-  capacity_at = u16_at-add page offset 20 ∙ (ap (λ s. u16_at s 20) here ∙ capacity-is r rest ok.capacity_fits)
+  pub capacity_at : u16_at page (offset + CAPACITY_AT) ≡ r.capacity
+  capacity_at = u16_at-add page offset CAPACITY_AT ∙ (ap (λ s. u16_at s CAPACITY_AT) here ∙ capacity-is r rest ok.capacity_fits)
 
-  pub kind_at : slice_index page (offset + 22) ≡ kind_of r.value
-  kind_at = slice_index-add page offset 22 ∙ (ap (λ s. slice_index s 22) here ∙ kind-is r rest)
+  pub kind_at : slice_index page (offset + KIND_AT) ≡ kind_of r.value
+  kind_at = slice_index-add page offset KIND_AT ∙ (ap (λ s. slice_index s KIND_AT) here ∙ kind-is r rest)
 
-  pub form_at : slice_index page (offset + 23) ≡ 1
-  form_at = slice_index-add page offset 23 ∙ (ap (λ s. slice_index s 23) here ∙ form-is r rest)
+  pub form_at : slice_index page (offset + RECORD_FORM_AT) ≡ RECORD_FORM
+  form_at = slice_index-add page offset RECORD_FORM_AT ∙ (ap (λ s. slice_index s RECORD_FORM_AT) here ∙ form-is r rest)
 
   -- the key and what follows it
-  behind : drop (offset + 24) page ≡ r.key ++ (filled r.value r.capacity ++ rest)
-  behind = sym (drop-drop 24 offset page) ∙ (ap (λ s. drop 24 s) here ∙ behind_head r rest)
+  behind : drop (offset + RECORD_HEADER) page ≡ r.key ++ (filled r.value r.capacity ++ rest)
+  behind = sym (drop-drop RECORD_HEADER offset page) ∙ (ap (λ s. drop RECORD_HEADER s) here ∙ behind_head r rest)
 
-  key_at : take (u16_at page (offset + 16)) (drop (offset + 24) page) ≡ r.key
-  key_at = ap (λ s. take (u16_at page (offset + 16)) s) behind ∙ take_at r.key (filled r.value r.capacity ++ rest) (u16_at page (offset + 16)) (sym key_length_at)
+  key_at : take (u16_at page (offset + KEY_LENGTH_AT)) (drop (offset + RECORD_HEADER) page) ≡ r.key
+  key_at = ap (λ s. take (u16_at page (offset + KEY_LENGTH_AT)) s) behind ∙ take_at r.key (filled r.value r.capacity ++ rest) (u16_at page (offset + KEY_LENGTH_AT)) (sym key_length_at)
 
-  value_at : take (u16_at page (offset + 18)) (drop (offset + 24 + u16_at page (offset + 16)) page) ≡ value_bytes r.value
+  value_at : take (u16_at page (offset + VALUE_LENGTH_AT)) (drop (offset + RECORD_HEADER + u16_at page (offset + KEY_LENGTH_AT)) page) ≡ value_bytes r.value
   value_at =
-      let k : ℕ = u16_at page (offset + 16) in
-      let n : ℕ = u16_at page (offset + 18) in
+      let k : ℕ = u16_at page (offset + KEY_LENGTH_AT) in
+      let n : ℕ = u16_at page (offset + VALUE_LENGTH_AT) in
       let spare : List ℕ = replicate (r.capacity - length (value_bytes r.value)) 0 ++ rest in
-      let past_key : drop (offset + 24 + k) page ≡ filled r.value r.capacity ++ rest =
-      sym (drop-drop k (offset + 24) page) ∙ (ap (λ s. drop k s) behind ∙ drop_at r.key (filled r.value r.capacity ++ rest) k (sym key_length_at)) in
+      let past_key : drop (offset + RECORD_HEADER + k) page ≡ filled r.value r.capacity ++ rest =
+      sym (drop-drop k (offset + RECORD_HEADER) page) ∙ (ap (λ s. drop k s) behind ∙ drop_at r.key (filled r.value r.capacity ++ rest) k (sym key_length_at)) in
       ap (λ s. take n s) (past_key ∙ append_assoc (value_bytes r.value) (replicate (r.capacity - length (value_bytes r.value)) 0) rest) ∙ take_at (value_bytes r.value) spare n (sym value_length_at)
 
   pub fields_at-is : fields_at page offset ≡ r
   unfolding fields_at
   fields_at-is =
       same_stored (fields_at page offset) r link_at hash_at key_at
-      (value_from r.value (slice_index page (offset + 22)) (u16_at page (offset + 18)) (drop (offset + 24 + u16_at page (offset + 16)) page) kind_at value_at)
+      (value_from r.value (slice_index page (offset + KIND_AT)) (u16_at page (offset + VALUE_LENGTH_AT)) (drop (offset + RECORD_HEADER + u16_at page (offset + KEY_LENGTH_AT)) page) kind_at value_at)
       capacity_at

@@ -1,12 +1,12 @@
 -- A page, as its bytes. It has 16,384 of them: a header of 16 bytes (page number, 8; end of the used part, 4;
 -- form, 4, which is 1), records without gaps up to the end of the used part, and zero bytes after it.
 use Rattle.std.specs.Prelude.{ℕ, List, ◌++◌, ◌-◌, replicate}
-use Rattle.records.specs.declared.pages.TheConstants.{PAGE_SIZE, HEADER_SIZE}
+use Rattle.records.specs.declared.pages.TheConstants.{PAGE_SIZE, HEADER_SIZE, USED_END_AT, PAGE_FORM}
 use Rattle.records.specs.Fields.{u32_bytes, u64_bytes, u32_at, u64_at}
 
 -- the header of the page with this number whose used part ends here
 unfoldable pub header : ℕ → ℕ → List ℕ
-header number used = u64_bytes number ++ (u32_bytes used ++ u32_bytes 1)
+header number used = u64_bytes number ++ (u32_bytes used ++ u32_bytes PAGE_FORM)
 
 -- the page with this number and no record
 unfoldable pub empty_page : ℕ → List ℕ
@@ -18,4 +18,4 @@ number_of page = u64_at page 0
 
 -- the end of the used part in a page's header
 unfoldable pub used_end : List ℕ → ℕ
-used_end page = u32_at page 8
+used_end page = u32_at page USED_END_AT

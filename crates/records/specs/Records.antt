@@ -6,7 +6,7 @@
 use Rattle.std.specs.Prelude.{◌≡◌, ◌<◌, ◌≤◌, ◌⊎◌, ℕ, zero, suc, ◌+◌, ◌-◌, ◌*◌, ◌/◌, ◌%◌, ◌^◌, List, [], ◌∷◌, ◌++◌, length, take, drop, replicate, slice_index, Option, None, Some, unwrap_or, nat_lt, ◌==◌, if◌then◌else◌}
 use Rattle.std.specs.List.{All, AllByRecursion, AllPairs, Contains, flat_map}
 use Rattle.records.specs.declared.pages.TheConstants.{PAGE_SIZE, HEADER_SIZE}
-use Rattle.records.specs.declared.entries.TheConstants.{RECORD_HEADER, KEY_BYTES_MAX}
+use Rattle.records.specs.declared.entries.TheConstants.{RECORD_HEADER, KEY_BYTES_MAX, HASH_AT, KEY_LENGTH_AT, VALUE_LENGTH_AT, CAPACITY_AT, KIND_AT, RECORD_FORM_AT, LENGTH_BITS, RECORD_FORM, VALUE, TOMBSTONE}
 use Rattle.records.specs.Fields.{u16_bytes, u64_bytes, u16_at, u64_at}
 use Rattle.records.specs.Page.{header, number_of, used_end}
 
@@ -25,16 +25,16 @@ value_bytes value = unwrap_or value []
 
 -- the kind of a record with this value
 abbrev pub kind_of : Option (List ℕ) → ℕ
-kind_of None = 2
-kind_of (Some bytes) = 1
+kind_of None = TOMBSTONE
+kind_of (Some bytes) = VALUE
 
 -- a record of this kind may have a value of this length
 abbrev pub IsKindFor : ℕ → ℕ → Type 0
-IsKindFor kind value_length = ((kind ≡ 1) ⊎ (kind ≡ 2)) × (kind ≡ 2 → value_length ≡ 0)
+IsKindFor kind value_length = ((kind ≡ VALUE) ⊎ (kind ≡ TOMBSTONE)) × (kind ≡ TOMBSTONE → value_length ≡ 0)
 
 -- what a record of this kind holds whose value has these bytes
 abbrev pub value_of_kind : ℕ → List ℕ → Option (List ℕ)
-value_of_kind kind bytes = if kind == 2 then None else Some bytes
+value_of_kind kind bytes = if kind == TOMBSTONE then None else Some bytes
 
 -- how many bytes a record takes
 abbrev pub size_of : Stored → ℕ
@@ -55,13 +55,13 @@ pub record IsStored (r : Stored) : Type 0 where
   pub hash_fits : r.hash < 2 ^ 64
   pub key_fits : length r.key ≤ KEY_BYTES_MAX
   pub value_fits : length (value_bytes r.value) ≤ r.capacity
-  pub capacity_fits : r.capacity < 2 ^ 16
+  pub capacity_fits : r.capacity < 2 ^ LENGTH_BITS
   pub aligned : size_of r % 8 ≡ 0
 
 -- the bytes of a record's header
 unfoldable pub head : ℕ → ℕ → ℕ → ℕ → ℕ → ℕ → List ℕ
 head link hash key_length value_length capacity kind =
-    u64_bytes link ++ (u64_bytes hash ++ (u16_bytes key_length ++ (u16_bytes value_length ++ (u16_bytes capacity ++ (kind ∷ 1 ∷ [])))))
+    u64_bytes link ++ (u64_bytes hash ++ (u16_bytes key_length ++ (u16_bytes value_length ++ (u16_bytes capacity ++ (kind ∷ RECORD_FORM ∷ [])))))
 
 -- the bytes of a value and of the zeros after it, up to a capacity
 abbrev pub filled : Option (List ℕ) → ℕ → List ℕ
@@ -92,14 +92,14 @@ pub record IsPage (number : ℕ) (records : List Stored) (page : List ℕ) : Typ
 -- what the bytes at an offset say as a record, whatever they are
 unfoldable pub fields_at : List ℕ → ℕ → Stored
 fields_at page offset =
-    let key_length : ℕ = u16_at page (offset + 16) in
-    let value_length : ℕ = u16_at page (offset + 18) in
+    let key_length : ℕ = u16_at page (offset + KEY_LENGTH_AT) in
+    let value_length : ℕ = u16_at page (offset + VALUE_LENGTH_AT) in
     record {
       link = u64_at page offset;
-      hash = u64_at page (offset + 8);
+      hash = u64_at page (offset + HASH_AT);
       key = take key_length (drop (offset + RECORD_HEADER) page);
-      value = value_of_kind (slice_index page (offset + 22)) (take value_length (drop (offset + RECORD_HEADER + key_length) page));
-      capacity = u16_at page (offset + 20);
+      value = value_of_kind (slice_index page (offset + KIND_AT)) (take value_length (drop (offset + RECORD_HEADER + key_length) page));
+      capacity = u16_at page (offset + CAPACITY_AT);
     }
 
 -- the records from an offset to the end of the used part, each with its offset, and at most n of them
@@ -119,7 +119,7 @@ pub record IsPlaced (end : ℕ) (entry : ℕ × Stored) : Type 0 where
   pub aligned : entry.0 % 8 ≡ 0
   pub within : entry.0 + size_of entry.1 ≤ end
 
--- the page is as this crate writes it: its header, records without gaps from offset 16 to the end of the used part,
+-- the page is as this crate writes it: its header, records without gaps from the header to the end of the used part,
 -- and zero bytes after it. What the last three fields say follows from the others, and speaks of no byte.
 pub record IsLaidOut (page : List ℕ) : Type 0 where
   pub stored : List Stored
@@ -146,9 +146,9 @@ pub record IsRecordAt (page : List ℕ) (offset : ℕ) : Type 0 where
   pub past_header : HEADER_SIZE ≤ offset
   pub used : offset < used_end page
   pub aligned : offset % 8 ≡ 0
-  pub form : slice_index page (offset + 23) ≡ 1
-  pub kind : IsKindFor (slice_index page (offset + 22)) (u16_at page (offset + 18))
-  pub key_length : u16_at page (offset + 16) ≤ KEY_BYTES_MAX
-  pub value_length : u16_at page (offset + 18) ≤ u16_at page (offset + 20)
-  pub size : (RECORD_HEADER + u16_at page (offset + 16) + u16_at page (offset + 20)) % 8 ≡ 0
-  pub within : offset + (RECORD_HEADER + u16_at page (offset + 16) + u16_at page (offset + 20)) ≤ used_end page
+  pub form : slice_index page (offset + RECORD_FORM_AT) ≡ RECORD_FORM
+  pub kind : IsKindFor (slice_index page (offset + KIND_AT)) (u16_at page (offset + VALUE_LENGTH_AT))
+  pub key_length : u16_at page (offset + KEY_LENGTH_AT) ≤ KEY_BYTES_MAX
+  pub value_length : u16_at page (offset + VALUE_LENGTH_AT) ≤ u16_at page (offset + CAPACITY_AT)
+  pub size : (RECORD_HEADER + u16_at page (offset + KEY_LENGTH_AT) + u16_at page (offset + CAPACITY_AT)) % 8 ≡ 0
+  pub within : offset + (RECORD_HEADER + u16_at page (offset + KEY_LENGTH_AT) + u16_at page (offset + CAPACITY_AT)) ≤ used_end page

@@ -13,7 +13,7 @@ use std::error::Error;
 use std::fmt;
 
 /// The bytes of a record's header.
-pub const RECORD_HEADER: usize = 24;
+pub const RECORD_HEADER: usize = RECORD_FORM_AT + 1;
 
 /// The longest key, in bytes.
 pub const KEY_BYTES_MAX: usize = 512;
@@ -21,18 +21,21 @@ pub const KEY_BYTES_MAX: usize = 512;
 // Where the fields of a record's header stand, after the link at its front.
 const HASH_AT: usize = 8;
 
-const KEY_LENGTH_AT: usize = 16;
+const KEY_LENGTH_AT: usize = HASH_AT + 8;
 
-const VALUE_LENGTH_AT: usize = 18;
+const VALUE_LENGTH_AT: usize = KEY_LENGTH_AT + 2;
 
-const CAPACITY_AT: usize = 20;
+const CAPACITY_AT: usize = VALUE_LENGTH_AT + 2;
 
-const KIND_AT: usize = 22;
+const KIND_AT: usize = CAPACITY_AT + 2;
 
-const FORM_AT: usize = 23;
+const RECORD_FORM_AT: usize = KIND_AT + 1;
+
+/// The bits of each length in a record's header.
+const LENGTH_BITS: u32 = 16;
 
 /// The form of the records that this crate writes.
-const FORM: u8 = 1;
+const RECORD_FORM: u8 = 1;
 
 /// The kind of a record with a value.
 const VALUE: u8 = 1;
@@ -129,7 +132,7 @@ pub fn record_at(page: &Page, offset: usize) -> Result<Record<'_>, NotARecord>
     {
         return Err(NotARecord);
     }
-    if bytes[offset + FORM_AT] != FORM {
+    if bytes[offset + RECORD_FORM_AT] != RECORD_FORM {
         return Err(NotARecord);
     }
     let key_end = offset + RECORD_HEADER + key_length;
@@ -180,7 +183,9 @@ pub fn put_record(
         return Err(NoRoom);
     }
     let bytes = page.bytes_mut();
-    bytes[pages::END_AT..pages::FORM_AT].copy_from_slice(&((end + size) as u32).to_le_bytes());
+    bytes[pages::USED_END_AT..pages::PAGE_FORM_AT].copy_from_slice(
+        &((end + size) as u32).to_le_bytes(),
+    );
     write_record(&mut bytes[end..end + size], link, hash, key, value);
     Ok(end)
 }
@@ -272,7 +277,7 @@ fn write_record(slot: &mut [u8], link: u64, hash: u64, key: &[u8], value: Option
 #[inline]
 #[tactic(auto, unfolding(crate::specs::Fields::u64_bytes))]
 fn write_addresses(head: &mut [u8], link: u64, hash: u64)
-    requires { length head.old ≡ 16 }
+    requires { length head.old ≡ KEY_LENGTH_AT }
     ensures { head.new ≡ u64_bytes link ++ u64_bytes hash }
 {
     let (link_field, hash_field) = head.split_at_mut(HASH_AT);
@@ -284,8 +289,8 @@ fn write_addresses(head: &mut [u8], link: u64, hash: u64)
 #[inline]
 #[tactic(auto, unfolding(crate::specs::Fields::u16_bytes))]
 fn write_lengths(head: &mut [u8], key_length: u16, value_length: u16, capacity: u16, kind: u8)
-    requires { length head.old ≡ 8 }
-    ensures { head.new ≡ u16_bytes key_length ++ (u16_bytes value_length ++ (u16_bytes capacity ++ (kind ∷ 1 ∷ []))) }
+    requires { length head.old ≡ RECORD_HEADER - KEY_LENGTH_AT }
+    ensures { head.new ≡ u16_bytes key_length ++ (u16_bytes value_length ++ (u16_bytes capacity ++ (kind ∷ RECORD_FORM ∷ []))) }
 {
     let (key_field, rest) = head.split_at_mut(2);
     key_field.copy_from_slice(&key_length.to_le_bytes());
@@ -293,7 +298,7 @@ fn write_lengths(head: &mut [u8], key_length: u16, value_length: u16, capacity: 
     value_field.copy_from_slice(&value_length.to_le_bytes());
     let (capacity_field, rest) = rest.split_at_mut(2);
     capacity_field.copy_from_slice(&capacity.to_le_bytes());
-    rest.copy_from_slice(&[kind, FORM]);
+    rest.copy_from_slice(&[kind, RECORD_FORM]);
 }
 
 // Writes a value, and leaves what follows it.

@@ -13,17 +13,17 @@ use std::marker::Model;
 pub const PAGE_SIZE: usize = 16384;
 
 /// The bytes of a page's header.
-pub const HEADER_SIZE: usize = 16;
+pub const HEADER_SIZE: usize = PAGE_FORM_AT + 4;
 
 // Where the end of the used part and the form stand in a page's header, after the number.
-pub(crate) const END_AT: usize = 8;
+pub(crate) const USED_END_AT: usize = 8;
 
-pub(crate) const FORM_AT: usize = 12;
+pub(crate) const PAGE_FORM_AT: usize = USED_END_AT + 4;
 
 /// The form of the pages that this crate writes.
-const FORM: u32 = 1;
+const PAGE_FORM: u32 = 1;
 
-/// A page: 16,384 bytes, held inline. A clause sees it as the list of its bytes.
+/// A page: `PAGE_SIZE` bytes, held inline. A clause sees it as the list of its bytes.
 ///
 /// A page takes no memory of its own, and a move of one copies its bytes: to fill a page where it
 /// lies, write `reset` or `copy_from`.
@@ -113,7 +113,7 @@ impl Page {
     pub fn used_end(&self) -> u32
         ensures { result ≡ used_end self.now }
     {
-        fields::u32_at(&self.bytes, END_AT)
+        fields::u32_at(&self.bytes, USED_END_AT)
     }
 }
 
@@ -121,7 +121,7 @@ impl Page {
 #[inline]
 fn begin(bytes: &mut [u8], number: u64)
     requires { HEADER_SIZE ≤ length bytes.old }
-    ensures { bytes.new ≡ header number 16 ++ drop 16 bytes.old }
+    ensures { bytes.new ≡ header number HEADER_SIZE ++ drop HEADER_SIZE bytes.old }
 {
     write_header(&mut bytes[..HEADER_SIZE], number, HEADER_SIZE as u32);
 }
@@ -130,12 +130,12 @@ fn begin(bytes: &mut [u8], number: u64)
 #[inline]
 #[tactic(auto, unfolding(crate::specs::Page::header, crate::specs::Fields::u32_bytes, crate::specs::Fields::u64_bytes))]
 fn write_header(head: &mut [u8], number: u64, used: u32)
-    requires { length head.old ≡ 16 }
+    requires { length head.old ≡ HEADER_SIZE }
     ensures { head.new ≡ header number used }
 {
-    let (number_field, rest) = head.split_at_mut(END_AT);
+    let (number_field, rest) = head.split_at_mut(USED_END_AT);
     number_field.copy_from_slice(&number.to_le_bytes());
-    let (used_field, form_field) = rest.split_at_mut(FORM_AT - END_AT);
+    let (used_field, form_field) = rest.split_at_mut(PAGE_FORM_AT - USED_END_AT);
     used_field.copy_from_slice(&used.to_le_bytes());
-    form_field.copy_from_slice(&FORM.to_le_bytes());
+    form_field.copy_from_slice(&PAGE_FORM.to_le_bytes());
 }

@@ -24,7 +24,8 @@ pub enum Lookup<'a> {
     Found(&'a [u8]),
     /// The key has no value.
     Absent,
-    /// The chain leads to the page of this number, which is neither resident nor staged.
+    /// The chain leads to the page of this number, which is neither resident, nor lent by its receipt, nor
+    /// staged.
     Cold(u64),
 }
 
@@ -37,7 +38,16 @@ impl<R: Shows> Stripe<R> {
         ensures contents { R.is_honest → AreRight staged.now → MatchLookup result (λ value. contents (log_of self.now) key.now ≡ Some value) (contents (log_of self.now) key.now ≡ None) (λ number. Leads self.now key.now number) }
         ensures cold { MatchLookup result (λ _. ⊤) ⊤ (λ number. IsMissing self.now staged.now number) }
     {
-        match self.newest(key, staged) {
+        self.find_hashed(hash_of(key), key, staged)
+    }
+
+    /// What a key has, by its hash.
+    pub fn find_hashed<'a>(&'a self, hash: u64, key: &[u8], staged: &'a Staged<R>) -> Lookup<'a>
+        requires hash { hash ≡ hash_of key.now }
+        ensures contents { R.is_honest → AreRight staged.now → MatchLookup result (λ value. contents (log_of self.now) key.now ≡ Some value) (contents (log_of self.now) key.now ≡ None) (λ number. Leads self.now key.now number) }
+        ensures cold { MatchLookup result (λ _. ⊤) ⊤ (λ number. IsMissing self.now staged.now number) }
+    {
+        match self.newest(hash, key, staged) {
             Err(number) => Lookup::Cold(number),
             Ok(None) => Lookup::Absent,
             Ok(Some((_, record))) => match record.value {
@@ -47,19 +57,21 @@ impl<R: Shows> Stripe<R> {
         }
     }
 
-    // The newest record of a key, with its address.
+    // The newest record of a key with this hash, and its address.
     #[inline]
     fn newest<'a>(
         &'a self,
+        hash: u64,
         key: &[u8],
         staged: &'a Staged<R>,
     ) -> Result<Option<(u64, Record<'a>)>, u64>
+        requires hash { hash ≡ hash_of key.now }
         ensures found { R.is_honest → AreRight staged.now → IfOk result (λ o. option_map (λ x. (x.0, shown x.1)) o ≡ newest (log_of self.now) key.now) }
         ensures leads { R.is_honest → AreRight staged.now → IfErr result (λ number. Leads self.now key.now number) }
         ensures cold { IfErr result (λ number. IsMissing self.now staged.now number) }
     {
         let begin = self.oldest * PAGE_SIZE as u64 + HEADER_SIZE as u64;
-        let mut address = self.index.head(hash_of(key) / self.stripes);
+        let mut address = self.index.head(hash / self.stripes);
         while begin <= address {
             let number = address / PAGE_SIZE as u64;
             let Some(page) = self.live_page(number, staged) else {
@@ -85,13 +97,13 @@ impl<R: Shows> Stripe<R> {
         ensures leads { R.is_honest → AreRight staged.now → IfErr result (λ number. Leads self.now key.now number) }
         ensures cold { IfErr result (λ number. IsMissing self.now staged.now number) }
     {
-        match self.newest(key, staged)? {
+        match self.newest(hash_of(key), key, staged)? {
             Some((address, _)) => Ok(Some(address)),
             None => Ok(None),
         }
     }
 
-    // The page of this number, resident or staged.
+    // The page of this number: resident, lent by its receipt, or staged.
     #[inline]
     fn live_page<'a>(&'a self, number: u64, staged: &'a Staged<R>) -> Option<&'a Page>
         requires live { self.now.oldest ≤ number }

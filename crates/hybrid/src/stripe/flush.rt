@@ -1,6 +1,6 @@
 // The flusher's steps.
 
-ghost use Rattle.std.specs.Prelude.{◌≡◌, ◌↔◌, ◌<◌, ℕ, IsOk, OnOk, IfErr, MatchOption};
+ghost use Rattle.std.specs.Prelude.{◌≡◌, ◌↔◌, ◌+◌, ◌<◌, ℕ, IsOk, OnOk, IfErr, MatchOption};
 ghost use Rattle.frames.specs.Resident.{page_of};
 ghost use Rattle.hybrid.specs.HybridLog.{IsSealed, count_kept, log_of, with_receipt};
 
@@ -29,6 +29,7 @@ impl<R: Shows> Stripe<R> {
         requires place { count_kept self.old.kept < self.old.unreleased }
         ensures exact { IsOk result ↔ (IsSealed self.old number × (page.now ≡ page_of self.old.resident number)) }
         ensures kept { OnOk result (self.new ≡ with_receipt self.old number (record { identity = R.identity receipt; shown = R.shown receipt })) }
+        ensures more { OnOk result (count_kept self.new.kept ≡ count_kept self.old.kept + 1) }
         ensures refused { IfErr result (λ back. (back ≡ receipt) × (self.new ≡ self.old)) }
         ensures log { log_of self.new ≡ log_of self.old }
     {
@@ -50,6 +51,7 @@ impl<R: Shows> Stripe<R> {
             return Err(receipt);
         }
         self.receipts[place] = Some(receipt);
+        self.kept += 1;
         Ok(())
     }
 }

@@ -4,7 +4,8 @@ ghost use Rattle.std.specs.Prelude.{◌≡◌, ◌↔◌, ◌+◌, ◌-◌, ◌<
 ghost use Rattle.std.specs.Bool.{OnTrue, OnFalse};
 ghost use Rattle.frames.specs.Resident.{first_mutable, next_number};
 ghost use Rattle.hybrid.specs.HybridLog.{log_of, HasRoom, free, pages_for, with_dropped, receipt_of};
-ghost use Rattle.hybrid.specs.Reserving.{IsFlushed, IsReserved, MatchFault, IsFull};
+ghost use Rattle.hybrid.specs.Reserving.{AreNewServed, IsFlushed, IsReserved, MatchFault, IsFull};
+ghost use Rattle.hybrid.specs.Shedding.{HasShed, IsFlushedBy};
 
 use crate::stripe::{CALL_PAGES, CLOSED_MIN, LAST_PAGE, Stripe};
 use device::{Device, Shows};
@@ -39,10 +40,18 @@ impl<R: Shows> Stripe<R> {
         requires { weight ≤ WEIGHT_MAX }
         ensures room { IfOk result (λ room. (room.weight ≡ weight) × HasRoom self.new weight) }
         ensures log { log_of self.new ≡ log_of self.old }
+        // Each page that left its frame was read-only, and had a receipt or was written to this device.
+        ensures shed { OnOk result (HasShed D.wrote (λ r. record { identity = R.identity r; shown = R.shown r }) self.old device.old self.new device.new) }
+        ensures shed_full { OnErr result (D.failures device.new ≡ D.failures device.old → HasShed D.wrote (λ r. record { identity = R.identity r; shown = R.shown r }) self.old device.old self.new device.new) }
         ensures reserved { (count : ℕ) × IsReserved self.old self.new count × (count ≤ pages_for self.old weight - free self.old) }
         ensures needless { pages_for self.old weight ≤ free self.old → self.new ≡ self.old }
         ensures fault { IfErr result (λ fault. MatchFault fault (D.failures device.new ≡ D.failures device.old + 1) (IsFull self.new × (D.failures device.new ≡ D.failures device.old))) }
         ensures no_fault { OnOk result (D.failures device.new ≡ D.failures device.old) }
+        ensures no_release { D.releases device.new ≡ D.releases device.old }
+
+        // What the device serves it still serves, and also each receipt that is kept now and was not.
+        ensures still_served { (r : R) → D.serves device.old r → D.serves device.new r }
+        ensures new_served { R.is_honest → AreNewServed D.serves (λ r. record { identity = R.identity r; shown = R.shown r }) self.old self.new device.new }
 
         // It asks the device once for each place that it takes, and once more where the device fails.
         ensures writes { OnOk result (D.writes device.new + self.old.unreleased ≡ D.writes device.old + self.new.unreleased) }
@@ -103,12 +112,17 @@ impl<R: Shows> Stripe<R> {
     fn flush_oldest<D: Device<Receipt = R>>(&mut self, device: &mut D) -> Result<(), Fault>
         requires { self.old.resident.oldest < first_mutable self.old.resident }
         ensures flushed { OnOk result (IsFlushed self.old self.new) }
+        ensures by_device { OnOk result (IsFlushedBy D.wrote (λ r. record { identity = R.identity r; shown = R.shown r }) self.old device.old self.new device.new) }
+        ensures same { OnErr result (D.failures device.new ≡ D.failures device.old → device.new ≡ device.old) }
         ensures unchanged { OnErr result (self.new ≡ self.old) }
         ensures bare { OnErr result (receipt_of self.old self.old.resident.oldest ≡ None) }
         ensures receipt { OnOk result (IsSome (receipt_of self.new self.new.resident.oldest)) }
         ensures log { log_of self.new ≡ log_of self.old }
         ensures fault { IfErr result (λ fault. MatchFault fault (D.failures device.new ≡ D.failures device.old + 1) ((self.new.unreleased ≡ self.new.places) × (D.failures device.new ≡ D.failures device.old))) }
         ensures no_fault { OnOk result (D.failures device.new ≡ D.failures device.old) }
+        ensures no_release { D.releases device.new ≡ D.releases device.old }
+        ensures still_served { (r : R) → D.serves device.old r → D.serves device.new r }
+        ensures new_served { R.is_honest → OnOk result (AreNewServed D.serves (λ r. record { identity = R.identity r; shown = R.shown r }) self.old self.new device.new) }
         ensures writes { OnOk result (D.writes device.new + self.old.unreleased ≡ D.writes device.old + self.new.unreleased) }
         ensures asked { IfErr result (λ fault. MatchFault fault (D.writes device.new ≡ D.writes device.old + 1) (D.writes device.new ≡ D.writes device.old)) }
     {
@@ -127,6 +141,7 @@ impl<R: Shows> Stripe<R> {
         };
         let first = (number - self.oldest) as usize;
         self.receipts[first] = Some(receipt);
+        self.kept += 1;
         self.unreleased += 1;
         Ok(())
     }

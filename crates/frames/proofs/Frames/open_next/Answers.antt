@@ -4,7 +4,7 @@ use Rattle.frames.proofs.Windows.{length-window}
 use Rattle.frames.proofs.Shown.{shown-longer}
 use Rattle.frames.proofs.Frames.open_next.Goals as goal
 
--- the newest page's number is below 2^47, so the next one's is below 2^48
+-- the new page has a number in range, so the next one is in range too
 pub invariant_of-self : goal.invariant_of-self
 invariant_of-self c =
     let f = c.self.inside in

@@ -1,20 +1,31 @@
-use Rattle.std.proofs.Common.{ℕ, List, map, ◌∙◌, ap}
-use Rattle.hybrid.proofs.Staging.{staged_page, same-found, more-missed, all-missed}
+use Rattle.std.proofs.Common.{List, ◌≤◌, ◌∙◌, length, map, ap, arith}
+use Rattle.hybrid.specs.HybridLog.{Kept}
+use Rattle.hybrid.specs.Reading.{staged_of}
+use Rattle.hybrid.proofs.Staging.{same-found, more-missed, all-missed}
 use Rattle.hybrid.proofs.staged.Staged.page.Goals as goal
 
 pub returns-then-same-clause-found : goal.returns-then-same-clause-found
 returns-then-same-clause-found g c = λ honest right.
-    let f = λ (x : g.row.R.Denot × List ℕ). staged_page (g.R.Shows.identity x.0) (g.R.Shows.shown x.0) x.1 in
-    same-found f c.deref-kept-items.result.now c.args.self.now c.loop-kept.kept-index c.loop-kept-item.result (ap (map f) c.deref-kept-items.ensures.value ∙ c.self.view_is) c.loop-kept-test.true c.loop-kept-item.is right
-    ∙ g.met.R.Shows.one_page c.loop-kept-item.result.0 c.args.receipt.now (c.same.ensures.only_copies honest c.if-same.true)
+    let f : g.row.R.Denot → Kept = λ r. record { identity = g.R.Shows.identity r; shown = g.R.Shows.shown r } in
+    let items = c.deref-kept-items.result.now in
+    let is = ap (λ (l : List g.row.R.Denot). staged_of (map f l) c.self.inside.pages.items) c.deref-kept-items.ensures.value ∙ c.self.view_is in
+    let fits : length items ≤ length c.self.inside.pages.items = omega (arith, c.self.invariant, ap length c.deref-kept-items.ensures.value, c.self.inside.receipts.ok.0, c.self.inside.pages.ok.0) in
+    same-found f items c.self.inside.pages.items c.args.self.now is fits c.loop-place.place c.kept-item.result c.index.result.now c.loop-place-test.true c.kept-item.is c.index.ensures right
+    ∙ g.met.R.Shows.one_page c.kept-item.result c.args.receipt.now (c.same.ensures.only_copies honest c.if-same.true)
 
-pub loop-kept-preserved : goal.loop-kept-preserved
-loop-kept-preserved g c =
-    let f = λ (x : g.row.R.Denot × List ℕ). staged_page (g.R.Shows.identity x.0) (g.R.Shows.shown x.0) x.1 in
-    more-missed f c.deref-kept-items.result.now c.args.self.now c.loop-kept.kept-index c.loop-kept-item.result (g.R.Shows.identity c.args.receipt.now) (ap (map f) c.deref-kept-items.ensures.value ∙ c.self.view_is) c.loop-kept-test.true c.loop-kept-item.is
-    (λ same. let bad = c.same.ensures.copies same in absurd cc) c.loop-kept.invariant
+pub loop-place-preserved : goal.loop-place-preserved
+loop-place-preserved g c =
+    let f : g.row.R.Denot → Kept = λ r. record { identity = g.R.Shows.identity r; shown = g.R.Shows.shown r } in
+    let items = c.deref-kept-items.result.now in
+    let is = ap (λ (l : List g.row.R.Denot). staged_of (map f l) c.self.inside.pages.items) c.deref-kept-items.ensures.value ∙ c.self.view_is in
+    let fits : length items ≤ length c.self.inside.pages.items = omega (arith, c.self.invariant, ap length c.deref-kept-items.ensures.value, c.self.inside.receipts.ok.0, c.self.inside.pages.ok.0) in
+    more-missed f items c.self.inside.pages.items c.args.self.now is fits c.loop-place.place c.kept-item.result (g.R.Shows.identity c.args.receipt.now) c.loop-place-test.true c.kept-item.is
+    (λ same. let bad = c.same.ensures.copies same in absurd cc) c.loop-place.invariant
 
 pub returns-clause-missing : goal.returns-clause-missing
 returns-clause-missing g c =
-    let f = λ (x : g.row.R.Denot × List ℕ). staged_page (g.R.Shows.identity x.0) (g.R.Shows.shown x.0) x.1 in
-    all-missed f c.deref-kept-items.result.now c.args.self.now c.loop-kept.kept-index (g.R.Shows.identity c.args.receipt.now) (ap (map f) c.deref-kept-items.ensures.value ∙ c.self.view_is) c.loop-kept-test.false c.loop-kept.invariant
+    let f : g.row.R.Denot → Kept = λ r. record { identity = g.R.Shows.identity r; shown = g.R.Shows.shown r } in
+    let items = c.deref-kept-items.result.now in
+    let is = ap (λ (l : List g.row.R.Denot). staged_of (map f l) c.self.inside.pages.items) c.deref-kept-items.ensures.value ∙ c.self.view_is in
+    let fits : length items ≤ length c.self.inside.pages.items = omega (arith, c.self.invariant, ap length c.deref-kept-items.ensures.value, c.self.inside.receipts.ok.0, c.self.inside.pages.ok.0) in
+    all-missed f items c.self.inside.pages.items c.args.self.now is fits c.loop-place.place (g.R.Shows.identity c.args.receipt.now) c.loop-place-test.false c.loop-place.invariant

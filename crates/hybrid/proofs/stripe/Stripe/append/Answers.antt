@@ -2,7 +2,7 @@ use Rattle.std.proofs.Common.{◌≡◌, ◌+◌, ◌<◌, ◌≤◌, ap, subst,
 use Rattle.std.specs.Option.{option_copied}
 use Rattle.records.specs.Records.{value_bytes, size_for}
 use Rattle.hybrid.specs.HybridLog.{HybridLog, IsPut, tail_bytes}
-use Rattle.hybrid.proofs.Tail.{added-put, added-opened, grown-put, grown-opened, room-put, room-frames, room-opened, room-put-opened, size-small, size-less}
+use Rattle.hybrid.proofs.Tail.{added-put, added-opened, grown-put, grown-opened, room-put, room-frames, room-opened, room-put-opened, size-less, size-short, size-small}
 use Rattle.hybrid.proofs.stripe.Stripe.append.Goals as goal
 
 pub put-requires-clause-room : goal.put-requires-clause-room
@@ -29,7 +29,7 @@ open_page-requires-clause-room g c =
     let same = ap (size_for k) c.length_of.ensures in
     let full : 16368 ≤ tail_bytes c.args.self.now + size_for k v = omega (arith, c.if-record_size-free.false, c.record_size.ensures, same, c.tail_end-free.ensures.end, c.tail_end-free.ensures.laid_out) in
     let frames = room-frames c.args.self.now c.args.weight (48 + k + v) (size_for k v) (size-less k v) c.requires.within full c.requires.room in
-    room-opened c.args.self.now c.args.weight (48 + k + v) (size_for k v) (size-small k v) c.requires.within (omega arith) c.requires.fits full frames
+    room-opened c.args.self.now c.args.weight (48 + k + v) (size_for k v) (size-small k v) c.requires.within (omega arith) (size-short k v c.requires.fits.key_fits c.requires.fits.value_fits) full frames
 
 pub open_page-requires-clause-numbers : goal.open_page-requires-clause-numbers
 open_page-requires-clause-numbers g c =
@@ -40,7 +40,9 @@ open_page-requires-clause-numbers g c =
     (room-frames c.args.self.now c.args.weight (48 + k + v) (size_for k v) (size-less k v) c.requires.within full c.requires.room).numbers
 
 pub put-requires-2-clause-room : goal.put-requires-2-clause-room
-put-requires-2-clause-room g c = omega (arith, c.open_page.ensures.tail, c.requires.fits)
+put-requires-2-clause-room g c =
+    let short = size-short (length c.args.key.now) (length (value_bytes (option_copied c.args.value))) c.requires.fits.key_fits c.requires.fits.value_fits in
+    omega (arith, c.open_page.ensures.tail, short)
 
 pub returns-clause-room : goal.returns-clause-room
 returns-clause-room g c =
@@ -51,17 +53,18 @@ returns-clause-room g c =
     let frames = room-frames c.args.self.now c.args.weight (48 + k + v) (size_for k v) (size-less k v) c.requires.within full c.requires.room in
     let put = subst (λ (q : HybridLog). IsPut q c.put-2.new.self) c.open_page.ensures.log c.put-2.ensures.put in
     let bytes : tail_bytes c.put-2.new.self ≡ size_for k v = omega (arith, c.put-2.ensures.bytes, c.open_page.ensures.tail) in
-    room-put-opened c.args.self.now c.put-2.new.self c.args.weight (48 + k + v) (size_for k v) (size-small k v) c.requires.within (omega arith) c.requires.fits full put bytes frames
+    room-put-opened c.args.self.now c.put-2.new.self c.args.weight (48 + k + v) (size_for k v) (size-small k v) c.requires.within (omega arith) (size-short k v c.requires.fits.key_fits c.requires.fits.value_fits) full put bytes frames
 
 pub returns-clause-grown : goal.returns-clause-grown
 returns-clause-grown g c =
     let k = length c.args.key.now in
     let v = length (value_bytes (option_copied c.args.value)) in
+    let short = size-short k v c.requires.fits.key_fits c.requires.fits.value_fits in
     let same = ap (size_for k) c.length_of.ensures in
-    let full : 16368 ≤ tail_bytes c.args.self.now + size_for k v = omega (arith, c.if-record_size-free.false, c.record_size.ensures, same, c.tail_end-free.ensures.end, c.tail_end-free.ensures.laid_out) in
+    let full : 16368 < tail_bytes c.args.self.now + size_for k v = omega (arith, c.if-record_size-free.false, c.record_size.ensures, same, c.tail_end-free.ensures.end, c.tail_end-free.ensures.laid_out) in
     let put = subst (λ (q : HybridLog). IsPut q c.put-2.new.self) c.open_page.ensures.log c.put-2.ensures.put in
     let bytes : tail_bytes c.put-2.new.self ≡ size_for k v = omega (arith, c.put-2.ensures.bytes, c.open_page.ensures.tail) in
-    grown-opened c.args.self.now c.put-2.new.self (48 + k + v) (size_for k v) (size-small k v) c.requires.fits full bytes put
+    grown-opened c.args.self.now c.put-2.new.self (48 + k + v) (size_for k v) (size-small k v) short full bytes put
 
 pub returns-then-record_size-free-clause-added : goal.returns-then-record_size-free-clause-added
 returns-then-record_size-free-clause-added g c =
@@ -69,7 +72,7 @@ returns-then-record_size-free-clause-added g c =
     let v = length (value_bytes (option_copied c.args.value)) in
     let same = ap (size_for k) c.length_of.ensures in
     let fits : tail_bytes c.args.self.now + size_for k v ≤ 16368 = omega (arith, c.if-record_size-free.true, c.record_size.ensures, same, c.tail_end-free.ensures.end, c.tail_end-free.ensures.laid_out) in
-    added-put c.args.self.now c.put.new.self c.put.result c.args.key.now (option_copied c.args.value) fits c.put.ensures.put c.put.ensures.bytes c.put.ensures.address c.put.ensures.log
+    added-put c.args.self.now c.put.new.self c.put.result c.args.key.now (option_copied c.args.value) fits c.put.ensures.put c.put.ensures.bytes c.put.ensures.address c.put.ensures.log c.put.ensures.heads
 
 pub returns-clause-added : goal.returns-clause-added
 returns-clause-added g c =
@@ -78,4 +81,4 @@ returns-clause-added g c =
     let same = ap (size_for k) c.length_of.ensures in
     let full : 16368 < tail_bytes c.args.self.now + size_for k v = omega (arith, c.if-record_size-free.false, c.record_size.ensures, same, c.tail_end-free.ensures.end, c.tail_end-free.ensures.laid_out) in
     added-opened c.args.self.now c.open_page.new.self c.put-2.new.self c.put-2.result c.args.key.now (option_copied c.args.value) full c.tail_end-free.ensures.pages
-    c.open_page.ensures.log c.open_page.ensures.records c.open_page.ensures.tail c.put-2.ensures.put c.put-2.ensures.bytes c.put-2.ensures.address c.put-2.ensures.log
+    c.open_page.ensures.log c.open_page.ensures.records c.open_page.ensures.tail c.put-2.ensures.put c.put-2.ensures.bytes c.put-2.ensures.address c.put-2.ensures.log c.put-2.ensures.heads

@@ -1,68 +1,57 @@
 use Rattle.std.proofs.Common.{arith}
 use Rattle.records.specs.Read.{shown}
 use Rattle.hybrid.proofs.Tail.{grown-less}
-use Rattle.hybrid.proofs.Cleaning.{read-fits, copying-start, copying-skip, copying-copy, done-all}
+use Rattle.hybrid.proofs.Cleaning.{read-fits, copying-start, copying-skip, copying-copy, done-all, never-heavy}
 use Rattle.hybrid.proofs.stripe.Stripe.copy_live.Goals as goal
 
 pub loop-record-init : goal.loop-record-init
-loop-record-init g c = copying-start c.args.self.now c.args.page.now c.args.live.now c.args.weight c.requires.room c.requires.enough
+loop-record-init g c = copying-start c.args.self.now c.args.page.now c.args.live.now c.args.weight c.requires.room
 
-pub overflow_add-size-in-Ok : goal.overflow_add-size-in-Ok
-overflow_add-size-in-Ok g c =
+pub overflow_add-at-in-Ok : goal.overflow_add-at-in-Ok
+overflow_add-at-in-Ok g c =
     let read = read-fits c.args.page.now c.loop-record.at (shown c.in-Ok.record) c.in-Ok.ensures.exact.0 c.in-Ok.ensures.exact.1 in
     omega (arith, read.within)
 
-pub overflow_add-at : goal.overflow_add-at
-overflow_add-at g c =
+pub overflow_add-at-in-Ok-2 : goal.overflow_add-at-in-Ok-2
+overflow_add-at-in-Ok-2 g c =
     let read = read-fits c.args.page.now c.loop-record.at (shown c.in-Ok.record) c.in-Ok.ensures.exact.0 c.in-Ok.ensures.exact.1 in
     omega (arith, read.within)
 
-pub overflow_add-at-then-size-gt-RECORD_MAX : goal.overflow_add-at-then-size-gt-RECORD_MAX
-overflow_add-at-then-size-gt-RECORD_MAX g c =
+pub overflow_add-used-in-Ok : goal.overflow_add-used-in-Ok
+overflow_add-used-in-Ok g c =
     let read = read-fits c.args.page.now c.loop-record.at (shown c.in-Ok.record) c.in-Ok.ensures.exact.0 c.in-Ok.ensures.exact.1 in
-    omega (arith, read.within)
+    omega (arith, read.within, read.value, read.key, c.length_of-length.ensures)
 
-pub loop-record-preserved-then-not-live-at : goal.loop-record-preserved-then-not-live-at
-loop-record-preserved-then-not-live-at g c =
+pub loop-record-preserved-then-not-marked : goal.loop-record-preserved-then-not-marked
+loop-record-preserved-then-not-marked g c =
     copying-skip c.args.self.now c.loop-record.self c.args.page.now c.args.live.now c.loop-record.at c.loop-record.weight c.args.weight (shown c.in-Ok.record) c.in-Ok.ensures.exact.0 c.in-Ok.ensures.exact.1 c.in-Ok.ensures.found
-    (λ laid short marked listed. (marked (c.loop-record.at) (shown c.in-Ok.record) listed).1 c.if-not-live-at.true) c.loop-record.invariant
+    (λ laid short marked listed before. (marked c.loop-record.at (shown c.in-Ok.record) listed).1 c.if-not-marked.true) c.loop-record.invariant
 
-pub loop-record-preserved-then-size-gt-RECORD_MAX :
-    goal.loop-record-preserved-then-size-gt-RECORD_MAX
-loop-record-preserved-then-size-gt-RECORD_MAX g c =
+pub loop-record-preserved-then-length-gt-VALUE_BYTES_MAX : goal.loop-record-preserved-then-length-gt-VALUE_BYTES_MAX
+loop-record-preserved-then-length-gt-VALUE_BYTES_MAX g c =
     copying-skip c.args.self.now c.loop-record.self c.args.page.now c.args.live.now c.loop-record.at c.loop-record.weight c.args.weight (shown c.in-Ok.record) c.in-Ok.ensures.exact.0 c.in-Ok.ensures.exact.1 c.in-Ok.ensures.found
-    (λ laid short marked listed. absurd (omega (arith, c.if-size-gt-RECORD_MAX.true, short c.loop-record.at (shown c.in-Ok.record) listed))) c.loop-record.invariant
+    (λ laid short marked listed before. absurd (omega (arith, c.if-length-gt-VALUE_BYTES_MAX.true, c.length_of-length.ensures, (short c.loop-record.at (shown c.in-Ok.record) listed).fits.value_fits))) c.loop-record.invariant
 
-pub append-requires-clause-within : goal.append-requires-clause-within
-append-requires-clause-within g c =
-    let read = read-fits c.args.page.now c.loop-record.at (shown c.in-Ok.record) c.in-Ok.ensures.exact.0 c.in-Ok.ensures.exact.1 in
-    omega (arith, read.within, read.value, c.loop-record.invariant.left)
-
-pub append-requires-clause-key : goal.append-requires-clause-key
-append-requires-clause-key g c =
-    let read = read-fits c.args.page.now c.loop-record.at (shown c.in-Ok.record) c.in-Ok.ensures.exact.0 c.in-Ok.ensures.exact.1 in
-    omega (arith, read.key)
+pub loop-record-preserved-then-used-weight : goal.loop-record-preserved-then-used-weight
+loop-record-preserved-then-used-weight g c =
+    copying-skip c.args.self.now c.loop-record.self c.args.page.now c.args.live.now c.loop-record.at c.loop-record.weight c.args.weight (shown c.in-Ok.record) c.in-Ok.ensures.exact.0 c.in-Ok.ensures.exact.1 c.in-Ok.ensures.found
+    (λ laid short marked listed before. absurd (never-heavy c.args.self.now c.loop-record.self c.args.page.now c.args.live.now c.loop-record.at c.loop-record.weight (shown c.in-Ok.record) laid marked listed c.if-not-marked.false before (omega (arith, c.if-used-weight.true, c.length_of-length.ensures)))) c.loop-record.invariant
 
 pub append-requires-clause-fits : goal.append-requires-clause-fits
 append-requires-clause-fits g c =
     let read = read-fits c.args.page.now c.loop-record.at (shown c.in-Ok.record) c.in-Ok.ensures.exact.0 c.in-Ok.ensures.exact.1 in
-    omega (arith, read.value, c.if-size-gt-RECORD_MAX.false)
-
-pub overflow_sub-weight : goal.overflow_sub-weight
-overflow_sub-weight g c =
-    let read = read-fits c.args.page.now c.loop-record.at (shown c.in-Ok.record) c.in-Ok.ensures.exact.0 c.in-Ok.ensures.exact.1 in
-    omega (arith, read.within, read.value, c.loop-record.invariant.left, c.length_of.ensures)
+    record { key_fits = omega (arith, read.key); value_fits = omega (arith, c.if-length-gt-VALUE_BYTES_MAX.false, c.length_of-length.ensures) }
 
 pub loop-record-preserved : goal.loop-record-preserved
 loop-record-preserved g c =
     let read = read-fits c.args.page.now c.loop-record.at (shown c.in-Ok.record) c.in-Ok.ensures.exact.0 c.in-Ok.ensures.exact.1 in
-    rw c.length_of.ensures
+    rw c.length_of-length.ensures
     (copying-copy c.args.self.now c.loop-record.self c.append.new.self c.args.page.now c.args.live.now c.loop-record.at c.loop-record.weight c.args.weight c.append.result (shown c.in-Ok.record) c.in-Ok.ensures.exact.0 c.in-Ok.ensures.exact.1 c.in-Ok.ensures.found
-    c.if-not-live-at.false (omega (arith, read.within, read.value, c.loop-record.invariant.left)) c.append.ensures.room c.append.ensures.grown c.append.ensures.added c.append.ensures.resident c.requires.cold c.loop-record.invariant)
+    c.if-not-marked.false (omega (arith, c.if-used-weight.false, c.length_of-length.ensures)) c.append.ensures.room c.append.ensures.grown c.append.ensures.added c.append.ensures.resident c.requires.cold c.loop-record.invariant)
 
 pub returns-clause-copied : goal.returns-clause-copied
-returns-clause-copied g c = λ laid short marked.
-    done-all c.args.self.now c.loop-record.self c.args.page.now c.loop-record.at laid (c.loop-record.invariant.done laid short marked) (λ r listed. c.in_default.ensures.found laid r listed)
+returns-clause-copied g c = λ laid short marked enough.
+    done-all c.args.self.now c.loop-record.self c.args.page.now c.loop-record.at c.loop-record.weight laid (c.loop-record.invariant.done laid short marked enough) (λ r listed. c.in_default.ensures.found laid r listed)
 
 pub returns-clause-grown : goal.returns-clause-grown
-returns-clause-grown g c = grown-less c.args.self.now c.loop-record.self c.loop-record.invariant.used 32736 (omega (arith, c.loop-record.invariant.light, c.loop-record.invariant.high)) c.loop-record.invariant.grown
+returns-clause-grown g c = grown-less c.args.self.now c.loop-record.self c.loop-record.invariant.used c.args.weight (omega (arith, c.loop-record.invariant.parts)) c.loop-record.invariant.grown

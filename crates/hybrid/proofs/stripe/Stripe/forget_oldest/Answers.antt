@@ -1,5 +1,6 @@
-use Rattle.std.proofs.Common.{rules, ◌∷◌, ap, ◌∙◌, refl, arith}
-use Rattle.hybrid.proofs.Parts.{forgotten-from, kept-some, kept-length, fewer-kept}
+use Rattle.std.proofs.Common.{rules, ◌∷◌, ap, ◌∙◌, sym, refl, arith}
+use Rattle.hybrid.specs.HybridLog.{HybridLog, count_kept}
+use Rattle.hybrid.proofs.Parts.{forgotten-from, kept-some, kept-length, fewer-kept, one-fewer}
 use Rattle.hybrid.proofs.stripe.Stripe.forget_oldest.Goals as goal
 
 pub unreachable-requires : goal.unreachable-requires
@@ -15,7 +16,8 @@ unreachable-requires-in_default-first g c =
 pub invariant_of-self : goal.invariant_of-self
 invariant_of-self g c =
     let f = forgotten-from (λ r. record { identity = g.R.Shows.identity r; shown = g.R.Shows.shown r }) c.self.inside.receipts.items c.pop_front.new.self.items c.in-Some.first c.in-Some-first.receipt _ _ c.self.view_is c.self.invariant.0 c.requires refl c.in-Some.ensures.items c.in-Some-first.is in
-    (f.part, rw c.in-Some.ensures.capacity c.self.invariant.1)
+    let fewer = one-fewer (λ r. record { identity = g.R.Shows.identity r; shown = g.R.Shows.shown r }) c.self.inside.receipts.items c.pop_front.new.self.items c.in-Some.first c.in-Some-first.receipt c.in-Some.ensures.items c.in-Some-first.is in
+    (f.part, rw c.in-Some.ensures.capacity c.self.invariant.1, omega (arith, fewer, c.self.invariant.2))
 
 pub returns-clause-log : goal.returns-clause-log
 returns-clause-log g c =
@@ -30,6 +32,11 @@ returns-clause-alone g c =
 pub returns-clause-counted : goal.returns-clause-counted
 returns-clause-counted g c =
     fewer-kept (λ r. record { identity = g.R.Shows.identity r; shown = g.R.Shows.shown r }) c.self.inside.receipts.items c.pop_front.new.self.items c.in-Some.first c.in-Some-first.receipt _ c.self.invariant.0 refl c.in-Some.ensures.items c.in-Some-first.is
+
+pub returns-clause-fewer : goal.returns-clause-fewer
+returns-clause-fewer g c =
+    let fewer = one-fewer (λ r. record { identity = g.R.Shows.identity r; shown = g.R.Shows.shown r }) c.self.inside.receipts.items c.pop_front.new.self.items c.in-Some.first c.in-Some-first.receipt c.in-Some.ensures.items c.in-Some-first.is in
+    sym (ap (λ (q : HybridLog). count_kept q.kept) c.self.view_is) ∙ fewer
 
 pub returns-clause-part : goal.returns-clause-part
 returns-clause-part g c = search rules

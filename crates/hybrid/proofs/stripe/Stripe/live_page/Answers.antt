@@ -37,4 +37,4 @@ returns-clause-missing g c =
     let high : c.args.number < c.args.self.now.resident.oldest = omega (arith, c.if-oldest-number.false, c.oldest.ensures.oldest, first) in
     let k : Kept = record { identity = g.R.Shows.identity c.in-Some.receipt.now; shown = g.R.Shows.shown c.in-Some.receipt.now } in
     let has = cold-has c.args.self.now c.args.number k c.requires.live c.in-Some.ensures in
-    none-so c.page-in-Some.result _ _ (λ unread. record { kept = k; has = has; away = λ there. omega (arith, there.0, high); unread = unread }) c.page-in-Some.ensures.missing
+    none-so c.page-in-Some.result _ _ (λ unread. record { kept = k; live = c.requires.live; has = has; away = λ there. omega (arith, there.0, high); unread = unread }) c.page-in-Some.ensures.missing

@@ -6,7 +6,7 @@ use Rattle.hybrid.proofs.Parts.{oldest}
 use Rattle.hybrid.proofs.Cleaning.{read-fits, listed}
 use Rattle.std.proofs.lemmas.Result.{err_from_is_err_and}
 use Rattle.hybrid.proofs.Finding.{page-cold}
-use Rattle.hybrid.proofs.Marking.{needed-of, mark-is, marking-start, marking-step, marking-all}
+use Rattle.hybrid.proofs.Marking.{light-step, needed-of, mark-is, marking-start, marking-step, marking-all, weighing-all}
 use Rattle.hybrid.proofs.stripe.Stripe.marks.Goals as goal
 
 pub loop-record-init : goal.loop-record-init
@@ -14,6 +14,7 @@ loop-record-init g c = record {
   low = omega arith;
   high = omega arith;
   size = refl;
+  light = omega arith;
   marked = λ honest right lt k e same.
       let laid : IsLaidOut c.args.page.now = rw same (oldest c.args.self.now k c.oldest.ensures.log lt e).laid in
       marking-start c.args.self.now c.args.page.now _ laid;
@@ -29,6 +30,22 @@ overflow_add-at-in-Ok-2 g c =
     let read = read-fits c.args.page.now c.loop-record.at (shown c.in-Ok.record) c.in-Ok.ensures.exact.0 c.in-Ok.ensures.exact.1 in
     omega (arith, read.within)
 
+pub weight_if-weight-requires-clause-key : goal.weight_if-weight-requires-clause-key
+weight_if-weight-requires-clause-key g c =
+    let read = read-fits c.args.page.now c.loop-record.at (shown c.in-Ok.record) c.in-Ok.ensures.exact.0 c.in-Ok.ensures.exact.1 in
+    omega (arith, read.key)
+
+pub weight_if-weight-requires-clause-value : goal.weight_if-weight-requires-clause-value
+weight_if-weight-requires-clause-value g c =
+    let read = read-fits c.args.page.now c.loop-record.at (shown c.in-Ok.record) c.in-Ok.ensures.exact.0 c.in-Ok.ensures.exact.1 in
+    omega (arith, read.value, read.within)
+
+pub overflow_add-weight : goal.overflow_add-weight
+overflow_add-weight g c =
+    let read = read-fits c.args.page.now c.loop-record.at (shown c.in-Ok.record) c.in-Ok.ensures.exact.0 c.in-Ok.ensures.exact.1 in
+    let light = light-step c.loop-record.weight c.weight_if-weight.result c.loop-record.at (shown c.in-Ok.record) c.in_ok-marked.marked c.weight_if-weight.ensures read.value c.loop-record.invariant.light in
+    omega (arith, light, read.within)
+
 pub loop-record-preserved : goal.loop-record-preserved
 loop-record-preserved g c =
     let read = read-fits c.args.page.now c.loop-record.at (shown c.in-Ok.record) c.in-Ok.ensures.exact.0 c.in-Ok.ensures.exact.1 in
@@ -36,18 +53,24 @@ loop-record-preserved g c =
       low = omega (arith, c.loop-record.invariant.low);
       high = omega (arith, read.within);
       size = length-set c.loop-record.live _ c.in_ok-marked.marked ∙ c.loop-record.invariant.size;
+      light = light-step c.loop-record.weight c.weight_if-weight.result c.loop-record.at (shown c.in-Ok.record) c.in_ok-marked.marked c.weight_if-weight.ensures read.value c.loop-record.invariant.light;
       marked = λ honest right lt k e same.
           let laid : IsLaidOut c.args.page.now = rw same (oldest c.args.self.now k c.oldest.ensures.log lt e).laid in
           let test = rw c.oldest.ensures.number at c.in_ok-marked.ensures.live honest right in
-          marking-step c.args.self.now c.args.page.now c.loop-record.live c.loop-record.at (shown c.in-Ok.record) c.in_ok-marked.marked laid c.in-Ok.ensures.exact.0 (c.in-Ok.ensures.found laid) c.loop-record.invariant.size
+          marking-step c.args.self.now c.args.page.now c.loop-record.live c.loop-record.at c.loop-record.weight c.weight_if-weight.result (shown c.in-Ok.record) c.in_ok-marked.marked laid c.in-Ok.ensures.exact.0 (c.in-Ok.ensures.found laid) c.loop-record.invariant.size
           (λ listed. mark-is c.args.self.now k c.loop-record.at (shown c.in-Ok.record) _ c.in_ok-marked.marked c.oldest.ensures.log lt e (subst (λ (page : List ℕ). Contains (records_of page) (c.loop-record.at, shown c.in-Ok.record)) same listed) refl test)
-          (c.loop-record.invariant.marked honest right lt k e same);
+          c.weight_if-weight.ensures (c.loop-record.invariant.marked honest right lt k e same);
     }
 
 pub returns-clause-live : goal.returns-clause-live
 returns-clause-live g c = λ honest right lt k e same.
     let laid : IsLaidOut c.args.page.now = rw same (oldest c.args.self.now k c.oldest.ensures.log lt e).laid in
-    marking-all c.args.self.now c.args.page.now c.loop-record.live c.loop-record.at laid (c.loop-record.invariant.marked honest right lt k e same) (λ r listed. c.in_default.ensures.found laid r listed)
+    marking-all c.args.self.now c.args.page.now c.loop-record.live c.loop-record.at c.loop-record.weight laid (c.loop-record.invariant.marked honest right lt k e same) (λ r listed. c.in_default.ensures.found laid r listed)
+
+pub returns-clause-weight : goal.returns-clause-weight
+returns-clause-weight g c = λ honest right lt k e same.
+    let laid : IsLaidOut c.args.page.now = rw same (oldest c.args.self.now k c.oldest.ensures.log lt e).laid in
+    weighing-all c.args.self.now c.args.page.now c.loop-record.at c.loop-record.weight (c.loop-record.invariant.marked honest right lt k e same).weighing (λ r listed. c.in_default.ensures.found laid r listed)
 
 pub returns-in_err-marked-clause-needed : goal.returns-in_err-marked-clause-needed
 returns-in_err-marked-clause-needed g c = λ honest right lt k e same.

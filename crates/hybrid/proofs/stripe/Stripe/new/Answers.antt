@@ -1,5 +1,5 @@
 use Rattle.std.proofs.Common.{ap, sym, subst, arith}
-use Rattle.hybrid.specs.HybridLog.{HybridLog, IsHybridLog}
+use Rattle.hybrid.specs.HybridLog.{HybridLog, IsHybridLog, count_kept}
 use Rattle.hybrid.proofs.Starting.{empty-is, empty-from, first-page}
 use Rattle.hybrid.proofs.stripe.Stripe.new.Goals as goal
 
@@ -10,6 +10,7 @@ invariant_of-result g c =
     l.stripes_in_range.0 l.buckets_in_range.0 l.frames_in_range.0 c.in_ok-receipts.ensures.items c.push_back_reserved.ensures.items c.in_ok-frames.ensures c.in-Ok.ensures.opened c.in_ok-index.ensures c.in-Ok.ensures.empty in (
       subst (λ (p : HybridLog). IsHybridLog p) (sym same) (empty-is l.stripes l.buckets l.frames l.places l.stripes_in_range.0 l.buckets_in_range.0 l.frames_in_range.0 (first-page c.in_ok-frames.frames l.frames c.in_ok-frames.ensures c.in-Ok.ensures.empty)),
       omega (arith, c.push_back_reserved.ensures.capacity, c.in_ok-receipts.ensures.capacity, ap (λ r. r.frames) c.in-Ok.ensures.opened, ap (λ r. r.frames) c.in_ok-frames.ensures),
+      sym (ap (λ (p : HybridLog). count_kept p.kept) same),
     )
 
 pub returns : goal.returns

@@ -8,7 +8,7 @@ use Rattle.hybrid.proofs.stripe.Stripe.newest.Goals as goal
 
 pub loop-address-init : goal.loop-address-init
 loop-address-init g c =
-    let s = start-from _ _ c.args.key.now c.hash_of.result c.head-address.result c.self.view_is c.self.invariant.0 c.hash_of.ensures c.head-address.ensures.head in
+    let s = start-from _ _ c.args.key.now c.args.hash c.head-address.result c.self.view_is c.self.invariant.0 c.requires.hash c.head-address.ensures.head in
     record { below = s.below; walk = λ honest right. s.walk }
 
 pub returns-in_default-clause-leads : goal.returns-in_default-clause-leads

@@ -1,6 +1,6 @@
-use Rattle.std.proofs.Common.{◌<◌, length, ap, subst, sym, refl, arith}
+use Rattle.std.proofs.Common.{◌<◌, length, ap, subst, sym, ◌∙◌, refl, arith}
 use Rattle.hybrid.specs.HybridLog.{HybridLog}
-use Rattle.hybrid.proofs.Opening.{opened-from, kept-room, opened-log-from}
+use Rattle.hybrid.proofs.Opening.{opened-count, opened-from, kept-room, opened-log-from}
 use Rattle.hybrid.proofs.Tail.{opened-tail-from}
 use Rattle.hybrid.proofs.stripe.Stripe.open_page.Goals as goal
 
@@ -18,7 +18,11 @@ push_back_reserved-requires g c =
 pub invariant_of-self : goal.invariant_of-self
 invariant_of-self g c =
     let part = opened-from (λ r. record { identity = g.R.Shows.identity r; shown = g.R.Shows.shown r }) c.self.inside.receipts.items _ _ c.open_next.new.self c.self.view_is c.self.invariant.0 refl c.requires.room (omega (arith, c.requires.numbers)) c.in-Ok.ensures.opened c.in-Ok.ensures.empty in
-    (rw c.push_back_reserved.ensures.items part, omega (arith, c.push_back_reserved.ensures.capacity, c.self.invariant.1, ap (λ r. r.frames) c.in-Ok.ensures.opened))
+    let count = opened-count (λ r. record { identity = g.R.Shows.identity r; shown = g.R.Shows.shown r }) c.self.inside.receipts.items in (
+      rw c.push_back_reserved.ensures.items part,
+      omega (arith, c.push_back_reserved.ensures.capacity, c.self.invariant.1, ap (λ r. r.frames) c.in-Ok.ensures.opened),
+      rw c.push_back_reserved.ensures.items (c.self.invariant.2 ∙ sym count),
+    )
 
 pub returns-clause-tail : goal.returns-clause-tail
 returns-clause-tail g c = opened-tail-from _ _ c.open_next.new.self c.self.view_is c.in-Ok.ensures.opened c.in-Ok.ensures.empty

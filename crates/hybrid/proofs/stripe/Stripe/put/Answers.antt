@@ -14,7 +14,7 @@ invariant_of-self g c =
     let at : c.next_number-number.result - 1 ≡ next_number c.self.inside.frames - 1 = omega (arith, c.next_number-number.ensures.number) in
     let done = put-from _ _ (c.next_number-number.result - 1) c.in-Ok.offset c.head-link.result c.args.hash c.in-Some.page.now c.put_record.new.page c.set_head.new.self c.args.key.now (option_copied c.args.value) c.self.view_is c.self.invariant.0 at c.in-Some.ensures.bytes
     c.in-Ok.ensures.laid_out c.in-Ok.ensures.number c.in-Ok.ensures.appended c.in-Ok.ensures.end c.in-Ok.ensures.offset c.requires.hash c.head-link.ensures.head c.set_head.ensures.heads c.requires.fits in
-    (done.is, c.self.invariant.1)
+    (done.is, c.self.invariant.1, c.self.invariant.2)
 
 pub returns-clause-log : goal.returns-clause-log
 returns-clause-log g c =
@@ -22,6 +22,13 @@ returns-clause-log g c =
     let done = put-from _ _ (c.next_number-number.result - 1) c.in-Ok.offset c.head-link.result c.args.hash c.in-Some.page.now c.put_record.new.page c.set_head.new.self c.args.key.now (option_copied c.args.value) c.self.view_is c.self.invariant.0 at c.in-Some.ensures.bytes
     c.in-Ok.ensures.laid_out c.in-Ok.ensures.number c.in-Ok.ensures.appended c.in-Ok.ensures.end c.in-Ok.ensures.offset c.requires.hash c.head-link.ensures.head c.set_head.ensures.heads c.requires.fits in
     done.appended
+
+pub returns-clause-heads : goal.returns-clause-heads
+returns-clause-heads g c =
+    let at : c.next_number-number.result - 1 ≡ next_number c.self.inside.frames - 1 = omega (arith, c.next_number-number.ensures.number) in
+    let done = put-from _ _ (c.next_number-number.result - 1) c.in-Ok.offset c.head-link.result c.args.hash c.in-Some.page.now c.put_record.new.page c.set_head.new.self c.args.key.now (option_copied c.args.value) c.self.view_is c.self.invariant.0 at c.in-Some.ensures.bytes
+    c.in-Ok.ensures.laid_out c.in-Ok.ensures.number c.in-Ok.ensures.appended c.in-Ok.ensures.end c.in-Ok.ensures.offset c.requires.hash c.head-link.ensures.head c.set_head.ensures.heads c.requires.fits in
+    done.heads
 
 pub returns-clause-address : goal.returns-clause-address
 returns-clause-address g c =

@@ -3,7 +3,7 @@ use Rattle.std.specs.Option.{option_copied}
 use Rattle.records.specs.Read.{shown}
 use Rattle.hybrid.specs.HybridLog.{log_of}
 use Rattle.hybrid.proofs.Logs.{contents-newest}
-use Rattle.hybrid.proofs.stripe.Stripe.find.Goals as goal
+use Rattle.hybrid.proofs.stripe.Stripe.find_hashed.Goals as goal
 
 pub returns-in-Ok-None-clause-contents : goal.returns-in-Ok-None-clause-contents
 returns-in-Ok-None-clause-contents g c = λ honest right.
