@@ -1,13 +1,16 @@
 -- The turn of a client whose request goes to the engine with its words as they lie, or is a PING without a text.
-use Rattle.std.proofs.Common.{◌≡◌, ℕ, List, [], ◌∷◌, ◌++◌, Some, refl, ap, IsTrue}
+use Rattle.std.proofs.Common.{◌≡◌, ℕ, List, [], ◌∷◌, ◌++◌, Some, refl, ap, subst, IsTrue}
+use Rattle.std.specs.Prelude.{Result, IfOk}
 use Rattle.words.specs.declared.command.Command.{Command}
 use Rattle.words.specs.declared.command.Command.TheVariants.{Get, Set}
 use Rattle.words.specs.declared.command.When.TheVariants.{Always}
+use Rattle.words.specs.declared.reply.Refusal.{Refusal}
 use Rattle.words.specs.declared.reply.Reply.{Reply}
 use Rattle.words.specs.declared.reply.Line.TheVariants.{Pong}
 use Rattle.words.specs.Store.{Bytes}
 use Rattle.words.specs.Spelling.{IsRequest}
-use Rattle.words.specs.Commands.{touches_keys}
+use Rattle.words.specs.Commands.{command_of, touches_keys}
+use Rattle.words.specs.Bounds.{IsBounded}
 use Rattle.words.specs.Briefs.{IsGet, IsSet, IsPing}
 use Rattle.words.specs.Session.{Idle, Says, Calls, Run, turn, turn_idle, line_reply}
 use Rattle.gates.specs.declared.view.Knowledge.{Knowledge}
@@ -30,7 +33,7 @@ waits watched = ForAnswer (stands Idle watched) (stands Idle watched)
 
 -- it hands the command on
 hands_on : (words : List Bytes) (command : Command) (at : Progress) (idle : IsIdle at.stage) → IsRequest words
-    → turn Idle idle.0 words ≡ Calls (Run command) Idle Idle → IsTrue (touches_keys command)
+    → turn Idle idle.0 words ≡ Calls (Run command) Idle Idle → IsTrue (touches_keys command) × IsBounded command
     → TakesUp (before words at) (next.Calls (One command)) (record at { stage = Called (waits idle.0) })
 hands_on words command at idle request asks place =
     (words, record { request = request; taken = refl }, (waits idle.0, refl, rw (idle.1, asks) (refl, refl), λ pairs. place))
@@ -47,7 +50,7 @@ attends_before knows words at attends = record { ready = attends.ready; watches 
 -- the turn
 turned_brief : (was now : Knowledge) (stripes : List ℕ) (words : List Bytes) (command : Command) (a : Answer) (reply : Reply) (at : Progress)
     → WatchesPairsOfEntry → WatchesPairsOfFault → Attends was at → (idle : IsIdle at.stage) → IsRequest words
-    → turn Idle idle.0 words ≡ Calls (Run command) Idle Idle → IsTrue (touches_keys command)
+    → turn Idle idle.0 words ≡ Calls (Run command) Idle Idle → IsTrue (touches_keys command) × IsBounded command
     → IfReply a (λ given. IsDone stripes (Some (Run command)) given was now) → IfFault a (λ f. IsUndone stripes (Some (Run command)) f was now)
     → reply ≡ reply_to a → Turned was now (before words at) at reply
 turned_brief was now stripes words command a reply at entry law attends idle request asks place done undone says =
@@ -56,22 +59,22 @@ turned_brief was now stripes words command a reply at entry law attends idle req
 
 -- of a GET
 pub turned_get : (was now : Knowledge) (stripes : List ℕ) (words : List Bytes) (a : Answer) (reply : Reply) (at : Progress)
-    → WatchesPairsOfEntry → WatchesPairsOfFault → Attends was at → IsIdle at.stage → IsRequest words → (get : IsGet words)
+    → WatchesPairsOfEntry → WatchesPairsOfFault → Attends was at → IsIdle at.stage → IsRequest words → (get : IsGet words) → IsBounded (Get get.key)
     → IfReply a (λ given. IsDone stripes (Some (Run (Get get.key))) given was now)
     → IfFault a (λ f. IsUndone stripes (Some (Run (Get get.key))) f was now)
     → reply ≡ reply_to a → Turned was now (before words at) at reply
-turned_get was now stripes words a reply at entry law attends idle request get done undone says =
-    turned_brief was now stripes words (Get get.key) a reply at entry law attends idle request (ap (turn_idle idle.0) get.command) refl done undone says
+turned_get was now stripes words a reply at entry law attends idle request get bounded done undone says =
+    turned_brief was now stripes words (Get get.key) a reply at entry law attends idle request (ap (turn_idle idle.0) get.command) (refl, bounded) done undone says
 
 -- of a SET without an option
 pub turned_set : (was now : Knowledge) (stripes : List ℕ) (words : List Bytes) (a : Answer) (reply : Reply) (at : Progress)
-    → WatchesPairsOfEntry → WatchesPairsOfFault → Attends was at → IsIdle at.stage → IsRequest words → (set : IsSet words)
+    → WatchesPairsOfEntry → WatchesPairsOfFault → Attends was at → IsIdle at.stage → IsRequest words → (set : IsSet words) → IsBounded (Set set.key set.value Always)
     → IfReply a (λ given. IsDone stripes (Some (Run (Set set.key set.value Always))) given was now)
     → IfFault a (λ f. IsUndone stripes (Some (Run (Set set.key set.value Always))) f was now)
     → reply ≡ reply_to a → Turned was now (before words at) at reply
-turned_set was now stripes words a reply at entry law attends idle request set done undone says =
-    turned_brief was now stripes words (Set set.key set.value Always) a reply at entry law attends idle request (ap (turn_idle idle.0) set.command) refl
-    done undone says
+turned_set was now stripes words a reply at entry law attends idle request set bounded done undone says =
+    turned_brief was now stripes words (Set set.key set.value Always) a reply at entry law attends idle request (ap (turn_idle idle.0) set.command)
+    (refl, bounded) done undone says
 
 -- of a PING without a text
 pub turned_ping : (was : Knowledge) (words : List Bytes) (at : Progress) → Attends was at → IsIdle at.stage → IsRequest words → IsPing words
@@ -88,3 +91,13 @@ last_off (a ∷ []) last name key value is = absurd (cc is)
 last_off (a ∷ b ∷ []) last name key value is = (cc is, cc is)
 last_off (a ∷ b ∷ c ∷ []) last name key value is = absurd (cc is)
 last_off (a ∷ b ∷ c ∷ d ∷ more) last name key value is = absurd (cc is)
+
+-- A GET and a SET without an option of a request within the limits are within them.
+
+pub get_bounded : ((words : List Bytes) → IsRequest words → IfOk (command_of words) IsBounded) → (words : List Bytes) → IsRequest words → (get : IsGet words)
+    → IsBounded (Get get.key)
+get_bounded bounded words request get = subst (λ (made : Result Command Refusal). IfOk made IsBounded) get.command (bounded words request)
+
+pub set_bounded : ((words : List Bytes) → IsRequest words → IfOk (command_of words) IsBounded) → (words : List Bytes) → IsRequest words → (set : IsSet words)
+    → IsBounded (Set set.key set.value Always)
+set_bounded bounded words request set = subst (λ (made : Result Command Refusal). IfOk made IsBounded) set.command (bounded words request)

@@ -1,5 +1,5 @@
 -- A conversation, from one turn to the next.
-use Rattle.std.proofs.Common.{◌≡◌, ℕ, ◌<◌, List, [], ◌∷◌, ◌++◌, length, reverse, Option, Some, None, IfNone, refl, sym, ap, subst, ◌∙◌, append_assoc, append-nil, length-append, arith, inl, inr}
+use Rattle.std.proofs.Common.{◌≡◌, ℕ, ◌<◌, ◌≤◌, List, [], ◌∷◌, ◌++◌, length, reverse, Option, Some, None, IfNone, refl, sym, ap, subst, ◌∙◌, append_assoc, append-nil, arith, inl, inr}
 use Rattle.std.specs.List.{flat_map}
 use Rattle.std.proofs.lemmas.List.Concat.{flat_map-append}
 use Rattle.std.proofs.lemmas.Grind.{common_steps}
@@ -20,9 +20,10 @@ use Rattle.connection.specs.Clients.{Progress, beginning, TakesOff, IsOpen, mode
 use Rattle.connection.specs.Conversations.{Leads, Talk, Conversation, Answers, Went}
 use Rattle.connection.specs.declared.serving.Ended.{Ended}
 use Rattle.connection.specs.declared.serving.Ended.TheVariants as ended
+use Rattle.connection.specs.declared.reading.TheConstants.{PIECE_BYTES}
 use Rattle.connection.specs.declared.answering.Paused.{Paused}
 use Rattle.connection.specs.declared.answering.Paused.TheVariants as paused
-use Rattle.connection.specs.Served.{Answered, Conversing, Served, Turned, Turns, HasTaken, HasPaused, HasAnswered, StandsAt, LeavesAt, GoesOn, Attends, fault_line, fed_at_once}
+use Rattle.connection.specs.Served.{Answered, Conversing, Served, Turned, Turns, HasTaken, HasPaused, HasAnswered, ForOutput, ForPiece, ForRequest, StandsAt, LeavesAt, GoesOn, Attends, fault_line, fed_at_once}
 
 -- spellings, requests and encodings, with one more
 spellings-more : (requests : List (List Bytes)) (words : List Bytes) → spellings (requests ++ words ∷ []) ≡ spellings requests ++ spelling words
@@ -311,6 +312,15 @@ pub served_cut : {was now : Knowledge} {fed : Bytes} {at : Progress} {whole : By
     → Conversing was now fed at whole → whole ≡ text ++ more → Served was now ended.WriteFailed fed text
 served_cut {whole = whole} text more talk is = record { talk = closed talk; ends = (whole, more, inl talk.conversation.text, is) }
 
+-- the same of one whose client was not fed the piece that was read last
+pub served_cut_unfed : {was now : Knowledge} {fed : Bytes} {at : Progress} {whole : Bytes} (bytes piece text more : Bytes)
+    → Conversing was now fed at whole → bytes ≡ fed ++ piece → whole ≡ text ++ more → Served was now ended.WriteFailed bytes text
+unfolding conversing_with conversation_fed
+served_cut_unfed {was} {now} {fed} {at} {whole} bytes piece text more talk joined is = rw joined (record {
+  talk = closed (conversing_with was now fed whole piece at talk);
+  ends = (whole, more, inl talk.conversation.text, is);
+})
+
 -- the same of a text that a fault's line ends
 pub served_cut_fault : {was now : Knowledge} {fed : Bytes} {at : Progress} {said : Bytes} (fault : ProtocolFault) (text more : Bytes)
     → Conversing was now fed at said → front at.unread ≡ Faulty fault → said ++ fault_line fault ≡ text ++ more
@@ -338,56 +348,58 @@ served_quit text talk is_closed is = record { talk = closed talk; ends = (is_clo
 pub served_nothing : (was : Knowledge) → was.watched ≡ [] → Served was was ended.NoMemory [] []
 served_nothing was none =
     let talk = conversing_begins was beginning none refl in
-    record { talk = closed talk; ends = (inl refl, tt, talk.conversation.text) }
-
--- where memory is asked for something is unread
-pub some_unread : (unread : Bytes) → WantsMemory unread → 0 < length unread
-unfolding spelling header
-some_unread unread wants = rw wants.2.taken (grind (arith, common_steps))
+    record { talk = closed talk; ends = (ForOutput refl, tt, talk.conversation.text) }
 
 -- a connection that found no memory for a request
 pub served_no_memory : {was now : Knowledge} {fed : Bytes} {at : Progress} {said : Bytes} (text : Bytes)
     → Conversing was now fed at said → WantsMemory at.unread → IsOpen (mode_of at.stage) → said ≡ text → Served was now ended.NoMemory fed text
 served_no_memory text talk wants is_open is = record {
   talk = closed talk;
-  ends = (inr (some_unread _ wants), is_open, sym is ∙ talk.conversation.text);
+  ends = (ForRequest wants, is_open, sym is ∙ talk.conversation.text);
 }
 
--- a connection that found no memory to feed what was read
-pub served_unfed : {was now : Knowledge} {fed : Bytes} {at : Progress} {said : Bytes} (text : Bytes)
-    → Conversing was now fed at said → 0 < length at.unread → IsOpen (mode_of at.stage) → said ≡ text → Served was now ended.NoMemory fed text
-served_unfed text talk some is_open is = record {
-  talk = closed talk;
-  ends = (inr some, is_open, sym is ∙ talk.conversation.text);
-}
+-- a connection that found no memory to feed what was read last
+pub served_unfed : {was now : Knowledge} {fed : Bytes} {at : Progress} {said : Bytes} (bytes piece text : Bytes)
+    → Conversing was now fed at said → bytes ≡ fed ++ piece → 0 < length piece → length piece ≤ PIECE_BYTES → front at.unread ≡ Part
+    → IsOpen (mode_of at.stage) → said ≡ text → Served was now ended.NoMemory bytes text
+unfolding conversing_with conversation_fed
+served_unfed {was} {now} {fed} {at} {said} bytes piece text talk joined some short waits is_open is = rw joined (record {
+  talk = closed (conversing_with was now fed said piece at talk);
+  ends = (
+    ForPiece (record { fed = at.unread; piece = piece; joined = refl; waits = waits; some = some; short = short }),
+    is_open,
+    sym is ∙ talk.conversation.text,
+  );
+})
 
 -- nothing is a part of a request
 pub front-none : front [] ≡ Part
 unfolding front
 front-none = refl
 
-pub longer : (unread piece : Bytes) → 0 < length piece → 0 < length (unread ++ piece)
-longer unread piece some = omega (arith, length-append unread piece)
-
 -- a connection that ends where it took a piece
 pub served_taken : (was now : Knowledge) (fed piece said : Bytes) (at after : Progress) (e : Ended)
-    → Conversing was now fed at said → front at.unread ≡ Part → IsOpen (mode_of at.stage) → HasTaken (Some e) at piece after
-    → Served was now e (fed ++ piece) said
+    → Conversing was now fed at said → front at.unread ≡ Part → IsOpen (mode_of at.stage) → length piece ≤ PIECE_BYTES
+    → HasTaken (Some e) at piece after → Served was now e (fed ++ piece) said
 unfolding conversing_with conversation_fed
-served_taken was now fed piece said at after ended.EndOfInput talk waits is_open taken = record {
+served_taken was now fed piece said at after ended.EndOfInput talk waits is_open short taken = record {
   talk = closed (conversing_with was now fed said piece at talk);
   ends = (rw (taken.0, append-nil at.unread) waits, is_open, talk.conversation.text);
 }
-served_taken was now fed piece said at after ended.Quit talk waits is_open taken = absurd taken
-served_taken was now fed piece said at after ended.ProtocolFault talk waits is_open taken = absurd taken
-served_taken was now fed piece said at after ended.ReadFailed talk waits is_open taken = record {
+served_taken was now fed piece said at after ended.Quit talk waits is_open short taken = absurd taken
+served_taken was now fed piece said at after ended.ProtocolFault talk waits is_open short taken = absurd taken
+served_taken was now fed piece said at after ended.ReadFailed talk waits is_open short taken = record {
   talk = closed (conversing_with was now fed said piece at talk);
   ends = (rw (taken.0, append-nil at.unread) waits, is_open, talk.conversation.text);
 }
-served_taken was now fed piece said at after ended.WriteFailed talk waits is_open taken = absurd taken
-served_taken was now fed piece said at after ended.NoMemory talk waits is_open taken = record {
+served_taken was now fed piece said at after ended.WriteFailed talk waits is_open short taken = absurd taken
+served_taken was now fed piece said at after ended.NoMemory talk waits is_open short taken = record {
   talk = closed (conversing_with was now fed said piece at talk);
-  ends = (inr (longer at.unread piece taken.0), is_open, talk.conversation.text);
+  ends = (
+    ForPiece (record { fed = at.unread; piece = piece; joined = refl; waits = waits; some = taken.0; short = short }),
+    is_open,
+    talk.conversation.text,
+  );
 }
 
 -- a client that took a piece, or none, watches what it watched

@@ -1,5 +1,6 @@
 -- Texts of which a part is sent and a part is held.
-use Rattle.std.proofs.Common.{◌≡◌, ℕ, List, ◌++◌, sym, ap, ◌∙◌, append_assoc}
+use Rattle.std.proofs.Common.{◌≡◌, ◌≤◌, ◌+◌, ℕ, List, [], ◌++◌, length, vec_len, vec_capacity, sym, ap, ◌∙◌, append_assoc, length-append, arith}
+use Rattle.std.specs.Prelude.{Vec}
 
 -- texts, grouped another way
 pub regroup : (a b held text sent holds : List ℕ) → held ++ text ≡ sent ++ holds → ((a ++ b) ++ held) ++ text ≡ (a ++ (b ++ sent)) ++ holds
@@ -21,3 +22,16 @@ regroup_held a held text sent holds is = append_assoc a held text ∙ ap (λ (t 
 -- a held text of which a beginning is sent
 pub cut_held : (a held sent more : List ℕ) → held ≡ sent ++ more → a ++ held ≡ (a ++ sent) ++ more
 cut_held a held sent more is = ap (λ (t : List ℕ). a ++ t) is ∙ sym (append_assoc a sent more)
+
+-- a buffer that holds what it held fits into the room that it had
+pub within_same : {Z : Type 0} (old new : Vec ℕ Z) → new.items ≡ old.items → vec_len new ≤ vec_capacity old
+within_same old new is = omega (arith, new.ok.0, old.ok.0, old.ok.1, ap length is)
+
+-- and so does one that took a text for which there was room
+pub within_said : {Z : Type 0} (old new : Vec ℕ Z) (text : List ℕ) → vec_len old + length text ≤ vec_capacity old → new.items ≡ old.items ++ text
+    → vec_len new ≤ vec_capacity old
+within_said old new text fits is = omega (arith, new.ok.0, old.ok.0, ap length is, length-append old.items text, fits)
+
+-- a buffer that holds nothing fits into any room
+pub within_none : {Z : Type 0} (new : Vec ℕ Z) (room : ℕ) → new.items ≡ [] → vec_len new ≤ room
+within_none new room none = omega (arith, new.ok.0, ap length none)

@@ -1,5 +1,5 @@
 -- What serving one connection did, for each way in which it ends.
-use Rattle.std.specs.Prelude.{ℕ, ◌≡◌, ◌<◌, ◌⊎◌, List, [], ◌∷◌, ◌++◌, length, Option, Some, None}
+use Rattle.std.specs.Prelude.{ℕ, ◌≡◌, ◌<◌, ◌≤◌, ◌⊎◌, List, [], ◌∷◌, ◌++◌, length, Option, Some, None}
 use Rattle.words.specs.declared.reply.ProtocolFault.{ProtocolFault}
 use Rattle.words.specs.declared.reply.Reply.{Reply}
 use Rattle.words.specs.declared.reply.Fault.{Fault}
@@ -22,6 +22,7 @@ use Rattle.connection.specs.declared.serving.Ended.{Ended}
 use Rattle.connection.specs.declared.serving.Ended.TheVariants as ended
 use Rattle.connection.specs.declared.answering.Paused.{Paused}
 use Rattle.connection.specs.declared.answering.Paused.TheVariants as paused
+use Rattle.connection.specs.declared.reading.TheConstants.{PIECE_BYTES}
 use Rattle.connection.specs.declared.reading.Waiting.{Waiting}
 use Rattle.connection.specs.declared.reading.Waiting.TheVariants as waiting
 use Rattle.connection.specs.Clients.{Progress, beginning, IsReady, IsOpen, mode_of, watched_of, turn_at, TakesOff, WantsMemory}
@@ -97,11 +98,26 @@ IsWhole rest replies whole =
     (whole ≡ encodings replies)
     ⊎ ((fault : ProtocolFault) × (front rest ≡ Faulty fault) × (whole ≡ encodings replies ++ fault_line fault))
 
+-- There was no memory to feed the client the piece that was read last. All whole requests of what it was fed before are answered: nothing or
+-- a part of a request was left of that.
+pub record LacksPiece (rest : Bytes) : Type 0 where
+  pub fed : Bytes
+  pub piece : Bytes
+  pub joined : rest ≡ fed ++ piece
+  pub waits : front fed ≡ Part
+  pub some : 0 < length piece
+  pub short : length piece ≤ PIECE_BYTES
+
+-- For what a connection found no memory that read these bytes and left this rest of them.
+pub data LacksMemory (bytes rest : Bytes) : Type 0 where
+  ForOutput : bytes ≡ [] → LacksMemory bytes rest  -- for its output buffer, so nothing was read
+  ForPiece : LacksPiece rest → LacksMemory bytes rest  -- for the reader, to take the piece that was read last
+  ForRequest : WantsMemory rest → LacksMemory bytes rest  -- for the words of the whole request at the front, or for its command
+
 -- What is left of the bytes, the mode of the session, and the text that was written, where a connection ended so. After the end of the
 -- input, or a read that failed, all complete requests are answered and all is written. After QUIT the requests up to it are answered and
 -- all is written. After a protocol fault all requests before it are answered, and its line is written last. After a write that failed, a
--- beginning of the text is written. After want of memory the requests before the one that found none are answered, and something is left
--- unread, unless nothing was read.
+-- beginning of the text is written. After want of memory the requests before the one that found none are answered, and all is written.
 abbrev pub Ends : Ended → (bytes rest : Bytes) → Mode → List Reply → (text : Bytes) → Type 0
 Ends ended.EndOfInput bytes rest mode replies text = (front rest ≡ Part) × IsOpen mode × (text ≡ encodings replies)
 Ends ended.Quit bytes rest mode replies text = (mode ≡ Closed) × (text ≡ encodings replies)
@@ -109,7 +125,7 @@ Ends ended.ProtocolFault bytes rest mode replies text =
     (fault : ProtocolFault) × (front rest ≡ Faulty fault) × IsOpen mode × (text ≡ encodings replies ++ fault_line fault)
 Ends ended.ReadFailed bytes rest mode replies text = (front rest ≡ Part) × IsOpen mode × (text ≡ encodings replies)
 Ends ended.WriteFailed bytes rest mode replies text = (whole more : Bytes) × IsWhole rest replies whole × (whole ≡ text ++ more)
-Ends ended.NoMemory bytes rest mode replies text = ((bytes ≡ []) ⊎ (0 < length rest)) × IsOpen mode × (text ≡ encodings replies)
+Ends ended.NoMemory bytes rest mode replies text = LacksMemory bytes rest × IsOpen mode × (text ≡ encodings replies)
 
 -- What was read and what was written of a connection that ended so, whose pass knew the one when it began and then knows the other.
 pub record Served (was now : Knowledge) (ended : Ended) (bytes text : Bytes) : Type 0 where
@@ -143,7 +159,8 @@ number_of ended.ReadFailed = 4
 number_of ended.WriteFailed = 5
 number_of ended.NoMemory = 6
 
--- Where the answering of what was fed paused: `written` was written since the connection began, and the output buffer holds the rest.
+-- Where the answering of what was fed paused: `written` was written since the connection began, and the output buffer holds the rest. Where
+-- a piece could not be fed, it was read last, and the client stands as before it: with no whole request.
 abbrev pub HasPaused : (was now : Knowledge) → Bytes → Paused → Progress → (written held : Bytes) → Type 0
 HasPaused was now fed paused.Input standing written held =
     (front standing.unread ≡ Part) × IsOpen (mode_of standing.stage) × Conversing was now fed standing (written ++ held)
@@ -154,7 +171,8 @@ HasPaused was now fed paused.Closed standing written held =
 HasPaused was now fed paused.NoMemory standing written held =
     (at : Progress) × WantsMemory at.unread × IsOpen (mode_of at.stage) × Conversing was now fed at (written ++ held)
 HasPaused was now fed paused.Unfed standing written held =
-    (at : Progress) × (0 < length at.unread) × IsOpen (mode_of at.stage) × Conversing was now fed at (written ++ held)
+    (before piece : Bytes) × (fed ≡ before ++ piece) × (0 < length piece) × (length piece ≤ PIECE_BYTES)
+    × (front standing.unread ≡ Part) × IsOpen (mode_of standing.stage) × Conversing was now before standing (written ++ held)
 HasPaused was now fed paused.WriteFailed standing written held =
     (at : Progress) × (whole more : Bytes) × Conversing was now fed at whole × (whole ≡ written ++ more)
 
@@ -166,6 +184,11 @@ paused_told paused.Closed old = old
 paused_told paused.NoMemory old = old
 paused_told paused.Unfed old = old
 paused_told paused.WriteFailed old = told.Failure
+
+-- the answering did not pause since a piece could not be fed
+abbrev pub IsFed : Paused → Type 0
+IsFed paused.Unfed = ⊥
+IsFed _ = Unit {0}
 
 -- how a client stands where the answering of what it was fed paused
 abbrev pub StandsAt : Paused → Progress → Type 0

@@ -1,7 +1,7 @@
 //! The answering of what a client was fed: its requests are put to the engine, one after the other, and
 //! their replies are said.
 
-ghost use Rattle.std.specs.Prelude.{◌≡◌, ◌≤◌, ℕ, [], ◌++◌, List, IfNone};
+ghost use Rattle.std.specs.Prelude.{◌≡◌, ◌≤◌, ◌+◌, ℕ, [], ◌++◌, List, IfNone};
 ghost use Rattle.streams.specs.Streams.{stream_of, told_of, reads_of};
 ghost use Rattle.streams.specs.declared.observed.Told.{Told as HasTold};
 ghost use Rattle.gates.specs.declared.view.Knowledge.{Knowledge};
@@ -10,12 +10,12 @@ ghost use Rattle.words.specs.Session.{line_reply};
 ghost use Rattle.words.specs.Spelling.{IsRequest};
 ghost use Rattle.transact.specs.Calls.{answer_of, reply_to};
 ghost use Rattle.connection.specs.Clients.{Progress, before, mode_of, IsIdle, IsOpen};
-ghost use Rattle.connection.specs.Served.{HasTurned, IsDue, Attends, Conversing, HasPaused, StandsAt, LeavesAt, paused_told, HasAnswered, GoesOn, EndsAnswering, answered_told};
+ghost use Rattle.connection.specs.Served.{HasTurned, IsDue, Attends, Conversing, HasPaused, IsFed, StandsAt, LeavesAt, paused_told, HasAnswered, GoesOn, EndsAnswering, answered_told};
 ghost use Rattle.std.specs.Io.KnownBytes.{Appends, Consumes};
 
 use crate::client::{Client, Front, Next};
 use crate::output::{flush, say_line, say_spent, say_value};
-use crate::reading::{Room, Waiting, take_waiting};
+use crate::reading::{MORE_PIECES, Room, Waiting, take_waiting};
 use crate::serving::Ended;
 use engine::{Engine, Pass};
 use gates::Latch;
@@ -23,6 +23,7 @@ use session::watches_follow_entries;
 use std::io::Write;
 use std::sync::Wait;
 use streams::{Noted, ReadReady};
+use words::bounds::commands_are_bounded;
 use words::command::Brief;
 use words::reply::{Fault, Line, ProtocolFault, Reply};
 use words::word::{Word, Words};
@@ -102,6 +103,7 @@ fn answer_idle<T: Wait, L: Latch>(
     match Brief::of(words) {
         Brief::Get => {
             watches_follow_entries();
+            commands_are_bounded();
             let key = &words.as_slice()[1];
             match engine.get(rt, pass, key, latch) {
                 Ok(value) => Due::Value(value),
@@ -110,6 +112,7 @@ fn answer_idle<T: Wait, L: Latch>(
         }
         Brief::Set => {
             watches_follow_entries();
+            commands_are_bounded();
             let mut value = words.pop();
             let key = &words.as_slice()[1];
             let line = line_of(engine.set(rt, pass, key, &mut value, latch));
@@ -201,6 +204,7 @@ pub(crate) fn answer_all<T: Wait, L: Latch, W: Write>(
         → (sent : List ℕ)
         × Appends (W.contents (stream_of writer.old)) (W.contents (stream_of writer.new)) sent
         × HasPaused was (knows pass.new) fed result client.new (before ++ sent) out.new.items }
+    ensures fed { IsFed result }
     ensures stands { StandsAt result client.new }
     ensures told { told_of writer.new ≡ paused_told result (told_of writer.old) }
     ensures rests { Rests engine.now pass.new }
@@ -235,8 +239,9 @@ pub(crate) fn answer_all<T: Wait, L: Latch, W: Write>(
 }
 
 /// Answers all whole requests that the client was fed, and of what is there already: it is read and fed
-/// where no whole request is left. Each request is taken up into these words. The replies go into the output
-/// buffer, and to the writer where it is full.
+/// where no whole request is left, at most [`MORE_PIECES`] times, so that no reply waits for more reads than these.
+/// Each request is taken up into these words. The replies go into the output buffer, and to the writer where it is
+/// full.
 fn answer_waiting<T: Wait, L: Latch, R: ReadReady, W: Write>(
     rt: &T,
     latch: &L,
@@ -252,6 +257,7 @@ fn answer_waiting<T: Wait, L: Latch, R: ReadReady, W: Write>(
     requires rests { Rests engine.now pass.old }
     requires attends { Attends (knows pass.old) client.old }
     requires room { room.old.items ≡ [] }
+    requires few { room.old.more ≤ MORE_PIECES }
     ensures paused { (was : Knowledge) (fed before : List ℕ)
         → Conversing was (knows pass.old) fed client.old (before ++ out.old.items)
         → (bytes sent : List ℕ)
@@ -263,6 +269,7 @@ fn answer_waiting<T: Wait, L: Latch, R: ReadReady, W: Write>(
     ensures told { told_of writer.new ≡ paused_told result (told_of writer.old) }
     ensures reader_told { told_of reader.new ≡ told_of reader.old }
     ensures reads { reads_of reader.new ≤ reads_of reader.old }
+    ensures few { reads_of reader.old ≤ reads_of reader.new + MORE_PIECES }
     ensures room { LeavesAt result room.new.items }
     ensures rests { Rests engine.now pass.new }
     ensures attends { Attends (knows pass.new) client.new }
@@ -353,6 +360,7 @@ pub(crate) fn answer_piece<T: Wait, L: Latch, R: ReadReady, W: Write>(
     requires rests { Rests engine.now pass.old }
     requires attends { Attends (knows pass.old) client.old }
     requires room { room.old.items ≡ [] }
+    requires few { room.old.more ≤ MORE_PIECES }
     requires empty { out.old.items ≡ [] }
     ensures answered { (was : Knowledge) (fed before : List ℕ)
         → Conversing was (knows pass.old) fed client.old before
@@ -365,6 +373,7 @@ pub(crate) fn answer_piece<T: Wait, L: Latch, R: ReadReady, W: Write>(
     ensures told { told_of writer.new ≡ answered_told result (told_of writer.old) }
     ensures reader_told { told_of reader.new ≡ told_of reader.old }
     ensures reads { reads_of reader.new ≤ reads_of reader.old }
+    ensures few { reads_of reader.old ≤ reads_of reader.new + MORE_PIECES }
     ensures room { IfNone result (room.new.items ≡ []) }
     ensures rests { Rests engine.now pass.new }
     ensures attends { Attends (knows pass.new) client.new }

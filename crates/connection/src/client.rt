@@ -1,6 +1,6 @@
 //! The core of a connection, without input or output: it is fed bytes, and says what comes next.
 
-ghost use Rattle.std.specs.Prelude.{◌≡◌, ◌<◌, ◌⊎◌, [], ◌++◌, length, OnOk, OnErr, true, false};
+ghost use Rattle.std.specs.Prelude.{◌≡◌, ◌<◌, ◌⊎◌, [], ◌++◌, length, OnOk, OnErr, IsOk, true, false};
 
 use crate::state::State;
 use bytes::Bytes;
@@ -82,8 +82,10 @@ impl Client {
         }
     }
 
-    /// Feeds the next piece. After an `Err` the client is as it was.
+    /// Feeds the next piece. After an `Err` the client is as it was. A client with nothing unread takes a piece
+    /// without memory.
     pub fn feed(&mut self, piece: Bytes) -> Result<(), OutOfMemory>
+        ensures first { self.old.unread ≡ [] → IsOk result }
         ensures ok { OnOk result
             (self.new ≡ record self.old { unread = self.old.unread ++ piece }) }
         ensures err { OnErr result (self.new ≡ self.old) }

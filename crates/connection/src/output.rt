@@ -1,7 +1,7 @@
 //! What is written for a client: replies are put into an output buffer, and sent with one write where they
 //! fit.
 
-ghost use Rattle.std.specs.Prelude.{◌≡◌, [], OnOk, is_ok};
+ghost use Rattle.std.specs.Prelude.{◌≡◌, ◌≤◌, [], OnOk, is_ok, vec_len, vec_capacity};
 ghost use Rattle.words.specs.Encoding.{encoding};
 ghost use Rattle.words.specs.Session.{line_reply, value_reply};
 ghost use Rattle.streams.specs.Streams.{IsSent, IsPut, stream_of, told_of, told_when};
@@ -18,6 +18,7 @@ pub(crate) fn flush<W: Write>(out: &mut Vec<u8>, writer: &mut Noted<W>) -> Resul
         result out.old.items }
     ensures told { told_of writer.new ≡ told_when (is_ok result) (told_of writer.old) }
     ensures empty { OnOk result (out.new.items ≡ []) }
+    ensures room { vec_capacity out.new ≡ vec_capacity out.old }
 {
     if let Err(fault) = writer.write_all(out.as_slice()) {
         return Err(fault);
@@ -30,7 +31,7 @@ pub(crate) fn flush<W: Write>(out: &mut Vec<u8>, writer: &mut Noted<W>) -> Resul
 }
 
 /// Says a reply: it goes into the output buffer where there is room, else to the writer, after what
-/// the buffer holds. It takes no memory.
+/// the buffer holds. It takes no memory: what the buffer holds then fits into the room that it had.
 pub(crate) fn say<W: Write>(
     reply: &Reply,
     out: &mut Vec<u8>,
@@ -39,6 +40,7 @@ pub(crate) fn say<W: Write>(
     ensures put { IsPut (W.contents (stream_of writer.old)) (W.contents (stream_of writer.new))
         out.old.items out.new.items result (encoding reply.now) }
     ensures told { told_of writer.new ≡ told_when (is_ok result) (told_of writer.old) }
+    ensures within { vec_len out.new ≤ vec_capacity out.old }
 {
     if encode_within(reply, out) {
         return Ok(());
@@ -62,6 +64,7 @@ pub(crate) fn say_spent<W: Write>(
     ensures put { IsPut (W.contents (stream_of writer.old)) (W.contents (stream_of writer.new))
         out.old.items out.new.items result (encoding reply) }
     ensures told { told_of writer.new ≡ told_when (is_ok result) (told_of writer.old) }
+    ensures within { vec_len out.new ≤ vec_capacity out.old }
 {
     let said = say(&reply, out, writer);
     drop(reply);
@@ -78,6 +81,7 @@ pub(crate) fn say_line<W: Write>(
     ensures put { IsPut (W.contents (stream_of writer.old)) (W.contents (stream_of writer.new))
         out.old.items out.new.items result (encoding (line_reply line)) }
     ensures told { told_of writer.new ≡ told_when (is_ok result) (told_of writer.old) }
+    ensures within { vec_len out.new ≤ vec_capacity out.old }
 {
     if encode_line_within(line, out) {
         return Ok(());
@@ -95,6 +99,7 @@ pub(crate) fn say_value<W: Write>(
     ensures put { IsPut (W.contents (stream_of writer.old)) (W.contents (stream_of writer.new))
         out.old.items out.new.items result (encoding (value_reply value)) }
     ensures told { told_of writer.new ≡ told_when (is_ok result) (told_of writer.old) }
+    ensures within { vec_len out.new ≤ vec_capacity out.old }
 {
     if encode_value_within(&value, out) {
         drop(value);

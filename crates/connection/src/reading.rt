@@ -1,6 +1,6 @@
 //! What is read of a client: pieces that are cut from blocks, and fed to it.
 
-ghost use Rattle.std.specs.Prelude.{◌≡◌, ◌<◌, ◌≤◌, ◌+◌, ℕ, [], ◌++◌, List, length, OnOk, OnErr, IfNone, IsTrue, Some};
+ghost use Rattle.std.specs.Prelude.{◌≡◌, ◌<◌, ◌≤◌, ◌+◌, ℕ, [], ◌++◌, List, length, OnOk, OnErr, IsOk, IfNone, IsTrue, Some};
 ghost use Rattle.streams.specs.Streams.{stream_of, told_of, reads_of};
 ghost use Rattle.connection.specs.Served.{HasTaken, HasWaited, LeavesRoom, taken_told, waited_count};
 ghost use Rattle.std.specs.Io.KnownBytes.{Consumes, IsAtEnd};
@@ -23,9 +23,10 @@ const BLOCK_BYTES: usize = 32_768;
 const FEW_BYTES: usize = 256;
 
 /// The most pieces that are read after one before the replies are written.
-const MORE_PIECES: u8 = 15;
+pub(crate) const MORE_PIECES: u8 = 15;
 
-/// What is read into: the block that pieces are cut from, and the one before it. Contracts see the first.
+/// What is read into: the block that pieces are cut from, and the one before it. Contracts see the first, and how
+/// many pieces may be read.
 #[derive(Drop)]
 pub(crate) struct Room {
     block: BytesMut,
@@ -38,11 +39,11 @@ pub(crate) struct Room {
 
 impl Model for Room {
     ghost use Rattle.std.specs.Prelude.{◌≡◌, []};
-    ghost use Rattle.bytes.specs.Filled.{Filled};
+    ghost use Rattle.connection.specs.Rooms.{Reading};
 
-    ghost Value = { Filled };
+    ghost Value = { Reading };
 
-    ghost view = { λ room. room.block };
+    ghost view = { λ room. record { items = room.block.items; spare = room.block.spare; more = room.more } };
 
     ghost invariant = { λ room. room.other.items ≡ [] };
 }
@@ -67,6 +68,7 @@ impl Room {
         ensures room { IsTrue result → PIECE_BYTES ≤ self.new.spare }
         ensures block { PIECE_BYTES ≤ self.old.spare → IsTrue result }
         ensures items { self.new.items ≡ [] }
+        ensures more { self.new.more ≡ self.old.more }
     {
         if has_room(&mut self.block) {
             return true;
@@ -112,6 +114,7 @@ pub(crate) fn take_piece<R: Read>(
     ensures told { told_of reader.new ≡ taken_told result (told_of reader.old) }
     ensures fewer { IfNone result (reads_of reader.new < reads_of reader.old) }
     ensures empty { IfNone result (room.new.items ≡ []) }
+    ensures few { IfNone result (room.new.more ≤ MORE_PIECES) }
 {
     if room.make_room() {
         take_many(reader, room, client)
@@ -132,12 +135,13 @@ fn take_many<R: Read>(reader: &mut Noted<R>, room: &mut Room, client: &mut Clien
     ensures told { told_of reader.new ≡ taken_told result (told_of reader.old) }
     ensures fewer { IfNone result (reads_of reader.new < reads_of reader.old) }
     ensures empty { IfNone result (room.new.items ≡ []) }
+    ensures few { IfNone result (room.new.more ≤ MORE_PIECES) }
 {
     room.block.advance_mut(PIECE_BYTES);
     match reader.read(room.block.as_mut_slice()) {
         Input::Bytes(count) => {
             room.block.truncate(count);
-            room.more = if count == PIECE_BYTES { MORE_PIECES } else { 0 };
+            room.more = more_after(count, MORE_PIECES);
             match feed_read(&mut room.block, client) {
                 Ok(()) => None,
                 Err(_) => Some(Ended::NoMemory),
@@ -146,6 +150,14 @@ fn take_many<R: Read>(reader: &mut Noted<R>, room: &mut Room, client: &mut Clien
         Input::End => Some(Ended::EndOfInput),
         Input::Failure => Some(Ended::ReadFailed),
     }
+}
+
+/// How many pieces may be read after one of so many bytes: the most, where it has filled what it was read into, and
+/// else none, since hardly more is there already.
+fn more_after(count: usize, most: u8) -> u8
+    ensures { result ≤ most }
+{
+    if count == PIECE_BYTES { most } else { 0 }
 }
 
 /// Reads a small piece where there is no memory for a block: what the client sends next may need little.
@@ -204,6 +216,7 @@ pub(crate) fn take_waiting<R: ReadReady>(
         × HasWaited result client.old bytes client.new }
     ensures told { told_of reader.new ≡ told_of reader.old }
     ensures reads { reads_of reader.old ≡ reads_of reader.new + waited_count result }
+    ensures more { room.new.more + waited_count result ≤ room.old.more }
     ensures empty { LeavesRoom result room.new.items }
 {
     if room.more > 0 && room.make_room() {
@@ -217,11 +230,13 @@ pub(crate) fn take_waiting<R: ReadReady>(
 fn take_ready<R: ReadReady>(reader: &mut Noted<R>, room: &mut Room, client: &mut Client) -> Waiting
     requires spare { PIECE_BYTES ≤ room.old.spare }
     requires empty { room.old.items ≡ [] }
+    requires more { 0 < room.old.more }
     ensures taken { (bytes : List ℕ) × (length bytes ≤ 16384)
         × Consumes (R.remaining (stream_of reader.old)) (R.remaining (stream_of reader.new)) bytes
         × HasWaited result client.old bytes client.new }
     ensures told { told_of reader.new ≡ told_of reader.old }
     ensures reads { reads_of reader.old ≡ reads_of reader.new + waited_count result }
+    ensures more { room.new.more + waited_count result ≤ room.old.more }
     ensures empty { LeavesRoom result room.new.items }
 {
     room.block.advance_mut(PIECE_BYTES);
@@ -231,11 +246,7 @@ fn take_ready<R: ReadReady>(reader: &mut Noted<R>, room: &mut Room, client: &mut
         return Waiting::Nothing;
     };
     room.block.truncate(count);
-    room.more = if count == PIECE_BYTES {
-        room.more.saturating_sub(1)
-    } else {
-        0
-    };
+    room.more = more_after(count, room.more.saturating_sub(1));
     match feed_read(&mut room.block, client) {
         Ok(()) => Waiting::Fed,
         Err(_) => Waiting::NoMemory,

@@ -2,7 +2,7 @@
 //! writer.
 
 ghost use Rattle.std.specs.Prelude.{◌≡◌, ◌≤◌, ℕ, [], List};
-ghost use Rattle.streams.specs.Streams.{stream_of, told_of};
+ghost use Rattle.streams.specs.Streams.{stream_of, told_of, HasFailed};
 ghost use Rattle.engine.specs.Passes.{knows, Rests};
 ghost use Rattle.connection.specs.Clients.{beginning};
 ghost use Rattle.connection.specs.Conversations.{Went};
@@ -201,6 +201,8 @@ pub fn serve<T: Wait, L: Latch, R: ReadReady, W: Write>(
     ensures end { result.1 ≡ Ended.EndOfInput → IsAtEnd (R.remaining (stream_of reader.new)) }
     ensures reader_told { told_of reader.new ≡ reader_told result.1 (told_of reader.old) }
     ensures writer_told { told_of writer.new ≡ writer_told result.1 (told_of writer.old) }
+    ensures reader_failed { result.1 ≡ Ended.ReadFailed → HasFailed reader.new }
+    ensures writer_failed { result.1 ≡ Ended.WriteFailed → HasFailed writer.new }
 
     // The pass holds nothing, and what it has seen is legal.
     ensures rests { Rests engine.now result.0 }

@@ -1,6 +1,7 @@
 //! Where a client's session stands between its steps.
 
-ghost use Rattle.std.specs.Prelude.{◌≡◌};
+ghost use Rattle.std.specs.Prelude.{◌≡◌, IfOk};
+ghost use Rattle.words.specs.Bounds.{IsBounded};
 ghost use Rattle.words.specs.Commands.{command_of};
 ghost use Rattle.session.specs.Standings.{standing_of, wait_of};
 ghost use Rattle.connection.specs.Clients.{Ready, stage_of, IsOpen, IsReady, IsCalled, mode_of, Steps, Resumes};
@@ -32,6 +33,7 @@ impl State {
         requires ready { IsReady (stage_of self.old) }
         requires is_open { IsOpen (mode_of (stage_of self.old)) }
         requires command { command ≡ command_of words.now }
+        requires bounded { IfOk command IsBounded }
         ensures { Steps (stage_of self.old) words.now result (stage_of self.new) }
     {
         let session = self.take_ready();

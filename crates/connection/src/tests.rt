@@ -573,6 +573,55 @@ fn a_long_key_in_a_transaction(rt: HostRuntime) -> Result<(), Fail> {
     check_run(&rt, alloc, streams, text, Ended::EndOfInput)
 }
 
+/// A transaction of so many PINGs, and what is said to it.
+fn pings(alloc: Global, count: u32) -> Result<Vec<u8>, AllocError> {
+    let mut input = Vec::new(alloc);
+    input.extend_from_slice(b"*1\r\n$5\r\nMULTI\r\n")?;
+    let pings = repeated(alloc, PING, count, b"*1\r\n$4\r\nEXEC\r\n")?;
+    input.extend_from_slice(&pings)?;
+    Ok(input)
+}
+
+/// The 129th command of a transaction is not queued, and spoils it.
+#[test]
+fn a_transaction_of_129_pings(rt: HostRuntime) -> Result<(), Fail> {
+    let alloc = rt.alloc();
+    let input = pings(alloc, 129)?;
+    let end: &[u8] =
+        b"-ERR transaction is too large\r\n-EXECABORT transaction discarded because of earlier errors\r\n";
+    let queued = repeated(alloc, b"+QUEUED\r\n", 128, end)?;
+    let text = repeated(alloc, b"+OK\r\n", 1, &queued)?;
+    let streams = (Source::new(&input, 16_384), Sink::new(alloc, 16_384)?);
+    check_run(&rt, alloc, streams, &text, Ended::EndOfInput)
+}
+
+/// WATCH of 127 keys of two bytes.
+fn watch_of_127(alloc: Global) -> Result<Vec<u8>, AllocError> {
+    let mut request = Vec::new(alloc);
+    request.extend_from_slice(b"*128\r\n$5\r\nWATCH\r\n")?;
+    for key in 0..127 {
+        request.extend_from_slice(&[b'$', b'2', b'\r', b'\n', b'k', 128 | key, b'\r', b'\n'])?;
+    }
+    Ok(request)
+}
+
+/// A session that watches 127 keys may watch one more, and not two. What it watched it watches still: its
+/// transaction is null once one of these is written.
+#[test]
+fn a_watch_of_127_and_2_more_keys(rt: HostRuntime) -> Result<(), Fail> {
+    let alloc = rt.alloc();
+    let watches =
+        b"*3\r\n$5\r\nWATCH\r\n$1\r\na\r\n$1\r\nb\r\n*2\r\n$5\r\nWATCH\r\n$1\r\na\r\n*2\r\n$5\r\nWATCH\r\n$1\r\nb\r\n";
+    let writes =
+        b"*3\r\n$3\r\nSET\r\n$2\r\nk\x80\r\n$1\r\n1\r\n*1\r\n$5\r\nMULTI\r\n*1\r\n$4\r\nEXEC\r\n";
+    let rest = repeated(alloc, watches, 1, writes)?;
+    let input = repeated(alloc, &watch_of_127(alloc)?, 1, &rest)?;
+    let text =
+        b"+OK\r\n-ERR too many watched keys\r\n+OK\r\n-ERR too many watched keys\r\n+OK\r\n+OK\r\n*-1\r\n";
+    let streams = (Source::new(&input, 16_384), Sink::new(alloc, 16_384)?);
+    check_run(&rt, alloc, streams, text, Ended::EndOfInput)
+}
+
 /// Asserts what two connections come to, which are served one after the other with the same pass.
 fn check_both<R: Abort + Wait>(
     rt: &R,

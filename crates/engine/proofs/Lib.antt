@@ -1,3 +1,9 @@
 pub mod New
-pub mod Calls
+pub mod Parts
+pub mod Fit
+pub mod Behind
+pub mod Entering
+pub mod Memory
+pub mod Sets
+pub mod MemoryRows
 pub mod SizeRows

@@ -1,5 +1,5 @@
 -- Shards and passes of a new engine.
-use Rattle.std.proofs.Common.{◌≡◌, ◌∙◌, ℕ, zero, suc, ◌+◌, ◌<◌, List, [], ◌∷◌, ◌++◌, length, None, refl, sym, ap, arith, slice_index_or}
+use Rattle.std.proofs.Common.{◌≡◌, ◌∙◌, ℕ, zero, suc, ◌+◌, ◌<◌, List, [], ◌∷◌, ◌++◌, length, None, ap, arith, slice_index_or}
 use Rattle.words.specs.Store.{Bytes}
 use Rattle.gates.specs.declared.gates.Gates.{Gates}
 use Rattle.gates.specs.declared.gates.Pass.{Pass}
@@ -15,13 +15,13 @@ module _ {T : Type 0} where
   empty_more contents (x ∷ xs) part all empty unmarked = (all.0, all.1, empty_more contents xs part all.2 empty unmarked)
 
   -- the pass at a place of new ones
-  pub new_at : (gates : Gates T) (first : ℕ) (passes : List (Pass T)) (place : ℕ) (other : Pass T) → AreNew gates first passes → place < length passes
-      → IsResting gates (slice_index_or passes place other) × (known (slice_index_or passes place other) ≡ newcomer (place + first))
-  new_at gates first [] place other all below = absurd (omega (arith, below))
-  new_at gates first (pass ∷ passes) zero other all below =
+  pub new_at : (trusted : Type 0) (gates : Gates T) (first : ℕ) (passes : List (Pass T)) (place : ℕ) (other : Pass T) → AreNew trusted gates first passes → place < length passes
+      → IsResting trusted gates (slice_index_or passes place other) × (known (slice_index_or passes place other) ≡ newcomer (place + first))
+  new_at trusted gates first [] place other all below = absurd (omega (arith, below))
+  new_at trusted gates first (pass ∷ passes) zero other all below =
       let same : first ≡ zero + first = omega arith in
       (all.0, all.1 ∙ ap newcomer same)
-  new_at gates first (pass ∷ passes) (suc place) other all below =
-      let later = new_at gates (first + 1) passes place other all.2 (omega (arith, below)) in
+  new_at trusted gates first (pass ∷ passes) (suc place) other all below =
+      let later = new_at trusted gates (first + 1) passes place other all.2 (omega (arith, below)) in
       let same : place + (first + 1) ≡ suc place + first = omega arith in
       (later.0, later.1 ∙ ap newcomer same)

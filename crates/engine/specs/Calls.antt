@@ -1,5 +1,5 @@
 -- What calls of a pass to an engine come to.
-use Rattle.std.specs.Prelude.{ℕ, ◌≡◌, ◌≤◌, ◌<◌, ◌⊎◌, ◌+◌, List, [], ◌∷◌, ◌++◌, length, Option, Some, None, IsSome, unwrap_or}
+use Rattle.std.specs.Prelude.{ℕ, ◌≡◌, List, [], ◌∷◌, ◌++◌, length, Option, Some, None}
 use Rattle.words.specs.declared.reply.Reply.{Reply}
 use Rattle.words.specs.declared.reply.Fault.{Fault}
 use Rattle.words.specs.declared.reply.Fault.TheVariants as fault
@@ -7,12 +7,12 @@ use Rattle.words.specs.declared.history.Entry.{Entry}
 use Rattle.words.specs.Store.{Store}
 use Rattle.words.specs.History.{History, Pair, HasPlace, after}
 use Rattle.words.specs.Watches.{watched_after}
-use Rattle.words.specs.Session.{Asked, Run, Watch, Exec, operation_of, watched_at_fault}
+use Rattle.words.specs.Session.{Asked, operation_of, watched_at_fault}
 use Rattle.gates.specs.declared.view.Knowledge.{Knowledge}
 use Rattle.gates.specs.declared.view.Note.{Note}
 use Rattle.gates.specs.declared.view.Note.TheVariants.{Worn}
 use Rattle.gates.specs.Passes.{AreBusy}
-use Rattle.transact.specs.Memory.{AsksNoMemory}
+use Rattle.engine.specs.Memory.{AsksNoMemory}
 
 -- what is asked by a session that watches these has its place in the history
 abbrev pub HasItsPlace : List Pair → Option Asked → Type 0

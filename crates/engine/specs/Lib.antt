@@ -1,2 +1,4 @@
+pub mod Memory
+pub mod Entering
 pub mod Passes
 pub mod Calls

@@ -5,6 +5,7 @@ use Rattle.gates.specs.declared.gates.Pass.{Pass}
 use Rattle.gates.specs.Plays.{newcomer}
 use Rattle.gates.specs.Passes.{known, stripes_of, IsResting}
 use Rattle.transact.specs.declared.shard.Shard.{Shard}
+use Rattle.transact.specs.Shards.{shard_meaning}
 use Rattle.engine.specs.declared.Engine.{Engine}
 
 -- what a pass knows: the history that it has seen, its own entries of it, what it watches, and what it was told beside
@@ -13,7 +14,7 @@ knows pass = known pass
 
 -- the pass is one of the engine's, and holds nothing; what it has seen is legal, and has its own entries
 abbrev pub Rests : Engine → Pass Shard → Type 0
-Rests engine pass = IsResting engine.gates pass
+Rests engine pass = IsResting shard_meaning.trusted engine.gates pass
 
 -- how many stripes an engine has
 abbrev pub stripe_count : Engine → ℕ

@@ -3,27 +3,35 @@
 #![tactic(auto)]
 
 ghost use Rattle.std.specs.Prelude.{◌≡◌, ◌+◌, ◌<◌, [], ℕ, IfOk, IfErr, vec_len, slice_index_or};
+ghost use Rattle.words.specs.Bounds.{IsBounded};
+ghost use Rattle.words.specs.declared.command.Command.TheVariants as command;
+ghost use Rattle.words.specs.declared.command.When.TheVariants.{Always};
 ghost use Rattle.gates.specs.Plays.{AreEmpty};
 ghost use Rattle.gates.specs.declared.gates.Pass as gates_pass;
 ghost use Rattle.transact.specs.Shards.{shard_meaning};
 ghost use Rattle.transact.specs.Calls.{answer_of, answer_with, asked_of};
 ghost use Rattle.transact.specs.Plans.{EndsAll};
-ghost use Rattle.transact.specs.Memory.{get_call, set_call};
+ghost use Rattle.engine.specs.Memory.{get_call, set_call};
 ghost use Rattle.engine.specs.Passes.{knows, Rests, IsNew, stripe_count};
 ghost use Rattle.transact.specs.Submits.{IfReply, IfFault, stripes_asked};
 ghost use Rattle.gates.specs.Sets.{times};
 ghost use Rattle.gates.specs.Passes.{Learned, WasBusy};
 ghost use Rattle.engine.specs.Calls.{HasItsPlace, IsDone, IsUndone};
 
+use crate::calls::{submit, try_submit};
+use crate::short::{submit_get, submit_set};
 use gates::{Gates, Latch, Open, Point};
 use std::alloc::Global;
 use std::sync::Wait;
 use transact::call::{Answer, Busy, Call};
 use transact::shard::Shard;
-use transact::submit::{submit, submit_get, submit_set, try_submit};
 use words::limits::Limits;
 use words::reply::{Fault, Line};
 use words::word::{OutOfMemory, Word};
+
+mod calls;
+mod enter;
+mod short;
 
 /// How many passes there are beside one for each client: those of the threads that work in the
 /// background.
@@ -117,6 +125,7 @@ impl Engine {
         latch: &L,
     ) -> Result<Option<Word>, Fault>
         requires rests { Rests self.now pass.old }
+        requires place { IsBounded (command.Get key.now) }
         ensures rests { Rests self.now pass.new }
         ensures done { IfReply (answer_with result) (λ reply. IsDone (stripes_asked (stripe_count self.now) (get_call key.now)) (asked_of (get_call key.now)) reply (knows pass.old) (knows pass.new)) }
         ensures undone { IfFault (answer_with result) (λ fault. IsUndone (stripes_asked (stripe_count self.now) (get_call key.now)) (asked_of (get_call key.now)) fault (knows pass.old) (knows pass.new)) }
@@ -144,6 +153,7 @@ impl Engine {
         latch: &L,
     ) -> Result<Line, Fault>
         requires rests { Rests self.now pass.old }
+        requires place { IsBounded (command.Set key.now value.old Always) }
         ensures rests { Rests self.now pass.new }
         ensures done { IfReply (answer_of result) (λ reply. IsDone (stripes_asked (stripe_count self.now) (set_call key.now value.old)) (asked_of (set_call key.now value.old)) reply (knows pass.old) (knows pass.new)) }
         ensures undone { IfFault (answer_of result) (λ fault. IsUndone (stripes_asked (stripe_count self.now) (set_call key.now value.old)) (asked_of (set_call key.now value.old)) fault (knows pass.old) (knows pass.new)) }
@@ -204,6 +214,3 @@ fn empty_shards(alloc: Global, count: usize) -> Result<Vec<Shard>, OutOfMemory>
     }
     Ok(shards)
 }
-
-#[cfg(test)]
-mod tests;

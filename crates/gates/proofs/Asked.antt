@@ -45,7 +45,7 @@ no_watched T stripes [] held = refl
 no_watched T stripes (pair ∷ pairs) held = absurd (cc held.0)
 
 pub kept_nothing : {T : Type 0} (stripes : ℕ) (parts : List (ℕ × T)) (knows : Knowledge) → parts ≡ [] → KeysHeld stripes parts (keys_of_pairs knows.watched)
-    → kept true knows ≡ knows
+    → kept true [] knows ≡ knows
 kept_nothing {T} stripes parts knows none held =
     sym (ap (λ (w : List Pair). record knows { watched = w })
     (no_watched T stripes knows.watched (subst (λ (l : List (ℕ × T)). KeysHeld stripes l (keys_of_pairs knows.watched)) none held)))

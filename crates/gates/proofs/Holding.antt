@@ -1,5 +1,6 @@
 -- What a pass has after each of its steps.
-use Rattle.std.proofs.Common.{◌≡◌, ◌≢◌, ◌⊎◌, ◌||◌, ℕ, zero, suc, ◌+◌, ◌<◌, ◌≤◌, Bool, true, false, List, [], ◌∷◌, ◌++◌, Some, None, cond, nat_eq, length, sym, refl, ap, subst, ◌∙◌, arith, eq-eqb, ne_eqb, inl, inr, ⊎_elim, append_assoc, append-nil, length-append, IsSome, ◌↔◌, ◌-◌, replicate, slice_index}
+use Rattle.std.proofs.lemmas.List.{reverse-append}
+use Rattle.std.proofs.Common.{reverse, ◌≡◌, ◌≢◌, ◌⊎◌, ◌||◌, ℕ, zero, suc, ◌+◌, ◌<◌, ◌≤◌, Bool, true, false, List, [], ◌∷◌, ◌++◌, Some, None, cond, nat_eq, length, sym, refl, ap, subst, ◌∙◌, arith, eq-eqb, ne_eqb, inl, inr, ⊎_elim, append_assoc, append-nil, length-append, IsSome, ◌↔◌, ◌-◌, replicate, slice_index}
 use Rattle.std.proofs.lemmas.Bool.{cases_eq}
 use Rattle.atomic_table.specs.Table.{Me, Step, rest, turned}
 use Rattle.words.specs.declared.history.Entry.{Entry}
@@ -9,13 +10,13 @@ use Rattle.words.specs.Locality.{NamesNone}
 use Rattle.words.specs.Watches.{touched, mark_at, mark_after, watched_after}
 use Rattle.words.specs.Stripes.{IsPart, stripe_of}
 use Rattle.gates.specs.declared.view.Note.{Note}
-use Rattle.gates.specs.declared.view.Note.TheVariants.{Busy, Worn}
+use Rattle.gates.specs.declared.view.Note.TheVariants.{Busy, Worn, Full, Idle, Done}
 use Rattle.gates.specs.declared.view.Knowledge.{Knowledge}
 use Rattle.gates.specs.declared.view.View.{View}
 use Rattle.gates.specs.Sets.{part_at, times, without}
 use Rattle.gates.specs.Rule.{writes, Meaning, IsMarked, touched_marks, AllLeave, AreHeld}
 use Rattle.gates.specs.Plays.{first_of, own, IsSingle, kept, knowing, sees, commits, taking, giving, GoesOn, EachGoesOn, Took, Missed, Commits, Meets, resting, joined, all_see, newcomer, newcomers, others_of}
-use Rattle.gates.specs.Passes.{stripes_among, FitsPart, AllFit, IsSeatOf, Learned, WasTold, WasBusy, ToldBusy, AreBusy, Committed, KeysHeld, AreNew, IsResting, known}
+use Rattle.gates.specs.Passes.{stripes_among, FitsPart, AllFit, AreAsTaken, IsSeatOf, Learned, WasTold, WasBusy, ToldBusy, AreBusy, Committed, KeysHeld, AreNew, IsResting, known}
 use Rattle.gates.specs.declared.gates.Gates.{Gates}
 use Rattle.gates.specs.declared.gates.Pass.{Pass}
 use Rattle.gates.proofs.Lists.{times_here, times_else, times-append, without_here, without_else}
@@ -61,7 +62,7 @@ module _ {T : Type 0} where
       (cases_eq x.0 j)
 
   -- the seat after a stripe was taken, and turned
-  module _ (laws : Laws) (contents : Meaning T) (n number i : ℕ) (m w : Me T (View T)) (seat : IsSeatOf n number m) (below : i < n) (other : times i (stripes_among m.1) ≡ 0) (took : Took contents n i m w) where
+  module _ (laws : Laws) (contents : Meaning T) (n number i : ℕ) (m w : Me T (View T)) (seat : IsSeatOf contents.trusted n number m) (below : i < n) (other : times i (stripes_among m.1) ≡ 0) (took : Took contents n i m w) where
     after_take : Me T (View T)
     after_take = (taking m.0 i took.part took.log, m.1 ++ (i, took.part) ∷ [])
 
@@ -69,7 +70,7 @@ module _ {T : Type 0} where
     unfolding after_take
     took_turned = ap (λ (x : Me T (View T)). (x.0, turned x.1)) took.seat
 
-    took_seat' : IsSeatOf n number after_take
+    took_seat' : IsSeatOf contents.trusted n number after_take
     unfolding after_take
     took_seat' =
         let stands : (j : ℕ) → times j (stripes_among (m.1 ++ (i, took.part) ∷ [])) ≡ times j (stripes_among m.1) + times j (i ∷ []) =
@@ -94,8 +95,8 @@ module _ {T : Type 0} where
           each_once = seat.each_once;
         }
 
-    pub took_seat : IsSeatOf n number (w.0, turned w.1)
-    took_seat = subst (λ (x : Me T (View T)). IsSeatOf n number x) (sym took_turned) took_seat'
+    pub took_seat : IsSeatOf contents.trusted n number (w.0, turned w.1)
+    took_seat = subst (λ (x : Me T (View T)). IsSeatOf contents.trusted n number x) (sym took_turned) took_seat'
 
     pub took_parts : turned w.1 ≡ m.1 ++ (i, took.part) ∷ []
     unfolding after_take
@@ -120,18 +121,20 @@ module _ {T : Type 0} where
           was = f.was;
           taken = ap (λ b. cond b (Some (length took.log, took.part)) (part_at m.0.taken j)) (ne_eqb i j ne) ∙ f.taken;
           early = omega (arith, f.early, ap (λ (h : History). length h) goes.begins, length-append goes.more (own m.0).seen);
+          own_marks = f.own_marks;
           others = λ key number here apart. f.others key number here apart
               ∙ sym (ap (λ (h : History). touched_marks h f.was.0 (contents.marks f.was.1) key number) goes.begins
               ∙ touched_left laws n j (contents.marks f.was.1) goes.more (own m.0).seen f.was.0 leave key number here);
         }
 
-    fit_new : FitsPart contents n (sees (own m.0) took.log) (taking m.0 i took.part took.log).taken i took.part
-    fit_new = record {
-      reads = took.reads;
-      marks = took.marked;
+    fit_new : contents.trusted → FitsPart contents n (sees (own m.0) took.log) (taking m.0 i took.part took.log).taken i took.part
+    fit_new = λ t. record {
+      reads = took.reads t;
+      marks = took.marked t;
       was = (length took.log, took.part);
       taken = ap (λ b. cond b (Some (length took.log, took.part)) (part_at m.0.taken i)) (eq-eqb i i refl);
       early = omega arith;
+      own_marks = took.own_marks t;
       others = λ key number here apart.
           sym (ap (λ w. touched w (contents.marks took.part key number)) (written_none took.log (length took.log) key (omega arith)) ∙ touched_false (contents.marks took.part key number));
     }
@@ -142,18 +145,34 @@ module _ {T : Type 0} where
         let view : w.0 ≡ v = ap (λ (x : Me T (View T)). x.0) took.seat in
         subst (λ (l : List (ℕ × T)). AllFit contents n (own w.0) w.0.taken l) (sym took_parts)
         (subst (λ (x : View T). AllFit contents n (own x) x.taken (m.1 ++ (i, took.part) ∷ [])) (sym view)
+        (λ t j q e. ⊎_elim
+        (λ old.
+        let stands = part_stands m.1 j q old in
+        let ne : i ≢ j = (λ same. let none_there : times j (stripes_among m.1) ≡ 0 = subst (λ (k : ℕ). times k (stripes_among m.1) ≡ 0) same other in omega arith) in
+        fit_still j q ne (omega (arith, seat.same j)) (fit t j q old))
+        (λ new. subst (λ (k : ℕ). FitsPart contents n (own v) v.taken k q) new.0 (subst (λ (p : T). FitsPart contents n (own v) v.taken i p) new.1 (fit_new t)))
+        (at_snoc m.1 i j took.part q e)))
+
+    -- each part is as it was taken
+    pub took_lent : AreAsTaken m.0.taken m.1 → AreAsTaken w.0.taken (turned w.1)
+    took_lent lent =
+        let v : View T = taking m.0 i took.part took.log in
+        let view : w.0 ≡ v = ap (λ (x : Me T (View T)). x.0) took.seat in
+        subst (λ (l : List (ℕ × T)). AreAsTaken w.0.taken l) (sym took_parts)
+        (subst (λ (x : View T). AreAsTaken x.taken (m.1 ++ (i, took.part) ∷ [])) (sym view)
         (λ j q e. ⊎_elim
         (λ old.
         let stands = part_stands m.1 j q old in
         let ne : i ≢ j = (λ same. let none_there : times j (stripes_among m.1) ≡ 0 = subst (λ (k : ℕ). times k (stripes_among m.1) ≡ 0) same other in omega arith) in
-        fit_still j q ne (omega (arith, seat.same j)) (fit j q old))
-        (λ new. subst (λ (k : ℕ). FitsPart contents n (own v) v.taken k q) new.0 (subst (λ (p : T). FitsPart contents n (own v) v.taken i p) new.1 fit_new))
+        let l = lent j q old in
+        (l.0, ap (λ b. cond b (Some (length took.log, took.part)) (part_at m.0.taken j)) (ne_eqb i j ne) ∙ l.1))
+        (λ new. (length took.log, ap (λ b. cond b (Some (length took.log, took.part)) (part_at m.0.taken j)) (eq-eqb i j new.0) ∙ ap (λ (p : T). Some (length took.log, p)) new.1))
         (at_snoc m.1 i j took.part q e)))
 
   -- the seat after a stripe was found busy
-  module _ (n number i found : ℕ) (m w : Me T (View T)) (seat : IsSeatOf n number m) (missed : Missed i found m w) where
-    pub missed_seat : IsSeatOf n number w
-    missed_seat = subst (λ (x : Me T (View T)). IsSeatOf n number x) (sym missed.seat)
+  module _ {trusted : Type 0} (n number i found : ℕ) (m w : Me T (View T)) (seat : IsSeatOf trusted n number m) (missed : Missed i found m w) where
+    pub missed_seat : IsSeatOf trusted n number w
+    missed_seat = subst (λ (x : Me T (View T)). IsSeatOf trusted n number x) (sym missed.seat)
         record {
           single = refl;
           number_is = seat.number_is;
@@ -173,9 +192,12 @@ module _ {T : Type 0} where
     pub missed_parts : w.1 ≡ m.1
     missed_parts = ap (λ (x : Me T (View T)). x.1) missed.seat
 
+    pub missed_lent : AreAsTaken m.0.taken m.1 → AreAsTaken w.0.taken w.1
+    missed_lent lent = subst (λ (x : Me T (View T)). AreAsTaken x.0.taken x.1) (sym missed.seat) lent
+
     pub missed_fit : (contents : Meaning T) → AllFit contents n (own m.0) m.0.taken m.1 → AllFit contents n (own w.0) w.0.taken w.1
     missed_fit contents fit = subst (λ (x : Me T (View T)). AllFit contents n (own x.0) x.0.taken x.1) (sym missed.seat)
-        (λ j q e. let f = fit j q e in record { reads = f.reads; marks = f.marks; was = f.was; taken = f.taken; early = f.early; others = f.others })
+        (λ t j q e. let f = fit t j q e in record { reads = f.reads; marks = f.marks; was = f.was; taken = f.taken; early = f.early; own_marks = f.own_marks; others = f.others })
 
 -- parts by stripe
 module _ {T : Type 0} where
@@ -192,8 +214,8 @@ module _ {T : Type 0} where
   keys_held n parts held same (key ∷ keys) all = (omega (arith, same (stripe_of n key), part_some parts (stripe_of n key) all.0), keys_held n parts held same keys all.1)
 
   -- the seat after its first part was given back
-  module _ (n number i : ℕ) (part : T) (m w : Me T (View T)) (seat : IsSeatOf n number m) (first : m.1 ≡ (i, part) ∷ rest m.1)
-      (ends : Bool) (gave : w ≡ (giving (knowing m.0 (kept ends (own m.0))) i, rest m.1)) where
+  module _ {trusted : Type 0} (n number i : ℕ) (part : T) (m w : Me T (View T)) (seat : IsSeatOf trusted n number m) (first : m.1 ≡ (i, part) ∷ rest m.1)
+      (ends : Bool) (told : List Note) (gave : w ≡ (giving (knowing m.0 (kept ends told (own m.0))) i, rest m.1)) where
     among_first : (j : ℕ) → times j (stripes_among m.1) ≡ times j (i ∷ stripes_among (rest m.1))
     among_first j = ap (λ (l : List (ℕ × T)). times j (stripes_among l)) first
 
@@ -203,8 +225,8 @@ module _ {T : Type 0} where
     among_other : (j : ℕ) → i ≢ j → times j (stripes_among m.1) ≡ times j (stripes_among (rest m.1))
     among_other j ne = among_first j ∙ times_else j i (stripes_among (rest m.1)) ne
 
-    pub gave_seat : IsSeatOf n number w
-    gave_seat = subst (λ (x : Me T (View T)). IsSeatOf n number x) (sym gave)
+    pub gave_seat : IsSeatOf trusted n number w
+    gave_seat = subst (λ (x : Me T (View T)). IsSeatOf trusted n number x) (sym gave)
         record {
           single = refl;
           number_is = seat.number_is;
@@ -216,11 +238,11 @@ module _ {T : Type 0} where
           below = λ j h. seat.below j (omega (arith, among_first j));
           legal = seat.legal;
           mine = seat.mine;
-          watches = watches_kept ends (own m.0) seat.watches;
-          each_once = kept_once ends (own m.0) seat.each_once;
+          watches = watches_kept ends told (own m.0) seat.watches;
+          each_once = kept_once ends told (own m.0) seat.each_once;
         }
 
-    pub gave_knows : own w.0 ≡ kept ends (own m.0)
+    pub gave_knows : own w.0 ≡ kept ends told (own m.0)
     gave_knows = ap (λ (x : Me T (View T)). own x.0) gave
 
     pub gave_parts : w.1 ≡ rest m.1
@@ -233,14 +255,15 @@ module _ {T : Type 0} where
     rest_at j q e =
         ap (λ (l : List (ℕ × T)). part_at l j) first ∙ ap (λ b. cond b (Some part) (part_at (rest m.1) j)) (ne_eqb i j (rest_else j q e)) ∙ e
 
-    pub gave_fit : (contents : Meaning T) → AllFit contents n (kept ends (own m.0)) m.0.taken m.1 → AllFit contents n (own w.0) w.0.taken w.1
+    pub gave_fit : (contents : Meaning T) → AllFit contents n (kept ends told (own m.0)) m.0.taken m.1 → AllFit contents n (own w.0) w.0.taken w.1
     gave_fit contents fit = subst (λ (x : Me T (View T)). AllFit contents n (own x.0) x.0.taken x.1) (sym gave)
-        (λ j q e. let f = fit j q (rest_at j q e) in record {
+        (λ t j q e. let f = fit t j q (rest_at j q e) in record {
           reads = f.reads;
           marks = f.marks;
           was = f.was;
           taken = part_without i j m.0.taken (λ x. rest_else j q e (sym x)) ∙ f.taken;
           early = f.early;
+          own_marks = f.own_marks;
           others = f.others;
         })
 
@@ -250,12 +273,12 @@ module _ {T : Type 0} where
     pub first_below : i < n
     first_below = seat.below i (omega (arith, among_first i, times_here i (stripes_among (rest m.1))))
 
-    pub first_fits : (contents : Meaning T) → AllFit contents n (kept ends (own m.0)) m.0.taken m.1 → FitsPart contents n (kept ends (own m.0)) m.0.taken i part
-    first_fits contents fit = fit i part (ap (λ (l : List (ℕ × T)). part_at l i) first ∙ ap (λ b. cond b (Some part) (part_at (rest m.1) i)) (eq-eqb i i refl))
+    pub first_fits : (contents : Meaning T) → AllFit contents n (kept ends told (own m.0)) m.0.taken m.1 → contents.trusted → FitsPart contents n (kept ends told (own m.0)) m.0.taken i part
+    first_fits contents fit t = fit t i part (ap (λ (l : List (ℕ × T)). part_at l i) first ∙ ap (λ b. cond b (Some part) (part_at (rest m.1) i)) (eq-eqb i i refl))
 
   -- a commit
-  module _ (laws : Laws) (n number found : ℕ) (entry : Entry) (st : Step T) (m w : Me T (View T)) (seat : IsSeatOf n number m) (slots : st.slots ≡ n)
-      (keys : KeysHeld n m.1 (keys_named entry.operation)) (d : Commits entry st m found w) where
+  module _ {trusted : Type 0} (laws : Laws) (n number found : ℕ) (entry : Entry) (st : Step T) (m w : Me T (View T)) (seat : IsSeatOf trusted n number m) (slots : st.slots ≡ n)
+      (keys : KeysHeld n m.1 (keys_named entry.operation)) (d : Commits trusted entry st m found w) where
     leave : (stripe : ℕ) → 0 < times stripe m.0.held → AllLeave n stripe d.goes_on.more
     leave = subst (λ (k : ℕ). (stripe : ℕ) → 0 < times stripe m.0.held → AllLeave k stripe d.goes_on.more) slots d.goes_on.leave
 
@@ -268,14 +291,14 @@ module _ {T : Type 0} where
     written_same : (key : Bytes) (start : ℕ) → 0 < times (stripe_of n key) m.0.held → is_written d.before start key ≡ is_written (own m.0).seen start key
     written_same key start h = ap (λ (l : History). is_written l start key) d.goes_on.begins ∙ written_left laws n (stripe_of n key) d.goes_on.more (own m.0).seen start key (leave (stripe_of n key) h) refl
 
-    pub commit_seat : entry.session ≡ (own m.0).number → IsSeatOf n number w
+    pub commit_seat : entry.session ≡ (own m.0).number → IsSeatOf trusted n number w
     commit_seat session =
         let before_are : AreWatches d.before (own m.0).number (own m.0).watched =
         subst (λ (l : History). AreWatches l (own m.0).number (own m.0).watched) (sym d.goes_on.begins) (watches_more laws d.goes_on.more (own m.0).seen (own m.0).number (own m.0).watched seat.watches) in
         let are : AreWatches (entry ∷ d.before) (own m.0).number (commits (own m.0) d.before entry).watched =
         subst (λ (k : ℕ). AreWatches (entry ∷ d.before) k (commits (own m.0) d.before entry).watched) session
         (watches_after laws entry d.before (own m.0).watched (subst (λ (k : ℕ). AreWatches d.before k (own m.0).watched) (sym session) before_are)) in
-        subst (λ (x : Me T (View T)). IsSeatOf n number x) (sym d.seat)
+        subst (λ (x : Me T (View T)). IsSeatOf trusted n number x) (sym d.seat)
         record {
           single = refl;
           number_is = seat.number_is;
@@ -334,6 +357,9 @@ busy_both : (stripes : List ℕ) (one two : List Note) → AreBusy stripes one �
 busy_both stripes [] two first second = second
 busy_both stripes (Busy stripe ∷ one) two first second = (first.0, busy_both stripes one two first.1 second)
 busy_both stripes (Worn ∷ one) two first second = absurd first
+busy_both stripes (Full x ∷ one) two first second = absurd first
+busy_both stripes (Idle x y ∷ one) two first second = absurd first
+busy_both stripes (Done x y ∷ one) two first second = absurd first
 
 busy_among : (stripe : ℕ) (stripes : List ℕ) (notes : List Note) → 0 < times stripe stripes → AreBusy (stripe ∷ []) notes → AreBusy stripes notes
 busy_among stripe stripes [] among all = tt
@@ -342,6 +368,9 @@ busy_among stripe stripes (Busy other ∷ notes) among all = (
   busy_among stripe stripes notes among all.1,
 )
 busy_among stripe stripes (Worn ∷ notes) among all = absurd all
+busy_among stripe stripes (Full x ∷ notes) among all = absurd all
+busy_among stripe stripes (Idle x y ∷ notes) among all = absurd all
+busy_among stripe stripes (Done x y ∷ notes) among all = absurd all
 
 pub told_nothing : (stripes : List ℕ) (a b : Knowledge) → b.notes ≡ a.notes → ToldBusy stripes a b
 told_nothing stripes a b same = ([], same, tt)
@@ -399,22 +428,22 @@ none_stands [] none = refl
 none_stands (x ∷ xs) none = absurd (omega (arith, none x, times_here x xs))
 
 module _ {T : Type 0} where
-  pub nothing_held : (n number : ℕ) (m : Me T (View T)) → IsSeatOf n number m → m.1 ≡ [] → m.0.held ≡ []
+  pub nothing_held : {trusted : Type 0} (n number : ℕ) (m : Me T (View T)) → IsSeatOf trusted n number m → m.1 ≡ [] → m.0.held ≡ []
   nothing_held n number m seat nothing = none_stands m.0.held (λ j. seat.same j ∙ ap (λ (l : List (ℕ × T)). times j (stripes_among l)) nothing)
 
   -- two passes that have met
-  module _ (n found : ℕ) (st : Step T) (m1 m2 theirs both loaded : Me T (View T)) (one : IsSingle m1.0) (two : IsSingle m2.0) (slots : st.slots ≡ n)
-      (left : theirs ≡ (resting m2.0.passes, [])) (together : both ≡ (joined m1.0 theirs.0, m1.1)) (met : Meets st both found loaded) where
+  module _ {trusted : Type 0} (n found : ℕ) (st : Step T) (m1 m2 theirs both loaded : Me T (View T)) (one : IsSingle m1.0) (two : IsSingle m2.0) (slots : st.slots ≡ n)
+      (left : theirs ≡ (resting m2.0.passes, [])) (together : both ≡ (joined m1.0 theirs.0, m1.1)) (met : Meets trusted st both found loaded) where
     passes_met : both.0.passes ≡ own m1.0 ∷ own m2.0 ∷ []
     passes_met =
         ap (λ (x : Me T (View T)). x.0.passes) together
         ∙ ap (λ (x : Me T (View T)). m1.0.passes ++ x.0.passes) left
         ∙ ap (λ (l : List Knowledge). l ++ m2.0.passes) one ∙ ap (λ (l : List Knowledge). own m1.0 ∷ l) two
 
-    pub go_on : GoesOn n [] (own m1.0) met.log × GoesOn n [] (own m2.0) met.log
+    pub go_on : GoesOn trusted n [] (own m1.0) met.log × GoesOn trusted n [] (own m2.0) met.log
     go_on =
-        let each : EachGoesOn st.slots (own m1.0 ∷ own m2.0 ∷ []) met.log = subst (λ (l : List Knowledge). EachGoesOn st.slots l met.log) passes_met met.go_on in
-        let at_n : EachGoesOn n (own m1.0 ∷ own m2.0 ∷ []) met.log = subst (λ (k : ℕ). EachGoesOn k (own m1.0 ∷ own m2.0 ∷ []) met.log) slots each in
+        let each : EachGoesOn trusted st.slots (own m1.0 ∷ own m2.0 ∷ []) met.log = subst (λ (l : List Knowledge). EachGoesOn trusted st.slots l met.log) passes_met met.go_on in
+        let at_n : EachGoesOn trusted n (own m1.0 ∷ own m2.0 ∷ []) met.log = subst (λ (k : ℕ). EachGoesOn trusted k (own m1.0 ∷ own m2.0 ∷ []) met.log) slots each in
         (at_n.0, at_n.1.0)
 
     pub loaded_passes : loaded.0.passes ≡ sees (own m1.0) met.log ∷ sees (own m2.0) met.log ∷ []
@@ -427,10 +456,10 @@ module _ {T : Type 0} where
     loaded_held = ap (λ (x : Me T (View T)). x.0.held) met.seat ∙ ap (λ (x : Me T (View T)). x.0.held) together
 
   -- a pass that has seen a history, and holds nothing
-  module _ (laws : Laws) (n number : ℕ) (log : History) (m w : Me T (View T)) (seat : IsSeatOf n number m) (goes : GoesOn n [] (own m.0) log)
+  module _ {trusted : Type 0} (laws : Laws) (n number : ℕ) (log : History) (m w : Me T (View T)) (seat : IsSeatOf trusted n number m) (goes : GoesOn trusted n [] (own m.0) log)
       (later : w ≡ (resting (sees (own m.0) log ∷ []), [])) where
-    pub seen_seat : IsSeatOf n number w
-    seen_seat = subst (λ (x : Me T (View T)). IsSeatOf n number x) (sym later)
+    pub seen_seat : IsSeatOf trusted n number w
+    seen_seat = subst (λ (x : Me T (View T)). IsSeatOf trusted n number x) (sym later)
         record {
           single = refl;
           number_is = seat.number_is;
@@ -455,15 +484,15 @@ module _ {T : Type 0} where
         record { number = refl; mine = refl; seen = (goes.more, goes.begins); notes = ([], refl); watched = refl }
 
   -- a pass that was dealt
-  pub new_seat : (n number : ℕ) (w : Me T (View T)) → w ≡ (resting (newcomer number ∷ []), []) → IsSeatOf n number w
-  new_seat n number w is = subst (λ (x : Me T (View T)). IsSeatOf n number x) (sym is)
+  pub new_seat : {trusted : Type 0} (n number : ℕ) (w : Me T (View T)) → w ≡ (resting (newcomer number ∷ []), []) → IsSeatOf trusted n number w
+  new_seat {trusted} n number w is = subst (λ (x : Me T (View T)). IsSeatOf trusted n number x) (sym is)
       record {
         single = refl;
         number_is = refl;
         once = λ j. omega arith;
         same = λ j. refl;
         below = λ j h. absurd (omega arith);
-        legal = tt;
+        legal = λ t. tt;
         mine = refl;
         watches = tt;
         each_once = tt;
@@ -474,8 +503,8 @@ pub newcomers_next : (number passes : ℕ) → number < passes → newcomers num
 newcomers_next number passes h = let k : passes - number ≡ suc (passes - (number + 1)) = omega arith in ap (newcomers number) k
 
 -- one pass more
-pub new_snoc : {T : Type 0} (gates : Gates T) (a : ℕ) (ps : List (Pass T)) (p : Pass T) → AreNew gates a ps → IsResting gates p → known p ≡ newcomer (a + length ps)
-    → AreNew gates a (ps ++ p ∷ [])
+pub new_snoc : {T trusted : Type 0} (gates : Gates T) (a : ℕ) (ps : List (Pass T)) (p : Pass T) → AreNew trusted gates a ps → IsResting trusted gates p → known p ≡ newcomer (a + length ps)
+    → AreNew trusted gates a (ps ++ p ∷ [])
 new_snoc gates a [] p all resting is = (resting, is ∙ ap newcomer (omega arith), tt)
 new_snoc gates a (q ∷ ps) p all resting is =
     (all.0, all.1, new_snoc gates (a + 1) ps p all.2 resting (is ∙ ap newcomer (let e : a + length (q ∷ ps) ≡ a + 1 + length ps = omega arith in e)))
@@ -526,3 +555,18 @@ was_busy stripe a b c d learned told busy same =
       watched = busy.watched ∙ learned.watched;
       notes = busy.notes ∙ ap (λ (l : List Note). Busy stripe ∷ l) told;
     }
+
+-- what is told when parts are given back, and nothing is forgotten, leaves them fit
+pub telling_fit : {T : Type 0} (contents : Meaning T) (n : ℕ) (ends : Bool) (told : List Note) (knows : Knowledge) (took : List (ℕ × (ℕ × T))) (parts : List (ℕ × T))
+    → AllFit contents n (kept ends [] knows) took parts → AllFit contents n (kept ends told knows) took parts
+telling_fit {T} contents n ends told knows took parts fit =
+    λ t j q e. let f = fit t j q e in record { reads = f.reads; marks = f.marks; was = f.was; taken = f.taken; early = f.early; own_marks = f.own_marks; others = f.others }
+
+pub reversed_with : (numbers : List ℕ) (last : ℕ) → reverse (numbers ++ last ∷ []) ≡ last ∷ reverse numbers
+reversed_with numbers last = reverse-append numbers (last ∷ [])
+
+-- where nothing is held, all of it fits
+pub nothing_fits : {T : Type 0} (contents : Meaning T) (n : ℕ) (knows : Knowledge) (took : List (ℕ × (ℕ × T))) (parts : List (ℕ × T)) → parts ≡ []
+    → AllFit contents n knows took parts
+nothing_fits {T} contents n knows took parts nothing =
+    λ t j q e. absurd (cc (sym (ap (λ (l : List (ℕ × T)). part_at l j) nothing) ∙ e))

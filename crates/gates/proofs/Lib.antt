@@ -3,6 +3,7 @@ pub mod Frames
 pub mod Watched
 pub mod Marks
 pub mod Asked
+pub mod Telling
 pub mod Steps
 pub mod Bits
 pub mod Holding

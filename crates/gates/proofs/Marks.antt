@@ -6,6 +6,7 @@ use Rattle.words.specs.History.{History, after, AreWatches, keys_named, keys_of_
 use Rattle.words.specs.Watches.{Marks, touched, GoesBy, mark_of, mark_at}
 use Rattle.words.specs.Stripes.{stripe_of, AreElsewhere, LeavesStripe}
 use Rattle.gates.specs.Laws.{Laws}
+use Rattle.gates.specs.declared.view.Note.{Note}
 use Rattle.gates.specs.declared.view.Knowledge.{Knowledge}
 use Rattle.gates.specs.Sets.{times}
 use Rattle.gates.specs.Rule.{writes, Fits, EachFits, IsMarked, EachMarked, AllLeave, touched_marks}
@@ -45,11 +46,11 @@ module _ (n stripe : ℕ) (marks : Marks) where
       )
 
   -- a pass whose watches end watched nothing in a stripe without its keys
-  pub mark_kept : (log : History) (ends : Bool) (k : Knowledge) → (ends ≡ true → AreElsewhere n stripe (keys_of_pairs k.watched))
-      → IsMarked n stripe marks log k → IsMarked n stripe marks log (kept ends k)
-  mark_kept log true k away is key here =
+  pub mark_kept : (log : History) (ends : Bool) (told : List Note) (k : Knowledge) → (ends ≡ true → AreElsewhere n stripe (keys_of_pairs k.watched))
+      → IsMarked n stripe marks log k → IsMarked n stripe marks log (kept ends told k)
+  mark_kept log true told k away is key here =
       is key here ∙ ap (mark_of log key) (not_watched k.watched key (none_elsewhere n stripe (keys_of_pairs k.watched) key (away refl) here))
-  mark_kept log false k away is key here = is key here
+  mark_kept log false told k away is key here = is key here
 
 module _ (laws : Laws) (n stripe : ℕ) (marks : Marks) where
   -- an entry at other keys leaves them

@@ -14,10 +14,11 @@ use Rattle.words.specs.Watches.{Marks, GoesBy}
 use Rattle.gates.specs.Laws.{Laws}
 use Rattle.words.specs.Stripes.{stripe_of, IsPart, AreElsewhere, LeavesStripe}
 use Rattle.gates.specs.declared.view.Note.TheVariants.{Busy, Worn}
+use Rattle.gates.specs.declared.view.Note.{Note}
 use Rattle.gates.specs.declared.view.Knowledge.{Knowledge}
 use Rattle.gates.specs.declared.view.View.{View}
 use Rattle.gates.specs.Sets.{times, without, part_at, without_part}
-use Rattle.gates.specs.Rule.{Meaning, IsMarked, EachMarked, touched_marks, word_of, AllLeave, total, Fits, EachFits, Names, passes_at, stands_for, armed_by, FitsView, IsHeld, Ruled, AreHeld, commit_word}
+use Rattle.gates.specs.Rule.{Meaning, IsMarked, AreOwnMarks, EachMarked, touched_marks, word_of, AllLeave, total, Fits, EachFits, Names, passes_at, stands_for, armed_by, FitsView, IsHeld, Ruled, AreHeld, commit_word}
 use Rattle.gates.specs.Plays.{first_of, own, IsSingle, kept, sees, notes, commits, all_see, knowing, taking, giving, EachGoesOn, Took, Missed, Tries, Arms, BecomesArmed, FindsWorn, Commits, Gives, Meets, newcomers, others_of, resting, unmet, joined, AreEmpty}
 use Rattle.gates.proofs.Lists.{at_snoc, at_longer, total-append, each_set, set_here, set_else, total-set, terms_le, total-below, total-less, times_here, times_else, without_here, without_else}
 use Rattle.gates.proofs.Frames.{none_both, names_none, part_left}
@@ -156,9 +157,9 @@ module _ {T : Type 0} (contents : Meaning T) (passes : ℕ) (s : State T (View T
         was = h.was;
         taken = keep_taken ∙ sym (ap (λ (x : View T). part_at x.taken stripe) is) ∙ h.taken;
         early = omega (arith, h.early);
-        marks = λ j u ne there. let there' = sym (set_else s.views id j w ne) ∙ there in
+        marks = λ t j u ne there. let there' = sym (set_else s.views id j w ne) ∙ there in
             subst (λ (k : ℕ). EachMarked k stripe (touched_marks later h.was.0 marks) later u.passes) (sym size)
-            (others marks h.was.0 h.early j u ne there' (h.marks j u (λ x. ne (x ∙ e)) there'));
+            (others marks h.was.0 h.early j u ne there' (h.marks t j u (λ x. ne (x ∙ e)) there'));
       })
       (λ ne. record {
         seat = h.seat;
@@ -169,14 +170,14 @@ module _ {T : Type 0} (contents : Meaning T) (passes : ℕ) (s : State T (View T
         was = h.was;
         taken = h.taken;
         early = omega (arith, h.early);
-        marks = λ j u apart there.
+        marks = λ t j u apart there.
             subst (λ (k : ℕ). EachMarked k stripe (touched_marks later h.was.0 marks) later u.passes) (sym size)
             (dite (ℕ_discrete j id)
             (λ e. let is : w ≡ u = some-injective w u (sym (set_here s.views id w v at) ∙ sym (ap (get_elem? (set s.views id w)) e) ∙ there) in
             subst (λ (x : View T). EachMarked n stripe (touched_marks later h.was.0 marks) later x.passes) is
-            (mine marks h.was.0 h.early h.seat h.view ne h.there h.holds (h.marks id v (λ x. ne (sym x)) at)))
+            (mine marks h.was.0 h.early h.seat h.view ne h.there h.holds (h.marks t id v (λ x. ne (sym x)) at)))
             (λ other. let there' = sym (set_else s.views id j w other) ∙ there in
-            others marks h.was.0 h.early j u other there' (h.marks j u apart there')));
+            others marks h.was.0 h.early j u other there' (h.marks t j u apart there')));
       })
 
   -- the same where the log stays
@@ -224,7 +225,8 @@ module _ {T : Type 0} (contents : Meaning T) (passes : ℕ) (s : State T (View T
               part = free.part;
               home = free.home;
               reads = free.reads;
-              marks = all_marked (length s.homes) stripe (contents.marks free.part) ruled.log ruled.log w (λ j u ne there is. is) (marked stripe (contents.marks free.part)) free.marks;
+              own = free.own;
+              marks = λ t. all_marked (length s.homes) stripe (contents.marks free.part) ruled.log ruled.log w (λ j u ne there is. is) (marked stripe (contents.marks free.part)) (free.marks t);
             })
             (λ held. inr (still_held s.words s.homes w stripe refl (keep stripe) (keep_taken stripe) refl (marked stripe) held)) (ruled.stripes stripe h);
       }
@@ -302,9 +304,9 @@ part_without i j (x ∷ xs) ne = ⊎_elim
 pub same_some : {A : Type 0} (a b : A) (o : Rattle.std.specs.Prelude.Option A) → o ≡ Some a → o ≡ Some b → a ≡ b
 same_some a b o one two = cc
 
-pub watches_kept : (ends : Bool) (k : Knowledge) → AreWatches k.seen k.number k.watched → AreWatches k.seen k.number (kept ends k).watched
-watches_kept true k are = tt
-watches_kept false k are = are
+pub watches_kept : (ends : Bool) (told : List Note) (k : Knowledge) → AreWatches k.seen k.number k.watched → AreWatches k.seen k.number (kept ends told k).watched
+watches_kept true told k are = tt
+watches_kept false told k are = are
 
 module _ {T : Type 0} (laws : Laws) (contents : Meaning T) (passes slots id : ℕ) where
   -- A look at the commit word
@@ -346,8 +348,8 @@ module _ {T : Type 0} (laws : Laws) (contents : Meaning T) (passes slots id : �
 
   -- A commit
   pub commits_step : (m : Me T (View T)) (entry : Entry) → IsSingle m.0 → m.0.armed ≡ true → entry.session ≡ (own m.0).number
-      → Legal (entry ∷ (own m.0).seen) → GoesBy (own m.0).watched entry.operation → AreHeld slots m.0.held (keys_named entry.operation)
-      → Allows (Ruled contents passes) slots id m commit_word (λ n. (n + 1) % 2 ^ 64) (Commits entry (step slots commit_word 1 0 none) m)
+      → (contents.trusted → Legal (entry ∷ (own m.0).seen)) → GoesBy (own m.0).watched entry.operation → AreHeld slots m.0.held (keys_named entry.operation)
+      → Allows (Ruled contents passes) slots id m commit_word (λ n. (n + 1) % 2 ^ 64) (Commits contents.trusted entry (step slots commit_word 1 0 none) m)
   commits_step m entry single armed session due_here goes keys s ruled wide at small =
       let v = m.0 in
       let log = ruled.log in
@@ -365,10 +367,10 @@ module _ {T : Type 0} (laws : Laws) (contents : Meaning T) (passes slots id : �
       let fits_word : found + 1 < 2 ^ 64 = omega arith in
       let next : (found + 1) % 2 ^ 64 ≡ found + 1 = mod-eq_of_lt fits_word in
       let held_keys : AreHeld n v.held (keys_named entry.operation) = subst (λ (k : ℕ). AreHeld k v.held (keys_named entry.operation)) (sym wide) keys in
-      let legal : Legal (entry ∷ log) = (
-        ruled.legal,
+      let legal : contents.trusted → Legal (entry ∷ log) = λ t. (
+        ruled.legal t,
         subst (λ (l : History). Extends l entry) (sym g.begins)
-            (laws.extends entry g.more (own v).seen (names_none n v.held g.more g.leave (keys_named entry.operation) held_keys) due_here.1),
+            (laws.extends entry g.more (own v).seen (names_none n v.held g.more g.leave (keys_named entry.operation) held_keys) (due_here t).1),
       ) in
       let watches_log : AreWatches log (own v).number (own v).watched =
       subst (λ (l : History). AreWatches l (own v).number (own v).watched) (sym g.begins) (watches_more laws g.more (own v).seen (own v).number (own v).watched g.watches) in
@@ -433,13 +435,14 @@ module _ {T : Type 0} (laws : Laws) (contents : Meaning T) (passes slots id : �
                 word = get_or-set_other s.words commit_word (word_of stripe) ((found + 1) % 2 ^ 64) 0 (λ e. omega arith) ∙ free.word;
                 part = free.part;
                 home = free.home;
-                reads = part_left laws n stripe (contents.store free.part) (entry ∷ []) log
-                    (leaves stripe (omega (arith, λ (mine_too : 0 < times stripe v.held). word_not_zero s.words stripe v ((f.names stripe mine_too).1) free.word)), tt) free.reads;
-                marks = let not_mine : times stripe v.held ≡ 0 = omega (arith, λ (mine_too : 0 < times stripe v.held). word_not_zero s.words stripe v ((f.names stripe mine_too).1) free.word) in
+                reads = λ t. part_left laws n stripe (contents.store free.part) (entry ∷ []) log
+                    (leaves stripe (omega (arith, λ (mine_too : 0 < times stripe v.held). word_not_zero s.words stripe v ((f.names stripe mine_too).1) free.word)), tt) (free.reads t);
+                own = free.own;
+                marks = λ t. let not_mine : times stripe v.held ≡ 0 = omega (arith, λ (mine_too : 0 < times stripe v.held). word_not_zero s.words stripe v ((f.names stripe mine_too).1) free.word) in
                     let marks = contents.marks free.part in
                     all_marked contents passes s ruled id v at n stripe marks log (entry ∷ log) w
                     (λ j u ne there is. each_stays laws n stripe marks log entry u.held u.passes (leaves stripe not_mine) (ruled.views j u there).fits is)
-                    (own_still stripe marks not_mine) free.marks;
+                    (own_still stripe marks not_mine) (free.marks t);
               })
               (λ held. inr (stays_held contents passes s ruled id v at (entry ∷ log) (set s.words commit_word ((found + 1) % 2 ^ 64)) s.homes w stripe refl (omega arith) (λ x. x) refl refl
               (λ marks moment early j u ne there is. each_touched laws n stripe marks log entry u.held moment u.passes early (ruled.views j u there).fits is)
@@ -543,22 +546,23 @@ module _ {T : Type 0} (laws : Laws) (contents : Meaning T) (passes slots id : �
                 was = (length ruled.log, free.part);
                 taken = ap (λ b. cond b (Some (length ruled.log, free.part)) (part_at v.taken stripe)) (eq-eqb i stripe (sym e));
                 early = omega arith;
-                marks = λ j u apart there.
+                marks = λ t j u apart there.
                     let marks = contents.marks free.part in
                     let there' = sym (set_else s.views id j w apart) ∙ there in
                     subst (λ (k : ℕ). EachMarked k stripe (touched_marks ruled.log (length ruled.log) marks) ruled.log u.passes) (sym same_size)
                     (subst (λ (k : ℕ). EachMarked n k (touched_marks ruled.log (length ruled.log) marks) ruled.log u.passes) (sym e)
-                    (each_fresh n i marks ruled.log u.passes (free.marks j u there')));
+                    (each_fresh n i marks ruled.log u.passes (free.marks t j u there')));
               })
               (λ ne. ⊎_elim
               (λ other. inl record {
                 word = other_word words i stripe ((own v).number + 1) ne ∙ other.word;
                 part = other.part;
                 home = set_else s.homes i stripe none ne ∙ other.home;
-                reads = subst (λ (k : ℕ). IsPart k stripe (contents.store other.part) (after ruled.log)) (sym same_size) other.reads;
-                marks = subst (λ (k : ℕ). (j : ℕ) (u : View T) → get_elem? (set s.views id w) j ≡ some u → EachMarked k stripe (contents.marks other.part) ruled.log u.passes) (sym same_size)
+                reads = λ t. subst (λ (k : ℕ). IsPart k stripe (contents.store other.part) (after ruled.log)) (sym same_size) (other.reads t);
+                own = λ t. subst (λ (k : ℕ). AreOwnMarks k stripe (contents.marks other.part)) (sym same_size) (other.own t);
+                marks = λ t. subst (λ (k : ℕ). (j : ℕ) (u : View T) → get_elem? (set s.views id w) j ≡ some u → EachMarked k stripe (contents.marks other.part) ruled.log u.passes) (sym same_size)
                     (all_marked contents passes s ruled id v at n stripe (contents.marks other.part) ruled.log ruled.log w (λ j u ne there is. is)
-                    (λ is. (one_marked n stripe (contents.marks other.part) ruled.log v single is, tt)) other.marks);
+                    (λ is. (one_marked n stripe (contents.marks other.part) ruled.log v single is, tt)) (other.marks t));
               })
               (λ held. inr (still_held contents passes s ruled id v at later (set s.homes i none) w stripe same_size
               (λ x. omega (arith, times_else stripe i v.held (λ e. ne (sym e))))
@@ -578,8 +582,9 @@ module _ {T : Type 0} (laws : Laws) (contents : Meaning T) (passes slots id : �
                 legal = ruled.legal;
                 mine = g.mine;
               };
-              reads = subst (λ (k : ℕ). IsPart k i (contents.store free.part) (after ruled.log)) wide free.reads;
-              marked = subst (λ (k : ℕ). IsMarked k i (contents.marks free.part) ruled.log (own v)) wide (one_marked n i (contents.marks free.part) ruled.log v single (free.marks id v at));
+              reads = λ t. subst (λ (k : ℕ). IsPart k i (contents.store free.part) (after ruled.log)) wide (free.reads t);
+              own_marks = λ t. subst (λ (k : ℕ). AreOwnMarks k i (contents.marks free.part)) wide (free.own t);
+              marked = λ t. subst (λ (k : ℕ). IsMarked k i (contents.marks free.part) ruled.log (own v)) wide (one_marked n i (contents.marks free.part) ruled.log v single (free.marks t id v at));
               seat = refl;
             },
       ))
@@ -622,47 +627,47 @@ module _ {T : Type 0} (laws : Laws) (contents : Meaning T) (passes slots id : �
       (tries m i single below none_held (subst (λ (y : ℕ). y < 2 ^ 64) mine_is small)))
 
   -- The stripe in front is given back
-  pub gives_back : (ends : Bool) (v : View T) (i : ℕ) (part : T) (more : List (ℕ × T)) → IsSingle v → 0 < times i v.held
-      → (ends ≡ true → AreHeld slots v.held (keys_of_pairs (own v).watched)) → FitsPart contents slots (kept ends (own v)) v.taken i part
+  pub gives_back : (ends : Bool) (told : List Note) (v : View T) (i : ℕ) (part : T) (more : List (ℕ × T)) → IsSingle v → 0 < times i v.held
+      → (ends ≡ true → AreHeld slots v.held (keys_of_pairs (own v).watched)) → (contents.trusted → FitsPart contents slots (kept ends told (own v)) v.taken i part)
       → Allows (Ruled contents passes) slots id (v, (i, part) ∷ more) (word_of i) (λ _. 0)
-      (λ _. Gives ends (step slots (word_of i) 0 0 none) (v, (i, part) ∷ more) 0)
-  gives_back ends v i part more single mine_held may fit s ruled wide at small =
+      (λ _. Gives ends told (step slots (word_of i) 0 0 none) (v, (i, part) ∷ more) 0)
+  gives_back ends told v i part more single mine_held may fit s ruled wide at small =
       let n = length s.homes in
       let words = s.words in
       let f = mine_fits contents passes s ruled id v at in
       let g : Fits n ruled.log v.held (own v) = own_fits v single n ruled.log f.fits in
-      let k : Knowledge = kept ends (own v) in
+      let k : Knowledge = kept ends told (own v) in
       let w : View T = giving (knowing v k) i in
       let later = set words (word_of i) 0 in
       let homes = set s.homes i (some part) in
       let same_size : length homes ≡ n = length-set s.homes i (some part) in
       let below : i < n = (f.names i mine_held).0 in
-      let fits_n : FitsPart contents n k v.taken i part = subst (λ (j : ℕ). FitsPart contents j k v.taken i part) (sym wide) fit in
+      let fits_n : contents.trusted → FitsPart contents n k v.taken i part = λ t. subst (λ (j : ℕ). FitsPart contents j k v.taken i part) (sym wide) (fit t) in
       let marks : Marks = contents.marks part in
-      let reads_now : IsPart n i (contents.store part) (after ruled.log) =
+      let reads_now : contents.trusted → IsPart n i (contents.store part) (after ruled.log) = λ t.
       subst (λ (l : History). IsPart n i (contents.store part) (after l)) (sym g.begins)
-      (part_left laws n i (contents.store part) g.more (own v).seen (g.leave i mine_held) fits_n.reads) in
-      let own_now : IsMarked n i marks ruled.log k =
-      subst (λ (l : History). IsMarked n i marks l k) (sym g.begins) (marked_left laws n i marks g.more (own v).seen k (g.leave i mine_held) fits_n.marks) in
-      let was_marks : Marks = contents.marks fits_n.was.1 in
-      let same_marks : (key : Bytes) (other : ℕ) → stripe_of n key ≡ i → other ≢ (own v).number → marks key other ≡ touched_marks ruled.log fits_n.was.0 was_marks key other =
-      (λ key other here ne. fits_n.others key other here ne
-      ∙ sym (ap (λ (l : History). touched_marks l fits_n.was.0 was_marks key other) g.begins ∙ touched_left laws n i was_marks g.more (own v).seen fits_n.was.0 (g.leave i mine_held) key other here)) in
-      let others_now : (j : ℕ) (u : View T) → j ≢ id → get_elem? s.views j ≡ some u → EachMarked n i marks ruled.log u.passes =
-      (λ j u ne there. ⊎_elim
+      (part_left laws n i (contents.store part) g.more (own v).seen (g.leave i mine_held) (fits_n t).reads) in
+      let own_now : contents.trusted → IsMarked n i marks ruled.log k = λ t.
+      subst (λ (l : History). IsMarked n i marks l k) (sym g.begins) (marked_left laws n i marks g.more (own v).seen k (g.leave i mine_held) (fits_n t).marks) in
+      let was_marks : contents.trusted → Marks = λ t. contents.marks (fits_n t).was.1 in
+      let same_marks : (t : contents.trusted) (key : Bytes) (other : ℕ) → stripe_of n key ≡ i → other ≢ (own v).number → marks key other ≡ touched_marks ruled.log (fits_n t).was.0 (was_marks t) key other =
+      (λ t key other here ne. (fits_n t).others key other here ne
+      ∙ sym (ap (λ (l : History). touched_marks l (fits_n t).was.0 (was_marks t) key other) g.begins ∙ touched_left laws n i (was_marks t) g.more (own v).seen (fits_n t).was.0 (g.leave i mine_held) key other here)) in
+      let others_now : contents.trusted → (j : ℕ) (u : View T) → j ≢ id → get_elem? s.views j ≡ some u → EachMarked n i marks ruled.log u.passes =
+      (λ t j u ne there. ⊎_elim
       (λ free. absurd (word_not_zero words i v ((f.names i mine_held).1) free.word))
       (λ held. dite (ℕ_discrete held.seat id)
       (λ e.
       let is : held.view ≡ v = some-injective held.view v (sym held.there ∙ ap (get_elem? s.views) e ∙ at) in
-      let same_was : held.was ≡ fits_n.was = same_some held.was fits_n.was (part_at v.taken i) (sym (ap (λ (x : View T). part_at x.taken i) is) ∙ held.taken) fits_n.taken in
-      each_given n i (touched_marks ruled.log fits_n.was.0 was_marks) marks ruled.log (own v).number u.passes same_marks
+      let same_was : held.was ≡ (fits_n t).was = same_some held.was (fits_n t).was (part_at v.taken i) (sym (ap (λ (x : View T). part_at x.taken i) is) ∙ held.taken) (fits_n t).taken in
+      each_given n i (touched_marks ruled.log (fits_n t).was.0 (was_marks t)) marks ruled.log (own v).number u.passes (same_marks t)
       (others_stand contents passes s ruled id v at single j u ne there)
-      (subst (λ (x : ℕ × T). EachMarked n i (touched_marks ruled.log x.0 (contents.marks x.1)) ruled.log u.passes) same_was (held.marks j u (λ x. ne (x ∙ e)) there)))
+      (subst (λ (x : ℕ × T). EachMarked n i (touched_marks ruled.log x.0 (contents.marks x.1)) ruled.log u.passes) same_was (held.marks t j u (λ x. ne (x ∙ e)) there)))
       (λ ne'. absurd (not_both contents passes s ruled id v at single i held.seat held.view ne' held.there mine_held held.holds)))
       (ruled.stripes i below)) in
       let own_kept : (stripe : ℕ) (marks : Marks) → times stripe v.held ≡ 0 → EachMarked n stripe marks ruled.log v.passes → EachMarked n stripe marks ruled.log w.passes =
       (λ stripe marks none is. (
-        mark_kept n stripe marks ruled.log ends (own v)
+        mark_kept n stripe marks ruled.log ends told (own v)
             (λ e. entry_leaves n stripe v.held (keys_of_pairs (own v).watched) (subst (λ (k : ℕ). AreHeld k v.held (keys_of_pairs (own v).watched)) (sym wide) (may e)) none)
             (one_marked n stripe marks ruled.log v single is),
         tt,
@@ -682,7 +687,7 @@ module _ {T : Type 0} (laws : Laws) (contents : Meaning T) (passes slots id : �
           views = subst (λ (k : ℕ). (j : ℕ) (u : View T) → get_elem? (set s.views id w) j ≡ some u → FitsView k later ruled.log u) (sym same_size)
               (each_set (λ j u. FitsView n later ruled.log u) s.views id w
               record {
-                fits = fewer_held n ruled.log i v.held (k ∷ []) (record { more = g.more; begins = g.begins; leave = g.leave; mine = g.mine; mine_seen = g.mine_seen; watches = watches_kept ends (own v) g.watches }, tt);
+                fits = fewer_held n ruled.log i v.held (k ∷ []) (record { more = g.more; begins = g.begins; leave = g.leave; mine = g.mine; mine_seen = g.mine_seen; watches = watches_kept ends told (own v) g.watches }, tt);
                 ready = omega (arith, f.ready, own_weight v single);
                 names = λ stripe h.
                     let ne : stripe ≢ i = (λ e. let none_left : times stripe (without i v.held) ≡ 0 = ap (λ (k : ℕ). times k (without i v.held)) e ∙ without_here i v.held in omega arith) in
@@ -697,21 +702,24 @@ module _ {T : Type 0} (laws : Laws) (contents : Meaning T) (passes slots id : �
                 word = ap (λ (k : ℕ). slice_index later (word_of k)) e ∙ get_or-set_same words (word_of i) 0 0 (omega (arith, ruled.wide));
                 part = part;
                 home = ap (get_elem? homes) e ∙ set_there s.homes i (some part) below;
-                reads = subst (λ (k : ℕ). IsPart k stripe (contents.store part) (after ruled.log)) (sym same_size)
-                    (subst (λ (k : ℕ). IsPart n k (contents.store part) (after ruled.log)) (sym e) reads_now);
-                marks = subst (λ (k : ℕ). (j : ℕ) (u : View T) → get_elem? (set s.views id w) j ≡ some u → EachMarked k stripe marks ruled.log u.passes) (sym same_size)
+                reads = λ t. subst (λ (k : ℕ). IsPart k stripe (contents.store part) (after ruled.log)) (sym same_size)
+                    (subst (λ (k : ℕ). IsPart n k (contents.store part) (after ruled.log)) (sym e) (reads_now t));
+                own = λ t. subst (λ (k : ℕ). AreOwnMarks k stripe (contents.marks part)) (sym same_size)
+                    (subst (λ (k : ℕ). AreOwnMarks n k (contents.marks part)) (sym e) (fits_n t).own_marks);
+                marks = λ t. subst (λ (k : ℕ). (j : ℕ) (u : View T) → get_elem? (set s.views id w) j ≡ some u → EachMarked k stripe marks ruled.log u.passes) (sym same_size)
                     (subst (λ (k : ℕ). (j : ℕ) (u : View T) → get_elem? (set s.views id w) j ≡ some u → EachMarked n k marks ruled.log u.passes) (sym e)
-                    (each_set (λ j u. EachMarked n i marks ruled.log u.passes) s.views id w (own_now, tt) others_now));
+                    (each_set (λ j u. EachMarked n i marks ruled.log u.passes) s.views id w (own_now t, tt) (others_now t)));
               })
               (λ ne. ⊎_elim
               (λ other. inl record {
                 word = other_word words i stripe 0 ne ∙ other.word;
                 part = other.part;
                 home = set_else s.homes i stripe (some part) ne ∙ other.home;
-                reads = subst (λ (k : ℕ). IsPart k stripe (contents.store other.part) (after ruled.log)) (sym same_size) other.reads;
-                marks = subst (λ (k : ℕ). (j : ℕ) (u : View T) → get_elem? (set s.views id w) j ≡ some u → EachMarked k stripe (contents.marks other.part) ruled.log u.passes) (sym same_size)
+                reads = λ t. subst (λ (k : ℕ). IsPart k stripe (contents.store other.part) (after ruled.log)) (sym same_size) (other.reads t);
+                own = λ t. subst (λ (k : ℕ). AreOwnMarks k stripe (contents.marks other.part)) (sym same_size) (other.own t);
+                marks = λ t. subst (λ (k : ℕ). (j : ℕ) (u : View T) → get_elem? (set s.views id w) j ≡ some u → EachMarked k stripe (contents.marks other.part) ruled.log u.passes) (sym same_size)
                     (all_marked contents passes s ruled id v at n stripe (contents.marks other.part) ruled.log ruled.log w (λ j u ne there is. is)
-                    (own_kept stripe (contents.marks other.part) (omega (arith, λ (mine_too : 0 < times stripe v.held). word_not_zero words stripe v ((f.names stripe mine_too).1) other.word))) other.marks);
+                    (own_kept stripe (contents.marks other.part) (omega (arith, λ (mine_too : 0 < times stripe v.held). word_not_zero words stripe v ((f.names stripe mine_too).1) other.word))) (other.marks t));
               })
               (λ held. inr (stays_held contents passes s ruled id v at ruled.log later homes w stripe same_size (omega arith)
               (λ x. omega (arith, without_else i stripe v.held ne)) (part_without i stripe v.taken ne) (set_else s.homes i stripe (some part) ne)
@@ -724,13 +732,13 @@ module _ {T : Type 0} (laws : Laws) (contents : Meaning T) (passes slots id : �
       )
 
   -- the same of a seat whose first part this is
-  pub gives_first : (ends : Bool) (m : Me T (View T)) (i word : ℕ) (part : T) → word ≡ word_of i → m.1 ≡ (i, part) ∷ rest m.1 → IsSingle m.0 → 0 < times i m.0.held
-      → (ends ≡ true → AreHeld slots m.0.held (keys_of_pairs (own m.0).watched)) → FitsPart contents slots (kept ends (own m.0)) m.0.taken i part
-      → Allows (Ruled contents passes) slots id m word (λ _. 0) (λ _. Gives ends (step slots word 0 0 none) m 0)
-  gives_first ends m i word part word_is first single held may fit =
-      subst (λ (x : ℕ). Allows (Ruled contents passes) slots id m x (λ _. 0) (λ _. Gives ends (step slots x 0 0 none) m 0)) (sym word_is)
-      (subst (λ (l : List (ℕ × T)). Allows (Ruled contents passes) slots id (m.0, l) (word_of i) (λ _. 0) (λ _. Gives ends (step slots (word_of i) 0 0 none) (m.0, l) 0)) (sym first)
-      (gives_back ends m.0 i part (rest m.1) single held may fit))
+  pub gives_first : (ends : Bool) (told : List Note) (m : Me T (View T)) (i word : ℕ) (part : T) → word ≡ word_of i → m.1 ≡ (i, part) ∷ rest m.1 → IsSingle m.0 → 0 < times i m.0.held
+      → (ends ≡ true → AreHeld slots m.0.held (keys_of_pairs (own m.0).watched)) → (contents.trusted → FitsPart contents slots (kept ends told (own m.0)) m.0.taken i part)
+      → Allows (Ruled contents passes) slots id m word (λ _. 0) (λ _. Gives ends told (step slots word 0 0 none) m 0)
+  gives_first ends told m i word part word_is first single held may fit =
+      subst (λ (x : ℕ). Allows (Ruled contents passes) slots id m x (λ _. 0) (λ _. Gives ends told (step slots x 0 0 none) m 0)) (sym word_is)
+      (subst (λ (l : List (ℕ × T)). Allows (Ruled contents passes) slots id (m.0, l) (word_of i) (λ _. 0) (λ _. Gives ends told (step slots (word_of i) 0 0 none) (m.0, l) 0)) (sym first)
+      (gives_back ends told m.0 i part (rest m.1) single held may fit))
 
 -- passes that have all seen the log
 each_sees : (laws : Laws) (n : ℕ) (log : History) (held : List ℕ) (ps : List Knowledge) → EachFits n log held ps → EachFits n log held (all_see ps log)
@@ -755,7 +763,7 @@ length_see : (log : History) (ps : List Knowledge) → length (all_see ps log) �
 length_see log [] = refl
 length_see log (k ∷ ks) = omega (arith, length_see log ks)
 
-each_goes_on : (n slots : ℕ) (log : History) (held : List ℕ) (ps : List Knowledge) → Legal log → EachFits n log held ps → EachGoesOn slots ps log
+each_goes_on : {trusted : Type 0} (n slots : ℕ) (log : History) (held : List ℕ) (ps : List Knowledge) → (trusted → Legal log) → EachFits n log held ps → EachGoesOn trusted slots ps log
 each_goes_on n slots log held [] legal all = tt
 each_goes_on n slots log held (k ∷ ks) legal all = (
   record { more = all.0.more; begins = all.0.begins; leave = λ stripe h. absurd (omega arith); legal = legal; mine = all.0.mine },
@@ -839,7 +847,7 @@ module _ {T : Type 0} (contents : Meaning T) (passes : ℕ) where
       let size : length (map some parts) ≡ length parts = length_somes parts in
       record {
         log = [];
-        legal = tt;
+        legal = λ t. tt;
         wide = wide ∙ ap word_of (sym size);
         few = few;
         counts = zeros commit_word;
@@ -853,8 +861,9 @@ module _ {T : Type 0} (contents : Meaning T) (passes : ℕ) where
               word = zeros (word_of stripe);
               part = t.0;
               home = t.1;
-              reads = λ key. t.2 key ∙ sym (none_both (nat_eq (stripe_of (length (map some parts)) key) stripe) (after [] key) refl);
-              marks = λ seat u there. opening_marked (length (map some parts)) stripe (contents.marks t.0) passes seat u t.3 there;
+              reads = λ trust key. t.2 key ∙ sym (none_both (nat_eq (stripe_of (length (map some parts)) key) stripe) (after [] key) refl);
+              own = λ trust key number elsewhere. t.3 key number;
+              marks = λ trust seat u there. opening_marked (length (map some parts)) stripe (contents.marks t.0) passes seat u t.3 there;
             };
       }
 
@@ -897,7 +906,8 @@ module _ {T : Type 0} (contents : Meaning T) (passes : ℕ) where
               part = free.part;
               home = free.home;
               reads = free.reads;
-              marks = each stripe (contents.marks free.part) (free.marks id v at) (λ j u ne there. free.marks j u there);
+              own = free.own;
+              marks = λ t. each stripe (contents.marks free.part) (free.marks t id v at) (λ j u ne there. free.marks t j u there);
             })
             (λ held. inr record {
               seat = held.seat;
@@ -911,12 +921,12 @@ module _ {T : Type 0} (contents : Meaning T) (passes : ℕ) where
               early = held.early;
               marks = let not_this = not_idle id v s.views at none_held held.seat held.view held.there stripe held.holds in
                   let marks = touched_marks ruled.log held.was.0 (contents.marks held.was.1) in
-                  λ j u ne there. ⊎_elim
+                  λ t j u ne there. ⊎_elim
                   (λ old. dite (ℕ_discrete j id)
                   (λ e. let is : left ≡ u = some-injective left u (sym (set_here s.views id left v at) ∙ sym (ap (get_elem? (set s.views id left)) e) ∙ old) in
-                  subst (λ (x : View T). EachMarked n stripe marks ruled.log x.passes) is (cut_marks n stripe marks ruled.log (held.marks id v (λ x. not_this (sym x)) at)).0)
-                  (λ other. held.marks j u ne (sym (set_else s.views id j left other) ∙ old)))
-                  (λ new. subst (λ (x : View T). EachMarked n stripe marks ruled.log x.passes) new (cut_marks n stripe marks ruled.log (held.marks id v (λ x. not_this (sym x)) at)).1)
+                  subst (λ (x : View T). EachMarked n stripe marks ruled.log x.passes) is (cut_marks n stripe marks ruled.log (held.marks t id v (λ x. not_this (sym x)) at)).0)
+                  (λ other. held.marks t j u ne (sym (set_else s.views id j left other) ∙ old)))
+                  (λ new. subst (λ (x : View T). EachMarked n stripe marks ruled.log x.passes) new (cut_marks n stripe marks ruled.log (held.marks t id v (λ x. not_this (sym x)) at)).1)
                   (at_snoc (set s.views id left) right u j there);
             })
             (ruled.stripes stripe h);
@@ -961,11 +971,12 @@ module _ {T : Type 0} (contents : Meaning T) (passes : ℕ) where
               part = free.part;
               home = free.home;
               reads = free.reads;
-              marks = let marks = contents.marks free.part in
+              own = free.own;
+              marks = λ t. let marks = contents.marks free.part in
                   each_set (λ j u. EachMarked n stripe marks ruled.log u.passes) (set s.views id (joined v w)) other (resting []) tt
                   (λ j u apart there. each_set (λ j u. EachMarked n stripe marks ruled.log u.passes) s.views id (joined v w)
-                  (each_both n stripe marks ruled.log v.passes w.passes (free.marks id v at) (free.marks other w at'))
-                  (λ k x ne' was. free.marks k x was) j u there);
+                  (each_both n stripe marks ruled.log v.passes w.passes (free.marks t id v at) (free.marks t other w at'))
+                  (λ k x ne' was. free.marks t k x was) j u there);
             })
             (λ held. inr record {
               seat = held.seat;
@@ -980,16 +991,16 @@ module _ {T : Type 0} (contents : Meaning T) (passes : ℕ) where
               marks = let not_one = not_idle id v s.views at none_held held.seat held.view held.there stripe held.holds in
                   let not_two = not_idle other w s.views at' none_held' held.seat held.view held.there stripe held.holds in
                   let marks = touched_marks ruled.log held.was.0 (contents.marks held.was.1) in
-                  λ j u ne there. each_set (λ j u. j ≢ held.seat → EachMarked n stripe marks ruled.log u.passes) (set s.views id (joined v w)) other (resting []) (λ _. tt)
+                  λ t j u ne there. each_set (λ j u. j ≢ held.seat → EachMarked n stripe marks ruled.log u.passes) (set s.views id (joined v w)) other (resting []) (λ _. tt)
                   (λ j u apart there'. each_set (λ j u. j ≢ held.seat → EachMarked n stripe marks ruled.log u.passes) s.views id (joined v w)
-                  (λ _. each_both n stripe marks ruled.log v.passes w.passes (held.marks id v (λ x. not_one (sym x)) at) (held.marks other w (λ x. not_two (sym x)) at'))
-                  (λ k x ne' was not_holder. held.marks k x not_holder was) j u there') j u there ne;
+                  (λ _. each_both n stripe marks ruled.log v.passes w.passes (held.marks t id v (λ x. not_one (sym x)) at) (held.marks t other w (λ x. not_two (sym x)) at'))
+                  (λ k x ne' was not_holder. held.marks t k x not_holder was) j u there') j u there ne;
             })
             (ruled.stripes stripe h);
       }
 
   -- A look by a seat that holds nothing
-  pub meets : (laws : Laws) (slots id i : ℕ) (m : Me T (View T)) → m.0.held ≡ [] → Allows (Ruled contents passes) slots id m i (λ n. n) (Meets (step slots i 0 0 none) m)
+  pub meets : (laws : Laws) (slots id i : ℕ) (m : Me T (View T)) → m.0.held ≡ [] → Allows (Ruled contents passes) slots id m i (λ n. n) (Meets contents.trusted (step slots i 0 0 none) m)
   meets laws slots id i m none_held s ruled wide at small =
       let v = m.0 in
       let n = length s.homes in

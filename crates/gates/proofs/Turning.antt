@@ -253,7 +253,7 @@ module _ {T : Type 0} where
   among_written i w parts there = let t = brought_has i parts there in sym (ap (λ (l : List (ℕ × T)). stripes_among l) t.1)
 
   -- what is held stays open
-  pub written_open : (h : Held T) (i : ℕ) (w : T) → IsOpen h → IsSome (part_at (held_parts h) i) → IsOpen (with_part h i w)
+  pub written_open : {trusted : Type 0} (h : Held T) (i : ℕ) (w : T) → IsOpen trusted h → IsSome (part_at (held_parts h) i) → IsOpen trusted (with_part h i w)
   written_open h i w is there =
       let s = is.holding.seat in
       let parts = held_parts h in

@@ -13,6 +13,7 @@ use Rattle.words.specs.Watches.{touched, begun, watched_at, with_key, with_keys,
 use Rattle.words.specs.Commands.{keys_of_all}
 use Rattle.words.specs.Locality.{IsNoneOf}
 use Rattle.gates.specs.Laws.{Laws}
+use Rattle.gates.specs.declared.view.Note.{Note}
 use Rattle.gates.specs.declared.view.Knowledge.{Knowledge}
 use Rattle.gates.specs.Rule.{writes}
 use Rattle.gates.specs.Plays.{kept}
@@ -268,6 +269,6 @@ watched_once (Run command) pairs position are = are
 watched_once (Watch keys) pairs position are = with_keys_once keys pairs position are
 watched_once (Exec commands own) pairs position are = tt
 
-pub kept_once : (ends : Bool) (knows : Knowledge) → AreWatched knows.watched knows.watched → AreWatched (kept ends knows).watched (kept ends knows).watched
-kept_once true knows are = tt
-kept_once false knows are = are
+pub kept_once : (ends : Bool) (told : List Note) (knows : Knowledge) → AreWatched knows.watched knows.watched → AreWatched (kept ends told knows).watched (kept ends told knows).watched
+kept_once true told knows are = tt
+kept_once false told knows are = are

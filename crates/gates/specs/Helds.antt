@@ -1,5 +1,5 @@
 -- Held stripes: what there is of them.
-use Rattle.std.specs.Prelude.{◌≡◌, ◌↔◌, ◌<◌, ℕ, IsSome, Bool, true, false, List, refl, Result, IfOk, OnOk, OnErr}
+use Rattle.std.specs.Prelude.{◌≡◌, ◌↔◌, ◌<◌, ℕ, IsSome, Bool, true, false, List, reverse, refl, Result, IfOk, OnOk, OnErr}
 use Rattle.std.proofs.Common.{◌∙◌}
 use Rattle.std.specs.Borrow.{MutBor}
 use Rattle.gates.specs.Sets.{times, part_at}
@@ -12,7 +12,7 @@ use Rattle.words.specs.declared.history.Entry.{Entry}
 use Rattle.words.specs.declared.history.Operation.{Operation}
 use Rattle.words.specs.declared.reply.Reply.{Reply}
 use Rattle.words.specs.Session.{Asked, operation_of}
-use Rattle.gates.specs.Passes.{known, parts_in, taken_in, stripes_in, stripes_of, IsHolding, AllFit, Learned, ToldBusy, WasTold, Committed}
+use Rattle.gates.specs.Passes.{known, parts_in, taken_in, stripes_in, stripes_of, IsHolding, takes_in, AllFit, AreAsTaken, Learned, ToldBusy, WasTold, Committed}
 use Rattle.gates.specs.declared.gates.CommitsWornOut.{CommitsWornOut}
 use Rattle.gates.specs.declared.view.Note.TheVariants.{Worn}
 
@@ -54,8 +54,8 @@ module _ {T : Type 0} where
   held_taken held = taken_in held.pass.now
 
   -- the pass has the stripes of these gates that are held
-  pub record IsOpen (held : Held T) : Type 0 where
-    pub holding : IsHolding held.gates.now held.pass.now
+  pub record IsOpen (trusted : Type 0) (held : Held T) : Type 0 where
+    pub holding : IsHolding trusted held.gates.now held.pass.now
     pub order : stripes_in held.pass.now ≡ held.order
 
   -- nothing of what is held differs but parts
@@ -84,8 +84,8 @@ module _ {T : Type 0} where
 
   -- A commit of an operation, with the answer whether it was made: the pass has what it held, and its entry is the newest of what it has
   -- seen, or it was told that commits are worn out.
-  pub record HasCommitted (before : Held T) (operation : Operation) (reply : Reply) (later : Held T) (result : Result ℕ CommitsWornOut) : Type 0 where
-    pub open_still : IsOpen later
+  pub record HasCommitted (trusted : Type 0) (before : Held T) (operation : Operation) (reply : Reply) (later : Held T) (result : Result ℕ CommitsWornOut) : Type 0 where
+    pub open_still : IsOpen trusted later
     pub gates : gates_of later ≡ gates_of before
     pub pass : borrow_of later ≡ borrow_of before
     pub parts : held_parts later ≡ held_parts before
@@ -101,9 +101,11 @@ module _ {T : Type 0} where
   pub record HasTaken (contents : Meaning T) (gates : Gates T) (stripes : List ℕ) (pass : MutBor (Pass T)) (held : Held T) : Type 0 where
     pub gates_are : held.gates.now ≡ gates
     pub pass_is : held.pass.ghost_name ≡ pass.ghost_name
-    pub is_open : IsOpen held
+    pub is_open : IsOpen contents.trusted held
     pub has : (stripe : ℕ) → IsSome (part_at (held_parts held) stripe) ↔ (0 < times stripe stripes)
     pub learned : Learned (known pass.now) (known held.pass.now)
     pub told : ToldBusy stripes (known pass.now) (known held.pass.now)
     pub fit : AllFit contents (stripes_of gates) (known held.pass.now) (held_taken held) (held_parts held)
+    pub lent : AreAsTaken (held_taken held) (held_parts held)
+    pub rising : takes_in held.pass.now ≡ reverse stripes
     pub fresh : held.committed ≡ false

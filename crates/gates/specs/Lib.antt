@@ -1,7 +1,9 @@
 pub mod Laws
 pub mod Sets
+pub mod Pages
 pub mod Rule
 pub mod Plays
 pub mod Passes
 pub mod Helds
 pub mod Lending
+pub mod Background

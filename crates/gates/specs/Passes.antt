@@ -8,14 +8,14 @@ use Rattle.words.specs.History.{History, Pair, Legal, after, subhistory, keys_of
 use Rattle.words.specs.Watches.{watched_at, watched_after, mark_at, mark_after}
 use Rattle.words.specs.Stripes.{stripe_of, IsPart}
 use Rattle.gates.specs.declared.view.Note.{Note}
-use Rattle.gates.specs.declared.view.Note.TheVariants.{Busy, Worn}
+use Rattle.gates.specs.declared.view.Note.TheVariants.{Busy, Worn, Full, Idle, Done}
 use Rattle.gates.specs.declared.view.Knowledge.{Knowledge}
 use Rattle.gates.specs.declared.view.View.{View}
 use Rattle.gates.specs.declared.gates.Gates.{Gates}
 use Rattle.gates.specs.declared.gates.Pass.{Pass}
 use Rattle.gates.specs.Sets.{times, part_at}
 use Rattle.gates.specs.Plays.{own, IsSingle, newcomer}
-use Rattle.gates.specs.Rule.{writes, Meaning, IsMarked, touched_marks}
+use Rattle.gates.specs.Rule.{writes, Meaning, IsMarked, AreOwnMarks, touched_marks}
 
 -- each of these pairs is what is watched of its key among all: with all of them, no key stands twice
 abbrev pub AreWatched : (all : List Pair) → List Pair → Type 0
@@ -52,61 +52,74 @@ module _ {T : Type 0} where
   abbrev pub stripes_in : Pass T → List ℕ
   stripes_in pass = stripes_among (parts_in pass)
 
+  -- the stripes that it holds in the order of its takes, the last one first
+  abbrev pub takes_in : Pass T → List ℕ
+  takes_in pass = pass.seat.me.0.held
+
   -- what it took, each with its stripe: the moment, and the part as it was then
   abbrev pub taken_in : Pass T → List (ℕ × (ℕ × T))
   taken_in pass = pass.seat.me.0.taken
 
   -- The part of a stripe reads as its part of what the history leaves that the pass has seen, and its marks say which of the pass's watched
-  -- keys were written in it. For others they are as the part had them when it was taken, touched at the keys that were written since.
+  -- keys were written in it. For others they are as the part had them when it was taken, touched at the keys that were written since. No
+  -- key of another stripe has a mark.
   pub record FitsPart (contents : Meaning T) (stripes : ℕ) (knows : Knowledge) (took : List (ℕ × (ℕ × T))) (stripe : ℕ) (part : T) : Type 0 where
     pub reads : IsPart stripes stripe (contents.store part) (after knows.seen)
     pub marks : IsMarked stripes stripe (contents.marks part) knows.seen knows
     pub was : ℕ × T
     pub taken : part_at took stripe ≡ Some was
     pub early : was.0 ≤ length knows.seen
+    pub own_marks : AreOwnMarks stripes stripe (contents.marks part)
     pub others : (key : Bytes) (number : ℕ) → stripe_of stripes key ≡ stripe → number ≢ knows.number
         → contents.marks part key number ≡ touched_marks knows.seen was.0 (contents.marks was.1) key number
 
   -- each of the parts does
   abbrev pub AllFit : Meaning T → (stripes : ℕ) → Knowledge → List (ℕ × (ℕ × T)) → List (ℕ × T) → Type 0
   AllFit contents stripes knows took parts =
-      (stripe : ℕ) (part : T) → part_at parts stripe ≡ Some part → FitsPart contents stripes knows took stripe part
+      contents.trusted → (stripe : ℕ) (part : T) → part_at parts stripe ≡ Some part → FitsPart contents stripes knows took stripe part
+
+  -- each of the parts is as it was taken
+  abbrev pub AreAsTaken : List (ℕ × (ℕ × T)) → List (ℕ × T) → Type 0
+  AreAsTaken took parts = (stripe : ℕ) (part : T) → part_at parts stripe ≡ Some part → (moment : ℕ) × (part_at took stripe ≡ Some (moment, part))
 
   -- a seat stands for the one pass of this number, and has the stripes that it holds, each once; what the pass has seen is legal, and has
   -- its own entries and its watches, of which no two are of one key
-  pub record IsSeatOf (stripes number : ℕ) (me : Me T (View T)) : Type 0 where
+  pub record IsSeatOf (trusted : Type 0) (stripes number : ℕ) (me : Me T (View T)) : Type 0 where
     pub single : IsSingle me.0
     pub number_is : (own me.0).number ≡ number
     pub once : (stripe : ℕ) → times stripe (stripes_among me.1) ≤ 1
     pub same : (stripe : ℕ) → times stripe me.0.held ≡ times stripe (stripes_among me.1)
     pub below : (stripe : ℕ) → 0 < times stripe (stripes_among me.1) → stripe < stripes
-    pub legal : Legal (own me.0).seen
+    pub legal : trusted → Legal (own me.0).seen
     pub mine : (own me.0).mine ≡ subhistory (own me.0).seen (own me.0).number
     pub watches : AreWatches (own me.0).seen (own me.0).number (own me.0).watched
     pub each_once : AreWatched (own me.0).watched (own me.0).watched
 
   -- the pass is one of these gates
-  pub record IsHolding (gates : Gates T) (pass : Pass T) : Type 0 where
+  pub record IsHolding (trusted : Type 0) (gates : Gates T) (pass : Pass T) : Type 0 where
     pub table : pass.seat.table_id ≡ id_of gates
     pub small : pass.number < 2 ^ 62
     pub armed : pass.armed ≡ pass.seat.me.0.armed
-    pub seat : IsSeatOf (stripes_of gates) pass.number pass.seat.me
+    pub seat : IsSeatOf trusted (stripes_of gates) pass.number pass.seat.me
 
   -- the pass is one of these gates, and holds nothing
-  pub record IsResting (gates : Gates T) (pass : Pass T) : Type 0 where
-    pub holding : IsHolding gates pass
+  pub record IsResting (trusted : Type 0) (gates : Gates T) (pass : Pass T) : Type 0 where
+    pub holding : IsHolding trusted gates pass
     pub nothing : parts_in pass ≡ []
 
 -- passes of the gates that have seen nothing, with the numbers from this one on
-abbrev pub AreNew : {T : Type 0} → Gates T → (number : ℕ) → List (Pass T) → Type 0
-AreNew gates number [] = Unit {0}
-AreNew gates number (pass ∷ passes) = IsResting gates pass × (known pass ≡ newcomer number) × AreNew gates (number + 1) passes
+abbrev pub AreNew : {T : Type 0} → (trusted : Type 0) → Gates T → (number : ℕ) → List (Pass T) → Type 0
+AreNew trusted gates number [] = Unit {0}
+AreNew trusted gates number (pass ∷ passes) = IsResting trusted gates pass × (known pass ≡ newcomer number) × AreNew trusted gates (number + 1) passes
 
 -- each of the notes says that a stripe of these was another pass's
 abbrev pub AreBusy : (stripes : List ℕ) → List Note → Type 0
 AreBusy stripes [] = Unit {0}
 AreBusy stripes (Busy stripe ∷ notes) = (0 < times stripe stripes) × AreBusy stripes notes
 AreBusy stripes (Worn ∷ notes) = ⊥
+AreBusy stripes (Full stripe ∷ notes) = ⊥
+AreBusy stripes (Idle stripe work ∷ notes) = ⊥
+AreBusy stripes (Done stripe work ∷ notes) = ⊥
 
 -- the pass was told since that stripes of these were others', and nothing else
 abbrev pub ToldBusy : (stripes : List ℕ) → (before later : Knowledge) → Type 0

@@ -13,7 +13,7 @@ use Rattle.gates.specs.declared.view.Note.TheVariants.{Busy, Worn}
 use Rattle.gates.specs.declared.view.Knowledge.{Knowledge}
 use Rattle.gates.specs.declared.view.View.{View}
 use Rattle.gates.specs.Sets.{times, without, without_part}
-use Rattle.gates.specs.Rule.{AllLeave, word_of, Meaning, IsMarked}
+use Rattle.gates.specs.Rule.{AllLeave, word_of, Meaning, IsMarked, AreOwnMarks}
 
 -- An entry that is never committed: where no call picks one.
 abbrev pub an_entry : Entry
@@ -55,8 +55,8 @@ commits knows before entry =
     }
 
 -- the pass watches what it did, or nothing, if its watches end
-abbrev pub kept : (ends : Bool) → Knowledge → Knowledge
-kept ends knows = record knows { watched = cond ends [] knows.watched }
+abbrev pub kept : (ends : Bool) → (told : List Note) → Knowledge → Knowledge
+kept ends told knows = record knows { watched = cond ends [] knows.watched; notes = told ++ knows.notes }
 
 -- all passes have seen this history
 abbrev pub all_see : List Knowledge → History → List Knowledge
@@ -64,17 +64,17 @@ all_see [] log = []
 all_see (knows ∷ others) log = sees knows log ∷ all_see others log
 
 -- the history goes on from what the pass has seen, by entries that leave each stripe of the list; none of them is the pass's
-pub record GoesOn (stripes : ℕ) (held : List ℕ) (knows : Knowledge) (log : History) : Type 0 where
+pub record GoesOn (trusted : Type 0) (stripes : ℕ) (held : List ℕ) (knows : Knowledge) (log : History) : Type 0 where
   pub more : History
   pub begins : log ≡ more ++ knows.seen
   pub leave : (stripe : ℕ) → 0 < times stripe held → AllLeave stripes stripe more
-  pub legal : Legal log
+  pub legal : trusted → Legal log
   pub mine : knows.mine ≡ subhistory log knows.number
 
 -- the same of each pass of a list, with no stripe held
-abbrev pub EachGoesOn : (stripes : ℕ) → List Knowledge → History → Type 0
-EachGoesOn stripes [] log = Unit {0}
-EachGoesOn stripes (knows ∷ others) log = GoesOn stripes [] knows log × EachGoesOn stripes others log
+abbrev pub EachGoesOn : (trusted : Type 0) (stripes : ℕ) → List Knowledge → History → Type 0
+EachGoesOn trusted stripes [] log = Unit {0}
+EachGoesOn trusted stripes (knows ∷ others) log = GoesOn trusted stripes [] knows log × EachGoesOn trusted stripes others log
 
 module _ {T : Type 0} where
   -- a seat that stands for these passes and holds nothing
@@ -111,9 +111,10 @@ module _ {T : Type 0} where
   pub record Took (contents : Meaning T) (stripes stripe : ℕ) (m w : Me T (View T)) : Type 0 where
     pub part : T
     pub log : History
-    pub goes_on : GoesOn stripes m.0.held (own m.0) log
-    pub reads : IsPart stripes stripe (contents.store part) (after log)
-    pub marked : IsMarked stripes stripe (contents.marks part) log (own m.0)
+    pub goes_on : GoesOn contents.trusted stripes m.0.held (own m.0) log
+    pub reads : contents.trusted → IsPart stripes stripe (contents.store part) (after log)
+    pub own_marks : contents.trusted → AreOwnMarks stripes stripe (contents.marks part)
+    pub marked : contents.trusted → IsMarked stripes stripe (contents.marks part) log (own m.0)
     pub seat : w ≡ (taking m.0 stripe part log, (stripe, part) ∷ m.1)
 
   -- a stripe's word was read as another's
@@ -140,23 +141,23 @@ module _ {T : Type 0} where
 
   -- A commit: the pass has seen the whole history, with its own entry as the newest, whose position is the number found. It may commit
   -- again where that is below 2^62.
-  pub record Commits (entry : Entry) (st : Step T) (m : Me T (View T)) (found : ℕ) (w : Me T (View T)) : Type 0 where
+  pub record Commits (trusted : Type 0) (entry : Entry) (st : Step T) (m : Me T (View T)) (found : ℕ) (w : Me T (View T)) : Type 0 where
     pub before : History
-    pub goes_on : GoesOn st.slots m.0.held (own m.0) before
+    pub goes_on : GoesOn trusted st.slots m.0.held (own m.0) before
     pub place : found ≡ length before
-    pub legal : Legal (entry ∷ before)
+    pub legal : trusted → Legal (entry ∷ before)
     pub mine : (length before, entry) ∷ (own m.0).mine ≡ subhistory (entry ∷ before) (own m.0).number
     pub seat : w ≡ (record (m.0) { passes = commits (own m.0) before entry ∷ []; armed = nat_lt found (2 ^ 62) }, m.1)
 
   -- the stripe whose part the seat has in front was given back, and the pass watches nothing more if its watches end
-  abbrev pub Gives : (ends : Bool) → Step T → Me T (View T) → ℕ → Me T (View T) → Type 0
-  Gives ends st m found w =
-      (stripe : ℕ) → st.word ≡ word_of stripe → w ≡ (giving (knowing m.0 (kept ends (own m.0))) stripe, rest m.1)
+  abbrev pub Gives : (ends : Bool) → (told : List Note) → Step T → Me T (View T) → ℕ → Me T (View T) → Type 0
+  Gives ends told st m found w =
+      (stripe : ℕ) → st.word ≡ word_of stripe → w ≡ (giving (knowing m.0 (kept ends told (own m.0))) stripe, rest m.1)
 
   -- a look at the table by a seat that stands for two passes: each has seen the whole history
-  pub record Meets (st : Step T) (m : Me T (View T)) (found : ℕ) (w : Me T (View T)) : Type 0 where
+  pub record Meets (trusted : Type 0) (st : Step T) (m : Me T (View T)) (found : ℕ) (w : Me T (View T)) : Type 0 where
     pub log : History
-    pub go_on : EachGoesOn st.slots m.0.passes log
+    pub go_on : EachGoesOn trusted st.slots m.0.passes log
     pub seat : w ≡ (record (m.0) { passes = all_see m.0.passes log }, m.1)
 
   -- the view of a seat that stands for the passes of two

@@ -1,5 +1,5 @@
 -- The rule of the gates: what is shared, what each pass knows, and what holds of both between any two steps.
-use Rattle.std.specs.Prelude.{Bool, ◌≡◌, ◌≢◌, ◌⊎◌, ℕ, Some, ◌+◌, ◌*◌, ◌^◌, ◌<◌, ◌≤◌, List, [], ◌∷◌, ◌++◌, length, map, cond, slice_index}
+use Rattle.std.specs.Prelude.{Bool, ◌≡◌, ◌≢◌, ◌⊎◌, ℕ, Some, None, ◌+◌, ◌*◌, ◌^◌, ◌<◌, ◌≤◌, List, [], ◌∷◌, ◌++◌, length, map, cond, slice_index}
 use mathlib.Core.Option.{none, some}
 use lib.ListN.{get_elem?}
 use Rattle.atomic_table.specs.Table.{State}
@@ -11,6 +11,7 @@ use Rattle.words.specs.Stripes.{IsPart, LeavesStripe, stripe_of}
 use Rattle.gates.specs.declared.view.Knowledge.{Knowledge}
 use Rattle.gates.specs.declared.view.View.{View}
 use Rattle.gates.specs.Sets.{times, part_at}
+use Rattle.gates.specs.Pages.{Pages}
 
 -- The table's words: the commit word, and then a word for each stripe, each on cache lines of its own.
 abbrev pub commit_word : ℕ
@@ -53,10 +54,17 @@ pub record Names (words : List ℕ) (stripe : ℕ) (passes : List Knowledge) : T
   pub single : passes ≡ knows ∷ []
   pub word : slice_index words (word_of stripe) ≡ knows.number + 1
 
--- What a part stands for: a store, and marks of its keys.
-pub record Meaning (T : Type 0) : Type 0 where
+-- What a part stands for: a store, marks of its keys, and the pages that they lie on. What is said of stores, marks and replies holds under
+-- the premise `trusted`: that the device keeps what it promised. A part that needs no device has `Unit` there.
+pub record Meaning (T : Type 0) : Type 1 where
+  pub trusted : Type 0
   pub store : T → Store
   pub marks : T → Marks
+  pub pages : T → Pages
+
+-- a stripe has no mark of a key of another one
+abbrev pub AreOwnMarks : (stripes stripe : ℕ) → Marks → Type 0
+AreOwnMarks stripes stripe marks = (key : Bytes) (number : ℕ) → stripe_of stripes key ≢ stripe → marks key number ≡ None
 
 -- the marks of a stripe say of a pass which of the stripe's keys it watches, and which of these were written after their positions
 abbrev pub IsMarked : (stripes stripe : ℕ) → Marks → History → Knowledge → Type 0
@@ -95,8 +103,9 @@ module _ {T : Type 0} where
     pub word : slice_index s.words (word_of stripe) ≡ 0
     pub part : T
     pub home : get_elem? s.homes stripe ≡ some (some part)
-    pub reads : IsPart (length s.homes) stripe (contents.store part) (after log)
-    pub marks : (seat : ℕ) (v : View T) → get_elem? s.views seat ≡ some v → EachMarked (length s.homes) stripe (contents.marks part) log v.passes
+    pub reads : contents.trusted → IsPart (length s.homes) stripe (contents.store part) (after log)
+    pub own : contents.trusted → AreOwnMarks (length s.homes) stripe (contents.marks part)
+    pub marks : contents.trusted → (seat : ℕ) (v : View T) → get_elem? s.views seat ≡ some v → EachMarked (length s.homes) stripe (contents.marks part) log v.passes
 
   -- a stripe is held: its part is out, and its word names a pass that holds it. The part as it was taken, touched at the keys that were
   -- written since, has the marks of each other pass.
@@ -109,13 +118,13 @@ module _ {T : Type 0} where
     pub was : ℕ × T
     pub taken : part_at view.taken stripe ≡ Some was
     pub early : was.0 ≤ length log
-    pub marks : (other : ℕ) (v : View T) → other ≢ seat → get_elem? s.views other ≡ some v
+    pub marks : contents.trusted → (other : ℕ) (v : View T) → other ≢ seat → get_elem? s.views other ≡ some v
         → EachMarked (length s.homes) stripe (touched_marks log was.0 (contents.marks was.1)) log v.passes
 
   -- The rule. There is one legal log, as long as the commit word counts.
   pub record Ruled (contents : Meaning T) (passes : ℕ) (s : State T (View T)) : Type 0 where
     pub log : History
-    pub legal : Legal log
+    pub legal : contents.trusted → Legal log
     pub wide : length s.words ≡ word_of (length s.homes)
     pub few : passes < 2 ^ 62
     pub counts : slice_index s.words commit_word ≡ length log

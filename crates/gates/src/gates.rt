@@ -76,7 +76,7 @@ impl<T: Part> Gates<T> {
     ghost use Rattle.gates.specs.declared.view.Note.{Note};
     ghost use Rattle.gates.specs.declared.view.Note.TheVariants.{Busy, Worn};
     ghost use Rattle.gates.specs.Sets.{times};
-    ghost use Rattle.gates.specs.Passes.{stripes_of, known, parts_in, taken_in, stripes_in, AllFit, IsHolding, IsResting, Learned, WasTold, Committed, KeysHeld, MayEnd, id_of, AreNew};
+    ghost use Rattle.gates.specs.Passes.{stripes_of, known, parts_in, taken_in, takes_in, stripes_in, AllFit, AreAsTaken, IsHolding, IsResting, Learned, WasTold, Committed, KeysHeld, MayEnd, id_of, AreNew};
     ghost use Rattle.gates.specs.Plays.{AreEmpty, unmet, kept};
     ghost use Rattle.atomic_table.specs.Table.{rest};
     ghost use Rattle.words.specs.History.{HasPlace, due, keys_named};
@@ -101,7 +101,7 @@ impl<T: Part> Gates<T> {
         requires empty { AreEmpty T.meaning parts.items }
         ensures stripes { IfOk result (λ made. stripes_of made.0 ≡ vec_len parts) }
         ensures count { IfOk result (λ made. vec_len made.1 ≡ passes) }
-        ensures passes { IfOk result (λ made. AreNew made.0 0 made.1.items) }
+        ensures passes { IfOk result (λ made. AreNew T.meaning.trusted made.0 0 made.1.items) }
     {
         let words = vec![in alloc; 0u64; word_index(parts.len())]?;
         let dealt = Vec::with_capacity(alloc, passes)?;
@@ -123,7 +123,7 @@ impl<T: Part> Gates<T> {
         requires room { passes ≤ vec_capacity dealt }
         requires few { passes < 2 ^ 62 }
         ensures count { vec_len result ≡ passes }
-        ensures passes { AreNew self.now 0 result.items }
+        ensures passes { AreNew T.meaning.trusted self.now 0 result.items }
     {
         let mut others = seat;
         for number in 0..passes {
@@ -141,10 +141,10 @@ impl<T: Part> Gates<T> {
     /// Both passes have then seen one history, which begins with what each had seen, and has the
     /// entries of each.
     pub fn meet(&self, first: &mut Pass<T>, second: &mut Pass<T>)
-        requires first { IsResting self.now first.old }
-        requires second { IsResting self.now second.old }
-        ensures first { IsResting self.now first.new }
-        ensures second { IsResting self.now second.new }
+        requires first { IsResting T.meaning.trusted self.now first.old }
+        requires second { IsResting T.meaning.trusted self.now second.old }
+        ensures first { IsResting T.meaning.trusted self.now first.new }
+        ensures second { IsResting T.meaning.trusted self.now second.new }
         ensures one { (known first.new).seen ≡ (known second.new).seen }
         ensures first_learned { Learned (known first.old) (known first.new) }
         ensures second_learned { Learned (known second.old) (known second.new) }
@@ -173,12 +173,12 @@ impl<T: Part> Gates<T> {
     /// Gives back the first part, which is this stripe's.
     #[inline]
     pub(crate) fn give_first<E: Ending>(&self, pass: &mut Pass<T>, stripe: usize)
-        requires holding { IsHolding self.now pass.old }
+        requires holding { IsHolding T.meaning.trusted self.now pass.old }
         requires ends { MayEnd E.ends (stripes_of self.now) (parts_in pass.old) (known pass.old).watched }
         requires first { (part : T) × (parts_in pass.old ≡ (stripe, part) ∷ rest (parts_in pass.old)) }
-        requires fit { AllFit T.meaning (stripes_of self.now) (kept E.ends (known pass.old)) (taken_in pass.old) (parts_in pass.old) }
-        ensures holding { IsHolding self.now pass.new }
-        ensures known { known pass.new ≡ kept E.ends (known pass.old) }
+        requires fit { AllFit T.meaning (stripes_of self.now) (kept E.ends E.told (known pass.old)) (taken_in pass.old) (parts_in pass.old) }
+        ensures holding { IsHolding T.meaning.trusted self.now pass.new }
+        ensures known { known pass.new ≡ kept E.ends E.told (known pass.old) }
         ensures others { parts_in pass.new ≡ rest (parts_in pass.old) }
         ensures fit { AllFit T.meaning (stripes_of self.now) (known pass.new) (taken_in pass.new) (parts_in pass.new) }
     {
@@ -189,8 +189,8 @@ impl<T: Part> Gates<T> {
 
     /// Looks at the commit word where the pass may not add to it yet.
     fn arm(&self, pass: &mut Pass<T>) -> Result<(), CommitsWornOut>
-        requires { IsHolding self.now pass.old }
-        ensures holding { IsHolding self.now pass.new }
+        requires { IsHolding T.meaning.trusted self.now pass.old }
+        ensures holding { IsHolding T.meaning.trusted self.now pass.new }
         ensures parts { parts_in pass.new ≡ parts_in pass.old }
         ensures taken { taken_in pass.new ≡ taken_in pass.old }
         ensures number { pass.new.number ≡ pass.old.number }
@@ -216,12 +216,12 @@ impl<T: Part> Gates<T> {
         call: &C,
         reply: &S,
     ) -> Result<u64, CommitsWornOut>
-        requires holding { IsHolding self.now pass.old }
+        requires holding { IsHolding T.meaning.trusted self.now pass.old }
         requires told { E.entry ≡ record { session = (known pass.old).number; operation = operation_of (known pass.old).watched (C.asked call.now); reply = S.said reply.now } }
         requires place { HasPlace E.entry.operation }
-        requires due { S.said reply.now ≡ due (known pass.old).seen E.entry.operation }
+        requires due { T.meaning.trusted → S.said reply.now ≡ due (known pass.old).seen E.entry.operation }
         requires keys { KeysHeld (stripes_of self.now) (parts_in pass.old) (keys_named E.entry.operation) }
-        ensures holding { IsHolding self.now pass.new }
+        ensures holding { IsHolding T.meaning.trusted self.now pass.new }
         ensures parts { parts_in pass.new ≡ parts_in pass.old }
         ensures taken { taken_in pass.new ≡ taken_in pass.old }
         ensures number { pass.new.number ≡ pass.old.number }
@@ -239,14 +239,16 @@ impl<T: Part> Gates<T> {
     /// One try of a stripe that the pass does not have. Its part comes last.
     #[inline]
     pub(crate) fn try_stripe(&self, pass: &mut Pass<T>, stripe: usize) -> bool
-        requires holding { IsHolding self.now pass.old }
+        requires holding { IsHolding T.meaning.trusted self.now pass.old }
         requires below { stripe < stripes_of self.now }
         requires other { times stripe (stripes_in pass.old) ≡ 0 }
         requires fit { AllFit T.meaning (stripes_of self.now) (known pass.old) (taken_in pass.old) (parts_in pass.old) }
-        ensures holding { IsHolding self.now pass.new }
+        requires lent { AreAsTaken (taken_in pass.old) (parts_in pass.old) }
+        ensures holding { IsHolding T.meaning.trusted self.now pass.new }
         ensures fit { AllFit T.meaning (stripes_of self.now) (known pass.new) (taken_in pass.new) (parts_in pass.new) }
-        ensures taken { IsTrue result → Learned (known pass.old) (known pass.new) × ((known pass.new).notes ≡ (known pass.old).notes) × ((part : T) × (parts_in pass.new ≡ parts_in pass.old ++ (stripe, part) ∷ [])) }
-        ensures missed { IsFalse result → WasTold (Busy stripe) (known pass.old) (known pass.new) × (parts_in pass.new ≡ parts_in pass.old) }
+        ensures lent { AreAsTaken (taken_in pass.new) (parts_in pass.new) }
+        ensures taken { IsTrue result → Learned (known pass.old) (known pass.new) × ((known pass.new).notes ≡ (known pass.old).notes) × ((part : T) × (parts_in pass.new ≡ parts_in pass.old ++ (stripe, part) ∷ [])) × (takes_in pass.new ≡ stripe ∷ takes_in pass.old) }
+        ensures missed { IsFalse result → WasTold (Busy stripe) (known pass.old) (known pass.new) × (parts_in pass.new ≡ parts_in pass.old) × (takes_in pass.new ≡ takes_in pass.old) }
     {
         laws();
         let word = word_index(stripe);

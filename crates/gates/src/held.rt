@@ -6,7 +6,8 @@ use crate::asks::Asks;
 use crate::gates::{CommitsWornOut, Gates, Pass};
 use crate::order::Order;
 use crate::part::{Part, Parts};
-use crate::rule::{Forget, Stay};
+use crate::report::Report;
+use crate::rule::{Ending, Stay};
 use crate::says::Says;
 use crate::sorted::Sorted;
 use crossbeam_utils::Backoff;
@@ -33,21 +34,27 @@ pub struct Busy<'a, T> {
 impl<T: Part> Gates<T> {
     ghost use Rattle.gates.specs.declared.view.Note.TheVariants as note;
     ghost use Rattle.gates.specs.Sets.{times, AreBelow, part_at};
-    ghost use Rattle.gates.specs.Passes.{stripes_of, known, parts_in, taken_in, stripes_in, AllFit, IsHolding, IsResting, Learned, ToldBusy, WasTold, WasBusy, Committed, KeysHeld};
+    ghost use Rattle.gates.specs.Passes.{stripes_of, known, parts_in, taken_in, takes_in, stripes_in, AllFit, AreAsTaken, IsHolding, IsResting, Learned, MayEnd, ToldBusy, WasTold, WasBusy, Committed, KeysHeld};
     ghost use Rattle.gates.specs.Helds.{IsOpen, held_parts, HasTaken};
+    ghost use Rattle.atomic_table.specs.Table.{rest};
+    ghost use Rattle.gates.specs.Plays.{kept};
+    ghost use Rattle.gates.specs.Background.{notes_of};
 
     /// Takes a stripe that the pass does not have, and waits where another has it.
     #[inline]
     fn take_stripe<R: Wait>(&self, rt: &R, pass: &mut Pass<T>, stripe: usize)
-        requires holding { IsHolding self.now pass.old }
+        requires holding { IsHolding T.meaning.trusted self.now pass.old }
         requires below { stripe < stripes_of self.now }
         requires other { times stripe (stripes_in pass.old) ≡ 0 }
         requires fit { AllFit T.meaning (stripes_of self.now) (known pass.old) (taken_in pass.old) (parts_in pass.old) }
-        ensures holding { IsHolding self.now pass.new }
+        requires lent { AreAsTaken (taken_in pass.old) (parts_in pass.old) }
+        ensures holding { IsHolding T.meaning.trusted self.now pass.new }
         ensures fit { AllFit T.meaning (stripes_of self.now) (known pass.new) (taken_in pass.new) (parts_in pass.new) }
+        ensures lent { AreAsTaken (taken_in pass.new) (parts_in pass.new) }
         ensures learned { Learned (known pass.old) (known pass.new) }
         ensures told { ToldBusy (stripe ∷ []) (known pass.old) (known pass.new) }
         ensures parts { (part : T) × (parts_in pass.new ≡ parts_in pass.old ++ (stripe, part) ∷ []) }
+        ensures takes { takes_in pass.new ≡ stripe ∷ takes_in pass.old }
     {
         let taken = self.try_stripe(pass, stripe);
         if !taken {
@@ -58,15 +65,18 @@ impl<T: Part> Gates<T> {
     /// The same, of a stripe that another has had.
     #[cold]
     fn wait_stripe<R: Wait>(&self, rt: &R, pass: &mut Pass<T>, stripe: usize)
-        requires holding { IsHolding self.now pass.old }
+        requires holding { IsHolding T.meaning.trusted self.now pass.old }
         requires below { stripe < stripes_of self.now }
         requires other { times stripe (stripes_in pass.old) ≡ 0 }
         requires fit { AllFit T.meaning (stripes_of self.now) (known pass.old) (taken_in pass.old) (parts_in pass.old) }
-        ensures holding { IsHolding self.now pass.new }
+        requires lent { AreAsTaken (taken_in pass.old) (parts_in pass.old) }
+        ensures holding { IsHolding T.meaning.trusted self.now pass.new }
         ensures fit { AllFit T.meaning (stripes_of self.now) (known pass.new) (taken_in pass.new) (parts_in pass.new) }
+        ensures lent { AreAsTaken (taken_in pass.new) (parts_in pass.new) }
         ensures learned { Learned (known pass.old) (known pass.new) }
         ensures told { ToldBusy (stripe ∷ []) (known pass.old) (known pass.new) }
         ensures parts { (part : T) × (parts_in pass.new ≡ parts_in pass.old ++ (stripe, part) ∷ []) }
+        ensures takes { takes_in pass.new ≡ stripe ∷ takes_in pass.old }
     {
         let backoff = Backoff::new();
         for _ in rt.forever() {
@@ -78,13 +88,30 @@ impl<T: Part> Gates<T> {
         unreachable!()
     }
 
+    /// Gives back the first part, and tells this. The report is for contracts alone.
+    #[inline]
+    fn give_telling<E: Ending>(&self, pass: &mut Pass<T>, stripe: usize, report: &Report)
+        requires told { E.told ≡ notes_of report.now }
+        requires holding { IsHolding T.meaning.trusted self.now pass.old }
+        requires ends { MayEnd E.ends (stripes_of self.now) (parts_in pass.old) (known pass.old).watched }
+        requires first { (part : T) × (parts_in pass.old ≡ (stripe, part) ∷ rest (parts_in pass.old)) }
+        requires fit { AllFit T.meaning (stripes_of self.now) (kept E.ends [] (known pass.old)) (taken_in pass.old) (parts_in pass.old) }
+        ensures holding { IsHolding T.meaning.trusted self.now pass.new }
+        ensures known { known pass.new ≡ kept E.ends (notes_of report.now) (known pass.old) }
+        ensures others { parts_in pass.new ≡ rest (parts_in pass.old) }
+        ensures fit { AllFit T.meaning (stripes_of self.now) (known pass.new) (taken_in pass.new) (parts_in pass.new) }
+    {
+        let _ = report;
+        self.give_first::<E>(pass, stripe);
+    }
+
     /// Gives back all parts, in this order.
     #[inline]
     fn give_all(&self, pass: &mut Pass<T>, mut order: Order)
-        requires holding { IsHolding self.now pass.old }
+        requires holding { IsHolding T.meaning.trusted self.now pass.old }
         requires order { stripes_in pass.old ≡ order }
         requires fit { AllFit T.meaning (stripes_of self.now) (known pass.old) (taken_in pass.old) (parts_in pass.old) }
-        ensures resting { IsResting self.now pass.new }
+        ensures resting { IsResting T.meaning.trusted self.now pass.new }
         ensures known { known pass.new ≡ known pass.old }
     {
         while let Some(stripe) = order.first() {
@@ -103,10 +130,10 @@ impl<T: Part> Gates<T> {
         pass: &'a mut Pass<T>,
         stripes: &Sorted,
     ) -> Result<Held<'a, T>, Busy<'a, T>>
-        requires own { IsResting self.now pass.old }
+        requires own { IsResting T.meaning.trusted self.now pass.old }
         requires known { AreBelow (stripes_of self.now) stripes.now }
         ensures ok { IfOk result (λ held. HasTaken T.meaning self.now stripes.now pass.entry held × ((known held.pass.now).notes ≡ (known pass.old).notes)) }
-        ensures busy { IfErr result (λ busy. (busy.pass.ghost_name ≡ pass.entry.ghost_name) × IsResting self.now busy.pass.now × (0 < times busy.stripe stripes.now) × WasBusy busy.stripe (known pass.old) (known busy.pass.now)) }
+        ensures busy { IfErr result (λ busy. (busy.pass.ghost_name ≡ pass.entry.ghost_name) × IsResting T.meaning.trusted self.now busy.pass.now × (0 < times busy.stripe stripes.now) × WasBusy busy.stripe (known pass.old) (known busy.pass.now)) }
     {
         stripes.rises();
         let mut left = stripes.again();
@@ -135,7 +162,7 @@ impl<T: Part> Gates<T> {
         pass: &'a mut Pass<T>,
         stripes: &Sorted,
     ) -> Held<'a, T>
-        requires own { IsResting self.now pass.old }
+        requires own { IsResting T.meaning.trusted self.now pass.old }
         requires known { AreBelow (stripes_of self.now) stripes.now }
         ensures { HasTaken T.meaning self.now stripes.now pass.entry result }
     {
@@ -157,6 +184,7 @@ impl<T: Part> Gates<T> {
 impl<'a, T: Part> Held<'a, T> {
     ghost use Rattle.words.specs.History.{HasPlace, due, keys_named, keys_of_pairs};
     ghost use Rattle.gates.specs.Plays.{kept};
+    ghost use Rattle.gates.specs.Background.{IsToldOf, notes_of};
     ghost use Rattle.gates.specs.Passes.{stripes_of, known, AllFit, IsResting, KeysHeld};
     ghost use Rattle.gates.specs.Helds.{IsOpen, held_parts, held_taken, gates_of, known_to, number_of, operation_asked, has_committed, HasCommitted};
 
@@ -170,12 +198,12 @@ impl<'a, T: Part> Held<'a, T> {
     /// [`CommitsWornOut`] where the commit word was read at 2^62 or more. Nothing was committed.
     #[inline]
     pub fn commit<C: Asks, S: Says>(&mut self, call: &C, reply: &S) -> Result<u64, CommitsWornOut>
-        requires open { IsOpen self.old }
+        requires open { IsOpen T.meaning.trusted self.old }
         requires once { has_committed self.old ≡ false }
         requires place { HasPlace (operation_asked self.old (C.asked call.now)) }
-        requires due { S.said reply.now ≡ due (known_to self.old).seen (operation_asked self.old (C.asked call.now)) }
+        requires due { T.meaning.trusted → S.said reply.now ≡ due (known_to self.old).seen (operation_asked self.old (C.asked call.now)) }
         requires keys { KeysHeld (stripes_of (gates_of self.old)) (held_parts self.old) (keys_named (operation_asked self.old (C.asked call.now))) }
-        ensures { HasCommitted self.old (operation_asked self.old (C.asked call.now)) (S.said reply.now) self.new result }
+        ensures { HasCommitted T.meaning.trusted self.old (operation_asked self.old (C.asked call.now)) (S.said reply.now) self.new result }
     {
         let place = self
             .gates
@@ -193,32 +221,15 @@ impl<'a, T: Part> Held<'a, T> {
 
     /// Gives all stripes back. Each part has to fit: it reads as its part of what the history leaves
     /// that the pass has seen, its marks say which of the pass's watched keys were written in it, and for
-    /// others they are as they were taken, touched at the keys that were written since.
+    /// others they are as they were taken, touched at the keys that were written since. The report has to
+    /// be true of the parts as they were taken and as they are given; it becomes a note of the pass.
     #[inline]
-    pub fn give(self)
-        requires open { IsOpen self }
+    pub fn give(self, report: &Report)
+        requires open { IsOpen T.meaning.trusted self }
+        requires told { IsToldOf T.meaning (held_taken self) (held_parts self) report.now }
         requires fit { AllFit T.meaning (stripes_of (gates_of self)) (known_to self) (held_taken self) (held_parts self) }
-        ensures pass { IsResting (gates_of self.entry) self.exit.1.0.now }
-        ensures known { known self.exit.1.0.now ≡ known_to self.entry }
-    {
-        let Held {
-            gates,
-            pass,
-            order,
-            committed: _,
-        } = self;
-        gates.give_all(pass, order);
-    }
-
-    /// Gives all stripes back, as [`Held::give`] does, and the pass watches nothing more. The stripes of
-    /// all watched keys have to be held, and no part to have marks of the pass.
-    #[inline]
-    pub fn forget(self)
-        requires open { IsOpen self }
-        requires keys { KeysHeld (stripes_of (gates_of self)) (held_parts self) (keys_of_pairs (known_to self).watched) }
-        requires fit { AllFit T.meaning (stripes_of (gates_of self)) (kept true (known_to self)) (held_taken self) (held_parts self) }
-        ensures pass { IsResting (gates_of self.entry) self.exit.1.0.now }
-        ensures known { known self.exit.1.0.now ≡ kept true (known_to self.entry) }
+        ensures pass { IsResting T.meaning.trusted (gates_of self.entry) self.exit.1.0.now }
+        ensures known { known self.exit.1.0.now ≡ kept false (notes_of report.now) (known_to self.entry) }
     {
         let Held {
             gates,
@@ -230,7 +241,33 @@ impl<'a, T: Part> Held<'a, T> {
             gates.give_all(pass, order);
             return;
         };
-        gates.give_first::<Forget>(pass, stripe);
+        gates.give_telling::<Brand>(pass, stripe, report);
+        order.pop();
+        gates.give_all(pass, order);
+    }
+
+    /// Gives all stripes back, as [`Held::give`] does, and the pass watches nothing more. The stripes of
+    /// all watched keys have to be held, and no part to have marks of the pass.
+    #[inline]
+    pub fn forget(self, report: &Report)
+        requires open { IsOpen T.meaning.trusted self }
+        requires told { IsToldOf T.meaning (held_taken self) (held_parts self) report.now }
+        requires keys { KeysHeld (stripes_of (gates_of self)) (held_parts self) (keys_of_pairs (known_to self).watched) }
+        requires fit { AllFit T.meaning (stripes_of (gates_of self)) (kept true [] (known_to self)) (held_taken self) (held_parts self) }
+        ensures pass { IsResting T.meaning.trusted (gates_of self.entry) self.exit.1.0.now }
+        ensures known { known self.exit.1.0.now ≡ kept true (notes_of report.now) (known_to self.entry) }
+    {
+        let Held {
+            gates,
+            pass,
+            mut order,
+            committed: _,
+        } = self;
+        let Some(first) = order.first() else {
+            gates.give_all(pass, order);
+            return;
+        };
+        gates.give_telling::<Brand>(pass, first, report);
         order.pop();
         gates.give_all(pass, order);
     }
@@ -246,7 +283,7 @@ impl<'a, T: Part> Held<'a, T> {
 
     /// Turns the seat round until this stripe's part is in front.
     fn bring(&mut self, stripe: usize)
-        requires open { IsOpen self.old }
+        requires open { IsOpen T.meaning.trusted self.old }
         requires there { IsSome (part_at (held_parts self.old) stripe) }
         ensures { self.new ≡ held_with self.old (brought stripe (held_parts self.old)) }
     {
@@ -261,7 +298,7 @@ impl<'a, T: Part> Held<'a, T> {
 
     /// Lends the part of a stripe.
     fn lend(&mut self, stripe: usize) -> &mut T
-        requires open { IsOpen self.old }
+        requires open { IsOpen T.meaning.trusted self.old }
         requires there { IsSome (part_at (held_parts self.old) stripe) }
         ensures* writes_back { sem 𝓛 (Lends (the_row (record { mir = named 1; lft = [] }) T.row T.Part) T.row self.entry result (with_part self.old stripe)) }
         ensures value { part_at (held_parts self.old) stripe ≡ Some result.now }
@@ -283,7 +320,7 @@ impl<'a, T: Part> Parts<T> for Held<'a, T> {
 
     ghost with_part = { lending.with_part };
 
-    ghost is_open = { IsOpen };
+    ghost is_open = { IsOpen T.meaning.trusted };
 
     ghost keeps = { SameHold };
 

@@ -30,9 +30,9 @@ module _ {T : Type 0} where
   fits_still : (n : ℕ) (took : List (ℕ × (ℕ × T))) (parts others : List (ℕ × T)) (before later : Knowledge) → Agrees n parts before later
       → ((j : ℕ) (part : T) → part_at others j ≡ Some part → (old : T) × (part_at parts j ≡ Some old))
       → AllFit nothing n before took parts → AllFit nothing n later took others
-  fits_still n took parts others before later agrees had fit j part e =
+  fits_still n took parts others before later agrees had fit t j part e =
       let old = had j part e in
-      let f = fit j old.0 old.1 in
+      let f = fit t j old.0 old.1 in
       let there : (key : Bytes) → stripe_of n key ≡ j → IsSome (part_at parts (stripe_of n key)) = (λ key here. subst (λ (k : ℕ). IsSome (part_at parts k)) (sym here) (subst IsSome (sym old.1) refl)) in
       let longer = agrees.longer in
       record {
@@ -44,6 +44,7 @@ module _ {T : Type 0} where
         was = f.was;
         taken = f.taken;
         early = omega (arith, f.early, longer);
+        own_marks = λ key number elsewhere. refl;
         others = λ key number here ne. refl;
       }
 
@@ -66,7 +67,7 @@ module _ {T : Type 0} where
       (fits_still (stripes_of (gates_of before)) (held_taken before) (held_parts before) (held_parts later) (known_to before) (known_to later) agrees had fit))
 
   -- a WATCH of no key leaves what fits
-  pub committed_fits : (before later : Held T) (result : Result ℕ CommitsWornOut) → HasCommitted before (Watch []) (line_reply Done) later result → Fit before → Fit later
+  pub committed_fits : (before later : Held T) (result : Result ℕ CommitsWornOut) → HasCommitted (Unit {0}) before (Watch []) (line_reply Done) later result → Fit before → Fit later
   committed_fits before later (Ok place) did fit =
       let made = did.ok in
       let size : length (known_to later).seen ≡ suc (length made.history) = ap (λ (l : History). length l) made.seen in

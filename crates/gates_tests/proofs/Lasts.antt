@@ -14,6 +14,6 @@ module _ {T : Type 0} where
   empty_snoc contents (x ∷ xs) part all empty unmarked = (all.0, all.1, empty_snoc contents xs part all.2 empty unmarked)
 
   -- the last pass, and the others
-  pub new_last : (gates : Gates T) (number : ℕ) (passes : List (Pass T)) (pass : Pass T) → AreNew gates number (passes ++ pass ∷ []) → IsResting gates pass × AreNew gates number passes
-  new_last gates number [] pass all = (all.0, tt)
-  new_last gates number (x ∷ xs) pass all = let t = new_last gates (number + 1) xs pass all.2 in (t.0, (all.0, all.1, t.1))
+  pub new_last : (trusted : Type 0) (gates : Gates T) (number : ℕ) (passes : List (Pass T)) (pass : Pass T) → AreNew trusted gates number (passes ++ pass ∷ []) → IsResting trusted gates pass × AreNew trusted gates number passes
+  new_last trusted gates number [] pass all = (all.0, tt)
+  new_last trusted gates number (x ∷ xs) pass all = let t = new_last trusted gates (number + 1) xs pass all.2 in (t.0, (all.0, all.1, t.1))

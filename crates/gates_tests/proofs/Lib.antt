@@ -1,2 +1,3 @@
 pub mod Fits
 pub mod Lasts
+pub mod Visiting

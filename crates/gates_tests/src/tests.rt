@@ -1,13 +1,13 @@
 //! Passes of one and of two threads over parts with no key.
 
 ghost use Rattle.std.specs.Prelude.{◌≡◌, ◌<◌, ◌≤◌, IfOk, IfSome, vec_len};
-ghost use Rattle.gates.specs.Passes.{IsResting, stripes_of};
+ghost use Rattle.gates.specs.Passes.{stripes_of};
 ghost use Rattle.gates.specs.Plays.{AreEmpty};
 ghost use Rattle.gates.specs.Sets.{AreBelow};
-ghost use Rattle.gates_tests.specs.Nothing.{nothing};
+ghost use Rattle.gates_tests.specs.Nothing.{nothing, Rests};
 
 use gates::part::replace;
-use gates::{Asks, Gates, Part, Pass, Sorted};
+use gates::{Asks, Gates, Part, Pass, Report, Sorted};
 use std::alloc::Global;
 use std::sync::Wait;
 use std::test::Fail;
@@ -62,7 +62,7 @@ fn opened(
 ) -> Result<Option<(Gates<Blank>, Pass<Blank>, Pass<Blank>)>, OutOfMemory>
     requires { (1 ≤ stripes) × (stripes ≤ 64) }
     ensures stripes { IfOk result (λ made. IfSome made (λ it. stripes_of it.0 ≡ stripes)) }
-    ensures resting { IfOk result (λ made. IfSome made (λ it. IsResting it.0 it.1 × IsResting it.0 it.2)) }
+    ensures resting { IfOk result (λ made. IfSome made (λ it. Rests it.0 it.1 × Rests it.0 it.2)) }
 {
     let (gates, mut passes) = Gates::new(alloc, parts(alloc, stripes)?, 2)?;
     let Some(second) = passes.pop() else {
@@ -81,20 +81,20 @@ fn commit_one<R: Wait>(
     pass: &mut Pass<Blank>,
     stripes: &Sorted,
 ) -> Option<u64>
-    requires own { IsResting gates.now pass.old }
+    requires own { Rests gates.now pass.old }
     requires known { AreBelow (stripes_of gates.now) stripes.now }
-    ensures { IsResting gates.now pass.new }
+    ensures { Rests gates.now pass.new }
 {
     let mut held = gates.take(rt, pass, stripes);
     let place = held.commit(&Idle, &Line::Done).ok();
-    held.give();
+    held.give(&Report::Nothing);
     place
 }
 
 /// All calls of one thread, each on one stripe, and on all stripes in turn.
 fn commit_many<R: Wait>(rt: &R, gates: &Gates<Blank>, mut pass: Pass<Blank>) -> Pass<Blank>
-    requires { IsResting gates.now pass }
-    ensures { IsResting gates.now result }
+    requires { Rests gates.now pass }
+    ensures { Rests gates.now result }
 {
     let stripes = gates.stripes();
     for n in 0..CALLS {
@@ -119,12 +119,12 @@ fn commit_both<R: Threads + Wait + Sync>(
     let (mut first, mut second) = join(
         rt,
         move || -> Pass<Blank>
-            requires { IsResting shared.now one }
-            ensures { IsResting shared.entry.now result }
+            requires { Rests shared.now one }
+            ensures { Rests shared.entry.now result }
         { commit_many(rt, shared, one) },
         move || -> Pass<Blank>
-            requires { IsResting shared.now two }
-            ensures { IsResting shared.entry.now result }
+            requires { Rests shared.now two }
+            ensures { Rests shared.entry.now result }
         { commit_many(rt, shared, two) },
     );
     gates.meet(&mut first, &mut second);
@@ -147,8 +147,8 @@ fn are_in_turn<R: Wait>(
     first: &mut Pass<Blank>,
     second: &mut Pass<Blank>,
 ) -> bool
-    requires first { IsResting gates.now first.old }
-    requires second { IsResting gates.now second.old }
+    requires first { Rests gates.now first.old }
+    requires second { Rests gates.now second.old }
     requires stripes { stripes_of gates.now ≡ 64 }
 {
     let twelve = Sorted::none().with(12);
@@ -161,20 +161,20 @@ fn are_in_turn<R: Wait>(
 
 /// Puts a part in the place of the one of stripe 12. The old one.
 fn exchange<R: Wait>(rt: &R, gates: &Gates<Blank>, pass: &mut Pass<Blank>, part: Blank) -> Blank
-    requires own { IsResting gates.now pass.old }
+    requires own { Rests gates.now pass.old }
     requires stripes { stripes_of gates.now ≡ 64 }
-    ensures { IsResting gates.now pass.new }
+    ensures { Rests gates.now pass.new }
 {
     let mut held = gates.take(rt, pass, &Sorted::none().with(12));
     let old = replace(&mut held, 12, part);
-    held.give();
+    held.give(&Report::Nothing);
     old
 }
 
 /// Whether the part of stripe 12 that is taken is the one that was put there last: at first its own, and
 /// then another, and its own again.
 fn is_put_back<R: Wait>(rt: &R, gates: &Gates<Blank>, pass: &mut Pass<Blank>) -> bool
-    requires own { IsResting gates.now pass.old }
+    requires own { Rests gates.now pass.old }
     requires stripes { stripes_of gates.now ≡ 64 }
 {
     let old = exchange(rt, gates, pass, Blank { number: 70 });
@@ -197,13 +197,13 @@ fn all() -> Sorted
 
 /// The stripe of these that another pass holds, found by one try of each. All are given back.
 fn busy_one(gates: &Gates<Blank>, pass: &mut Pass<Blank>, stripes: &Sorted) -> Option<usize>
-    requires own { IsResting gates.now pass.old }
+    requires own { Rests gates.now pass.old }
     requires known { AreBelow (stripes_of gates.now) stripes.now }
-    ensures { IsResting gates.now pass.new }
+    ensures { Rests gates.now pass.new }
 {
     match gates.try_take(pass, stripes) {
         Ok(held) => {
-            held.give();
+            held.give(&Report::Nothing);
             None
         }
         Err(busy) => Some(busy.stripe),
@@ -219,16 +219,16 @@ fn busy_beside<R: Wait>(
     second: &mut Pass<Blank>,
     tried: &Sorted,
 ) -> Option<usize>
-    requires first { IsResting gates.now first.old }
+    requires first { Rests gates.now first.old }
     requires taken { AreBelow (stripes_of gates.now) taken.now }
-    requires second { IsResting gates.now second.old }
+    requires second { Rests gates.now second.old }
     requires tried { AreBelow (stripes_of gates.now) tried.now }
-    ensures first { IsResting gates.now first.new }
-    ensures second { IsResting gates.now second.new }
+    ensures first { Rests gates.now first.new }
+    ensures second { Rests gates.now second.new }
 {
     let held = gates.take(rt, first, taken);
     let busy = busy_one(gates, second, tried);
-    held.give();
+    held.give(&Report::Nothing);
     busy
 }
 
@@ -239,8 +239,8 @@ fn is_busy_as_held<R: Wait>(
     first: &mut Pass<Blank>,
     second: &mut Pass<Blank>,
 ) -> bool
-    requires first { IsResting gates.now first.old }
-    requires second { IsResting gates.now second.old }
+    requires first { Rests gates.now first.old }
+    requires second { Rests gates.now second.old }
     requires stripes { stripes_of gates.now ≡ 64 }
 {
     let held = Sorted::none().with(12);
@@ -259,13 +259,13 @@ fn is_made_beside<R: Wait>(
     first: &mut Pass<Blank>,
     second: &mut Pass<Blank>,
 ) -> bool
-    requires first { IsResting gates.now first.old }
-    requires second { IsResting gates.now second.old }
+    requires first { Rests gates.now first.old }
+    requires second { Rests gates.now second.old }
     requires stripes { stripes_of gates.now ≡ 64 }
 {
     let held = gates.take(rt, first, &Sorted::none().with(12));
     let place = commit_one(rt, gates, second, &Sorted::none().with(5));
-    held.give();
+    held.give(&Report::Nothing);
     place == Some(0)
 }
 
@@ -276,8 +276,8 @@ fn is_free_beside_none<R: Wait>(
     first: &mut Pass<Blank>,
     second: &mut Pass<Blank>,
 ) -> bool
-    requires first { IsResting gates.now first.old }
-    requires second { IsResting gates.now second.old }
+    requires first { Rests gates.now first.old }
+    requires second { Rests gates.now second.old }
     requires stripes { stripes_of gates.now ≡ 64 }
 {
     busy_beside(rt, gates, first, &Sorted::none(), second, &all()).is_none()
@@ -310,8 +310,8 @@ fn are_all_held<R: Wait>(
     first: &mut Pass<Blank>,
     second: &mut Pass<Blank>,
 ) -> bool
-    requires first { IsResting gates.now first.old }
-    requires second { IsResting gates.now second.old }
+    requires first { Rests gates.now first.old }
+    requires second { Rests gates.now second.old }
     requires stripes { stripes_of gates.now ≡ 64 }
 {
     let last = Sorted::none().with(63);
@@ -339,8 +339,8 @@ fn turns_out<R: Wait>(
     second: &mut Pass<Blank>,
     trial: Trial,
 ) -> bool
-    requires first { IsResting gates.now first.old }
-    requires second { IsResting gates.now second.old }
+    requires first { Rests gates.now first.old }
+    requires second { Rests gates.now second.old }
     requires stripes { stripes_of gates.now ≡ 64 }
 {
     match trial {

@@ -449,3 +449,14 @@ unread_counted held some = counted held.count some
 pub unread_pieces : (held : Held) → 0 < length (joined held.pieces) → 0 < length (unread held)
 unfolding unread
 unread_pieces held some = rw (length-append (taken_off held.count held.words) (joined held.pieces)) (omega (arith, some))
+
+-- pieces that are filled and have no bytes are none
+no_bytes : (taken : Bytes) (pieces : List Bytes) → AreFilled pieces → taken ++ joined pieces ≡ [] → pieces ≡ []
+no_bytes taken [] filled none = refl
+no_bytes taken (piece ∷ pieces) filled none =
+    absurd (omega (arith, filled.0, length-append taken (piece ++ joined pieces), length-append piece (joined pieces), ap length none))
+
+-- where nothing is unread there is no piece
+pub no_pieces : (held : Held) → AreFilled held.pieces → unread held ≡ [] → held.pieces ≡ []
+unfolding unread
+no_pieces held filled none = no_bytes (taken_off held.count held.words) held.pieces filled none

@@ -114,15 +114,18 @@ pub(crate) fn look_at_word(alloc: Global, pieces: &Pieces, at: usize, size: usiz
 }
 
 /// Looks at a word that stands in several pieces, or has not come whole. Where its length line ends in
-/// the oldest piece, the line is read where it stands.
+/// the oldest piece, the line is read where it stands, up to the line end that is found.
 fn word_across(alloc: Global, pieces: &Pieces, at: usize, size: usize) -> Look
     requires within { at ≤ length (joined pieces.now) }
     requires room { size ≤ REQUEST_BYTES_MAX }
     ensures { TellsWord size (drop at (joined pieces.now)) result }
 {
     let oldest = pieces.oldest();
-    if at < oldest.len() && memchr(b'\n', &oldest[at..]).is_some() {
-        if let Line::Number { value, width } = length_line(size, &oldest[at..]) {
+    if at >= oldest.len() {
+        return line_across(alloc, pieces, at, size);
+    }
+    if let Some(end) = memchr(b'\n', &oldest[at..]) {
+        if let Line::Number { value, width } = length_line(size, &oldest[at..at + end + 1]) {
             return end_across(alloc, pieces, at, size, width, value);
         }
     }

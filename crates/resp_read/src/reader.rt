@@ -115,15 +115,18 @@ impl Reader {
     }
 
     /// Adds a piece at the end. An empty one is not kept. Where there is no room for it and no memory,
-    /// it comes back and the reader is unchanged. A reader that holds no piece has room for one.
+    /// it comes back and the reader is unchanged. A reader that holds no piece has room for one, and so has
+    /// one with nothing unread.
     pub fn feed(&mut self, piece: Bytes) -> Result<(), (Bytes, OutOfMemory)>
         ensures first { self.old.pieces ≡ [] → IsOk result }
+        ensures none { unread self.old ≡ [] → IsOk result }
         ensures unread { OnOk result (unread self.new ≡ unread self.old ++ piece) }
         ensures last { OnOk result
             (self.new ≡ record self.old { pieces = self.old.pieces ++ as_piece piece }) }
         ensures err { OnErr result (self.new ≡ self.old) }
         ensures returned { IfErr result (λ refused. refused.0 ≡ piece) }
     {
+        self.are_filled();
         match self.pieces.push(piece) {
             Ok(()) => Ok(()),
             Err(piece) => Err((piece, AllocError)),

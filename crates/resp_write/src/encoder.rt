@@ -43,6 +43,7 @@ pub fn encode_within(reply: &Reply, out: &mut Vec<u8>) -> bool
         ≤ vec_capacity out.old) }
     ensures done { IsTrue result → out.new.items ≡ out.old.items ++ encoding reply.now }
     ensures full { IsTrue (not result) → out.new.items ≡ out.old.items }
+    ensures room { IsTrue (not result) → vec_capacity out.new ≡ vec_capacity out.old }
     ensures capacity { vec_capacity out.old ≤ vec_capacity out.new }
 {
     match encoded_len(reply) {
@@ -62,6 +63,7 @@ pub fn encode_line_within(line: Line, out: &mut Vec<u8>) -> bool
         ≤ vec_capacity out.old) }
     ensures done { IsTrue result → out.new.items ≡ out.old.items ++ encoding (line_reply line) }
     ensures full { IsTrue (not result) → out.new.items ≡ out.old.items }
+    ensures room { IsTrue (not result) → vec_capacity out.new ≡ vec_capacity out.old }
     ensures capacity { vec_capacity out.old ≤ vec_capacity out.new }
 {
     let text = line.text();
@@ -79,6 +81,7 @@ pub fn encode_value_within(value: &Option<Word>, out: &mut Vec<u8>) -> bool
         ≤ vec_capacity out.old) }
     ensures done { IsTrue result → out.new.items ≡ out.old.items ++ encoding (value_reply value.now) }
     ensures full { IsTrue (not result) → out.new.items ≡ out.old.items }
+    ensures room { IsTrue (not result) → vec_capacity out.new ≡ vec_capacity out.old }
     ensures capacity { vec_capacity out.old ≤ vec_capacity out.new }
 {
     let mut length = Length { bytes: 0 };

@@ -6,6 +6,7 @@ pub mod OneReading
 pub mod Readings
 pub mod ReportLines
 pub mod Running
+pub mod ShownPages
 pub mod Spellings
 pub mod Texts
 mod SizeRows

@@ -5,8 +5,8 @@ use Rattle.std.specs.Fmt.{decimal}
 use Rattle.words.specs.declared.limits.TheConstants.{CLIENTS_MAX, STRIPES_MAX, FRAMES_MAX}
 use Rattle.words.specs.declared.limits.Limits.{Limits}
 use Rattle.words.specs.Store.{Bytes}
-use Rattle.world.specs.declared.event.Event.{Event}
-use Rattle.world.specs.declared.event.Event.TheVariants as event
+use Rattle.world_events.specs.declared.event.Event.{Event}
+use Rattle.world_events.specs.declared.event.Event.TheVariants as event
 use Rattle.schedules.specs.Schedules.{spaced, line, lines, words_of, first_words, IsFirst, IsWithin, AreWithin, HasNoEvent, HasNoFirst, BeginsWith, IsSchedule, GoesWrongAfter, IsBadLine, First, Later}
 use Rattle.schedules.specs.Lines.{has}
 use Rattle.schedules.proofs.Cuts.{cut_once}
@@ -28,7 +28,7 @@ within_same limits others c s (event.Drop i) w = subst (λ m. i < m) s w
 within_same limits others c s (event.Unlink i) w = subst (λ m. i < m) s w
 within_same limits others c s (event.Retire i) w = subst (λ m. i < m) s w
 within_same limits others c s (event.Drain i) w = subst (λ m. i < m) s w
-within_same limits others c s (event.Release i byte) w = (subst (λ m. i < m) s w.0, w.1)
+within_same limits others c s (event.Release i page) w = (subst (λ m. i < m) s w.0, w.1, w.2, w.3)
 
 -- the lines of events that go on, and not with an event, are not the lines of others and nothing more
 no_other : (limits others : Limits) → limits.clients ≡ others.clients → limits.stripes ≡ others.stripes → (events those : List Event) (rest : Bytes)

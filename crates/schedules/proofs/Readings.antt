@@ -1,5 +1,5 @@
 -- Words that are no event: where the bytes that they give are none, or too many or too few.
-use Rattle.std.proofs.Common.{◌≡◌, ℕ, ◌+◌, ◌*◌, ◌<◌, ◌≤◌, ◌==◌, false, List, [], ◌∷◌, length, Option, Some, None, IsSome, IfSome, ◌↔◌, refl, sym, ap, ◌∙◌, subst, arith, codes}
+use Rattle.std.proofs.Common.{◌≡◌, ℕ, ◌+◌, ◌*◌, ◌<◌, ◌≤◌, ◌==◌, false, List, [], ◌∷◌, length, take, Option, Some, None, IsSome, IfSome, ◌↔◌, refl, sym, ap, ◌∙◌, subst, arith, codes}
 use Rattle.std.proofs.lemmas.Fmt.{decimal_injective}
 use Rattle.std.specs.Fmt.{decimal}
 use Rattle.hex.specs.Hex.{encode_lower, lower_digits, IsBytes}
@@ -8,11 +8,13 @@ use Rattle.words.specs.declared.limits.TheConstants.{CLIENTS_MAX, STRIPES_MAX, F
 use Rattle.words.specs.declared.limits.Limits.{Limits}
 use Rattle.words.specs.Sizes.{AreInRange, HasNumbers}
 use Rattle.words.specs.Store.{Bytes}
-use Rattle.world.specs.declared.event.Event.{Event}
-use Rattle.world.specs.declared.event.Event.TheVariants as event
+use Rattle.world_events.specs.ShownPages.{page_of}
+use Rattle.world_events.specs.declared.event.Event.{Event}
+use Rattle.world_events.specs.declared.event.Event.TheVariants as event
 use Rattle.schedules.specs.declared.lines.TheConstants.{PIECE_BYTES_MAX}
 use Rattle.schedules.specs.Schedules.{words_of, IsFirst, IsWithin}
 use Rattle.schedules.specs.Lines.{IsReading, AreFirst, IsFirstReading}
+use Rattle.schedules.proofs.ShownPages.{first_shown}
 
 -- a spelling has two digits a byte
 pub length-spelling : (text bytes : Bytes) → text ≡ encode_lower bytes → length text ≡ 2 * length bytes
@@ -34,7 +36,7 @@ no_piece limits client text none (event.Drop i) w is = cc is
 no_piece limits client text none (event.Unlink i) w is = cc is
 no_piece limits client text none (event.Retire i) w is = cc is
 no_piece limits client text none (event.Drain i) w is = cc is
-no_piece limits client text none (event.Release i byte) w is = cc is
+no_piece limits client text none (event.Release i page) w is = cc is
 
 pub no_release : (limits : Limits) (stripe text : Bytes) → ((byte : ℕ) → byte < 256 → text ≡ encode_lower (byte ∷ []) → ⊥)
     → IsReading limits (codes "release" ∷ stripe ∷ text ∷ []) None
@@ -51,7 +53,9 @@ no_release limits stripe text none (event.Drop i) w is = cc is
 no_release limits stripe text none (event.Unlink i) w is = cc is
 no_release limits stripe text none (event.Retire i) w is = cc is
 no_release limits stripe text none (event.Drain i) w is = cc is
-no_release limits stripe text none (event.Release i byte) w is = none byte w.1 (cc is)
+no_release limits stripe text none (event.Release i page) w is =
+    let spelled : text ≡ encode_lower (take 1 page) = cc is in
+    none w.1 w.2 (spelled ∙ ap encode_lower (first_shown page w.1 w.3))
 
 pub reads_piece : (limits : Limits) (n : ℕ) (client text bytes items : Bytes) → (n < limits.clients) × (client ≡ decimal n) → bytes ≡ items
     → IsBytes items × (text ≡ encode_lower items) → (length text == 0) ≡ false → length text ≤ 2 * PIECE_BYTES_MAX
@@ -63,6 +67,15 @@ reads_piece limits n client text bytes items number same are some most =
       (number.0, subst IsBytes (sym same) are.0, not_empty, omega arith),
       ap (λ x. codes "piece" ∷ x ∷ text ∷ []) number.1 ∙ ap (λ x. codes "piece" ∷ decimal n ∷ x ∷ []) (are.1 ∙ ap encode_lower (sym same)),
     )
+
+pub reads_release : (limits : Limits) (i byte : ℕ) (stripe text page : Bytes) → (i < limits.stripes) × (stripe ≡ decimal i)
+    → (byte < 256) × (text ≡ encode_lower (byte ∷ [])) → page ≡ page_of byte
+    → IsReading limits (codes "release" ∷ stripe ∷ text ∷ []) (Some (event.Release i page))
+reads_release limits i byte stripe text page number spelled shown = (
+  (number.0, byte, spelled.0, shown),
+  ap (λ x. codes "release" ∷ x ∷ text ∷ []) number.1
+      ∙ ap (λ x. codes "release" ∷ decimal i ∷ x ∷ []) (spelled.1 ∙ ap encode_lower (sym (first_shown page byte shown))),
+)
 
 -- THE FIRST LINE
 

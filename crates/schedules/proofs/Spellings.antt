@@ -1,17 +1,18 @@
 -- A line is cut into the words that it was spelled of, and in no other way.
-use Rattle.std.proofs.Common.{◌≡◌, ℕ, ◌+◌, ◌^◌, ◌<◌, ◌≤◌, Bool, true, false, List, [], ◌∷◌, ◌++◌, Option, Some, None, Result, Ok, Err, IfOk, refl, sym, ap, ◌∙◌, arith, codes}
+use Rattle.std.proofs.Common.{◌≡◌, ℕ, ◌+◌, ◌^◌, ◌<◌, ◌≤◌, Bool, true, false, List, [], ◌∷◌, ◌++◌, Option, Some, None, Result, Ok, Err, IfOk, refl, sym, ap, ◌∙◌, subst, take, arith, codes}
 use Rattle.std.specs.Fmt.{decimal}
 use Rattle.hex.specs.Hex.{encode_lower, IsBytes}
 use Rattle.words.specs.declared.limits.TheConstants.{CLIENTS_MAX, STRIPES_MAX, FRAMES_MAX}
 use Rattle.words.specs.declared.limits.Limits.{Limits}
 use Rattle.words.specs.Store.{Bytes}
-use Rattle.world.specs.declared.event.Event.{Event}
-use Rattle.world.specs.declared.event.Event.TheVariants as event
+use Rattle.world_events.specs.declared.event.Event.{Event}
+use Rattle.world_events.specs.declared.event.Event.TheVariants as event
 use Rattle.schedules.specs.Schedules.{spaced, words_of, first_words, IsFirst, IsWithin}
 use Rattle.schedules.specs.Lines.{has, IsCut, IsLine, IsReading, IsFirstLine, IsFirstReading}
 use Rattle.schedules.proofs.Cuts.{cut_once, uncut, has-append}
 use Rattle.schedules.proofs.Glyphs.{is_high, has-high, high-decimal, high-encode}
 use Rattle.schedules.proofs.Hexes.{one_byte}
+use Rattle.schedules.proofs.ShownPages.{first_shown}
 
 -- an event has two words or three, of digits and letters
 pub data Shape (words : List Bytes) : Type 0 where
@@ -38,8 +39,9 @@ shape limits (event.Drop i) w = Two (codes "drop") (decimal i) refl refl (of_str
 shape limits (event.Unlink i) w = Two (codes "unlink") (decimal i) refl refl (of_stripe limits i w)
 shape limits (event.Retire i) w = Two (codes "retire") (decimal i) refl refl (of_stripe limits i w)
 shape limits (event.Drain i) w = Two (codes "drain") (decimal i) refl refl (of_stripe limits i w)
-shape limits (event.Release i byte) w =
-    Three (codes "release") (decimal i) (encode_lower (byte ∷ [])) refl refl (of_stripe limits i w.0) (high-encode (byte ∷ []) (one_byte byte w.1))
+shape limits (event.Release i page) w =
+    Three (codes "release") (decimal i) (encode_lower (take 1 page)) refl refl (of_stripe limits i w.0)
+    (high-encode (take 1 page) (subst IsBytes (sym (first_shown page w.1 w.3)) (one_byte w.1 w.2)))
 
 space_free : (xs : Bytes) → is_high xs ≡ true → has 32 xs ≡ false
 space_free xs h = has-high 32 xs (omega arith) h

@@ -4,7 +4,7 @@ use Rattle.words.specs.declared.limits.Limits.{Limits}
 use Rattle.words.specs.Store.{Bytes}
 use Rattle.streams.specs.declared.observed.Told.{Told}
 use Rattle.streams.specs.declared.observed.Told.TheVariants as told
-use Rattle.world.specs.declared.event.Event.{Event}
+use Rattle.world_events.specs.declared.event.Event.{Event}
 use Rattle.world.specs.States.{State, start}
 use Rattle.world.specs.Turns.{Turns}
 use Rattle.world.specs.Told.{Headline}

@@ -1,13 +1,14 @@
 -- Schedules: texts that say what happens in the world, in order, one event a line.
-use Rattle.std.specs.Prelude.{ℕ, ◌≡◌, ◌≢◌, ◌+◌, ◌<◌, ◌≤◌, List, [], ◌∷◌, ◌++◌, length, codes}
+use Rattle.std.specs.Prelude.{ℕ, ◌≡◌, ◌≢◌, ◌+◌, ◌<◌, ◌≤◌, List, [], ◌∷◌, ◌++◌, length, take, codes}
 use Rattle.std.specs.Fmt.{decimal}
 use Rattle.hex.specs.Hex.{encode_lower, IsBytes}
 use Rattle.words.specs.declared.limits.TheConstants.{BUCKETS_DEFAULT, PLACES_DEFAULT}
 use Rattle.words.specs.declared.limits.Limits.{Limits}
 use Rattle.words.specs.Store.{Bytes}
 use Rattle.words.specs.Sizes.{AreInRange, HasNumbers}
-use Rattle.world.specs.declared.event.Event.{Event}
-use Rattle.world.specs.declared.event.Event.TheVariants as event
+use Rattle.world_events.specs.ShownPages.{page_of}
+use Rattle.world_events.specs.declared.event.Event.{Event}
+use Rattle.world_events.specs.declared.event.Event.TheVariants as event
 use Rattle.schedules.specs.declared.lines.TheConstants.{PIECE_BYTES_MAX}
 
 -- HOW A LINE IS SPELLED
@@ -27,7 +28,7 @@ abbrev pub first_words : (clients stripes frames : ℕ) → List Bytes
 first_words clients stripes frames = codes "world" ∷ decimal clients ∷ decimal stripes ∷ decimal frames ∷ []
 
 -- The words of an event: its name, and the client, the stripe and the bytes that it names. Bytes are spelled in hexadecimal, in lower case,
--- with two digits a byte.
+-- with two digits a byte; of a page that is shown, the first stands for all.
 abbrev pub words_of : Event → List Bytes
 words_of (event.Piece c bytes) = codes "piece" ∷ decimal c ∷ encode_lower bytes ∷ []
 words_of (event.Close c) = codes "close" ∷ decimal c ∷ []
@@ -42,7 +43,7 @@ words_of (event.Drop i) = codes "drop" ∷ decimal i ∷ []
 words_of (event.Unlink i) = codes "unlink" ∷ decimal i ∷ []
 words_of (event.Retire i) = codes "retire" ∷ decimal i ∷ []
 words_of (event.Drain i) = codes "drain" ∷ decimal i ∷ []
-words_of (event.Release i byte) = codes "release" ∷ decimal i ∷ encode_lower (byte ∷ []) ∷ []
+words_of (event.Release i page) = codes "release" ∷ decimal i ∷ encode_lower (take 1 page) ∷ []
 
 -- the lines of events, in order
 abbrev pub lines : List Event → Bytes
@@ -55,7 +56,7 @@ lines (e ∷ events) = line (words_of e) ++ lines events
 abbrev pub IsFirst : (clients stripes frames : ℕ) → Type 0
 IsFirst clients stripes frames = AreInRange stripes BUCKETS_DEFAULT frames PLACES_DEFAULT clients
 
--- An event names a client and a stripe that there are, and gives one to PIECE_BYTES_MAX bytes.
+-- An event names a client and a stripe that there are, gives one to PIECE_BYTES_MAX bytes, and shows a page of one byte.
 abbrev pub IsWithin : Limits → Event → Type 0
 IsWithin limits (event.Piece c bytes) = (c < limits.clients) × IsBytes bytes × (1 ≤ length bytes) × (length bytes ≤ PIECE_BYTES_MAX)
 IsWithin limits (event.Close c) = c < limits.clients
@@ -70,7 +71,7 @@ IsWithin limits (event.Drop i) = i < limits.stripes
 IsWithin limits (event.Unlink i) = i < limits.stripes
 IsWithin limits (event.Retire i) = i < limits.stripes
 IsWithin limits (event.Drain i) = i < limits.stripes
-IsWithin limits (event.Release i byte) = (i < limits.stripes) × (byte < 256)
+IsWithin limits (event.Release i page) = (i < limits.stripes) × (byte : ℕ) × (byte < 256) × (page ≡ page_of byte)
 
 -- each of these events is within the limits
 abbrev pub AreWithin : Limits → List Event → Type 0

@@ -13,7 +13,7 @@ use words::limits::{
     BUCKETS_DEFAULT, CLIENTS_MAX, FRAMES_MAX, Limits, PLACES_DEFAULT, STRIPES_MAX,
 };
 use words::word::OutOfMemory;
-use world::event::Event;
+use world_events::{Event, ShownPage};
 
 /// The most bytes that one event feeds to a client.
 pub const PIECE_BYTES_MAX: usize = 65_536;
@@ -73,12 +73,23 @@ fn piece(
     Ok(Some(Event::Piece(client, Bytes::from_vec(bytes)?)))
 }
 
-/// The event of a stripe whose place is released, and shows this byte.
-fn release(limits: &Limits, stripe: &[u8], text: &[u8]) -> Option<Event>
-    ensures { IsReading limits.now (codes "release" ∷ stripe.now ∷ text.now ∷ []) result }
+/// The event of a stripe whose place is released, and shows a page of this byte.
+fn release(
+    alloc: Global,
+    limits: &Limits,
+    stripe: &[u8],
+    text: &[u8],
+) -> Result<Option<Event>, OutOfMemory>
+    ensures { IfOk result (IsReading limits.now (codes "release" ∷ stripe.now ∷ text.now ∷ [])) }
 {
-    let stripe = number(stripe, limits.stripes)?;
-    Some(Event::Release(stripe, byte_of(text)?))
+    let Some(stripe) = number(stripe, limits.stripes) else {
+        return Ok(None);
+    };
+    let Some(byte) = byte_of(text) else {
+        return Ok(None);
+    };
+    let page = ShownPage::filled(alloc, byte)?;
+    Ok(Some(Event::Release(stripe, page)))
 }
 
 /// The event of a name, a client and a stripe.
@@ -107,7 +118,7 @@ fn event_of_two(
         return piece(alloc, limits, first, second);
     }
     if name == b"release".as_slice() {
-        return Ok(release(limits, first, second));
+        return release(alloc, limits, first, second);
     }
     Ok(hold(limits, name, first, second))
 }

@@ -9,7 +9,7 @@ use crate::lines::{event_of, first_line};
 use std::alloc::Global;
 use words::limits::Limits;
 use words::word::OutOfMemory;
-use world::event::Event;
+use world_events::Event;
 
 /// A schedule: the world's limits, and the events, in order.
 #[derive(Drop)]

@@ -1,6 +1,6 @@
 //! A server with its clients, and what clients send and read.
 
-use gates::Open;
+use gates::{Latch, Open};
 use server::{Endings, Options, listen, run_workers};
 use std::alloc::Global;
 use std::io::{Read, Write};
@@ -71,11 +71,12 @@ where
     Some((listener, port))
 }
 
-/// Whether a server with these options ends well, and its clients tell yes, who talk meanwhile and are
-/// given its port. `None` where there are no such options, or no listener.
-fn end_well<R, F: FnOnce(&R, u16) -> Option<bool>>(
+/// Whether a server with these options, which tells this latch where its calls are, ends well, and its clients
+/// tell yes, who talk meanwhile and are given its port. `None` where there are no such options, or no listener.
+fn end_well<R, L: Latch + Sync, F: FnOnce(&R, u16) -> Option<bool>>(
     rt: &R,
     options: Option<Options>,
+    latch: &L,
     endings: &Endings,
     talk: F,
 ) -> Option<bool>
@@ -92,7 +93,7 @@ where
     let (listener, port) = listening(rt, options)?;
     let (served, told) = thread::join(
         rt,
-        || run_workers(rt, listener, options, &Open, endings).is_ok(),
+        || run_workers(rt, listener, options, latch, endings).is_ok(),
         move || talk(rt, port),
     );
     Some(served && told == Some(true))
@@ -116,9 +117,30 @@ where
         + Sync,
     requires { F.IsAlwaysCallable talk }
 {
+    with_latch(rt, &Open, accept, stripes, workers, talk)
+}
+
+/// The same server, which tells this latch where its calls are.
+pub(crate) fn with_latch<R, L: Latch + Sync, F: FnOnce(&R, u16) -> Option<bool>>(
+    rt: &R,
+    latch: &L,
+    accept: u32,
+    stripes: usize,
+    workers: usize,
+    talk: F,
+) -> Result<Outcome, Fail>
+where
+    R: AllocGlobal
+        + Clock
+        + Net<Listener = TcpListener, Stream = TcpStream>
+        + Threads
+        + Wait
+        + Sync,
+    requires { F.IsAlwaysCallable talk }
+{
     let options = Options::new(0, accept, stripes, workers);
     let endings = Endings::new(rt.alloc())?;
-    let well = end_well(rt, options, &endings, talk);
+    let well = end_well(rt, options, latch, &endings, talk);
     Ok(Outcome {
         well: well == Some(true),
         numbers: first_numbers(&endings),

@@ -11,6 +11,8 @@ mod counters;
 #[cfg(test)]
 mod crowds;
 #[cfg(test)]
+mod holding;
+#[cfg(test)]
 mod pipelines;
 #[cfg(test)]
 mod refusals;

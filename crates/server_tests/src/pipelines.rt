@@ -1,8 +1,15 @@
 //! Clients that send far more than one request before they read.
 
-use crate::client::{OK, PING, PONG, answers, connect, is_at_end, reads, sends, with_server};
+use crate::client::{
+    OK, PING, PONG, answers, connect, is_at_end, reads, sends, with_latch, with_server,
+};
+use crate::holding::wait_for;
+use gates::{Latch, Point};
 use std::alloc::{AllocError, Global};
+use std::io::Write;
 use std::net::{Shutdown, TcpStream};
+use std::rt::Clock;
+use std::sync::atomic::{AtomicBool, AtomicU64, Ordering};
 use std::test::Fail;
 use std::thread::sleep;
 use std::time::Duration;
@@ -79,6 +86,47 @@ fn ten_sets_and_the_end(rt: &HostRuntime, port: u16) -> Option<bool> {
 #[test]
 fn long_requests_before_the_end_of_the_input_are_answered(rt: HostRuntime) -> Result<(), Fail> {
     let outcome = with_server(&rt, 1, 16, 1, ten_sets_and_the_end)?;
+    assert!(rt; outcome.ended([Some(1), None, None, None]));
+    Ok(())
+}
+
+/// A SET of 5,000 bytes, and fourteen GETs of it. `None` where there was no memory.
+fn set_and_fourteen_gets(alloc: Global) -> Option<Vec<u8>> {
+    let mut requests = Vec::new(alloc);
+    let set = b"*3\r\n$3\r\nSET\r\n$1\r\nk\r\n$5000\r\n";
+    requests.extend_from_slice(set).ok()?;
+    requests.extend_from_slice(&[b'v'; 5_000]).ok()?;
+    requests.extend_from_slice(b"\r\n").ok()?;
+    for _ in 0..14 {
+        requests.extend_from_slice(GET).ok()?;
+    }
+    Some(requests)
+}
+
+/// Whether fourteen GETs are answered by 5,000 bytes each.
+fn fourteen_are_answered(client: &TcpStream) -> bool {
+    for _ in 0..14 {
+        if !reads(client, b"$5000\r\n")
+            || !reads(client, &[b'v'; 5_000])
+            || !reads(client, b"\r\n")
+        {
+            return false;
+        }
+    }
+    true
+}
+
+/// A SET and fourteen GETs at once, which are answered by 70,000 bytes, and then a PING.
+fn fourteen_gets(rt: &HostRuntime, port: u16) -> Option<bool> {
+    let client = connect(rt, port)?;
+    let sent = sends(&client, set_and_fourteen_gets(rt.alloc())?.as_slice()) && reads(&client, OK);
+    Some(sent && fourteen_are_answered(&client) && answers(&client, PING, PONG))
+}
+
+/// Replies that do not fit into the output buffer together are all written.
+#[test]
+fn fourteen_gets_get_fourteen_replies(rt: HostRuntime) -> Result<(), Fail> {
+    let outcome = with_server(&rt, 1, 16, 1, fourteen_gets)?;
     assert!(rt; outcome.ended([Some(1), None, None, None]));
     Ok(())
 }
@@ -204,5 +252,89 @@ fn whole_pieces_one_after_the_other(rt: &HostRuntime, port: u16) -> Option<bool>
 fn no_reply_hangs_where_a_read_was_filled(rt: HostRuntime) -> Result<(), Fail> {
     let outcome = with_server(&rt, 1, 16, 1, whole_pieces_one_after_the_other)?;
     assert!(rt; outcome.ended([Some(1), None, None, None]));
+    Ok(())
+}
+
+/// Which call waits for a reply to be read: one of the 20th read of a server that is never kept waiting.
+const LATE_CALL: u64 = 40;
+
+/// Holds up the first call until its client has sent all that the sockets hold, so that no read of the server waits
+/// from then on. Holds up a later one until the client has read the reply of an earlier one.
+#[derive(Drop)]
+struct Streaming<'a, R> {
+    clock: &'a R,
+    calls: AtomicU64,
+    /// The client has sent what the sockets hold.
+    sent: AtomicBool,
+    /// The client has read a reply.
+    answered: AtomicBool,
+    /// The later call went on with no reply read.
+    late: AtomicBool,
+}
+
+impl<R: Clock> Latch for Streaming<'_, R> {
+    fn at(&self, _pass: u64, point: Point) {
+        if point != Point::Holding {
+            return;
+        }
+        let calls = self.calls.load(Ordering::SeqCst).wrapping_add(1);
+        self.calls.store(calls, Ordering::SeqCst);
+        if calls == 1 {
+            let _ = wait_for(self.clock, &self.sent);
+        }
+        if calls == LATE_CALL {
+            let answered = wait_for(self.clock, &self.answered);
+            self.late.store(!answered, Ordering::SeqCst);
+        }
+    }
+}
+
+/// Sends as much of these bytes as the sockets hold, and says how much.
+fn sends_what_fits(mut client: &TcpStream, bytes: &[u8]) -> Option<usize> {
+    client.set_nonblocking(true).ok()?;
+    let mut rest = bytes;
+    while !rest.is_empty() {
+        match client.write(rest) {
+            Ok(count) if count > 0 => rest = &rest[count..],
+            _ => break,
+        }
+    }
+    client.set_nonblocking(false).ok()?;
+    Some(bytes.len() - rest.len())
+}
+
+/// Sixty SETs of 8,000 bytes and a GET, without a pause, while the first is held up. The second reply is read while the
+/// fortieth is.
+fn streams_sets(rt: &HostRuntime, port: u16, latch: &Streaming<'_, HostRuntime>) -> Option<bool> {
+    let client = connect(rt, port)?;
+    let requests = long_sets(rt.alloc(), 60).ok()?;
+    let count = sends_what_fits(&client, requests.as_slice())?;
+    latch.sent.store(true, Ordering::SeqCst);
+    let sent = sends(&client, requests.as_slice().get(count..)?);
+    let answered = reads(&client, OK) && reads(&client, OK);
+    latch.answered.store(true, Ordering::SeqCst);
+    Some(sent && answered && are_answered(&client, 58, letter(59)))
+}
+
+/// A client that never pauses is answered after sixteen reads at most: no reply waits for the end of what it sends.
+#[test]
+fn a_client_that_fills_each_read_is_answered_meanwhile(rt: HostRuntime) -> Result<(), Fail> {
+    let latch = &Streaming {
+        clock: &rt,
+        calls: AtomicU64::new(0),
+        sent: AtomicBool::new(false),
+        answered: AtomicBool::new(false),
+        late: AtomicBool::new(false),
+    };
+    let outcome = with_latch(
+        &rt,
+        latch,
+        1,
+        16,
+        1,
+        |rt, port| streams_sets(rt, port, latch),
+    )?;
+    assert!(rt; outcome.ended([Some(1), None, None, None]));
+    assert!(rt; !latch.late.load(Ordering::SeqCst));
     Ok(())
 }

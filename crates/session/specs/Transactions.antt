@@ -1,6 +1,7 @@
 -- Open transactions.
 use Rattle.std.specs.Prelude.{◌≡◌, ℕ, List, length, false}
 use Rattle.words.specs.declared.command.Command.{Command}
+use Rattle.words.specs.Bounds.{AreBounded}
 use Rattle.words.specs.History.{MayAllBeQueued}
 use Rattle.words.specs.Session.{is_too_large}
 
@@ -10,7 +11,8 @@ pub record Transaction : Type 0 where
   pub words : ℕ
   pub bytes : ℕ
 
--- it is not too large, and each of its commands may stand in a transaction
+-- it is not too large, and each of its commands may stand in a transaction and is within the limits
 pub record IsOpen (transaction : Transaction) : Type 0 where
   pub fits : is_too_large (length transaction.queue) transaction.words transaction.bytes ≡ false
   pub may_run : MayAllBeQueued transaction.queue
+  pub bounded : AreBounded transaction.queue

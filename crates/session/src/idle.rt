@@ -9,7 +9,8 @@ use words::reply::{CommandReply, Item, Line, Refusal, Reply, TransactionError};
 use words::word::{Word, Words};
 
 impl Session<Idle> {
-    ghost use Rattle.std.specs.Prelude.{◌≡◌, Ok, []};
+    ghost use Rattle.std.specs.Prelude.{◌≡◌, IfOk, Ok, []};
+    ghost use Rattle.words.specs.Bounds.{IsBounded};
     ghost use Rattle.words.specs.Commands.{command_of};
     ghost use Rattle.words.specs.Session as mode;
     ghost use Rattle.words.specs.Session.{turn_idle, watch_turn, says};
@@ -29,7 +30,8 @@ impl Session<Idle> {
 
     /// What a request gives: its words, and what [`Command::of`] makes of them.
     pub fn step(self, words: Words, command: Result<Command, Refusal>) -> Step
-        requires { command ≡ command_of words }
+        requires of { command ≡ command_of words }
+        requires bounded { IfOk command IsBounded }
         ensures { IsStep (idle_of self) words result }
     {
         let step = self.step_of(&words, command);
@@ -39,7 +41,8 @@ impl Session<Idle> {
 
     /// The same as [`step`](Session::step), of words that stay the caller's.
     pub fn step_of(self, words: &Words, command: Result<Command, Refusal>) -> Step
-        requires { command ≡ command_of words.now }
+        requires of { command ≡ command_of words.now }
+        requires bounded { IfOk command IsBounded }
         ensures { IsStep (idle_of self) words.now result }
     {
         self.take(command)
@@ -47,6 +50,7 @@ impl Session<Idle> {
 
     /// What a request gives that is this command, or is refused so.
     fn take(self, command: Result<Command, Refusal>) -> Step
+        requires { IfOk command IsBounded }
         ensures { Gives (turn_idle self.watching command) self.watching result }
     {
         match command {

@@ -1,6 +1,6 @@
 //! Sessions in their modes, and what a request gives.
 
-ghost use Rattle.std.specs.Prelude.{◌≡◌};
+ghost use Rattle.std.specs.Prelude.{◌≡◌, IfOk};
 
 use std::alloc::Global;
 use std::marker::Model;
@@ -176,13 +176,15 @@ impl<M> Session<M> {
 }
 
 impl AnySession {
+    ghost use Rattle.words.specs.Bounds.{IsBounded};
     ghost use Rattle.words.specs.Commands.{command_of};
     ghost use Rattle.session.specs.Standings.{standing_of, forget_of};
     ghost use Rattle.session.specs.Steps.{IsStep};
 
     /// What a request gives: its words, and what [`Command::of`] makes of them.
     pub fn step(self, words: Words, command: Result<Command, Refusal>) -> Step
-        requires { command ≡ command_of words }
+        requires of { command ≡ command_of words }
+        requires bounded { IfOk command IsBounded }
         ensures { IsStep (standing_of self) words result }
     {
         let step = self.step_of(&words, command);
@@ -192,7 +194,8 @@ impl AnySession {
 
     /// The same as [`step`](AnySession::step), of words that stay the caller's.
     pub fn step_of(self, words: &Words, command: Result<Command, Refusal>) -> Step
-        requires { command ≡ command_of words.now }
+        requires of { command ≡ command_of words.now }
+        requires bounded { IfOk command IsBounded }
         ensures { IsStep (standing_of self) words.now result }
     {
         match self {

@@ -11,7 +11,8 @@ use words::reply::{Line, Refusal, Reply, TransactionError};
 use words::word::{Word, Words};
 
 impl Session<Queueing> {
-    ghost use Rattle.std.specs.Prelude.{◌≡◌, ◌++◌, ◌∷◌, [], ◌+◌, Ok, length, false};
+    ghost use Rattle.std.specs.Prelude.{◌≡◌, ◌++◌, ◌∷◌, [], ◌+◌, IfOk, Ok, length, false};
+    ghost use Rattle.words.specs.Bounds.{IsBounded};
     ghost use Rattle.words.specs.Spelling.{bytes_of};
     ghost use Rattle.words.specs.Commands.{command_of, MayBeQueued};
     ghost use Rattle.words.specs.Session as mode;
@@ -21,7 +22,8 @@ impl Session<Queueing> {
 
     /// What a request gives: its words, and what [`Command::of`] makes of them.
     pub fn step(self, words: Words, command: Result<Command, Refusal>) -> Step
-        requires { command ≡ command_of words }
+        requires of { command ≡ command_of words }
+        requires bounded { IfOk command IsBounded }
         ensures { IsStep (queueing_of self) words result }
     {
         let step = self.step_of(&words, command);
@@ -31,7 +33,8 @@ impl Session<Queueing> {
 
     /// The same as [`step`](Session::step), of words that stay the caller's.
     pub fn step_of(self, words: &Words, command: Result<Command, Refusal>) -> Step
-        requires { command ≡ command_of words.now }
+        requires of { command ≡ command_of words.now }
+        requires bounded { IfOk command IsBounded }
         ensures { IsStep (queueing_of self) words.now result }
     {
         self.take(words.as_slice(), command)
@@ -39,6 +42,7 @@ impl Session<Queueing> {
 
     /// What a request of these words gives that is this command, or is refused so.
     fn take(self, request: &[Word], command: Result<Command, Refusal>) -> Step
+        requires { IfOk command IsBounded }
         ensures { Gives (turn_queueing self.mode.queue self.mode.words self.mode.bytes (length request.now) (bytes_of request.now) command) self.watching result }
     {
         match command {
@@ -105,7 +109,8 @@ impl Session<Queueing> {
 
     /// It queues the command of a request of these words, if the transaction is not too large with it.
     fn queue(self, request: &[Word], command: Command) -> Step
-        requires { MayBeQueued command }
+        requires may_run { MayBeQueued command }
+        requires bounded { IsBounded command }
         ensures { Gives (queue_turn (self.mode.queue ++ command ∷ []) (self.mode.words + length request.now) (self.mode.bytes + bytes_of request.now)) self.watching result }
     {
         let mode = &self.mode;
@@ -121,6 +126,7 @@ impl Session<Queueing> {
     /// It queues a command, with which the transaction has this size and is not too large.
     fn queue_within(self, size: Size, command: Command) -> Step
         requires may_run { MayBeQueued command }
+        requires bounded { IsBounded command }
         requires fits { is_too_large (length self.mode.queue + 1) size.words size.bytes ≡ false }
         ensures { Gives (mode.Tries (line_reply Line.Queued) (mode.Queueing (self.mode.queue ++ command ∷ []) size.words size.bytes) mode.Spoiled) self.watching result }
     {

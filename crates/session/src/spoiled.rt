@@ -6,7 +6,8 @@ use words::reply::{Line, Refusal, Reply, TransactionError};
 use words::word::Words;
 
 impl Session<Spoiled> {
-    ghost use Rattle.std.specs.Prelude.{◌≡◌, Ok};
+    ghost use Rattle.std.specs.Prelude.{◌≡◌, IfOk, Ok};
+    ghost use Rattle.words.specs.Bounds.{IsBounded};
     ghost use Rattle.words.specs.Commands.{command_of};
     ghost use Rattle.words.specs.Session as mode;
     ghost use Rattle.words.specs.Session.{turn_spoiled, says};
@@ -15,7 +16,8 @@ impl Session<Spoiled> {
 
     /// What a request gives: its words, and what [`Command::of`] makes of them. A command is not kept.
     pub fn step(self, words: Words, command: Result<Command, Refusal>) -> Step
-        requires { command ≡ command_of words }
+        requires of { command ≡ command_of words }
+        requires bounded { IfOk command IsBounded }
         ensures { IsStep (spoiled_of self) words result }
     {
         let step = self.step_of(&words, command);
@@ -25,7 +27,8 @@ impl Session<Spoiled> {
 
     /// The same as [`step`](Session::step), of words that stay the caller's.
     pub fn step_of(self, words: &Words, command: Result<Command, Refusal>) -> Step
-        requires { command ≡ command_of words.now }
+        requires of { command ≡ command_of words.now }
+        requires bounded { IfOk command IsBounded }
         ensures { IsStep (spoiled_of self) words.now result }
     {
         self.take(command)

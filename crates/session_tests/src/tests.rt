@@ -1,7 +1,8 @@
 //! Sessions whose calls are answered by hand: each line of the table of modes, the limits of transactions
 //! and watches, and want of memory.
 
-ghost use Rattle.std.specs.Prelude.{◌≡◌, IfSome};
+ghost use Rattle.std.specs.Prelude.{◌≡◌, IfOk, IfSome, true};
+ghost use Rattle.words.specs.Bounds.{IsBounded};
 ghost use Rattle.words.specs.Commands.{command_of};
 
 use session::modes::{AnySession, Called, Closed, Session, Step};
@@ -41,15 +42,26 @@ impl Given {
 
 /// The words of a request, and what they are, where there is memory for them.
 fn read(alloc: Global, request: &[u8]) -> Option<(Words, Result<Command, Refusal>)>
-    ensures { IfSome result (λ read. read.1 ≡ command_of read.0) }
+    ensures of { IfSome result (λ read. read.1 ≡ command_of read.0) }
+    ensures bounded { IfSome result (λ read. IfOk read.1 IsBounded) }
 {
     let words = match words_of(alloc, request) {
         Some(words) => words,
         None => return None,
     };
     match Command::of(alloc, &words) {
-        Ok(command) => Some((words, command)),
-        Err(_) => None,
+        Ok(command) if is_bounded(&command) => Some((words, command)),
+        _ => None,
+    }
+}
+
+/// Whether words make no command beyond the limits.
+fn is_bounded(command: &Result<Command, Refusal>) -> bool
+    ensures { result ≡ true → IfOk command.now IsBounded }
+{
+    match command {
+        Ok(command) => command.is_bounded(),
+        Err(_) => true,
     }
 }
 

@@ -1,7 +1,13 @@
 -- Laws of what contracts say of known bytes and of sent texts: over several reads and writes, one after the other. Each is proved here.
 use Rattle.std.proofs.Common.{◌≡◌, ℕ, List, [], ◌++◌, Option, Some, None, Result, Ok, Err, refl, sym, ap, ◌∙◌, append_assoc, append-nil}
 use Rattle.std.specs.Io.KnownBytes.{Appends, Consumes, Keeps}
-use Rattle.streams.specs.Streams.{AppendsBeginning, IsSent, IsPut}
+use Rattle.streams.specs.declared.noted.Noted.{Noted}
+use Rattle.streams.specs.declared.observed.Told.TheVariants as told
+use Rattle.streams.specs.Streams.{AppendsBeginning, IsSent, IsPut, told_of, HasFailed}
+
+-- who has told a failure has failed
+pub HasFailed-told : {S : Type 0} (noted : Noted S) → told_of noted ≡ told.Failure → HasFailed noted
+HasFailed-told noted is = noted.observed.failed is
 
 -- known bytes that stay
 pub Keeps-same : (u : Option (List ℕ)) → Keeps u u

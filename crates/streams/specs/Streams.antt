@@ -9,7 +9,7 @@ use Rattle.streams.specs.declared.observed.Input.TheVariants.{Bytes, End, Failur
 
 -- the stream itself
 abbrev pub stream_of : {S : Type 0} → Noted S → S
-stream_of noted = noted.observed.stream
+stream_of noted = noted.observed.asked.stream
 
 -- what it has told
 abbrev pub told_of : {S : Type 0} → Noted S → Told
@@ -18,6 +18,18 @@ told_of noted = noted.observed.told
 -- how often it may still give bytes
 abbrev pub reads_of : {S : Type 0} → Noted S → ℕ
 reads_of noted = noted.observed.reads
+
+-- how many calls of the stream have failed
+abbrev pub failures_of : {S : Type 0} → Noted S → ℕ
+failures_of noted = noted.observed.asked.failures
+
+-- how often it may still be interrupted
+abbrev pub interruptions_of : {S : Type 0} → Noted S → ℕ
+interruptions_of noted = noted.observed.interruptions
+
+-- The stream has failed, unless it counts as failed since it gave bytes or was interrupted as often as it may.
+abbrev pub HasFailed : {S : Type 0} → Noted S → Type 0
+HasFailed noted = 0 < reads_of noted → 0 < interruptions_of noted → 0 < failures_of noted
 
 -- What a read gave, where the bytes that the stream has left are known before and after it: those at the start of the buffer, or none.
 abbrev pub IsRead : Option (List ℕ) → Option (List ℕ) → List ℕ → Input → Type 0

@@ -2,6 +2,8 @@
 //! what was interrupted, and keeps whether the stream told its end or failed.
 #![tactic(auto)]
 
+mod asked;
+mod failures;
 mod noted;
 mod observed;
 mod ready;

@@ -15,22 +15,25 @@ pub struct Noted<S> {
 
 impl<S> Noted<S> {
     ghost use Rattle.std.specs.Prelude.{◌-◌, ◌^◌};
-    ghost use Rattle.streams.specs.Streams.{stream_of, told_of, reads_of};
+    ghost use Rattle.streams.specs.Streams.{stream_of, told_of, reads_of, interruptions_of, failures_of, HasFailed};
 
     /// The stream, which has told nothing yet.
     pub fn new(stream: S) -> Noted<S>
         ensures stream { stream_of result ≡ stream }
         ensures told { told_of result ≡ Told.Nothing }
         ensures reads { reads_of result ≡ 2 ^ 64 - 1 }
+        ensures interruptions { interruptions_of result ≡ 2 ^ 64 - 1 }
+        ensures failures { failures_of result ≡ 0 }
     {
         Noted {
             observed: Observed::new(stream),
         }
     }
 
-    /// What the stream has told.
+    /// What the stream has told. It has told a failure only where a call of it failed.
     pub fn told(&self) -> Told
-        ensures { result ≡ told_of self.now }
+        ensures told { result ≡ told_of self.now }
+        ensures failed { result ≡ Told.Failure → HasFailed self.now }
     {
         self.observed.told()
     }

@@ -34,6 +34,7 @@ module _ {T : Type 0} (contents : Meaning T) (n : ℕ) where
             here = λ key at. sym (leaves key (contents.store q) (λ x. ne (sym at ∙ x)));
             away = λ key at. refl;
             marks = λ key number at. sym (leaves_marks key number (contents.marks q key number) (λ x. ne (sym at ∙ x)));
+            aside = λ key number other. refl;
           },
         ))
         (cases_eq j i);
@@ -44,7 +45,16 @@ module _ {T : Type 0} (contents : Meaning T) (n : ℕ) where
       → ((j : ℕ) → later j ≡ before j) → Became contents n [] change before later
   became_none change before later leaves same = record {
     there = λ j some. subst IsSome (sym (same j)) some;
-    was = λ j q e. (q, sym (same j) ∙ e, record { here = λ key at. refl; away = λ key at. refl; marks = λ key number at. sym (leaves key number (contents.marks q key number)) });
+    was = λ j q e. (
+      q,
+      sym (same j) ∙ e,
+      record {
+        here = λ key at. refl;
+        away = λ key at. refl;
+        marks = λ key number at. sym (leaves key number (contents.marks q key number));
+        aside = λ key number at. refl;
+      },
+    );
   }
 
   -- nothing changed
@@ -66,6 +76,7 @@ module _ {T : Type 0} (contents : Meaning T) (n : ℕ) where
                 ∙ sym (ap (λ s. s key) (written-append ws vs (contents.store first.0)));
             away = λ key at. second.2.away key at ∙ first.2.away key at;
             marks = λ key number at. second.2.marks key number at ∙ ap (g key number) (first.2.marks key number at) ∙ marks key number (contents.marks first.0 key number);
+            aside = λ key number at. second.2.aside key number at ∙ first.2.aside key number at;
           },
         );
   }
@@ -136,6 +147,8 @@ wrote_one contents n i w before later old new was is others at value marks =
       here = λ key here. value key;
       away = λ key ne. value key ∙ write_leaves n i w at key (contents.store old) ne;
       marks = λ key number here. marks key number ∙ sym (ap (λ b. touched b (contents.marks old key number)) (or_false (bytes_eq w.0 key)));
+      aside = λ key number ne. marks key number ∙ sym (ap (λ b. touched b (contents.marks old key number)) (or_false (bytes_eq w.0 key)))
+          ∙ touch_leaves n i w at key number (contents.marks old key number) ne;
     }
     (write_leaves n i w at) (touch_leaves n i w at)
 
@@ -151,6 +164,7 @@ exchanged_one contents n i w before later old new was is others at value marks =
       here = λ key here. value key;
       away = λ key ne. value key ∙ write_leaves n i w at key (contents.store old) ne;
       marks = λ key number here. marks key number;
+      aside = λ key number ne. marks key number;
     }
     (write_leaves n i w at) (λ key number m ne. refl)
 
@@ -166,6 +180,8 @@ touched_one contents n i w before later old new was is others at value marks =
       here = λ key here. value key;
       away = λ key ne. value key;
       marks = λ key number here. marks key number ∙ sym (ap (λ b. touched b (contents.marks old key number)) (or_false (bytes_eq w.0 key)));
+      aside = λ key number ne. marks key number ∙ sym (ap (λ b. touched b (contents.marks old key number)) (or_false (bytes_eq w.0 key)))
+          ∙ touch_leaves n i w at key number (contents.marks old key number) ne;
     }
     (λ key store ne. refl) (touch_leaves n i w at)
 
@@ -203,6 +219,7 @@ became_back contents n key value had a b c is one two =
                   (same_or_not key k);
               away = was.2.away;
               marks = was.2.marks;
+              aside = was.2.aside;
             },
           );
     }
@@ -215,5 +232,10 @@ pub same_one : {T : Type 0} (contents : Meaning T) (n i : ℕ) (before later : �
     → Became contents n [] stays before later
 same_one contents n i before later old new was is others value marks =
     became_one contents n i [] stays before later old new was is others
-    record { here = λ key here. value key; away = λ key ne. value key; marks = λ key number here. marks key number }
+    record {
+      here = λ key here. value key;
+      away = λ key ne. value key;
+      marks = λ key number here. marks key number;
+      aside = λ key number ne. marks key number;
+    }
     (λ key store ne. refl) (λ key number m ne. refl)

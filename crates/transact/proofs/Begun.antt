@@ -46,7 +46,7 @@ or_more : (a b c : Bool) → ((a || b) || c) ≡ (a || (b || c))
 or_more true b c = refl
 or_more false b c = refl
 
-among_append : (keys : List Bytes) (key k : Bytes) → is_among (keys ++ key ∷ []) k ≡ (is_among keys k || (bytes_eq key k || false))
+pub among_append : (keys : List Bytes) (key k : Bytes) → is_among (keys ++ key ∷ []) k ≡ (is_among keys k || (bytes_eq key k || false))
 among_append [] key k = refl
 among_append (first ∷ keys) key k = ap (λ b. bytes_eq first k || b) (among_append keys key k) ∙ sym (or_more (bytes_eq first k) (is_among keys k) (bytes_eq key k || false))
 
@@ -71,7 +71,7 @@ marked_stays : (m : Option Bool) → is_none m ≡ false → begun m ≡ m
 marked_stays None e = absurd (cc e)
 marked_stays (Some m) e = refl
 
-none_of : (m : Option Bool) → is_none m ≡ true → m ≡ None
+pub none_of : (m : Option Bool) → is_none m ≡ true → m ≡ None
 none_of None e = refl
 none_of (Some m) e = absurd (cc e)
 
@@ -142,6 +142,7 @@ module _ {T : Type 0} (contents : Meaning T) (n own : ℕ) where
                   ] (bytes_eq-Decides key k)
                   | false ↦ λ other. refl
                 ] refl;
+            aside = was.2.aside;
           },
         );
   }
@@ -189,6 +190,7 @@ module _ {T : Type 0} (contents : Meaning T) (n own : ℕ) where
                   ] refl
                   | false ↦ λ other. refl
                 ] refl;
+            aside = λ key number at. second.2.aside key number at ∙ first.2.aside key number at;
           },
         );
   }

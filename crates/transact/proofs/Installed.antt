@@ -83,7 +83,7 @@ module _ {T : Type 0} (contents : Meaning T) (n : ℕ) where
       → Became contents n ws (touches_and_clears ws own (keys_ended call)) b c → Became contents n ws (changes call own ws) a c
   call_became call own ws a b c = became_both contents n [] ws (begins own (keys_begun call)) (touches_and_clears ws own (keys_ended call)) (changes call own ws) a b c (λ key number m. refl)
 
-  marks_became : (ws : List Write) (change : Change) (a b : ℕ → Option T) (key : Bytes) (number : ℕ) → Became contents n ws change a b → IsSome (b (stripe_of n key))
+  pub marks_became : (ws : List Write) (change : Change) (a b : ℕ → Option T) (key : Bytes) (number : ℕ) → Became contents n ws change a b → IsSome (b (stripe_of n key))
       → joined_marks contents n b key number ≡ change key number (joined_marks contents n a key number)
   marks_became ws change a b key number became some =
       let part = some_of (b (stripe_of n key)) some in
@@ -112,6 +112,9 @@ module _ {T : Type 0} (contents : Meaning T) (n : ℕ) where
             marks_became ws (changes call own ws) a c key number became some
             ∙ others_touched call own ws key number (joined_marks contents n a key number) ne
             ∙ ap (λ (l : List Write). touched (writes_key l key) (joined_marks contents n a key number)) (sym same);
+        aside = λ i old new e f key number ne.
+            let was = became.was i new f in
+            was.2.aside key number ne ∙ ap (λ (p : T). contents.marks p key number) (some_is was.0 old (a i) was.1 e);
       }
 
 -- there is a part for each key whose watch a call ends

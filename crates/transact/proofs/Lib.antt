@@ -9,8 +9,4 @@ pub mod Plans
 pub mod Short
 pub mod ShortRows
 pub mod Installed
-pub mod Fit
-pub mod Gets
-pub mod Submits
-pub mod Memory
-pub mod Sets
+pub mod Added

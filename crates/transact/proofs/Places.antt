@@ -72,16 +72,16 @@ place_ready n parts key = some_place key (parts (stripe_of n key))
 ready_place : (n : ℕ) (parts : ℕ → Option Shard) (key : Bytes) → IsReady n parts key → IsSome (joined_places n parts key)
 ready_place n parts key ready = rw ready.1 ready.2
 
-or_left : (a b : Bool) → (a || b) ≡ false → a ≡ false
+pub or_left : (a b : Bool) → (a || b) ≡ false → a ≡ false
 or_left true b e = absurd (cc e)
 or_left false b e = refl
 
-or_rest : (a b : Bool) → (a || b) ≡ false → b ≡ false
+pub or_rest : (a b : Bool) → (a || b) ≡ false → b ≡ false
 or_rest true b e = absurd (cc e)
 or_rest false b e = e
 
 -- a key that these do not write is none of theirs
-other_key : (key k : Bytes) → bytes_eq k key ≡ false → bytes_eq key k ≡ false
+pub other_key : (key k : Bytes) → bytes_eq k key ≡ false → bytes_eq key k ≡ false
 other_key key k is = apart key k (λ e. absurd (cc (sym (same_key k) ∙ ap (bytes_eq k) (sym e) ∙ is)))
 
 -- where a place is taken away that these do not need, theirs stay

@@ -1,4 +1,4 @@
--- Computed rows of which commands need no memory on a store where the counter "c" has the value 41 and no other key is there.
+-- Computed rows of which commands are planned without a growth on a store where the counter "c" has the value 41 and no other key is there.
 use Rattle.std.proofs.Common.{[], ◌∷◌, ◌≡◌, ◌≤◌, ◌^◌, inl, inr, Some, None, IsSome, Option, refl, arith, length, true, false}
 use Rattle.std.proofs.lemmas.Fmt.{length_signed_le}
 use Rattle.std.proofs.lemmas.Bool.{ltb-true}
@@ -13,9 +13,9 @@ use Rattle.words.specs.Commands.{IsInline}
 use Rattle.words.specs.Answers.{changed, number_at, refused, value_of}
 use Rattle.strings.specs.Overlays.{IsInlineAnswer, shown}
 use Rattle.words.specs.declared.command.Command.TheVariants.{Add, Append, Del, Exists, Get, GetDel, Set, SetRange, StrLen, Subtract}
-use Rattle.words.specs.declared.command.When.TheVariants.{Always, IfMissing}
+use Rattle.words.specs.declared.command.When.TheVariants.{IfMissing}
 use Rattle.words.specs.Store.{Bytes, Store, empty, written}
-use Rattle.transact.specs.Memory.{NeedsNoMemory, of_one_key}
+use Rattle.transact.specs.Memory.{IsPlannedInPlace, of_one_key}
 
 abbrev c : Bytes
 c = codes "c"
@@ -26,36 +26,36 @@ k = codes "k"
 abbrev store : Store
 store = written empty ((c, Some (codes "41")) ∷ [])
 
-get_and_set : NeedsNoMemory store (Get k) × NeedsNoMemory store (Set c k Always)
-get_and_set = (omega arith, inl refl)
+get : IsPlannedInPlace store (Get k)
+get = omega arith
 
-add : NeedsNoMemory store (Add c (pos 1))
+add : IsPlannedInPlace store (Add c (pos 1))
 unfolding digits
 add = (c, record { keys = refl; key = omega arith; value = omega arith; texts = record { reply = tt; writes = ((omega arith, omega arith), tt); room = omega arith }; place = inl refl })
 
-append : NeedsNoMemory store (Append c k)
+append : IsPlannedInPlace store (Append c k)
 append = (c, record { keys = refl; key = omega arith; value = omega arith; texts = record { reply = tt; writes = ((omega arith, omega arith), tt); room = omega arith }; place = inl refl })
 
-set_range : NeedsNoMemory store (SetRange c 3 k)
+set_range : IsPlannedInPlace store (SetRange c 3 k)
 set_range = (c, record { keys = refl; key = omega arith; value = omega arith; texts = record { reply = tt; writes = ((omega arith, omega arith), tt); room = omega arith }; place = inl refl })
 
-set_where_it_is_missing : NeedsNoMemory store (Set c k IfMissing)
+set_where_it_is_missing : IsPlannedInPlace store (Set c k IfMissing)
 set_where_it_is_missing = (c, record { keys = refl; key = omega arith; value = omega arith; texts = record { reply = tt; writes = tt; room = omega arith }; place = inl refl })
 
-get_and_delete : NeedsNoMemory store (GetDel c)
+get_and_delete : IsPlannedInPlace store (GetDel c)
 get_and_delete = (c, record { keys = refl; key = omega arith; value = omega arith; texts = record { reply = omega arith; writes = ((omega arith, omega arith), tt); room = omega arith }; place = inl refl })
 
-delete : NeedsNoMemory store (Del (c ∷ []))
+delete : IsPlannedInPlace store (Del (c ∷ []))
 delete = (c, record { keys = refl; key = omega arith; value = omega arith; texts = record { reply = tt; writes = ((omega arith, omega arith), tt); room = omega arith }; place = inl refl })
 
 -- commands that write nothing need none for a missing key either
-length_of_a_missing_key : NeedsNoMemory store (StrLen k)
+length_of_a_missing_key : IsPlannedInPlace store (StrLen k)
 length_of_a_missing_key = (k, record { keys = refl; key = omega arith; value = omega arith; texts = record { reply = tt; writes = tt; room = omega arith }; place = inr refl })
 
-count_of_a_missing_key : NeedsNoMemory store (Exists (k ∷ []))
+count_of_a_missing_key : IsPlannedInPlace store (Exists (k ∷ []))
 count_of_a_missing_key = (k, record { keys = refl; key = omega arith; value = omega arith; texts = record { reply = tt; writes = tt; room = omega arith }; place = inr refl })
 
-no_bytes_past_the_end_of_a_missing_key : NeedsNoMemory store (SetRange k 9 [])
+no_bytes_past_the_end_of_a_missing_key : IsPlannedInPlace store (SetRange k 9 [])
 no_bytes_past_the_end_of_a_missing_key =
     (k, record { keys = refl; key = omega arith; value = omega arith; texts = record { reply = tt; writes = tt; room = omega arith }; place = inr refl })
 
@@ -73,7 +73,7 @@ changed_inline key (Some n) change inline =
     ] refl
 
 each_counter : (known : Store) (key : Bytes) (n : ℤ) → IsInline key → IsInline (value_of (known key)) → IsSome (known key)
-    → NeedsNoMemory known (Add key n) × NeedsNoMemory known (Subtract key n)
+    → IsPlannedInPlace known (Add key n) × IsPlannedInPlace known (Subtract key n)
 each_counter known key n inline value there =
     let old : Option ℤ = number_at (shown (of_one_key key (known key)) key) in (
       (key, record { keys = refl; key = inline; value = value; texts = changed_inline key old (λ x. x +ℤ n) inline; place = inl there }),

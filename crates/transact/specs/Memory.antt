@@ -1,21 +1,13 @@
--- Calls that need no memory.
-use Rattle.std.specs.Prelude.{◌≡◌, ◌≤◌, ◌<◌, ◌⊎◌, ◌+◌, ◌∷◌, length, List, IsSome, Option, unwrap_or, []}
+-- Commands that are planned without a growth.
+use Rattle.std.specs.Prelude.{◌≡◌, ◌≤◌, ◌⊎◌, ◌∷◌, length, List, IsSome, Option, unwrap_or, []}
 use Rattle.words.specs.declared.word.TheConstants.{WORD_INLINE}
 use Rattle.words.specs.declared.command.Command.{Command}
-use Rattle.words.specs.declared.command.Command.TheVariants.{Get, Set}
-use Rattle.words.specs.declared.command.When.TheVariants.{Always}
-use Rattle.words.specs.declared.limits.TheConstants.{WEIGHT_MAX, WEIGHT_OF_KEY}
+use Rattle.words.specs.declared.command.Command.TheVariants.{Get}
 use Rattle.words.specs.Answers.{answer, value_of}
 use Rattle.words.specs.Commands.{IsInline, keys_of}
 use Rattle.strings.specs.declared.overlay.Overlay.{Overlay}
 use Rattle.strings.specs.Overlays as overlays
-use Rattle.transact.specs.declared.call.Call.{Call}
-use Rattle.transact.specs.declared.call.Call.TheVariants.{One}
-use Rattle.words.specs.declared.reply.Fault.{Fault}
-use Rattle.words.specs.declared.reply.Fault.TheVariants as fault
 use Rattle.words.specs.Store.{Bytes, Store, Write}
-use Rattle.words.specs.History.{after}
-use Rattle.gates.specs.declared.view.Knowledge.{Knowledge}
 use Rattle.words.specs.Session.{Asked, Run, Watch, Exec}
 
 -- an overlay of one key, which has this value, without a write
@@ -50,31 +42,3 @@ AsksInPlace store (Exec commands) = ⊥
 abbrev pub AllHave : Store → List Write → Type 0
 AllHave store [] = Unit {0}
 AllHave store (write ∷ writes) = IsSome (store write.0) × AllHave store writes
-
--- A command that needs no memory on a store: it gives, without an option, a new value to a key that is there, or one that weighs too much, or it is
--- planned without a growth.
-abbrev pub NeedsNoMemory : Store → Command → Type 0
-NeedsNoMemory store (Set key value Always) = IsSome (store key) ⊎ (WEIGHT_MAX < WEIGHT_OF_KEY + length key + length value)
-NeedsNoMemory store command = IsPlannedInPlace store command
-
--- a call that gives a key a value, without an option
-abbrev pub set_call : Bytes → Bytes → Call
-set_call key value = One (Set key value Always)
-
--- a call that reads a key
-abbrev pub get_call : Bytes → Call
-get_call key = One (Get key)
-
--- the same of what a session asks
-abbrev pub AsksNoMemory : Store → Asked → Type 0
-AsksNoMemory store (Run command) = NeedsNoMemory store command
-AsksNoMemory store (Watch keys) = ⊥
-AsksNoMemory store (Exec commands) = ⊥
-
--- Why a call was not done that knew this: it is not for want of memory where the call needs none on the store that is known.
-pub record NeedsSome (answered : Fault) (knows : Knowledge) (asked : Asked) : Type 0 where
-  pub needs : answered ≡ fault.OutOfMemory → AsksNoMemory (after knows.seen) asked → ⊥
-
--- The same of a call that is planned: it is not for want of memory where the plan needs none.
-pub record PlansMore (answered : Fault) (knows : Knowledge) (asked : Asked) : Type 0 where
-  pub needs : answered ≡ fault.OutOfMemory → AsksInPlace (after knows.seen) asked → ⊥

@@ -1,5 +1,5 @@
 -- Plans: what a call comes to.
-use Rattle.std.specs.Prelude.{ℕ, ◌≡◌, ◌≢◌, ◌↔◌, List, [], ◌∷◌, if◌then◌else◌, true, Option, IsSome}
+use Rattle.std.specs.Prelude.{ℕ, ◌≡◌, ◌≢◌, ◌↔◌, List, [], ◌∷◌, if◌then◌else◌, true, Option, Some, IsSome}
 use Rattle.words.specs.declared.reply.Reply.{Reply}
 use Rattle.words.specs.declared.history.Operation.{Operation}
 use Rattle.words.specs.Store.{Bytes, Write, writes_key}
@@ -57,7 +57,7 @@ EndsAll (Exec commands watching) watched = watching ≡ keys_of_pairs watched
 EndsAll (Forget watching) watched = watching ≡ keys_of_pairs watched
 
 -- What becomes of parts by an entry behind this history: they read as their parts of the store that it leaves, the marks of its session are
--- as the entry leaves them, and those of other sessions are touched at the keys that it writes.
+-- as the entry leaves them, and those of other sessions are touched at the keys that it writes. Marks of keys of other stripes stay.
 pub record IsInstalled {T : Type 0} (contents : Meaning T) (n : ℕ) (seen : History) (entry : Entry) (before later : ℕ → Option T) : Type 0 where
   pub there : (i : ℕ) → IsSome (before i) ↔ IsSome (later i)
   pub read : AllRead contents n later (after (entry ∷ seen))
@@ -65,3 +65,5 @@ pub record IsInstalled {T : Type 0} (contents : Meaning T) (n : ℕ) (seen : His
       ≡ mark_after entry.operation (writes_key (writes_of (after seen) entry) key) key (joined_marks contents n before key entry.session)
   pub others : (key : Bytes) (number : ℕ) → IsSome (later (stripe_of n key)) → number ≢ entry.session → joined_marks contents n later key number
       ≡ touched (writes_key (writes_of (after seen) entry) key) (joined_marks contents n before key number)
+  pub aside : (i : ℕ) (old new : T) → before i ≡ Some old → later i ≡ Some new → (key : Bytes) (number : ℕ) → stripe_of n key ≢ i
+      → contents.marks new key number ≡ contents.marks old key number

@@ -1,5 +1,5 @@
 -- Shards: what one has of the keys of its stripe.
-use Rattle.std.specs.Prelude.{Option, Some, None, IsSome}
+use Rattle.std.specs.Prelude.{[], Option, Some, None, IsSome}
 use Rattle.std.specs.BTreeMap.{get}
 use Rattle.std.specs.Cmp.Lexicographic.{slice_cmp}
 use Rattle.std.specs.Ordering.{nat_cmp}
@@ -28,7 +28,12 @@ shard_marks shard = marks_of shard.marks
 
 -- what a shard stands for
 abbrev pub shard_meaning : Meaning Shard
-shard_meaning = record { store = shard_store; marks = shard_marks }
+shard_meaning = record {
+  trusted = Unit {0};
+  store = shard_store;
+  marks = shard_marks;
+  pages = λ shard. record { oldest = 0; first = 0; tail = 0; frames = 0; receipts = []; unlinked = 0; retired = 0; drained = 0; unreleased = 0; places = 0 };
+}
 
 -- the key has a place
 abbrev pub HasPlace : Shard → Bytes → Type 0

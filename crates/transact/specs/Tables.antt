@@ -85,11 +85,13 @@ module _ {T : Type 0} where
     pub read : AllRead contents n parts (after seen)
     pub marked : AllMarked contents n parts seen number watched
 
-  -- What became of the part of a stripe: these writes were made at the keys of its stripe, and its marks of these keys changed so.
+  -- What became of the part of a stripe: these writes were made at the keys of its stripe, and its marks of these keys changed so. What it has
+  -- of all other keys, values and marks, is as it was.
   pub record PartBecame (contents : Meaning T) (n i : ℕ) (writes : List Write) (change : Change) (old new : T) : Type 0 where
     pub here : (key : Bytes) → stripe_of n key ≡ i → contents.store new key ≡ written (contents.store old) writes key
     pub away : (key : Bytes) → stripe_of n key ≢ i → contents.store new key ≡ contents.store old key
     pub marks : (key : Bytes) (number : ℕ) → stripe_of n key ≡ i → contents.marks new key number ≡ change key number (contents.marks old key number)
+    pub aside : (key : Bytes) (number : ℕ) → stripe_of n key ≢ i → contents.marks new key number ≡ contents.marks old key number
 
   -- What became of all parts: each that was there is there still, and these writes and this change of marks were made in each.
   pub record Became (contents : Meaning T) (n : ℕ) (writes : List Write) (change : Change) (before later : ℕ → Option T) : Type 0 where
@@ -126,6 +128,11 @@ AreReady n parts (write ∷ writes) = IsReady n parts write.0 × AreReady n part
 abbrev pub AreUnmarked : Marks → (own : ℕ) → List Bytes → Type 0
 AreUnmarked marks own [] = Unit {0}
 AreUnmarked marks own (key ∷ keys) = (marks key own ≡ None) × AreUnmarked marks own keys
+
+-- a session watches each of these keys, none of which was written since, and no key stands twice
+abbrev pub AreAdded : Marks → (own : ℕ) → List Bytes → Type 0
+AreAdded marks own [] = Unit {0}
+AreAdded marks own (key ∷ keys) = (marks key own ≡ Some false) × (is_among keys key ≡ false) × AreAdded marks own keys
 
 -- A session watches these keys since, of which it watched none before.
 pub record HasBegun {T : Type 0} (contents : Meaning T) (n own : ℕ) (keys : List Bytes) (before later : ℕ → Option T) : Type 0 where

@@ -5,6 +5,7 @@ ghost use Rattle.words.specs.History.{is_among};
 ghost use Rattle.words.specs.Watches.{with_new};
 ghost use Rattle.transact.specs.Calls.{answer_of, answer_with, reply_to, watched_with, IsEarlier};
 
+use gates::Asks;
 use std::alloc::Global;
 use std::marker::Model;
 use words::command::{Command, Keys};
@@ -24,6 +25,27 @@ pub enum Call {
     Exec(Commands, Watching),
     /// Nothing is watched any more. It cannot fail.
     Forget(Watching),
+}
+
+impl Asks for Call {
+    ghost use Rattle.transact.specs.Submits.{asked_for};
+
+    ghost asked = { asked_for };
+}
+
+impl Call {
+    /// Lets a call go that was answered, or that is not made.
+    pub fn spend(self) {
+        match self {
+            Call::One(command) => drop(command),
+            Call::Watch(keys) => drop(keys),
+            Call::Exec(commands, watching) => {
+                drop(commands);
+                drop(watching.into_keys());
+            }
+            Call::Forget(watching) => drop(watching.into_keys()),
+        }
+    }
 }
 
 /// What a [`Call`] is answered.

@@ -1,32 +1,33 @@
 //! What a call comes to, before its commit.
 
-ghost use Rattle.std.specs.Prelude.{◌≡◌, ◌≤◌, [], ◌∷◌, ℕ, Some, Option, IfOk, OnOk, OnErr, IsOk, true, false, nat_lt, if◌then◌else◌, List};
-ghost use Rattle.words.specs.declared.limits.TheConstants.{WEIGHT_MAX};
+ghost use Rattle.std.specs.Prelude.{◌≡◌, ◌≤◌, ◌+◌, [], ◌∷◌, ℕ, length, Some, Option, IfOk, OnOk, OnErr, IsOk, true, false, nat_lt, if◌then◌else◌, List};
+ghost use Rattle.words.specs.declared.limits.TheConstants.{WEIGHT_MAX, WEIGHT_OF_KEY};
 ghost use Rattle.words.specs.declared.history.Operation.TheVariants.{Run, Watch, Exec};
 ghost use Rattle.transact.specs.declared.shard.Shard.{Shard};
 ghost use Rattle.words.specs.Store.{weight};
 ghost use Rattle.words.specs.Commands.{keys_of, keys_of_all, touches_keys};
 ghost use Rattle.words.specs.History.{History, Pair, after, is_dirty, keys_of_pairs, too_much};
-ghost use Rattle.words.specs.Session.{Asked, operation_of};
+ghost use Rattle.words.specs.Session.{Asked, line_reply, operation_of};
 ghost use Rattle.gates.specs.Passes.{AreWatched};
 ghost use Rattle.transact.specs.Shards.{shard_meaning};
 ghost use Rattle.transact.specs.Tables as tables;
-ghost use Rattle.transact.specs.Tables.{AllRead, AreReady, AreThere, AreTidied, Became, HasBegun, Stand, begins, clears, joined, joined_marks, keys_written, stays, touches_and_clears};
+ghost use Rattle.transact.specs.Tables.{AllRead, AreAdded, AreReady, AreThere, AreTidied, Became, HasBegun, Stand, begins, clears, joined, joined_marks, keys_written, stays, touches_and_clears};
 ghost use Rattle.transact.specs.Calls.{asked_of, call_keys};
 ghost use Rattle.transact.specs.Memory.{AllHave, AsksInPlace, IsPlannedInPlace, IsShortOn};
 ghost use Rattle.transact.specs.Submits.{asked_for};
-ghost use Rattle.transact.specs.Plans.{EndsAll, IsEntry, IsPlan, keys_begun, keys_ended};
+ghost use Rattle.transact.specs.Plans.{EndsAll, IsEntry, IsInstalled, IsPlan, keys_begun, keys_ended};
 
 use crate::call::Call;
 use crate::cells::{is_marked, make_place, value_of};
 use crate::find::{answer_all, answer_one, find_command, find_commands};
 use crate::install::make_writes;
 use crate::shard::Shard;
-use crate::watches::{begin_all, clear_all, end_watches};
+use crate::watches::{begin_all, end_watches, take_back_all};
 use gates::Parts;
 use std::alloc::Global;
 use strings::writes::{Write, Writes};
-use words::command::{Command, Keys};
+use words::command::{Command, Keys, When};
+use words::limits::{WEIGHT_MAX, WEIGHT_OF_KEY};
 use words::locality::{depends_on_named_keys, writes_named_keys};
 use words::reply::{CommandReplies, CommandReply, Line, Refusal, Reply};
 use words::word::{OutOfMemory, Word};
@@ -65,6 +66,7 @@ pub fn plan<P: Parts<Shard>>(
     ensures ready { IfOk result (λ planned. AreReady stripes (P.part_of parts.new) planned.writes) }
     ensures ok { OnOk result (Became shard_meaning stripes [] (begins seat (keys_begun call.now)) (P.part_of parts.old) (P.part_of parts.new)) }
     ensures begun { IfOk result (λ planned. HasBegun shard_meaning stripes seat planned.begun (P.part_of parts.old) (P.part_of parts.new)) }
+    ensures added { IfOk result (λ planned. AreAdded (joined_marks shard_meaning stripes (P.part_of parts.new)) seat planned.begun) }
     ensures err { OnErr result (Became shard_meaning stripes [] stays (P.part_of parts.old) (P.part_of parts.new)) }
     ensures memory { AsksInPlace (joined shard_meaning stripes (P.part_of parts.old)) (asked_for call.now) → IsOk result }
     ensures open { P.is_open parts.new }
@@ -83,6 +85,24 @@ pub fn plan<P: Parts<Shard>>(
         ),
         Call::Forget(_) => unreachable!(),
     }
+}
+
+/// Whether the write of a SET without an option weighs more than a call may write. Where it does, the SET is due to
+/// be refused for it, else to be done.
+pub fn weighs_too_much(key: &Word, value: &Word) -> bool
+    ensures weight { result ≡ nat_lt WEIGHT_MAX (WEIGHT_OF_KEY + length key.now + length value.now) }
+    ensures heavy { result ≡ true → (seen : History) → IsPlan seen (Run (Command.Set key.now value.now When.Always)) too_much [] }
+    ensures light { result ≡ false → (seen : History) → IsPlan seen (Run (Command.Set key.now value.now When.Always)) (line_reply Line.Done) ((key.now, Some value.now) ∷ []) }
+{
+    is_heavy(key, value)
+}
+
+/// Whether a key with this value is heavier than a call's writes may be.
+fn is_heavy(key: &Word, value: &Word) -> bool
+    ensures { result ≡ nat_lt WEIGHT_MAX (WEIGHT_OF_KEY + length key.now + length value.now) }
+{
+    let room = WEIGHT_MAX - WEIGHT_OF_KEY;
+    key.len() > room || value.len() > room - key.len()
 }
 
 /// Plans a command.
@@ -340,13 +360,14 @@ fn plan_watch<P: Parts<Shard>>(
     ensures writes { IfOk result (λ planned. planned.writes ≡ []) }
     ensures ok { OnOk result (Became shard_meaning stripes [] (begins seat keys.now) (P.part_of parts.old) (P.part_of parts.new)) }
     ensures began { IfOk result (λ planned. HasBegun shard_meaning stripes seat planned.begun (P.part_of parts.old) (P.part_of parts.new)) }
+    ensures added { IfOk result (λ planned. AreAdded (joined_marks shard_meaning stripes (P.part_of parts.new)) seat planned.begun) }
     ensures err { OnErr result (Became shard_meaning stripes [] stays (P.part_of parts.old) (P.part_of parts.new)) }
     ensures open { P.is_open parts.new }
     ensures keeps { P.keeps parts.old parts.new }
 {
     let mut begun = Vec::new(alloc);
     if let Err(refused) = begin_all(parts, stripes, seat, keys.as_slice(), &mut begun) {
-        clear_all(parts, stripes, seat, begun.as_slice());
+        take_back_all(parts, stripes, seat, begun.as_slice());
         return Err(refused);
     }
     let mut planned = answered(alloc, Reply::line(Line::Done));
@@ -356,7 +377,8 @@ fn plan_watch<P: Parts<Shard>>(
 
 impl Planned {
     /// Makes the writes, and touches the marks of all sessions at the keys that are written. Where the call
-    /// ends its session's watches, they are ended. It takes no memory, and gives the reply.
+    /// ends its session's watches, they are ended. Values and marks are then what the call's entry leaves. It takes
+    /// no memory, and gives the reply.
     pub fn install<P: Parts<Shard>>(
         self,
         parts: &mut P,
@@ -369,6 +391,7 @@ impl Planned {
         requires ready { AreReady stripes (P.part_of parts.old) self.writes }
         requires there { AreThere stripes (P.part_of parts.old) (keys_ended call.now) }
         ensures became { Became shard_meaning stripes self.writes (touches_and_clears self.writes seat (keys_ended call.now)) (P.part_of parts.old) (P.part_of parts.new) }
+        ensures installed { (before : ℕ → Option Shard) (asked : Asked) (seen : History) (watched : List Pair) → asked_of call.now ≡ Some asked → EndsAll call.now watched → IsPlan seen (operation_of watched asked) self.reply self.writes → Stand shard_meaning stripes before seen seat watched → Became shard_meaning stripes [] (begins seat (keys_begun call.now)) before (P.part_of parts.old) → IsInstalled shard_meaning stripes seen (record { session = seat; operation = operation_of watched asked; reply = result }) before (P.part_of parts.new) }
         ensures tidy { AreTidied stripes self.writes (P.part_of parts.old) (P.part_of parts.new) }
         ensures reply { result ≡ self.reply }
         ensures open { P.is_open parts.new }
@@ -384,17 +407,18 @@ impl Planned {
         reply
     }
 
-    /// Takes back the marks that were added for the plan. After the plan alone, values and marks are then as
-    /// before it. It takes no memory.
+    /// Takes back the marks that were added for the plan, and no others. After the plan alone, values and marks are
+    /// then as before it. It takes no memory.
     pub fn undo<P: Parts<Shard>>(self, parts: &mut P, stripes: usize, seat: u64)
         requires open { P.is_open parts.old }
         requires some { 1 ≤ stripes }
         requires there { AreThere stripes (P.part_of parts.old) self.begun }
+        requires added { AreAdded (joined_marks shard_meaning stripes (P.part_of parts.old)) seat self.begun }
         ensures became { Became shard_meaning stripes [] (clears seat self.begun) (P.part_of parts.old) (P.part_of parts.new) }
         ensures undone { (before : ℕ → Option Shard) → HasBegun shard_meaning stripes seat self.begun before (P.part_of parts.old) → Became shard_meaning stripes [] stays before (P.part_of parts.new) }
         ensures open { P.is_open parts.new }
         ensures keeps { P.keeps parts.old parts.new }
     {
-        clear_all(parts, stripes, seat, self.begun.as_slice());
+        take_back_all(parts, stripes, seat, self.begun.as_slice());
     }
 }

@@ -237,6 +237,16 @@ impl Shard {
         self.marks.add(key, seat)
     }
 
+    /// Takes back a mark that a session [began](Shard::begin), and that is not written. It takes no memory.
+    #[tactic(auto, unfolding(crate::specs::Shards::place_of))]
+    pub fn take_back(&mut self, key: &Word, seat: u64)
+        requires { shard_marks self.old key.now seat ≡ Some false }
+        ensures same { (k : List ℕ) → shard_store self.new k ≡ shard_store self.old k }
+        ensures marks { (k : List ℕ) (s : ℕ) → shard_marks self.new k s ≡ cleared (are_these key.now seat k s) (shard_marks self.old k s) }
+    {
+        self.marks.take_back(key, seat)
+    }
+
     /// A session does not watch a key any more. It takes no memory.
     #[tactic(auto, unfolding(crate::specs::Shards::place_of))]
     pub fn clear(&mut self, key: &Word, seat: u64)

@@ -1,18 +1,17 @@
 -- Computed rows of histories: what they leave, what is due, what is dirty, which entries may stand, and which are a session's.
-use Rattle.std.specs.Prelude.{ℕ, ◌≡◌, true, false, List, [], ◌∷◌, ◌++◌, Some, None, refl, codes, replicate}
+use Rattle.std.specs.Prelude.{◌≡◌, true, false, List, [], ◌∷◌, ◌++◌, Some, None, refl, codes, replicate}
 use Rattle.std.specs.Fmt.{digits}
 use Rattle.words.specs.declared.command.Command.{Command}
 use Rattle.words.specs.declared.command.Command.TheVariants.{MSet, Del, Exists, Session}
 use Rattle.words.specs.declared.command.SessionCommand.TheVariants as session
-use Rattle.words.specs.declared.reply.Refusal.TheVariants.{WritesTooMuch}
 use Rattle.words.specs.declared.reply.Line.TheVariants.{Done, Pong}
 use Rattle.words.specs.declared.reply.Reply.TheVariants.{Single, NullArray, Array}
 use Rattle.words.specs.declared.history.Operation.TheVariants.{Run, Exec}
-use Rattle.words.specs.declared.history.Entry.{Entry}
 use Rattle.words.specs.Store.{Bytes}
 use Rattle.words.specs.Answers.{line, number}
-use Rattle.words.specs.History.{History, Pair, after, due, is_written, is_dirty, HasPlace, AreWatches, Extends, Legal, subhistory, too_much}
-use Rattle.words.proofs.Rows.{commands, text, null, error, ran, watched, transaction, ok, stands}
+use Rattle.words.specs.History.{History, Pair, after, due, is_dirty, HasPlace, AreWatches, Extends, Legal, subhistory, too_much}
+use Rattle.words.proofs.Rows.{commands, text, null, ran, watched, transaction, ok, stands}
+use Rattle.words.proofs.PlaceTests.{place_by}
 
 -- session 0 sets `a`, session 1 reads it, and session 0 runs a transaction of a SET and a GET
 abbrev three : History
@@ -27,7 +26,7 @@ b_after_three : after three (codes "b") ≡ None
 b_after_three = refl
 
 three_are_legal : Legal three
-three_are_legal = (((tt, stands refl refl tt), stands refl refl tt), stands (tt, (tt, tt)) refl tt)
+three_are_legal = (((tt, stands refl refl tt), stands refl refl tt), stands refl refl tt)
 
 entries_of_each :
     subhistory three 0 ≡ (2, transaction 0 ("SET a 2" ∷ "GET a" ∷ []) [] (Array (line Done ∷ text "2" ∷ []))) ∷ (0, ran 0 "SET a 1" (line Done)) ∷ []
@@ -155,10 +154,10 @@ abbrev clean : History
 clean = ran 1 "DEL k" (number 0) ∷ watched 0 "k" ∷ []
 
 null_where_dirty : Extends dirty (transaction 0 ("GET k" ∷ []) k_watched NullArray)
-null_where_dirty = stands (tt, tt) refl (refl, tt)
+null_where_dirty = stands refl refl (refl, tt)
 
 run_where_clean : Extends clean (transaction 0 ("GET k" ∷ []) k_watched (Array (null ∷ [])))
-run_where_clean = stands (tt, tt) refl (refl, tt)
+run_where_clean = stands refl refl (refl, tt)
 
 not_run_where_dirty : ¬ Extends dirty (transaction 0 ("GET k" ∷ []) k_watched (Array (text "v" ∷ [])))
 not_run_where_dirty extends = let due = extends.reply_due in absurd (cc due)
@@ -168,7 +167,7 @@ not_null_where_clean extends = let due = extends.reply_due in absurd (cc due)
 
 -- what it does not go by does not stop it: a transaction of the same session that watches nothing
 run_where_nothing_is_watched : Extends dirty (transaction 0 ("GET k" ∷ []) [] (Array (text "v" ∷ [])))
-run_where_nothing_is_watched = stands (tt, tt) refl tt
+run_where_nothing_is_watched = stands refl refl tt
 
 -- an empty queue, where it is clean and where it is dirty
 empty_queue : due clean (Exec [] k_watched) ∷ due dirty (Exec [] k_watched) ∷ [] ≡ Array [] ∷ NullArray ∷ []
@@ -191,16 +190,16 @@ position_to_come watches = let watch = watches.0 in absurd (cc watch)
 -- What has no place in a history: a single command that touches no key, one that its words refuse, and a transaction in a transaction.
 
 no_place_for_ping : ¬ Extends [] (ran 0 "PING" (line Pong))
-no_place_for_ping extends = let place = extends.place in absurd (cc place)
+no_place_for_ping extends = let place = extends.place.0 in absurd (cc place)
 
 no_place_for_refused : ¬ Extends [] (ran 0 "GET" (line Done))
-no_place_for_refused extends = let place = extends.place in absurd (cc place)
+no_place_for_refused extends = let place = extends.place.0 in absurd (cc place)
 
 no_exec_in_a_transaction : ¬ HasPlace (Exec (Session session.Exec ∷ []) [])
-no_exec_in_a_transaction place = place.0
+no_exec_in_a_transaction place = place.0.0
 
 unwatch_in_a_transaction : HasPlace (Exec (commands ("UNWATCH" ∷ "PING" ∷ "GET" ∷ [])) [])
-unwatch_in_a_transaction = (tt, (tt, (tt, tt)))
+unwatch_in_a_transaction = place_by (Exec (commands ("UNWATCH" ∷ "PING" ∷ "GET" ∷ [])) []) refl
 
 -- an answer that the store does not give
 another_value : ¬ Extends (ran 0 "SET a 1" (line Done) ∷ []) (ran 1 "GET a" null)

@@ -1,4 +1,5 @@
 pub mod Named
+pub mod Bounded
 pub mod Briefs
 pub mod Requests
 pub mod Places
@@ -8,6 +9,7 @@ pub mod Faults
 pub mod Apart
 pub mod Parts
 pub mod Streams
+mod PlaceTests
 mod Rows
 mod LineRows
 mod CommandRows

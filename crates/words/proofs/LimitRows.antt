@@ -1,5 +1,5 @@
 -- The number of each limit, the ranges of those that are chosen, and their defaults.
-use Rattle.std.specs.Prelude.{ℕ, ◌≡◌, List, [], ◌∷◌, refl}
+use Rattle.std.specs.Prelude.{◌≡◌, [], ◌∷◌, refl}
 use Rattle.std.proofs.Common.{arith}
 use Rattle.words.specs.declared.limits.TheConstants.{WORDS_MAX, WORD_BYTES_MAX, REQUEST_BYTES_MAX, PART_BYTES_MAX, KEY_BYTES_MAX, VALUE_BYTES_MAX, TRANSACTION_COMMANDS_MAX, TRANSACTION_WORDS_MAX, TRANSACTION_BYTES_MAX, WATCHED_KEYS_MAX, WEIGHT_MAX, WEIGHT_OF_KEY, STRIPES_MAX, STRIPES_DEFAULT, BUCKETS_MAX, BUCKETS_DEFAULT, FRAMES_MIN, FRAMES_MAX, FRAMES_DEFAULT, PLACES_MIN, PLACES_MAX, PLACES_DEFAULT, CLIENTS_MAX, CLIENTS_DEFAULT}
 use Rattle.words.specs.declared.word.TheConstants.{WORD_INLINE, WORDS_INLINE}

@@ -1,5 +1,5 @@
 -- Computed rows of numbers' texts: which texts are numbers of 64 bits with a sign.
-use Rattle.std.specs.Prelude.{◌≡◌, true, false, [], ◌∷◌, pos, negsuc, Some, None, refl, codes}
+use Rattle.std.specs.Prelude.{◌≡◌, true, false, [], ◌∷◌, pos, negsuc, Some, None, refl}
 use Rattle.std.specs.Fmt.{digits}
 use Rattle.words.specs.Numbers.{number_of, in_range}
 use Rattle.words.proofs.Rows.{numbers_of}

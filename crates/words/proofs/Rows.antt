@@ -16,8 +16,9 @@ use Rattle.words.specs.Numbers.{number_of}
 use Rattle.words.specs.Commands.{command_of}
 use Rattle.words.specs.Answers.{answers, line, bulk}
 use Rattle.words.specs.Encoding.{encodings}
-use Rattle.words.specs.History.{History, Pair, HasPlace, due, pairs_of, AreWatches, Extends}
+use Rattle.words.specs.History.{History, Pair, due, pairs_of, AreWatches, Extends}
 use Rattle.words.specs.Session.{line_reply}
+use Rattle.words.proofs.PlaceTests.{has_place, place_by}
 
 -- a byte in front of the first word
 abbrev pub in_front : ℕ → List Bytes → List Bytes
@@ -107,6 +108,6 @@ abbrev pub transaction : ℕ → List String → List Pair → Reply → Entry
 transaction session lines pairs reply = record { session = session; operation = Exec (commands lines) pairs; reply = reply }
 
 -- an entry that may stand after a history: it has a place there, the reply that is due to it, and goes by watches
-pub stands : {before : History} {entry : Entry} → HasPlace entry.operation → entry.reply ≡ due before entry.operation
+pub stands : {before : History} {entry : Entry} → has_place entry.operation ≡ true → entry.reply ≡ due before entry.operation
     → AreWatches before entry.session (pairs_of entry.operation) → Extends before entry
-stands place reply_due watches = record { place = place; reply_due = reply_due; watches = watches }
+stands {entry = entry} place reply_due watches = record { place = place_by entry.operation place; reply_due = reply_due; watches = watches }

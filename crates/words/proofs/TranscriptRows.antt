@@ -1,5 +1,5 @@
 -- Whole transcripts: the requests of a session, its entries in a legal history, and its replies.
-use Rattle.std.specs.Prelude.{◌≡◌, List, [], ◌∷◌, reverse, refl, codes, replicate}
+use Rattle.std.specs.Prelude.{[], ◌∷◌, reverse, refl, codes, replicate}
 use Rattle.std.specs.Fmt.{digits}
 use Rattle.std.proofs.Common.{inl, inr}
 use Rattle.words.specs.declared.command.Command.TheVariants.{Bad}
@@ -21,7 +21,7 @@ transaction_of_three_history =
 
 transaction_of_three_is_legal : Legal transaction_of_three_history
 unfolding digits
-transaction_of_three_is_legal = (tt, stands (tt, (tt, (tt, tt))) refl tt)
+transaction_of_three_is_legal = (tt, stands refl refl tt)
 
 transaction_of_three :
     Transcript 1 Idle [] (requests ("MULTI" ∷ "SET a 1" ∷ "INCR a" ∷ "GET a" ∷ "EXEC" ∷ []))
@@ -51,7 +51,7 @@ failing_command_history =
 
 failing_command_is_legal : Legal failing_command_history
 unfolding digits
-failing_command_is_legal = ((tt, stands (tt, (tt, tt)) refl tt), stands refl refl tt)
+failing_command_is_legal = ((tt, stands refl refl tt), stands refl refl tt)
 
 failing_command :
     Transcript 1 Idle [] (requests ("MULTI" ∷ "SET a x" ∷ "INCR a" ∷ "EXEC" ∷ "GET a" ∷ []))
@@ -67,7 +67,7 @@ own_write_after_watch_history =
     ∷ ran 1 "SET k v" (line Done) ∷ watched 1 "k" ∷ ran 1 "SET k v" (line Done) ∷ []
 
 own_write_after_watch_is_legal : Legal own_write_after_watch_history
-own_write_after_watch_is_legal = (((((tt, stands refl refl tt), stands tt refl tt), stands refl refl tt), stands (tt, tt) refl (refl, tt)), stands (tt, tt) refl tt)
+own_write_after_watch_is_legal = (((((tt, stands refl refl tt), stands refl refl tt), stands refl refl tt), stands refl refl (refl, tt)), stands refl refl tt)
 
 own_write_after_watch :
     Transcript 1 Idle [] (requests ("SET k v" ∷ "WATCH k" ∷ "SET k v" ∷ "MULTI" ∷ "PING" ∷ "EXEC" ∷ "MULTI" ∷ "PING" ∷ "EXEC" ∷ []))
@@ -81,7 +81,7 @@ missing_key_deleted_history =
     transaction 1 [] ((codes "k", 0) ∷ []) (Array []) ∷ ran 2 "DEL k" (number 0) ∷ watched 1 "k" ∷ []
 
 missing_key_deleted_is_legal : Legal missing_key_deleted_history
-missing_key_deleted_is_legal = (((tt, stands tt refl tt), stands refl refl tt), stands tt refl (refl, tt))
+missing_key_deleted_is_legal = (((tt, stands refl refl tt), stands refl refl tt), stands refl refl (refl, tt))
 
 missing_key_deleted_by_another :
     Transcript 1 Idle [] (requests ("WATCH k" ∷ "MULTI" ∷ "EXEC" ∷ []))
@@ -102,7 +102,7 @@ written_by_another_history =
     ∷ ran 2 "SETNX k v" (number 1) ∷ watched 1 "k" ∷ []
 
 written_by_another_is_legal : Legal written_by_another_history
-written_by_another_is_legal = ((((tt, stands tt refl tt), stands refl refl tt), stands (tt, (tt, tt)) refl (refl, tt)), stands refl refl tt)
+written_by_another_is_legal = ((((tt, stands refl refl tt), stands refl refl tt), stands refl refl (refl, tt)), stands refl refl tt)
 
 written_by_another :
     Transcript 1 Idle [] (requests ("WATCH k" ∷ "MULTI" ∷ "SET k w" ∷ "GET k" ∷ "EXEC" ∷ "GET k" ∷ []))
@@ -116,7 +116,7 @@ long_key_in_a_transaction_history =
     record { session = 1; operation = Exec (Bad KeyTooLong ∷ []) []; reply = Array (error KeyTooLong ∷ []) } ∷ []
 
 long_key_in_a_transaction_is_legal : Legal long_key_in_a_transaction_history
-long_key_in_a_transaction_is_legal = (tt, stands (tt, tt) refl tt)
+long_key_in_a_transaction_is_legal = (tt, stands refl refl tt)
 
 long_key_in_a_transaction :
     Transcript 1 Idle [] ((codes "GET" ∷ replicate 513 97 ∷ []) ∷ words "MULTI" ∷ (codes "GET" ∷ replicate 513 97 ∷ []) ∷ words "EXEC" ∷ [])
@@ -130,7 +130,7 @@ misplaced_requests_history =
     transaction 1 [] [] (Array []) ∷ []
 
 misplaced_requests_is_legal : Legal misplaced_requests_history
-misplaced_requests_is_legal = (tt, stands tt refl tt)
+misplaced_requests_is_legal = (tt, stands refl refl tt)
 
 misplaced_requests :
     Transcript 1 Idle [] (requests ("MULTI" ∷ "MULTI" ∷ "WATCH k" ∷ "EXEC" ∷ "EXEC" ∷ "DISCARD" ∷ []))
@@ -179,7 +179,7 @@ own_write_inside_history =
     ran 1 "GET k" (text "v") ∷ transaction 1 ("SET k v" ∷ []) ((codes "k", 0) ∷ []) (Array (line Done ∷ [])) ∷ watched 1 "k" ∷ []
 
 own_write_inside_is_legal : Legal own_write_inside_history
-own_write_inside_is_legal = (((tt, stands tt refl tt), stands (tt, tt) refl (refl, tt)), stands refl refl tt)
+own_write_inside_is_legal = (((tt, stands refl refl tt), stands refl refl (refl, tt)), stands refl refl tt)
 
 own_write_inside :
     Transcript 1 Idle [] (requests ("WATCH k" ∷ "MULTI" ∷ "SET k v" ∷ "EXEC" ∷ "GET k" ∷ []))
@@ -194,7 +194,7 @@ unwatched_history =
     ∷ watched 1 "k" ∷ ran 1 "SET k v" (line Done) ∷ []
 
 unwatched_is_legal : Legal unwatched_history
-unwatched_is_legal = (((((tt, stands refl refl tt), stands tt refl tt), stands refl refl tt), stands refl refl tt), stands (tt, tt) refl tt)
+unwatched_is_legal = (((((tt, stands refl refl tt), stands refl refl tt), stands refl refl tt), stands refl refl tt), stands refl refl tt)
 
 unwatched :
     Transcript 1 Idle [] (requests ("SET k v" ∷ "WATCH k" ∷ "DEL k" ∷ "SET k v" ∷ "UNWATCH" ∷ "MULTI" ∷ "UNWATCH" ∷ "EXEC" ∷ []))
@@ -208,7 +208,7 @@ queued_unwatch_history =
     transaction 1 ("UNWATCH" ∷ []) ((codes "k", 0) ∷ []) NullArray ∷ ran 1 "SET k v" (line Done) ∷ watched 1 "k" ∷ []
 
 queued_unwatch_is_legal : Legal queued_unwatch_history
-queued_unwatch_is_legal = (((tt, stands tt refl tt), stands refl refl tt), stands (tt, tt) refl (refl, tt))
+queued_unwatch_is_legal = (((tt, stands refl refl tt), stands refl refl tt), stands refl refl (refl, tt))
 
 queued_unwatch :
     Transcript 1 Idle [] (requests ("WATCH k" ∷ "SET k v" ∷ "MULTI" ∷ "UNWATCH" ∷ "EXEC" ∷ []))
@@ -223,7 +223,7 @@ watched_twice_history =
     ∷ watched 1 "k" ∷ []
 
 watched_twice_is_legal : Legal watched_twice_history
-watched_twice_is_legal = ((((tt, stands tt refl tt), stands refl refl tt), stands tt refl tt), stands (tt, tt) refl (refl, (refl, tt)))
+watched_twice_is_legal = ((((tt, stands refl refl tt), stands refl refl tt), stands refl refl tt), stands refl refl (refl, (refl, tt)))
 
 watched_twice :
     Transcript 1 Idle [] (requests ("WATCH k" ∷ "SET k v" ∷ "WATCH k j" ∷ "MULTI" ∷ "GET k" ∷ "EXEC" ∷ []))
@@ -238,7 +238,7 @@ forgotten_by_discard_history =
     ∷ ran 1 "SET k v" (line Done) ∷ watched 1 "k" ∷ []
 
 forgotten_by_discard_is_legal : Legal forgotten_by_discard_history
-forgotten_by_discard_is_legal = ((((((tt, stands tt refl tt), stands refl refl tt), stands tt refl tt), stands tt refl tt), stands refl refl tt), stands tt refl tt)
+forgotten_by_discard_is_legal = ((((((tt, stands refl refl tt), stands refl refl tt), stands refl refl tt), stands refl refl tt), stands refl refl tt), stands refl refl tt)
 
 forgotten_by_discard_and_abort :
     Transcript 1 Idle [] (requests ("WATCH k" ∷ "SET k v" ∷ "MULTI" ∷ "DISCARD" ∷ "MULTI" ∷ "EXEC" ∷ "WATCH k" ∷ "SET k v" ∷ "MULTI" ∷ "FOO" ∷ "EXEC" ∷ "MULTI" ∷ "EXEC" ∷ []))
@@ -253,7 +253,7 @@ fault_at_watch_history =
     transaction 1 ("GET k" ∷ []) [] (Array (text "v" ∷ [])) ∷ ran 1 "SET k v" (line Done) ∷ []
 
 fault_at_watch_is_legal : Legal fault_at_watch_history
-fault_at_watch_is_legal = ((tt, stands refl refl tt), stands (tt, tt) refl tt)
+fault_at_watch_is_legal = ((tt, stands refl refl tt), stands refl refl tt)
 
 fault_at_watch :
     Transcript 1 Idle [] (requests ("WATCH k" ∷ "SET k v" ∷ "MULTI" ∷ "GET k" ∷ "EXEC" ∷ []))
@@ -267,7 +267,7 @@ fault_at_exec_history =
     transaction 1 ("GET k" ∷ []) [] (Array (text "v" ∷ [])) ∷ ran 1 "SET k v" (line Done) ∷ watched 1 "k" ∷ []
 
 fault_at_exec_is_legal : Legal fault_at_exec_history
-fault_at_exec_is_legal = (((tt, stands tt refl tt), stands refl refl tt), stands (tt, tt) refl tt)
+fault_at_exec_is_legal = (((tt, stands refl refl tt), stands refl refl tt), stands refl refl tt)
 
 fault_at_exec :
     Transcript 1 Idle [] (requests ("WATCH k" ∷ "SET k v" ∷ "MULTI" ∷ "GET k" ∷ "EXEC" ∷ "EXEC" ∷ "MULTI" ∷ "GET k" ∷ "EXEC" ∷ []))

@@ -14,6 +14,7 @@ use Rattle.words.specs.declared.history.Operation.TheVariants.{Run, Watch, Exec}
 use Rattle.words.specs.declared.history.Entry.{Entry}
 use Rattle.words.specs.Store.{Bytes, Store, Write, empty, written, writes_key, weight}
 use Rattle.words.specs.Commands.{touches_keys, keys_of, keys_of_all, MayBeQueued}
+use Rattle.words.specs.Bounds.{IsBounded, AreBounded}
 use Rattle.words.specs.Answers.{answer, answers, line}
 
 -- A history: entries, the newest first. A position in it is the number of entries before an entry, so the newest of `entry ∷ before`
@@ -82,12 +83,12 @@ abbrev pub MayAllBeQueued : List Command → Type 0
 MayAllBeQueued [] = Unit {0}
 MayAllBeQueued (command ∷ commands) = MayBeQueued command × MayAllBeQueued commands
 
--- an operation that has a place in the history: not a single command that reads and writes no key, nor a transaction with a command that
--- may not stand in one
+-- An operation that has a place in the history: not a single command that reads and writes no key, nor a transaction with a command that
+-- may not stand in one; and none of a key or a value beyond the limits.
 abbrev pub HasPlace : Operation → Type 0
-HasPlace (Run command) = IsTrue (touches_keys command)
+HasPlace (Run command) = IsTrue (touches_keys command) × IsBounded command
 HasPlace (Watch keys) = Unit {0}
-HasPlace (Exec commands pairs) = MayAllBeQueued commands
+HasPlace (Exec commands pairs) = MayAllBeQueued commands × AreBounded commands
 
 -- whether the key is one of these
 abbrev pub is_among : List Bytes → Bytes → Bool

@@ -2,6 +2,7 @@ pub mod Sizes
 pub mod Lines
 pub mod Store
 pub mod Commands
+pub mod Bounds
 pub mod Briefs
 pub mod Verbs
 pub mod Spelling

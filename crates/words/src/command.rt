@@ -1,11 +1,14 @@
 //! Commands, and which command the words of a request are.
 
-ghost use Rattle.std.specs.Prelude.{◌≡◌, List, IfOk, IsOk, codes};
-ghost use Rattle.words.specs.Commands.{command_of, command_in, AsksNoMemory, is_name, readers, counters, session_commands};
+ghost use Rattle.std.specs.Prelude.{◌≡◌, ◌≤◌, ◌↔◌, List, IfOk, IsOk, IsTrue, codes, length};
+ghost use Rattle.words.specs.Spelling.{IsRequest};
+ghost use Rattle.words.specs.Commands.{command_of, command_in, AsksNoMemory, is_name, keys_set, readers, counters, session_commands};
+ghost use Rattle.words.specs.Bounds.{AreKeysBounded, AreValuesBounded, IsBounded, values_set};
 ghost use Rattle.words.specs.Store.{Bytes};
 ghost use Rattle.words.specs.Verbs.{shaped};
 ghost use Rattle.words.specs.Briefs.{brief_of, names_key, IsGet, IsSet, IsPing};
 
+use crate::limits::{KEY_BYTES_MAX, VALUE_BYTES_MAX};
 use crate::reply::Refusal;
 use crate::sequence::Sequence;
 use crate::shapes::{
@@ -179,15 +182,72 @@ impl Command {
     /// else the words show is kept, as [`Command::Bad`], and answered where the command runs.
     ///
     /// It takes memory only for a word of more than `WORD_INLINE` bytes that the command keeps, and
-    /// for a list of keys or settings.
+    /// for a list of keys or settings. Where the request is within its limits, so are the command's
+    /// keys and the values that it stores.
     pub fn of(alloc: Global, words: &Words) -> Result<Result<Command, Refusal>, OutOfMemory>
         ensures exact { IfOk result (λ command. command ≡ command_of words.now) }
+        ensures bounded { IsRequest words.now → IfOk result (λ made. IfOk made IsBounded) }
         ensures memory { AsksNoMemory (command_of words.now) → IsOk result }
     {
         let Some((name, arguments)) = words.as_slice().split_first() else {
             return Ok(Err(Refusal::UnknownCommand));
         };
         shape_of(name.as_slice()).read(alloc, arguments)
+    }
+
+    /// Whether the keys that the command names and the values that it stores are within the limits.
+    pub fn is_bounded(&self) -> bool
+        ensures { IsTrue result ↔ IsBounded self.now }
+    {
+        match self {
+            Command::Set(key, value, _)
+            | Command::SetNx(key, value)
+            | Command::GetSet(key, value) => is_setting_bounded(key, value),
+            Command::MSet(settings) | Command::MSetNx(settings) => {
+                are_settings_bounded(settings.as_slice())
+            }
+            Command::Get(key)
+            | Command::GetDel(key)
+            | Command::StrLen(key)
+            | Command::Append(key, _)
+            | Command::SetRange(key, _, _)
+            | Command::GetRange(key, _, _)
+            | Command::Add(key, _)
+            | Command::Subtract(key, _) => !is_long(key),
+            Command::Exists(keys) | Command::Del(keys) | Command::MGet(keys) => {
+                are_keys_bounded(keys.as_slice())
+            }
+            Command::Ping(_) | Command::Echo(_) | Command::Session(_) | Command::Bad(_) => true,
+        }
+    }
+}
+
+/// Whether a key and its new value are within the limits.
+fn is_setting_bounded(key: &Word, value: &Word) -> bool
+    ensures { IsTrue result ↔ ((length key.now ≤ KEY_BYTES_MAX) × (length value.now ≤ VALUE_BYTES_MAX)) }
+{
+    !is_long(key) && value.len() <= VALUE_BYTES_MAX
+}
+
+/// Whether each of these keys is within the limits.
+fn are_keys_bounded(keys: &[Word]) -> bool
+    ensures { IsTrue result ↔ AreKeysBounded keys.now }
+{
+    match keys {
+        [] => true,
+        [key, others @ ..] => !is_long(key) && are_keys_bounded(others),
+    }
+}
+
+/// Whether the key and the value of each of these settings are within the limits.
+fn are_settings_bounded(settings: &[(Word, Word)]) -> bool
+    ensures { IsTrue result ↔ (AreKeysBounded (keys_set settings.now) × AreValuesBounded (values_set settings.now)) }
+{
+    match settings {
+        [] => true,
+        [(key, value), others @ ..] => {
+            is_setting_bounded(key, value) && are_settings_bounded(others)
+        }
     }
 }
 

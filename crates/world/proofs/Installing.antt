@@ -324,7 +324,7 @@ has_forgotten before later c keys watching is even keeps became there =
     rw is (has_installed before before later c (Forget keys) [] even (keeps_same before) keeps
     (record {
       there = λ i some. some;
-      was = λ i part at. (part, at, record { here = λ key on. refl; away = λ key off. refl; marks = λ key session on. sym (begins_none c [] key session (shard_marks part key session) refl) });
+      was = λ i part at. (part, at, record { here = λ key on. refl; away = λ key off. refl; marks = λ key session on. sym (begins_none c [] key session (shard_marks part key session) refl); aside = λ key session off. refl });
     })
     (record {
       there = became.there;
@@ -338,6 +338,7 @@ has_forgotten before later c keys watching is even keeps became there =
               marks = λ key session on.
                   was.2.marks key session on
                   ∙ ap (λ (m : Option Bool). clears c keys key session m) (sym (touched_false (shard_marks was.0 key session)));
+              aside = was.2.aside;
             },
           );
     })

@@ -44,7 +44,7 @@ state_with clients stripes items = record {
 -- a call that asks for something comes to an entry
 entry_of : (call : Call) (wanted : Asked) → asked_of call ≡ Some wanted → ((pairs : List Pair) → HasPlace (operation_of pairs wanted))
     → IsEntry call
-entry_of (One command) wanted asks place = rw (← asked_same asks) at (place [])
+entry_of (One command) wanted asks place = let placed = rw (← asked_same asks) at (place []) in placed.0
   where
     asked_same : {a b : Asked} → Option.Some a ≡ Some b → a ≡ b
     asked_same is = cc is

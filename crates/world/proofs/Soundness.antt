@@ -1,10 +1,11 @@
 -- Each event keeps the world sound.
 use Rattle.std.proofs.Common.{◌≡◌, ℕ, ◌<◌, true, false, List, [], ◌∷◌, length, get_or, Option, Some, None, refl, sym, ap, inl, inr, length-set}
 use Rattle.std.proofs.lemmas.Bool.{ltb-true}
-use Rattle.world.specs.declared.event.Event.{Event}
-use Rattle.world.specs.declared.event.Event.TheVariants.{Piece, Close, Take, Commit, Give}
+use Rattle.world_events.specs.declared.event.Event.{Event}
+use Rattle.world_events.specs.declared.event.Event.TheVariants.{Piece, Close, Take, Commit, Give}
 use Rattle.world.specs.States.{State, client}
-use Rattle.world.specs.Turns.{is_number, actor, is_enabled_for, is_enabled_of, When, Does, DoesAndGoes, Turn, Turns, heard}
+use Rattle.world_events.specs.Actors.{actor}
+use Rattle.world.specs.Turns.{is_number, is_enabled_for, is_enabled_of, When, Does, DoesAndGoes, Turn, Turns, heard}
 use Rattle.world.specs.Told.{mine}
 use Rattle.world.specs.Soundness.{IsSound}
 use Rattle.world.specs.Laws.{TalkLaws, WatchLaws}

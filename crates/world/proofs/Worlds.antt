@@ -11,8 +11,9 @@ use Rattle.connection.specs.declared.client.Next.TheVariants as next
 use Rattle.connection.specs.Clients.{Progress, Stage, IsCalled, Gives}
 use Rattle.world.specs.States.{Phase, Serving, Calling, Leaving, Left, Ended, ClientState, State, client, fresh}
 use Rattle.world.specs.Soundness.{IsSound, Talks}
-use Rattle.world.specs.declared.event.Event.{Event}
-use Rattle.world.specs.Turns.{Goes, Turn, actor, fed, is_enabled, is_enabled_of, is_number}
+use Rattle.world_events.specs.declared.event.Event.{Event}
+use Rattle.world_events.specs.Actors.{actor}
+use Rattle.world.specs.Turns.{Goes, Turn, fed, is_enabled, is_enabled_of, is_number}
 use Rattle.world.specs.Tables.{Handled}
 use Rattle.world.proofs.Talking.{gives_fed}
 use Rattle.world.specs.Peers.{AreEndable, Attends, IsEndable, IsSteady, OnCall}

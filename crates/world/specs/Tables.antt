@@ -5,7 +5,7 @@ use Rattle.world.specs.Turns.{Does, is_enabled_for}
 use Rattle.world.specs.Soundness.{IsSound}
 use Rattle.world.specs.Peers.{IsSteady}
 use Rattle.world.specs.Stripes.{stores_of, marks_of, IsEven}
-use Rattle.world.specs.declared.event.Event.{Event}
+use Rattle.world_events.specs.declared.event.Event.{Event}
 use Rattle.world.specs.declared.world.World.{World}
 
 unfoldable pub state_of : World → State

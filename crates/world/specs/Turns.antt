@@ -23,8 +23,9 @@ use Rattle.connection.specs.declared.client.Next.TheVariants as next
 use Rattle.connection.specs.Clients.{Stage, Progress, Gives, Resumes}
 use Rattle.connection.specs.Served.{fault_line}
 use Rattle.world.specs.States.{Phase, Serving, Calling, Leaving, Left, Ended, ClientState, State, client, stripe_count, whole, open_call}
-use Rattle.world.specs.declared.event.Event.{Event}
-use Rattle.world.specs.declared.event.Event.TheVariants as event
+use Rattle.world_events.specs.Actors.{actor}
+use Rattle.world_events.specs.declared.event.Event.{Event}
+use Rattle.world_events.specs.declared.event.Event.TheVariants as event
 
 -- WHICH EVENTS ARE ENABLED
 
@@ -56,15 +57,6 @@ next_stripe state c (Some call) = first_missing state.holders c (stripes_asked (
 abbrev pub has_ended : Phase → Bool
 has_ended Ended = true
 has_ended _ = false
-
--- the client whose event it is
-abbrev pub actor : Event → Option ℕ
-actor (event.Piece c bytes) = Some c
-actor (event.Close c) = Some c
-actor (event.Take c i) = Some c
-actor (event.Commit c) = Some c
-actor (event.Give c i) = Some c
-actor _ = None
 
 -- Whether a client's event is enabled. It is fed or closed while its input is not closed and it has not ended. Its open call takes its
 -- stripes in rising order, each when it is free; is committed when all are held; and gives them back then, in any order.

@@ -1,12 +1,12 @@
 //! The simulated world: clients, stripes and a history, driven by events in any order.
 #![tactic(auto)]
 
-pub mod event;
 mod laws;
 mod peer;
+mod stopped;
 mod stripes;
 mod watched;
 mod world;
 
-pub use event::{Event, Stopped};
+pub use stopped::Stopped;
 pub use world::World;

@@ -9,7 +9,7 @@ ghost use Rattle.world.specs.States as phases;
 ghost use Rattle.world.specs.Turns.{Advances, fed, has_ended, heard, is_idle, leaving};
 ghost use Rattle.world.specs.Peers.{Comes, HasAnswered, HasForgotten, HasOperated, IsKind, IsKindOf, IsAsking, IsCalling, IsEndable, IsForgetting, IsLeaving, IsServing, IsSteady, OnCall, StepsOn, Takes, phase_of, progress_of};
 
-use crate::event::Stopped;
+use crate::stopped::Stopped;
 use crate::watched::watch_keys;
 use bytes::Bytes;
 use connection::conversation::{is_done, is_forgotten, says};

@@ -13,8 +13,8 @@ ghost use Rattle.transact.specs.Calls.{asked_of};
 ghost use Rattle.world.specs.Turns.{first_missing, holds, holds_none, marks_changed};
 ghost use Rattle.world.specs.Stripes.{HasInstalled, HasRun, IsEven, marks_of, stores_of};
 
-use crate::event::Stopped;
 use crate::peer::Open;
+use crate::stopped::Stopped;
 use gates::{Parts, Sorted};
 use std::alloc::Global;
 use transact::call::{Call, Watching};

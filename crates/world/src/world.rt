@@ -3,21 +3,23 @@
 ghost use Rattle.std.specs.Prelude.{◌≡◌, ◌<◌, ◌∷◌, ◌++◌, [], true, false, IfOk, OnOk, IfSome, None, Some, reverse, replicate, length, vec_len};
 ghost use Rattle.words.specs.declared.history.Entry.{Entry};
 ghost use Rattle.world.specs.States.{client as client_at, fresh, open_call, start};
-ghost use Rattle.world.specs.Turns.{Commits, Goes, Turn, Turns, actor, next_stripe};
+ghost use Rattle.world_events.specs.Actors.{actor};
+ghost use Rattle.world.specs.Turns.{Commits, Goes, Turn, Turns, next_stripe};
 ghost use Rattle.world.specs.Told.{Headline};
 ghost use Rattle.world.specs.Peers.{AreEndable, IsAsking, IsForgetting, IsLeaving};
 ghost use Rattle.world.specs.Stripes.{IsEven};
 ghost use Rattle.world.specs.Tables.{Handles, IsReadyFor, IsWorld, state_of};
 
-use crate::event::{Event, Stopped};
 use crate::laws::laws;
 use crate::peer::{Kind, Open, Peer};
+use crate::stopped::Stopped;
 use crate::stripes::Stripes;
 use bytes::Bytes;
 use std::alloc::{AllocError, Global};
 use words::history::Entry;
 use words::limits::Limits;
 use words::word::OutOfMemory;
+use world_events::Event;
 
 /// Clients, stripes and a history, driven by events. It cannot be dropped, since what its clients watch
 /// cannot: [`end`](World::end) ends it.
@@ -113,12 +115,13 @@ impl World {
         ensures world { OnOk result (IsWorld self.new) }
         ensures endable { AreEndable self.new.peers.items }
     {
-        let Some((event, others)) = events.split_first() else {
-            self.rests();
-            return Ok(());
-        };
-        self.turn(event)?;
-        self.do_all(others)
+        let mut left = events;
+        while let Some((event, others)) = left.split_first() {
+            self.turn(event)?;
+            left = others;
+        }
+        self.rests();
+        Ok(())
     }
 
     /// Does what an event does.
@@ -154,6 +157,11 @@ impl World {
             Event::Take(_, stripe) => Ok(self.take(client, *stripe)),
             Event::Commit(_) => self.commit(client),
             Event::Give(_, stripe) => Ok(self.give(client, *stripe)),
+            Event::Fetch(_) => {
+                // A plain stripe has no pages to read.
+                self.rests();
+                Ok(false)
+            }
             _ => Ok(false),
         }
     }

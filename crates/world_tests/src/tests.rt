@@ -4,7 +4,7 @@
 //! - `ask C WORDS` feeds client C a request of these words, and `raw C TEXT` these bytes, where `|` stands
 //!   for CR LF, `<` for CR and `>` for LF;
 //! - `close C`, `take C I`, `commit C`, `give C I`, and `fetch C`, `copy I` .. `release I BYTE` are the other
-//!   events, and `turn C I` is a take, a commit and a give;
+//!   events, where a release shows a page of this byte, and `turn C I` is a take, a commit and a give;
 //! - `told C TEXT` says what was written to client C since the start, and `silent C` that it is nothing;
 //! - `entries C C ..` says which client's each entry of the history is, and `no entries` that there is none.
 //!
@@ -14,11 +14,15 @@ ghost use Rattle.std.specs.Prelude.{IfSome};
 ghost use Rattle.world.specs.Tables.{IsWorld};
 
 use bytes::Bytes;
+use records::Page;
 use std::alloc::Global;
 use std::process::Abort;
+use std::test::Fail;
 use words::history::Entry;
 use words::limits::Limits;
-use world::{Event, World};
+use words::word::OutOfMemory;
+use world::World;
+use world_events::{Event, ShownPage};
 
 /// Adds bytes to a text. `None` where there was no memory.
 fn add(text: &mut Vec<u8>, bytes: &[u8]) -> Option<()> {
@@ -83,13 +87,19 @@ fn pair_of(first: &str, second: &str) -> Option<(usize, usize)> {
     Some((first, second))
 }
 
+/// The event of a stripe whose place is released, and shows a page of this byte.
+fn release_of(alloc: Global, stripe: usize, byte: usize) -> Option<Event> {
+    let page = ShownPage::filled(alloc, u8::try_from(byte).ok()?).ok()?;
+    Some(Event::Release(stripe, page))
+}
+
 /// The event of a client and a stripe, or of a stripe and a byte.
-fn event_of_two(verb: &str, first: &str, second: &str) -> Option<Event> {
-    let (client, stripe) = pair_of(first, second)?;
+fn event_of_two(alloc: Global, verb: &str, first: &str, second: &str) -> Option<Event> {
+    let (one, other) = pair_of(first, second)?;
     match verb {
-        "take" => Some(Event::Take(client, stripe)),
-        "give" => Some(Event::Give(client, stripe)),
-        "release" => Some(Event::Release(client, u8::try_from(stripe).ok()?)),
+        "take" => Some(Event::Take(one, other)),
+        "give" => Some(Event::Give(one, other)),
+        "release" => release_of(alloc, one, other),
         _ => None,
     }
 }
@@ -120,7 +130,7 @@ fn event_of(alloc: Global, line: &str) -> Option<Event> {
     match verb {
         "ask" => piece_of(first, request_of(alloc, second)),
         "raw" => piece_of(first, raw_of(alloc, second)),
-        _ => event_of_two(verb, first, second),
+        _ => event_of_two(alloc, verb, first, second),
     }
 }
 
@@ -224,6 +234,53 @@ fn new_world(alloc: Global, stripes: usize, clients: usize) -> Option<World>
 {
     let limits = Limits::new(stripes, 4_096, 32, 4_096, clients)?;
     World::new(alloc, &limits).ok()
+}
+
+/// Whether this is a page, each of whose bytes is this.
+fn is_of(page: &Page, byte: u8) -> bool {
+    page.bytes().iter().all(|shown| *shown == byte)
+}
+
+/// A page is shown as it is, and one of a byte by that byte alone.
+#[test]
+fn pages_that_are_shown(rt: HostRuntime) -> Result<(), Fail> {
+    let alloc = rt.alloc();
+    let filled = ShownPage::filled(alloc, 255)?;
+    assert!(rt; is_of(filled.page(), 255));
+    let page = ShownPage::new(alloc, Page::new(7))?;
+    assert!(rt; *page.page() == Page::new(7));
+    Ok(())
+}
+
+/// So many events that are not enabled, between two that are.
+fn many(alloc: Global, count: usize) -> Result<Vec<Event>, OutOfMemory> {
+    let mut events = Vec::new(alloc);
+    events.push(Event::Close(0))?;
+    for _ in 0..count {
+        events.push(Event::Commit(0))?;
+    }
+    events.push(Event::Close(1))?;
+    Ok(events)
+}
+
+/// A run takes no more of the stack for more events.
+#[test]
+fn twenty_thousand_events(rt: HostRuntime) -> Result<(), Fail> {
+    let events = many(rt.alloc(), 20_000)?;
+    let Some(world) = new_world(rt.alloc(), 1, 2) else {
+        panic!(rt; "no world")
+    };
+    let Ok(world) = world.run(events.as_slice()) else {
+        panic!(rt; "stopped")
+    };
+    follow(
+        &rt,
+        rt.alloc(),
+        world,
+        "ask 0 PING; silent 0; ask 1 PING; silent 1; no entries",
+    )
+    .end();
+    Ok(())
 }
 
 /// Follows two texts in a new world, one after the other.

@@ -1,4 +1,4 @@
-use Rattle.std.proofs.Common.{◌≡◌, ◌≤◌, ℕ, List, [], ◌++◌}
+use Rattle.std.proofs.Common.{◌≡◌, ◌≤◌, ◌+◌, ℕ, List, [], ◌++◌}
 use Rattle.std.specs.Io.KnownBytes.{Appends, Consumes}
 use Rattle.gates.specs.declared.view.Knowledge.{Knowledge}
 use Rattle.engine.specs.Passes.{knows, Rests}
@@ -17,6 +17,7 @@ invariant-loop-paused g l = record {
   told : told_of l.writer ≡ told_of l.initial.writer;
   reader_told : told_of l.reader ≡ told_of l.initial.reader;
   reads : reads_of l.reader ≤ reads_of l.initial.reader;
+  few : reads_of l.initial.reader + l.room.more ≤ reads_of l.reader + l.initial.room.more;
   room : l.room.items ≡ [];
   rests : Rests l.initial.engine l.pass;
   attends : Attends (knows l.pass) l.client;

@@ -1,7 +1,7 @@
 use Rattle.std.proofs.Common.{rules, [], ◌++◌, ◌∙◌, refl, sym, ap, append_assoc, append-nil, List, ℕ}
 use Rattle.streams.specs.Laws.{Keeps-same, Appends-none, Appends-then}
 use Rattle.connection.proofs.Known.{regroup_held, regroup_cut, cut_held}
-use Rattle.connection.proofs.Conversing.{served_cut, served_cut_fault, served_fault, served_no_memory, served_unfed, served_quit}
+use Rattle.connection.proofs.Conversing.{served_cut, served_cut_fault, served_cut_unfed, served_fault, served_no_memory, served_unfed, served_quit}
 use Rattle.connection.proofs.answering.conclude.Goals as goal
 
 pub returns-in-Err-clause-answered : goal.returns-in-Err-clause-answered
@@ -51,12 +51,12 @@ pub returns-in-Err-flush-3-clause-answered : goal.returns-in-Err-flush-3-clause-
 returns-in-Err-flush-3-clause-answered g c = λ was now fed before standing paused.
     let so_far = rw c.in-Unfed.is at paused in
     let cut = c.in-Err-flush-3.ensures.sent in
-    (cut.0, cut.3, served_cut _ cut.1 so_far.3 (cut_held before _ cut.0 cut.1 cut.2))
+    (cut.0, cut.3, served_cut_unfed _ so_far.1 _ cut.1 so_far.7 so_far.2 (cut_held before _ cut.0 cut.1 cut.2))
 
 pub returns-in_default-flush-3-clause-answered : goal.returns-in_default-flush-3-clause-answered
 returns-in_default-flush-3-clause-answered g c = λ was now fed before standing paused.
     let so_far = rw c.in-Unfed.is at paused in
-    (_, c.in_default-flush-3.ensures.sent, served_unfed _ so_far.3 so_far.1 so_far.2 refl)
+    (_, c.in_default-flush-3.ensures.sent, served_unfed _ so_far.1 _ so_far.7 so_far.2 so_far.3 so_far.4 so_far.5 so_far.6 refl)
 
 pub returns-in-Err-flush-4-clause-answered : goal.returns-in-Err-flush-4-clause-answered
 returns-in-Err-flush-4-clause-answered g c = λ was now fed before standing paused.

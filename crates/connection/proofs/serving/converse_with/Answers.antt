@@ -24,7 +24,7 @@ returns-in-Some-clause-served g c =
       so_far.1,
       Consumes-then _ _ _ so_far.0 taken.0 so_far.2 taken.2,
       so_far.3,
-      served_taken _ _ _ _ _ _ _ c.in-Some.ended so_far.4 c.loop-ended.invariant.waits c.loop-ended.invariant.is_open taken.3,
+      served_taken _ _ _ _ _ _ _ c.in-Some.ended so_far.4 c.loop-ended.invariant.waits c.loop-ended.invariant.is_open taken.1 taken.3,
     )
 
 pub returns-in-Some-clause-attends : goal.returns-in-Some-clause-attends

@@ -1,5 +1,8 @@
-use Rattle.std.proofs.Common.{rules, []}
-use Rattle.streams.specs.Laws.{Keeps-same, Appends-none, Consumes-none}
+use Rattle.std.proofs.Common.{rules, [], ap, ◌∙◌}
+use Rattle.streams.specs.Streams.{told_of}
+use Rattle.streams.specs.Laws.{Keeps-same, Appends-none, Consumes-none, HasFailed-told}
+use Rattle.connection.specs.declared.serving.Ended.{Ended}
+use Rattle.connection.specs.Served.{reader_told, writer_told}
 use Rattle.connection.proofs.Conversing.{served_nothing, served_later}
 use Rattle.connection.proofs.serving.serve.Goals as goal
 
@@ -14,3 +17,11 @@ returns-clause-served g c =
 
 pub converse-ended-requires-clause-begins : goal.converse-ended-requires-clause-begins
 converse-ended-requires-clause-begins g c = search rules
+
+pub returns-clause-reader_failed : goal.returns-clause-reader_failed
+returns-clause-reader_failed g c = λ is.
+    HasFailed-told c.converse-ended.new.reader (c.converse-ended.ensures.reader_told ∙ ap (λ (e : Ended). reader_told e (told_of c.args.reader.now)) is)
+
+pub returns-clause-writer_failed : goal.returns-clause-writer_failed
+returns-clause-writer_failed g c = λ is.
+    HasFailed-told c.converse-ended.new.writer (c.converse-ended.ensures.writer_told ∙ ap (λ (e : Ended). writer_told e (told_of c.args.writer.now)) is)

@@ -10,7 +10,7 @@ use Rattle.transact.specs.Calls.{asked_of, call_keys}
 use Rattle.transact.specs.Memory.{AsksInPlace}
 use Rattle.transact.specs.Submits.{asked_for}
 use Rattle.transact.specs.Plans.{IsPlan, keys_begun}
-use Rattle.transact.specs.Tables.{AreThere, Became, begins, joined}
+use Rattle.transact.specs.Tables.{AreAdded, AreThere, Became, begins, joined, joined_marks}
 use Rattle.transact.proofs.Begun.{begins_none, has_begun_of}
 use Rattle.transact.proofs.Keys.{there_append}
 use Rattle.transact.proofs.Stores.{if_ok, ok_both, ok_then_all, some_is}
@@ -82,3 +82,15 @@ pub returns-in-Exec-clause-memory : goal.returns-in-Exec-clause-memory
 returns-in-Exec-clause-memory g c =
     λ asks. absurd
     (subst (λ (x : Call). AsksInPlace (joined shard_meaning c.args.stripes (g.P.Parts.part_of c.args.parts.now)) (asked_for x)) c.in-Exec.is asks)
+
+pub returns-in-One-clause-added : goal.returns-in-One-clause-added
+returns-in-One-clause-added g c =
+    ok_then_all c.plan_one.result
+    (λ planned none. subst (AreAdded (joined_marks shard_meaning c.args.stripes (g.P.Parts.part_of c.plan_one.new.parts)) c.args.seat) (sym none) tt)
+    c.plan_one.ensures.begun
+
+pub returns-in-Exec-clause-added : goal.returns-in-Exec-clause-added
+returns-in-Exec-clause-added g c =
+    ok_then_all c.plan_exec.result
+    (λ planned none. subst (AreAdded (joined_marks shard_meaning c.args.stripes (g.P.Parts.part_of c.plan_exec.new.parts)) c.args.seat) (sym none) tt)
+    c.plan_exec.ensures.begun

@@ -30,8 +30,8 @@ fetch_add-place-requires g c =
       omega arith,
       commits_step c.laws.ensures g.T.Part.meaning c.args.self.now.table.shared.key n c.arm.new.pass.seat.id m entry h.seat.single (sym h.armed ∙ armed.ok.0)
           (ap (λ (e : Entry). e.session) c.requires.told ∙ ap (λ (k : Knowledge). k.number) (sym armed.ok.1))
-          (subst (λ (k : Knowledge). Legal (entry ∷ k.seen)) (sym armed.ok.1)
-          (seat.legal, told_extends before.number before.watched asked said entry c.requires.told before.seen seat.watches c.requires.place c.requires.due))
+          (λ t. subst (λ (k : Knowledge). Legal (entry ∷ k.seen)) (sym armed.ok.1)
+          (seat.legal t, told_extends before.number before.watched asked said entry c.requires.told before.seen seat.watches c.requires.place (c.requires.due t)))
           (subst (λ (k : Knowledge). GoesBy k.watched entry.operation) (sym armed.ok.1)
           (told_goes_by before.number before.watched asked said entry c.requires.told))
           (keys_held n m.1 m.0.held h.seat.same (keys_named entry.operation)

@@ -2,9 +2,9 @@ use Rattle.std.proofs.Common.{◌≡◌, subst, sym, ap, ◌∙◌, ◌+◌, ari
 use Rattle.std.proofs.lemmas.Bool.{MatchBool-at_true, MatchBool-at_false, true≢false, false≢true}
 use Rattle.atomic_table.specs.Table.{turned}
 use Rattle.gates.specs.Plays.{own, Took, Missed}
-use Rattle.gates.specs.Passes.{AllFit, IsSeatOf, Learned}
+use Rattle.gates.specs.Passes.{AllFit, AreAsTaken, IsSeatOf, Learned}
 use Rattle.gates.proofs.Steps.{tries_at}
-use Rattle.gates.proofs.Holding.{took_seat, took_parts, took_knows, took_notes, took_fit, missed_seat, missed_parts, missed_knows, missed_fit}
+use Rattle.gates.proofs.Holding.{took_seat, took_parts, took_knows, took_notes, took_fit, took_lent, missed_lent, missed_seat, missed_parts, missed_knows, missed_fit}
 use Rattle.gates.proofs.gates.Gates.try_stripe.Goals as goal
 
 pub compare_exchange-found-requires : goal.compare_exchange-found-requires
@@ -38,9 +38,10 @@ returns-then-found-ne0 g c =
         armed = h.armed ∙ sym (ap (λ y. y.0.armed) missed.seat);
         seat = missed_seat n pass.number c.args.stripe found m w h.seat missed;
       };
+      lent = missed_lent n pass.number c.args.stripe found m w h.seat missed c.requires.lent;
       fit = missed_fit n pass.number c.args.stripe found m w h.seat missed g.T.Part.meaning c.requires.fit;
       taken = λ e. absurd (false≢true e);
-      missed = λ _. (knows, missed_parts n pass.number c.args.stripe found m w h.seat missed);
+      missed = λ _. (knows, missed_parts n pass.number c.args.stripe found m w h.seat missed, ap (λ y. y.0.held) missed.seat);
     }
 
 pub returns : goal.returns
@@ -63,13 +64,15 @@ returns g c =
         table = c.turn.ensures.0 ∙ c.compare_exchange-found.ensures.0 ∙ h.table;
         small = h.small;
         armed = h.armed ∙ sym (ap (λ y. y.0.armed) turn ∙ ap (λ y. y.0.armed) took.seat);
-        seat = subst (IsSeatOf n pass.number) (sym turn) (took_seat c.laws.ensures contents n pass.number i m w h.seat c.requires.below none_held took);
+        seat = subst (IsSeatOf contents.trusted n pass.number) (sym turn) (took_seat c.laws.ensures contents n pass.number i m w h.seat c.requires.below none_held took);
       };
+      lent = subst (λ y. AreAsTaken y.0.taken y.1) (sym turn) (took_lent c.laws.ensures contents n pass.number i m w h.seat c.requires.below none_held took c.requires.lent);
       fit = subst (λ y. AllFit contents n (own y.0) y.0.taken y.1) (sym turn) (took_fit c.laws.ensures contents n pass.number i m w h.seat c.requires.below none_held took c.requires.fit);
       taken = λ _. (
         subst (λ y. Learned (own m.0) (own y.0)) (sym turn) (took_knows c.laws.ensures contents n pass.number i m w h.seat c.requires.below none_held took),
         ap (λ y. (own y.0).notes) turn ∙ took_notes c.laws.ensures contents n pass.number i m w h.seat c.requires.below none_held took,
         (took.part, ap (λ y. y.1) turn ∙ took_parts c.laws.ensures contents n pass.number i m w h.seat c.requires.below none_held took),
+        ap (λ y. y.0.held) turn ∙ ap (λ y. y.0.held) took.seat,
       );
       missed = λ e. absurd (true≢false e);
     }

@@ -1,6 +1,6 @@
-use Rattle.std.proofs.Common.{rules, ◌∙◌, ◌++◌, ap, List, ℕ}
+use Rattle.std.proofs.Common.{rules, ◌≡◌, ◌∙◌, ◌++◌, [], refl, ap, List, ℕ}
 use Rattle.resp_read.specs.Unread.{Held, unread, kept}
-use Rattle.resp_read.proofs.ReaderLemmas.{on_ok_holds, unread_fed, held_of}
+use Rattle.resp_read.proofs.ReaderLemmas.{on_ok_holds, unread_fed, held_of, no_pieces}
 use Rattle.resp_read.proofs.reader.Reader.feed.Goals as goal
 use Rattle.resp_read.proofs.reader.Reader.feed.Goals.{in-Ok, in-Err}
 
@@ -14,3 +14,8 @@ returns-clause-unread c =
 
 pub returns-clause-returned : goal.returns-clause-returned
 returns-clause-returned c = search rules
+
+pub returns-clause-none : goal.returns-clause-none
+returns-clause-none c = λ none.
+    let held : c.self.inside.pieces ≡ [] = ap (λ (h : Held). h.pieces) c.self.view_is ∙ no_pieces c.args.self.now c.are_filled.ensures none in
+    elim c.match-push.branch [ in-Ok w ↦ rw w.result-is refl | in-Err w ↦ absurd (cc (rw w.in-Err.is at (c.push.ensures.first held))) ]

@@ -11,9 +11,9 @@ returns-clause-undone g c = λ before has.
     let n : ℕ = c.args.stripes in
     let own : ℕ = c.args.seat in
     let b : ℕ → Option Shard = g.P.Parts.part_of c.args.parts.now in
-    let d : ℕ → Option Shard = g.P.Parts.part_of c.clear_all.new.parts in
+    let d : ℕ → Option Shard = g.P.Parts.part_of c.take_back_all.new.parts in
     taken_back shard_meaning n own c.args.self.begun before b d has
-    (subst (λ (l : List Bytes). Became shard_meaning n [] (clears own l) b d) c.as_slice.ensures c.clear_all.ensures.became)
+    (subst (λ (l : List Bytes). Became shard_meaning n [] (clears own l) b d) c.as_slice.ensures c.take_back_all.ensures.became)
 
 pub returns-clause-became : goal.returns-clause-became
 returns-clause-became g c = search rules

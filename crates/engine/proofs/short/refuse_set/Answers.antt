@@ -1,0 +1,53 @@
+use Rattle.std.proofs.Common.{ℕ, [], refl, ap}
+use Rattle.words.specs.declared.command.Command.TheVariants.{Set}
+use Rattle.words.specs.declared.command.When.TheVariants.{Always}
+use Rattle.words.specs.History.{too_much}
+use Rattle.words.specs.Session as asked
+use Rattle.gates.specs.declared.held.Held.{Held}
+use Rattle.gates.specs.Sets.{part_at}
+use Rattle.gates.specs.Helds.{known_to, same_as_it}
+use Rattle.transact.specs.declared.shard.Shard.{Shard}
+use Rattle.transact.specs.Shards.{shard_meaning}
+use Rattle.engine.specs.Memory.{set_call}
+use Rattle.engine.proofs.Parts.{became_same, unwritten_same}
+use Rattle.engine.proofs.Entering.{done_by, fit_undone, given_still, named_held, parts_of, reply_due, was_worn}
+use Rattle.engine.proofs.Sets.{fit_set}
+use Rattle.engine.proofs.short.refuse_set.Goals as goal
+
+pub commit_line-requires-clause-due : goal.commit_line-requires-clause-due
+commit_line-requires-clause-due c =
+    reply_due c.args.held.now c.args.held.now (asked.Run (Set c.args.key.now c.args.value.now Always)) too_much [] (same_as_it c.args.held.now)
+    (λ t. c.requires.due (known_to c.args.held.now).seen)
+
+pub commit_line-requires-clause-keys : goal.commit_line-requires-clause-keys
+commit_line-requires-clause-keys c =
+    named_held c.args.stripes c.args.held.now c.args.held.now (set_call c.args.key.now c.args.value.now) (same_as_it c.args.held.now) c.requires.may.count refl tt c.requires.may.there
+
+pub returns-in-Ok-clause-back : goal.returns-in-Ok-clause-back
+returns-in-Ok-clause-back c =
+    let n : ℕ = c.args.stripes in
+    let start : Held Shard = c.args.held.now in
+    let last : Held Shard = c.commit_line.new.held in
+    given_still n start last c.commit_line.ensures.open_still c.commit_line.ensures.gates c.commit_line.ensures.pass
+    (fit_set n c.in-Ok.field-0 c.args.key.now c.args.value.now too_much [] start start last last c.writes_install_a_command.ensures c.requires.may.count c.requires.due c.requires.may.fit
+    (same_as_it start) (λ i some. some) c.commit_line.ensures.taken c.in-Ok.ensures.ok
+    (unwritten_same n shard_meaning (parts_of start) (parts_of last) (ap part_at c.commit_line.ensures.parts)) (same_as_it last))
+
+pub returns-in-Ok-clause-done : goal.returns-in-Ok-clause-done
+returns-in-Ok-clause-done c =
+    done_by (set_call c.args.key.now c.args.value.now) too_much _ c.in-Ok.field-0 _ (known_to c.args.held.now) (known_to c.args.held.now) (known_to c.commit_line.new.held) (known_to c.commit_line.new.held)
+    refl refl refl c.in-Ok.ensures.ok
+
+pub returns-in-Err-clause-back : goal.returns-in-Err-clause-back
+returns-in-Err-clause-back c =
+    let n : ℕ = c.args.stripes in
+    let start : Held Shard = c.args.held.now in
+    let last : Held Shard = c.commit_line.new.held in
+    given_still n start last c.commit_line.ensures.open_still c.commit_line.ensures.gates c.commit_line.ensures.pass
+    (fit_undone n start start last last (same_as_it start) c.commit_line.ensures.taken c.in-Err.ensures.worn (same_as_it last) c.requires.may.fit
+    (became_same n shard_meaning (parts_of start) (parts_of last) (ap part_at c.commit_line.ensures.parts)))
+
+pub returns-in-Err-clause-undone : goal.returns-in-Err-clause-undone
+returns-in-Err-clause-undone c =
+    was_worn (set_call c.args.key.now c.args.value.now) (known_to c.args.held.now) (known_to c.args.held.now) (known_to c.commit_line.new.held) (known_to c.commit_line.new.held) (known_to c.commit_line.new.held)
+    refl refl refl refl c.in-Err.ensures.worn

@@ -1,0 +1,49 @@
+use Rattle.std.proofs.Common.{◌≡◌, ◌∙◌, ℕ, List, false, sym, ap, subst, rules}
+use Rattle.gates.specs.declared.view.Knowledge.{Knowledge}
+use Rattle.gates.specs.Passes.{ToldBusy, known, stripes_of}
+use Rattle.gates.specs.Helds.{known_to}
+use Rattle.transact.specs.declared.call.Call.{Call}
+use Rattle.transact.specs.Calls.{answer_with, asked_of}
+use Rattle.transact.specs.Submits.{IfFault, IfReply, stripes_asked}
+use Rattle.engine.specs.Calls.{IsDone, IsUndone}
+use Rattle.engine.specs.Memory.{get_call}
+use Rattle.engine.proofs.Entering.{given_here, may_enter, parts_of}
+use Rattle.engine.proofs.Behind.{answer_behind, fault_behind}
+use Rattle.engine.proofs.short.submit_get.Goals as goal
+
+pub enter_get-answer-requires : goal.enter_get-answer-requires
+enter_get-answer-requires g c =
+    record {
+      may = may_enter c.stripes-stripes.result (get_call c.args.key.now) c.args.gates.now c.stripe_of_key-wanted.result _ c.take-held.result c.stripes-stripes.ensures.some c.stripes-stripes.ensures.count
+          (c.stripe_of_key-wanted.ensures.there (parts_of c.take-held.result) c.take-held.ensures.has) c.take-held.ensures;
+      place = c.requires.place;
+    }
+
+pub give-requires-clause-fit : goal.give-requires-clause-fit
+give-requires-clause-fit g c =
+    (given_here false c.stripes-stripes.result c.take-held.result c.enter_get-answer.new.held c.args.gates.now c.stripes-stripes.ensures.count
+    (c.enter_get-answer.ensures.back.gates ∙ c.take-held.ensures.gates_are) c.enter_get-answer.ensures.back).fit
+
+pub returns-clause-done : goal.returns-clause-done
+returns-clause-done g c =
+    let before : Knowledge = known c.args.pass.now in
+    let mid : Knowledge = known_to c.take-held.result in
+    let call : Call = get_call c.args.key.now in
+    let stripes : List ℕ = stripes_asked (stripes_of c.args.gates.now) call in
+    let same : c.stripe_of_key-wanted.result ≡ stripes = c.stripe_of_key-wanted.ensures.exact ∙ ap (λ (n : ℕ). stripes_asked n call) c.stripes-stripes.ensures.count in
+    let last = c.give.ensures.known in
+    subst (λ (k : Knowledge). IfReply (answer_with c.enter_get-answer.result) (λ reply. IsDone stripes (asked_of call) reply before k)) (sym (search (rules, last)))
+    (answer_behind stripes before mid (known_to c.enter_get-answer.new.held) c.take-held.ensures.learned
+    (subst (λ (l : List ℕ). ToldBusy l before mid) same c.take-held.ensures.told) (answer_with c.enter_get-answer.result) (asked_of call) c.enter_get-answer.ensures.done)
+
+pub returns-clause-undone : goal.returns-clause-undone
+returns-clause-undone g c =
+    let before : Knowledge = known c.args.pass.now in
+    let mid : Knowledge = known_to c.take-held.result in
+    let call : Call = get_call c.args.key.now in
+    let stripes : List ℕ = stripes_asked (stripes_of c.args.gates.now) call in
+    let same : c.stripe_of_key-wanted.result ≡ stripes = c.stripe_of_key-wanted.ensures.exact ∙ ap (λ (n : ℕ). stripes_asked n call) c.stripes-stripes.ensures.count in
+    let last = c.give.ensures.known in
+    subst (λ (k : Knowledge). IfFault (answer_with c.enter_get-answer.result) (λ fault. IsUndone stripes (asked_of call) fault before k)) (sym (search (rules, last)))
+    (fault_behind stripes before mid (known_to c.enter_get-answer.new.held) c.take-held.ensures.learned
+    (subst (λ (l : List ℕ). ToldBusy l before mid) same c.take-held.ensures.told) (answer_with c.enter_get-answer.result) (asked_of call) c.enter_get-answer.ensures.undone)

@@ -1,5 +1,0 @@
-use Rattle.engine.specs.Passes.{Rests}
-use Rattle.engine.proofs.tests.moving.sums_often.Given as goal
-
-abbrev pub invariant-loop-n : goal.invariant-loop-n
-invariant-loop-n g l = Rests l.engine l.pass

@@ -1,5 +1,0 @@
-use Rattle.engine.specs.Passes.{Rests}
-use Rattle.engine.proofs.tests.replies_to.Given as goal
-
-abbrev pub invariant-loop-request : goal.invariant-loop-request
-invariant-loop-request g l = Rests l.engine l.pass

@@ -1,0 +1,54 @@
+-- Calls that are entered over the stripes that a pass holds.
+use Rattle.std.specs.Prelude.{ℕ, ◌≡◌, ◌≤◌, Bool, false, []}
+use Rattle.words.specs.declared.reply.Reply.{Reply}
+use Rattle.words.specs.Session.{Asked, Run, value_reply, watched_at_fault}
+use Rattle.words.specs.declared.command.Command.TheVariants.{Get, Set}
+use Rattle.words.specs.declared.command.When.TheVariants.{Always}
+use Rattle.gates.specs.declared.held.Held.{Held}
+use Rattle.gates.specs.declared.view.Knowledge.{Knowledge}
+use Rattle.gates.specs.Sets.{part_at}
+use Rattle.gates.specs.Passes.{AllFit, MayEnd, stripes_of}
+use Rattle.gates.specs.Plays.{kept}
+use Rattle.gates.specs.Helds.{IsOpen, borrow_of, gates_of, has_committed, held_parts, held_taken, known_to}
+use Rattle.transact.specs.declared.call.Call.{Call}
+use Rattle.transact.specs.declared.shard.Shard.{Shard}
+use Rattle.transact.specs.Calls.{call_keys}
+use Rattle.transact.specs.Shards.{shard_meaning}
+use Rattle.transact.specs.Tables.{AreThere}
+use Rattle.engine.specs.declared.short.Found.{Found}
+use Rattle.engine.specs.declared.short.Getting.{Getting}
+use Rattle.engine.specs.declared.short.Setting.{Setting}
+
+-- what a SET without an option asks
+abbrev pub setting_asked : Setting → Asked
+setting_asked setting = Run (Set setting.key.now setting.value.now Always)
+
+-- what a GET asks
+abbrev pub getting_asked : Getting → Asked
+getting_asked getting = Run (Get getting.key.now)
+
+-- what is said to a GET that found this
+abbrev pub found_reply : Found → Reply
+found_reply found = value_reply found.value.now
+
+-- what a pass knows once what it asked is answered by a fault: a transaction ends its watches
+abbrev pub at_fault : Asked → Knowledge → Knowledge
+at_fault asked knows = record knows { watched = watched_at_fault knows.watched asked }
+
+-- What is held before a call is entered: so many stripes there are, those of the call's keys are held, each part fits, and nothing was
+-- committed since they were taken.
+pub record MayEnter (stripes : ℕ) (call : Call) (held : Held Shard) : Type 0 where
+  pub is_open : IsOpen shard_meaning.trusted held
+  pub fresh : has_committed held ≡ false
+  pub some : 1 ≤ stripes
+  pub count : stripes ≡ stripes_of (gates_of held)
+  pub there : AreThere stripes (part_at (held_parts held)) (call_keys call)
+  pub fit : AllFit shard_meaning stripes (known_to held) (held_taken held) (held_parts held)
+
+-- What is held after it: the same stripes by the same pass, and they may be given back, with or without an end of all that it watches.
+pub record MayBeGiven (ends : Bool) (stripes : ℕ) (before later : Held Shard) : Type 0 where
+  pub is_open : IsOpen shard_meaning.trusted later
+  pub gates : gates_of later ≡ gates_of before
+  pub pass : borrow_of later ≡ borrow_of before
+  pub keys : MayEnd ends stripes (held_parts later) (known_to later).watched
+  pub fit : AllFit shard_meaning stripes (kept ends [] (known_to later)) (held_taken later) (held_parts later)

@@ -1,0 +1,5 @@
+use Rattle.engine.specs.Passes.{Rests}
+use Rattle.engine_tests.proofs.tests.misses_others.Given as goal
+
+abbrev pub invariant-loop-request : goal.invariant-loop-request
+invariant-loop-request g l = Rests l.client.engine l.client.pass

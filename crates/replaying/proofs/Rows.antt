@@ -1,0 +1,26 @@
+-- Which file words name by the command line of `replay`, and how those that it does not take fail: each worked out by hand.
+use Rattle.std.proofs.Common.{◌≡◌, List, [], ◌∷◌, Some, None, codes, refl, true}
+use Rattle.clap.specs.Words.{Text, fault_of, takes}
+use Rattle.clap.specs.declared.error.kind.ErrorKind.TheVariants.{DisplayHelp, UnknownArgument}
+use Rattle.clap.proofs.OnLiterals.{clap_on_literals}
+use Rattle.replaying.specs.CommandLine.{file_named, replay}
+
+-- the words after the program's name
+abbrev line : List Text → List Text
+line words = codes "replay" ∷ words
+
+a_file_is_named : (takes replay (line (codes "a.schedule" ∷ [])) ≡ true) × (file_named (line (codes "a.schedule" ∷ [])) ≡ Some (codes "a.schedule"))
+unfolding replay clap_on_literals
+a_file_is_named = (refl, refl)
+
+no_file_is_named : (takes replay (line []) ≡ true) × (file_named (line []) ≡ None)
+unfolding replay clap_on_literals
+no_file_is_named = (refl, refl)
+
+two_files_are_too_many : fault_of replay (line (codes "one" ∷ codes "two" ∷ [])) ≡ UnknownArgument ∷ []
+unfolding replay clap_on_literals
+two_files_are_too_many = refl
+
+help_is_asked_for : fault_of replay (line (codes "-h" ∷ [])) ≡ DisplayHelp ∷ []
+unfolding replay clap_on_literals
+help_is_asked_for = refl

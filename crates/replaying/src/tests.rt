@@ -1,0 +1,88 @@
+//! How the program ends, and what it says on standard error.
+
+use crate::ending::ended;
+use crate::program::replayed;
+use schedules::ReplayFault;
+use std::alloc::Global;
+use std::cell::RefCell;
+use std::fmt::Display;
+use std::io;
+use std::io::ErrorKind;
+use std::process::ExitCode;
+
+/// A standard error that keeps its text.
+#[derive(Drop)]
+struct Kept {
+    alloc: Global,
+    text: RefCell<String>,
+}
+
+impl Kept {
+    fn keep(&self, text: &str) -> io::Result<()> {
+        let Ok(mut kept) = self.text.try_borrow_mut() else {
+            return Err(ErrorKind::WouldBlock.into());
+        };
+        Ok(kept.push_str(text)?)
+    }
+}
+
+impl Eprint for Kept {
+    fn eprint<D: Display + Drop>(&self, value: D) -> io::Result<()> {
+        let shown = format!(in self.alloc; "{value}")?;
+        self.keep(shown.as_str())
+    }
+
+    fn eprintln<D: Display + Drop>(&self, value: D) -> io::Result<()> {
+        let shown = format!(in self.alloc; "{value}\n")?;
+        self.keep(shown.as_str())
+    }
+}
+
+/// Whether a run that came to this ends with this status, and this is said on standard error.
+fn ends(alloc: Global, outcome: Result<(), ReplayFault>, status: u8, text: &str) -> bool {
+    let errors = Kept {
+        alloc,
+        text: RefCell::new(String::new(alloc)),
+    };
+    let code = ended(&errors, outcome);
+    let Kept {
+        alloc: _,
+        text: kept,
+    } = errors;
+    let said = kept.into_inner();
+    said.as_str() == text && code == ExitCode::from(status)
+}
+
+#[test]
+fn each_fault_has_its_status_and_text(rt: HostRuntime) {
+    let alloc = rt.alloc();
+    let bad_line = ReplayFault::BadLine(7);
+    assert!(rt; ends(alloc, Ok(()), 0, ""));
+    assert!(rt; ends(alloc, Err(bad_line), 2, "replay: line 7: bad event\n"));
+    assert!(rt;
+        ends(
+            alloc,
+            Err(ReplayFault::CannotRead),
+            1,
+            "replay: cannot read\n"
+        )
+    );
+    assert!(rt;
+        ends(
+            alloc,
+            Err(ReplayFault::OutOfMemory),
+            1,
+            "replay: out of memory\n"
+        )
+    );
+    assert!(rt; ends(alloc, Err(ReplayFault::CannotWrite), 1, ""));
+}
+
+#[test]
+fn a_file_that_is_not_there_cannot_be_read(rt: HostRuntime) {
+    assert_eq!(rt;
+        replayed(&rt, Some("no/such/file")),
+        Err(ReplayFault::CannotRead)
+    );
+    assert_eq!(rt; replayed(&rt, Some(".")), Err(ReplayFault::CannotRead));
+}

@@ -1,0 +1,14 @@
+use Rattle.std.proofs.Common.{List, length}
+use Rattle.world.specs.States.{State}
+use Rattle.world.specs.Turns.{Turns}
+use Rattle.world.specs.Tables.{IsWorld, state_of}
+use Rattle.world.proofs.world.World.do_all.Given as goal
+
+abbrev pub invariant-loop-event : goal.invariant-loop-event
+invariant-loop-event l = record {
+  world : IsWorld l.self;
+  leads : (after : State) → Turns (state_of l.self) l.left after → Turns (state_of l.fn.self) l.fn.events after;
+}
+
+abbrev pub decreases-loop-event : goal.decreases-loop-event
+decreases-loop-event l = length l.left

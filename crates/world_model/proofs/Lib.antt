@@ -1,0 +1,14 @@
+pub mod Holding
+pub mod Standing
+pub mod Counting
+pub mod Placing
+pub mod Talking
+pub mod Marking
+pub mod Keeping
+pub mod Committing
+pub mod Begins
+pub mod Telling
+pub mod Soundness
+pub mod Planning
+mod EventRows
+mod LogRows

@@ -1,0 +1,15 @@
+pub mod Logs
+pub mod States
+pub mod Enabled
+pub mod Advancing
+pub mod Releasing
+pub mod Rooms
+pub mod Planning
+pub mod Commits
+pub mod Effects
+pub mod Turns
+pub mod Told
+pub mod Places
+pub mod Soundness
+pub mod Laws
+pub mod Planned

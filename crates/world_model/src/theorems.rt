@@ -1,0 +1,45 @@
+//! What holds however events follow each other.
+
+ghost use Rattle.std.specs.Prelude.{ℕ, List};
+ghost use Rattle.words.specs.declared.reply.Reply.{Reply};
+ghost use Rattle.words.specs.Store.{Write};
+ghost use Rattle.words.specs.Session.{Asked};
+ghost use Rattle.transact.specs.declared.call.Call.{Call};
+ghost use Rattle.world_model.specs.States.{State, start};
+ghost use Rattle.world_model.specs.Turns.{Turn, Turns};
+ghost use Rattle.world_model.specs.Told.{Headline};
+ghost use Rattle.world_model.specs.Places.{NoneReleased};
+ghost use Rattle.world_model.specs.Soundness.{IsSound};
+ghost use Rattle.world_model.specs.Planned.{IsNoCommitOf, IsPlanned};
+ghost use Rattle.world_events.specs.declared.event.Event.{Event};
+
+use crate::laws::laws;
+
+/// What events leave of a sound world is a sound world.
+pub fn events_keep_the_world_sound()
+    ensures { (before : State) (events : List Event) (after : State) → Turns before events after → IsSound before → IsSound after }
+{
+    laws();
+}
+
+/// However events follow each other from the start, the headline holds after them; and each receipt that a
+/// log keeps, or that is to be read for a client, is of a place that is not released, so a read by it gives
+/// the page that was written.
+pub fn events_keep_the_headline()
+    ensures headline { (stripes clients frames limit : ℕ) (events : List Event) (after : State)
+        → Turns (start stripes clients frames limit) events after → Headline after }
+    ensures places { (stripes clients frames limit : ℕ) (events : List Event) (after : State)
+        → Turns (start stripes clients frames limit) events after → NoneReleased after }
+{
+    laws();
+}
+
+/// What a call was planned to reply and to write at its last take is due until its commit, whatever event
+/// comes in between.
+pub fn plans_stay_right()
+    ensures { (before : State) (event : Event) (after : State) (c : ℕ) (call : Call) (asked : Asked) (reply : Reply) (writes : List Write)
+        → Turn before event after → IsNoCommitOf c event → IsSound before
+        → IsPlanned before c call asked reply writes → IsPlanned after c call asked reply writes }
+{
+    laws();
+}
