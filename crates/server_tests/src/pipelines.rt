@@ -293,14 +293,14 @@ impl<R: Clock> Latch for Streaming<'_, R> {
 fn sends_what_fits(mut client: &TcpStream, bytes: &[u8]) -> Option<usize> {
     client.set_nonblocking(true).ok()?;
     let mut rest = bytes;
-    while !rest.is_empty() {
+    for _ in 0..bytes.len() {
         match client.write(rest) {
-            Ok(count) if count > 0 => rest = &rest[count..],
+            Ok(count) if count > 0 => rest = rest.get(count..)?,
             _ => break,
         }
     }
     client.set_nonblocking(false).ok()?;
-    Some(bytes.len() - rest.len())
+    bytes.len().checked_sub(rest.len())
 }
 
 /// Sixty SETs of 8,000 bytes and a GET, without a pause, while the first is held up. The second reply is read while the
