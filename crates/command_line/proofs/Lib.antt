@@ -3,4 +3,5 @@ mod Arguments
 mod Texts
 mod Numbers
 mod Parsed
+mod Faults
 mod Rows

@@ -1,33 +1,68 @@
 -- What words give by the command line of `garnetd`, and how those that it does not take fail: each worked out by hand.
 use Rattle.std.proofs.Common.{◌≡◌, List, [], ◌∷◌, Some, None, codes, refl, true}
 use Rattle.clap.specs.Words.{Text, fault_of, takes}
-use Rattle.clap.specs.declared.error.kind.ErrorKind.TheVariants.{ArgumentConflict, DisplayHelp, DisplayVersion, MissingRequiredArgument, UnknownArgument, ValueValidation}
+use Rattle.clap.specs.declared.error.kind.ErrorKind.TheVariants.{ArgumentConflict, DisplayHelp, DisplayVersion, InvalidValue, MissingRequiredArgument, UnknownArgument, ValueValidation}
 use Rattle.clap.proofs.OnLiterals.{clap_on_literals}
-use Rattle.command_line.specs.CommandLine.{garnetd, text_of}
+use Rattle.server.specs.declared.setting.DeviceKind.TheVariants.{Memory}
+use Rattle.command_line.specs.CommandLine.{device_by, device_word, faults, garnetd, text_of}
 
 -- the words after the program's name
 abbrev line : List Text → List Text
 line words = codes "garnetd" ∷ words
 
-abbrev all_four : List Text
-all_four = line (codes "--port" ∷ codes "65535" ∷ codes "--accept=1000000" ∷ codes "--stripes=64" ∷ codes "--workers" ∷ codes "1" ∷ [])
+abbrev all_eight : List Text
+all_eight = line (codes "--port" ∷ codes "65535" ∷ codes "--accept=1000000" ∷ codes "--stripes=64" ∷ codes "--buckets=65536" ∷ codes "--frames" ∷ codes "12"
+    ∷ codes "--places=64" ∷ codes "--workers" ∷ codes "1" ∷ codes "--device" ∷ codes "memory" ∷ [])
 
 abbrev two : List Text
 two = line (codes "--accept=1" ∷ codes "--port=-0" ∷ [])
 
-all_four_are_taken : (takes garnetd all_four ≡ true) × (fault_of garnetd all_four ≡ [])
-unfolding garnetd clap_on_literals
-all_four_are_taken = (refl, refl)
+-- the two options that have to be there, and this word
+abbrev with_word : Text → List Text
+with_word word = line (codes "--port=0" ∷ codes "--accept=1" ∷ word ∷ [])
 
-all_four_are_read : (text_of all_four (codes "port") ≡ Some (codes "65535")) × (text_of all_four (codes "accept") ≡ Some (codes "1000000"))
-    × (text_of all_four (codes "stripes") ≡ Some (codes "64")) × (text_of all_four (codes "workers") ≡ Some (codes "1"))
+all_eight_are_taken : (takes garnetd all_eight ≡ true) × (faults all_eight ≡ [])
 unfolding garnetd clap_on_literals
-all_four_are_read = (refl, refl, refl, refl)
+all_eight_are_taken = (refl, refl)
+
+all_eight_are_read : (text_of all_eight (codes "port") ≡ Some (codes "65535")) × (text_of all_eight (codes "accept") ≡ Some (codes "1000000"))
+    × (text_of all_eight (codes "stripes") ≡ Some (codes "64")) × (text_of all_eight (codes "buckets") ≡ Some (codes "65536"))
+    × (text_of all_eight (codes "frames") ≡ Some (codes "12")) × (text_of all_eight (codes "places") ≡ Some (codes "64"))
+    × (text_of all_eight (codes "workers") ≡ Some (codes "1")) × (device_by (device_word all_eight) ≡ Some Memory)
+unfolding garnetd clap_on_literals
+all_eight_are_read = (refl, refl, refl, refl, refl, refl, refl, refl)
 
 -- a minus before a zero is no part of the text
 two_are_enough : (takes garnetd two ≡ true) × (text_of two (codes "port") ≡ Some (codes "0")) × (text_of two (codes "stripes") ≡ None)
+    × (text_of two (codes "frames") ≡ None) × (device_by (device_word two) ≡ Some Memory) × (faults two ≡ [])
 unfolding garnetd clap_on_literals
-two_are_enough = (refl, refl, refl)
+two_are_enough = (refl, refl, refl, refl, refl, refl)
+
+-- the parser takes each word for the device, and only one names a device
+another_device : (takes garnetd (with_word (codes "--device=Memory")) ≡ true) × (faults (with_word (codes "--device=Memory")) ≡ InvalidValue ∷ [])
+unfolding garnetd clap_on_literals
+another_device = (refl, refl)
+
+no_device : (device_word (with_word (codes "--device=")) ≡ Some []) × (faults (with_word (codes "--device=")) ≡ InvalidValue ∷ [])
+unfolding garnetd clap_on_literals
+no_device = (refl, refl)
+
+-- what the parser refuses comes before what it does not know of
+port_and_device : faults (line (codes "--accept=1" ∷ codes "--device=disk" ∷ [])) ≡ MissingRequiredArgument ∷ []
+unfolding garnetd clap_on_literals
+port_and_device = refl
+
+eleven_frames : fault_of garnetd (with_word (codes "--frames=11")) ≡ ValueValidation ∷ []
+unfolding garnetd clap_on_literals
+eleven_frames = refl
+
+no_bucket : fault_of garnetd (with_word (codes "--buckets=0")) ≡ ValueValidation ∷ []
+unfolding garnetd clap_on_literals
+no_bucket = refl
+
+too_many_places : fault_of garnetd (with_word (codes "--places=65537")) ≡ ValueValidation ∷ []
+unfolding garnetd clap_on_literals
+too_many_places = refl
 
 port_is_missing : fault_of garnetd (line (codes "--accept=1" ∷ [])) ≡ MissingRequiredArgument ∷ []
 unfolding garnetd clap_on_literals

@@ -1,12 +1,18 @@
 -- The command line of `garnetd`, and what words ask for by it. Which words a command takes, and what it reads in them, is
 -- clap's: https://docs.rs/clap.
-use Rattle.std.specs.Prelude.{List, Option, Some, true, codes, pos}
-use Rattle.clap.specs.Words.{App, Rule, Text, matches_of, new_app, new_rule, one_of, with_rule}
+use Rattle.std.specs.Prelude.{◌≡◌, List, [], ◌∷◌, Option, Some, None, true, codes, fold, if◌then◌else◌, pos}
+use Rattle.std.specs.Str.{bytes_eq}
+use Rattle.clap.specs.Kinds.{or_else}
+use Rattle.clap.specs.Words.{App, Kinds, Rule, Text, fault_of, first_of, matches_of, new_app, new_rule, one_of, takes, with_rule}
 use Rattle.clap.specs.declared.builder.action.ArgAction.TheVariants.{Set}
 use Rattle.clap.specs.declared.builder.value_parser.ValueParser.{ValueParser}
-use Rattle.clap.specs.declared.builder.value_parser.ValueParser.TheVariants.{Signed, Unsigned}
-use Rattle.words.specs.declared.limits.TheConstants.{CLIENTS_DEFAULT, CLIENTS_MAX, STRIPES_DEFAULT, STRIPES_MAX}
+use Rattle.clap.specs.declared.builder.value_parser.ValueParser.TheVariants.{Signed, String, Unsigned}
+use Rattle.clap.specs.declared.error.kind.ErrorKind.TheVariants.{InvalidValue}
+use Rattle.words.specs.declared.limits.TheConstants.{BUCKETS_DEFAULT, BUCKETS_MAX, CLIENTS_DEFAULT, CLIENTS_MAX, FRAMES_DEFAULT, FRAMES_MAX, FRAMES_MIN}
+use Rattle.words.specs.declared.limits.TheConstants.{PLACES_DEFAULT, PLACES_MAX, PLACES_MIN, STRIPES_DEFAULT, STRIPES_MAX}
 use Rattle.server.specs.declared.setting.TheConstants.{ACCEPT_MAX}
+use Rattle.server.specs.declared.setting.DeviceKind.{DeviceKind}
+use Rattle.server.specs.declared.setting.DeviceKind.TheVariants.{Memory}
 use Rattle.server.specs.declared.setting.Options.{Options}
 use Rattle.command_line.specs.Given.{Gives, IsGivenOrDefault}
 
@@ -35,21 +41,73 @@ accept_option = required (option_of (codes "accept") (Signed (pos 1) (pos ACCEPT
 abbrev pub stripes_option : Rule
 stripes_option = option_of (codes "stripes") (Unsigned 1 STRIPES_MAX)
 
+-- A number from 1 to `BUCKETS_MAX`, or none.
+abbrev pub buckets_option : Rule
+buckets_option = option_of (codes "buckets") (Unsigned 1 BUCKETS_MAX)
+
+-- A number from `FRAMES_MIN` to `FRAMES_MAX`, or none.
+abbrev pub frames_option : Rule
+frames_option = option_of (codes "frames") (Unsigned FRAMES_MIN FRAMES_MAX)
+
+-- A number from `PLACES_MIN` to `PLACES_MAX`, or none.
+abbrev pub places_option : Rule
+places_option = option_of (codes "places") (Unsigned PLACES_MIN PLACES_MAX)
+
 -- A number from 1 to `CLIENTS_MAX`, or none.
 abbrev pub workers_option : Rule
 workers_option = option_of (codes "workers") (Unsigned 1 CLIENTS_MAX)
 
+-- Any word, or none. Which words name a device `device_named` says.
+abbrev pub device_option : Rule
+device_option = option_of (codes "device") String
+
+-- The options of `garnetd`.
+abbrev pub options : List Rule
+options = port_option ∷ accept_option ∷ stripes_option ∷ buckets_option ∷ frames_option ∷ places_option ∷ workers_option ∷ device_option ∷ []
+
 -- The command line of `garnetd`.
 unfoldable pub garnetd : App
-garnetd = with_rule (with_rule (with_rule (with_rule (named (codes "garnetd")) port_option) accept_option) stripes_option) workers_option
+garnetd = fold with_rule (named (codes "garnetd")) options
 
 -- The text that words give for an option of `garnetd`, or none.
 abbrev pub text_of : List Text → Text → Option Text
 text_of words option = one_of option (matches_of garnetd words)
+
+-- The word that words give for the device, or none.
+abbrev pub device_word : List Text → Option Text
+device_word words = first_of (codes "device") (matches_of garnetd words)
+
+-- The device that a word names, or none.
+abbrev pub device_named : Text → Option DeviceKind
+device_named word = if bytes_eq word (codes "memory") then Some Memory else None
+
+-- The device of a word that may be left out: memory where there is no word, and none where the word names none.
+abbrev pub device_by : Option Text → Option DeviceKind
+device_by None = Some Memory
+device_by (Some word) = device_named word
 
 -- Words ask for these options.
 pub record AskFor (words : List Text) (options : Options) : Type 0 where
   pub port : Gives (text_of words (codes "port")) options.port
   pub accept : Gives (text_of words (codes "accept")) options.accept
   pub stripes : IsGivenOrDefault (text_of words (codes "stripes")) STRIPES_DEFAULT options.stripes
+  pub buckets : IsGivenOrDefault (text_of words (codes "buckets")) BUCKETS_DEFAULT options.buckets
+  pub frames : IsGivenOrDefault (text_of words (codes "frames")) FRAMES_DEFAULT options.frames
+  pub places : IsGivenOrDefault (text_of words (codes "places")) PLACES_DEFAULT options.places
   pub workers : IsGivenOrDefault (text_of words (codes "workers")) CLIENTS_DEFAULT options.workers
+  pub device : device_by (device_word words) ≡ Some options.device
+
+-- The parser takes the words, and a word for the device names one.
+pub record IsTaken (words : List Text) : Type 0 where
+  pub taken : takes garnetd words ≡ true
+  pub device : DeviceKind
+  pub known : device_by (device_word words) ≡ Some device
+
+-- The kind of error where no device is named.
+abbrev pub device_faults : Option DeviceKind → Kinds
+device_faults None = InvalidValue ∷ []
+device_faults (Some device) = []
+
+-- The kinds of error of words: of the first step of the parse that fails, and where none does, of a device that is not known.
+abbrev pub faults : List Text → Kinds
+faults words = or_else (fault_of garnetd words) (device_faults (device_by (device_word words)))

@@ -1,45 +1,50 @@
 //! The command line of `garnetd`, in a crate of its own: to prove it takes a fraction of what the program takes.
 #![tactic(auto)]
 
-ghost use Rattle.std.specs.Prelude.{ℕ, ◌≡◌, ◌<◌, ◌≤◌, ◌^◌, IfErr, IfNone, IfOk, IfSome, codes, map, true};
-ghost use Rattle.clap.specs.Words.{FailsBy, app_of, fault_of, kind_of, rule_of, takes};
-ghost use Rattle.command_line.specs.Given.{Gives, GivesOrDefault, text_in};
-ghost use Rattle.command_line.specs.CommandLine.{AskFor, accept_option, garnetd, port_option, stripes_option, workers_option};
-ghost use Rattle.server.specs.Settings.{AreInRange};
-ghost use Rattle.words.specs.declared.limits.TheConstants.{STRIPES_DEFAULT, CLIENTS_DEFAULT};
+ghost use Rattle.std.specs.Prelude.{ℕ, ◌≡◌, ◌<◌, ◌^◌, Some, None, IfErr, IfNone, IfOk, IfSome, codes, map};
+ghost use Rattle.clap.specs.Words.{FailsBy, app_of, first_value, found_of, kind_of, rule_of};
+ghost use Rattle.clap.specs.declared.builder.value_parser.ValueParser.TheVariants.{Unsigned};
+ghost use Rattle.command_line.specs.Given.{Gives, GivesOrDefault, HasGiven, IsInRange, text_in};
+ghost use Rattle.command_line.specs.CommandLine.{AskFor, IsTaken, faults, garnetd, device_by, device_named};
+ghost use Rattle.command_line.specs.CommandLine.{accept_option, buckets_option, device_option, frames_option, option_of};
+ghost use Rattle.command_line.specs.CommandLine.{places_option, port_option, stripes_option, workers_option};
 
+use clap::builder::ValueParser;
 use clap::error::ErrorKind;
 use clap::{Arg, ArgAction, ArgMatches, Command, Error, value_parser};
-use server::{ACCEPT_MAX, Options};
+use server::{ACCEPT_MAX, DeviceKind, Options};
 use std::alloc::{AllocError, Global};
 use std::convert::AsStr;
-use words::limits::{CLIENTS_DEFAULT, CLIENTS_MAX, STRIPES_DEFAULT, STRIPES_MAX};
+use words::limits::{
+    BUCKETS_DEFAULT, BUCKETS_MAX, CLIENTS_DEFAULT, CLIENTS_MAX, FRAMES_DEFAULT, FRAMES_MAX,
+    FRAMES_MIN, PLACES_DEFAULT, PLACES_MAX, PLACES_MIN, STRIPES_DEFAULT, STRIPES_MAX,
+};
 
 /// What the words of a command line ask for, the program's name first.
 ///
 /// # Errors
 ///
 /// What the parser says of a command line that it refuses, and of one that asks for help or for the
-/// version.
+/// version; and `InvalidValue` where `--device` has a word that names no device.
 pub fn options_of<'a, S: AsStr>(alloc: Global, words: &'a [S]) -> Result<Options, Error>
     ensures ok { IfOk result (AskFor (map S.text words.entry.now)) }
     // Where the command takes the words, an error is for want of memory.
-    ensures taken { IfErr result (λ e. takes garnetd (map S.text words.entry.now) ≡ true → kind_of e ≡ ErrorKind.OutOfMemory) }
-    // Options come only where no step of the parse fails, and else the kind of error of the first that does, or that of
-    // want of memory.
-    ensures kinds { FailsBy (fault_of garnetd (map S.text words.entry.now)) result }
+    ensures taken { IfErr result (λ e. IsTaken (map S.text words.entry.now) → kind_of e ≡ ErrorKind.OutOfMemory) }
+    // Options come only where no step of the parse fails and the device is known, and else the kind of error of the
+    // first that does, or that of want of memory.
+    ensures kinds { FailsBy (faults (map S.text words.entry.now)) result }
 {
-    let ranges = Ranges::new(alloc)?;
-    read(alloc, &ranges, words)
+    let texts = HelpTexts::new(alloc)?;
+    read(alloc, &texts, words)
 }
 
 /// What these words ask for.
-fn read<'a, S: AsStr>(alloc: Global, ranges: &'a Ranges, words: &'a [S]) -> Result<Options, Error>
+fn read<'a, S: AsStr>(alloc: Global, texts: &'a HelpTexts, words: &'a [S]) -> Result<Options, Error>
     ensures ok { IfOk result (AskFor (map S.text words.entry.now)) }
-    ensures taken { IfErr result (λ e. takes garnetd (map S.text words.entry.now) ≡ true → kind_of e ≡ ErrorKind.OutOfMemory) }
-    ensures kinds { FailsBy (fault_of garnetd (map S.text words.entry.now)) result }
+    ensures taken { IfErr result (λ e. IsTaken (map S.text words.entry.now) → kind_of e ≡ ErrorKind.OutOfMemory) }
+    ensures kinds { FailsBy (faults (map S.text words.entry.now)) result }
 {
-    let mut command = command(alloc, ranges)?;
+    let mut command = command(alloc, texts)?;
     read_by(&mut command, words)
 }
 
@@ -47,45 +52,95 @@ fn read<'a, S: AsStr>(alloc: Global, ranges: &'a Ranges, words: &'a [S]) -> Resu
 fn read_by<'a, S: AsStr>(command: &mut Command<'a>, words: &'a [S]) -> Result<Options, Error>
     ensures ok { app_of command.old ≡ garnetd → IfOk result (AskFor (map S.text words.entry.now)) }
     ensures taken { app_of command.old ≡ garnetd
-        → IfErr result (λ e. takes garnetd (map S.text words.entry.now) ≡ true → kind_of e ≡ ErrorKind.OutOfMemory) }
-    ensures kinds { app_of command.old ≡ garnetd → FailsBy (fault_of garnetd (map S.text words.entry.now)) result }
+        → IfErr result (λ e. IsTaken (map S.text words.entry.now) → kind_of e ≡ ErrorKind.OutOfMemory) }
+    ensures kinds { app_of command.old ≡ garnetd → FailsBy (faults (map S.text words.entry.now)) result }
 {
     let matches = command.try_get_matches_from_mut(words)?;
     match given(&matches) {
         Some(options) => Ok(options),
-        None => Err(command.error(ErrorKind::MissingRequiredArgument, "an option has no value")?),
+        None => Err(command.error(ErrorKind::InvalidValue, NO_DEVICE)?),
     }
 }
 
-/// What help says of options whose ranges are limits: what they are, their range and their default.
+/// What is said of a word that names no device.
+const NO_DEVICE: &str = "invalid value for '--device <DEVICE>'\n  [possible values: memory]";
+
+/// What help says of options whose ranges are limits: what they are, what they cost in memory, their range and
+/// their default.
 #[derive(Drop)]
-struct Ranges {
+struct HelpTexts {
     accept: String,
     stripes: String,
+    buckets: String,
+    frames: String,
+    places: String,
     workers: String,
 }
 
-impl Ranges {
-    fn new(alloc: Global) -> Result<Ranges, AllocError> {
+impl HelpTexts {
+    fn new(alloc: Global) -> Result<HelpTexts, AllocError> {
         let accept = format!(in alloc;
             "Connections to accept in all, 1 to {ACCEPT_MAX}; no default"
         )?;
-        let stripes = format!(in alloc;
-            "Stripes of the store, 1 to {STRIPES_MAX}; default {STRIPES_DEFAULT}"
+        let stripes = number_text(
+            alloc,
+            "Stripes of the store",
+            1,
+            STRIPES_MAX,
+            STRIPES_DEFAULT,
         )?;
-        let workers = format!(in alloc;
-            "Clients served at one time, 1 to {CLIENTS_MAX}; default {CLIENTS_DEFAULT}"
+        let buckets = number_text(
+            alloc,
+            "Buckets of each stripe's index, 8 bytes each",
+            1,
+            BUCKETS_MAX,
+            BUCKETS_DEFAULT,
         )?;
-        Ok(Ranges {
+        let frames = number_text(
+            alloc,
+            "Frames of each stripe for the newest pages, 16 KiB each",
+            FRAMES_MIN,
+            FRAMES_MAX,
+            FRAMES_DEFAULT,
+        )?;
+        let places = number_text(
+            alloc,
+            "Places of each stripe on the device for the other pages, 16 KiB each when used",
+            PLACES_MIN,
+            PLACES_MAX,
+            PLACES_DEFAULT,
+        )?;
+        let workers = number_text(
+            alloc,
+            "Clients served at one time",
+            1,
+            CLIENTS_MAX,
+            CLIENTS_DEFAULT,
+        )?;
+        Ok(HelpTexts {
             accept,
             stripes,
+            buckets,
+            frames,
+            places,
             workers,
         })
     }
 }
 
+/// What help says of a number that may be left out.
+fn number_text(
+    alloc: Global,
+    what: &str,
+    least: usize,
+    most: usize,
+    default: usize,
+) -> Result<String, AllocError> {
+    format!(in alloc; "{what}, {least} to {most}; default {default}")
+}
+
 /// The command line that is parsed.
-fn command<'a>(alloc: Global, ranges: &'a Ranges) -> Result<Command<'a>, AllocError>
+fn command<'a>(alloc: Global, texts: &'a HelpTexts) -> Result<Command<'a>, AllocError>
     ensures { IfOk result (λ command. app_of command ≡ garnetd) }
 {
     Command::new(alloc, "garnetd")
@@ -94,9 +149,13 @@ fn command<'a>(alloc: Global, ranges: &'a Ranges) -> Result<Command<'a>, AllocEr
             "Serves the string commands and transactions of Redis in RESP2 to many clients at one time, and ends when all have",
         )
         .arg(port(alloc))?
-        .arg(accept(alloc, ranges.accept.as_str()))?
-        .arg(stripes(alloc, ranges.stripes.as_str()))?
-        .arg(workers(alloc, ranges.workers.as_str()))
+        .arg(accept(alloc, texts.accept.as_str()))?
+        .arg(stripes(alloc, texts.stripes.as_str()))?
+        .arg(buckets(alloc, texts.buckets.as_str()))?
+        .arg(frames(alloc, texts.frames.as_str()))?
+        .arg(places(alloc, texts.places.as_str()))?
+        .arg(workers(alloc, texts.workers.as_str()))?
+        .arg(device(alloc))
 }
 
 fn port<'a>(alloc: Global) -> Arg<'a>
@@ -126,43 +185,102 @@ fn accept<'a>(alloc: Global, help: &'a str) -> Arg<'a>
 fn stripes<'a>(alloc: Global, help: &'a str) -> Arg<'a>
     ensures { rule_of result ≡ stripes_option }
 {
-    Arg::new(alloc, "stripes")
-        .long("stripes")
-        .action(ArgAction::Set)
-        .value_name("S")
-        .value_parser(value_parser!(usize).range(1..=STRIPES_MAX as i64))
-        .help(help)
+    number(alloc, "stripes", "S", 1, STRIPES_MAX, help)
+}
+
+fn buckets<'a>(alloc: Global, help: &'a str) -> Arg<'a>
+    ensures { rule_of result ≡ buckets_option }
+{
+    number(alloc, "buckets", "B", 1, BUCKETS_MAX, help)
+}
+
+fn frames<'a>(alloc: Global, help: &'a str) -> Arg<'a>
+    ensures { rule_of result ≡ frames_option }
+{
+    number(alloc, "frames", "F", FRAMES_MIN, FRAMES_MAX, help)
+}
+
+fn places<'a>(alloc: Global, help: &'a str) -> Arg<'a>
+    ensures { rule_of result ≡ places_option }
+{
+    number(alloc, "places", "L", PLACES_MIN, PLACES_MAX, help)
 }
 
 fn workers<'a>(alloc: Global, help: &'a str) -> Arg<'a>
     ensures { rule_of result ≡ workers_option }
 {
-    Arg::new(alloc, "workers")
-        .long("workers")
+    number(alloc, "workers", "W", 1, CLIENTS_MAX, help)
+}
+
+/// A number of these bounds that may be left out.
+fn number<'a>(
+    alloc: Global,
+    name: &'a str,
+    value_name: &'a str,
+    least: usize,
+    most: usize,
+    help: &'a str,
+) -> Arg<'a>
+    ensures { rule_of result ≡ option_of name.now (Unsigned least most) }
+{
+    Arg::new(alloc, name)
+        .long(name)
         .action(ArgAction::Set)
-        .value_name("W")
-        .value_parser(value_parser!(usize).range(1..=CLIENTS_MAX as i64))
+        .value_name(value_name)
+        .value_parser(ValueParser::unsigned(least as u64, most as u64))
         .help(help)
 }
 
-/// The options that a parsed command line gives, or `None` where one that has no default is not given, or
-/// one is not in its range.
-fn given(matches: &ArgMatches<'_>) -> Option<Options>
-    ensures port { IfSome result (λ options. Gives (text_in matches.now (codes "port")) options.port) }
-    ensures accept { IfSome result (λ options. Gives (text_in matches.now (codes "accept")) options.accept) }
-    ensures stripes { IfSome result (λ options. GivesOrDefault (text_in matches.now (codes "stripes")) STRIPES_DEFAULT options.stripes) }
-    ensures workers { IfSome result (λ options. GivesOrDefault (text_in matches.now (codes "workers")) CLIENTS_DEFAULT options.workers) }
-    ensures none { IfNone result ((port accept stripes workers : ℕ) → Gives (text_in matches.now (codes "port")) port → port < 2 ^ 16
-        → Gives (text_in matches.now (codes "accept")) accept
-        → GivesOrDefault (text_in matches.now (codes "stripes")) STRIPES_DEFAULT stripes
-        → GivesOrDefault (text_in matches.now (codes "workers")) CLIENTS_DEFAULT workers
-        → AreInRange accept stripes workers → ⊥) }
+fn device<'a>(alloc: Global) -> Arg<'a>
+    ensures { rule_of result ≡ device_option }
 {
+    Arg::new(alloc, "device")
+        .long("device")
+        .action(ArgAction::Set)
+        .value_name("DEVICE")
+        .value_parser(ValueParser::string())
+        .help("What keeps the pages that have left their frames: memory; default memory")
+}
+
+/// The device that a parsed command line asks for, or `None` where its word names none.
+fn given_device(matches: &ArgMatches<'_>) -> Option<DeviceKind>
+    ensures { result ≡ device_by (first_value (found_of matches.now) (codes "device")) }
+{
+    match matches.get_str("device") {
+        Some(word) => device_named(word),
+        None => Some(DeviceKind::Memory),
+    }
+}
+
+/// The device of this name.
+fn device_named(word: &str) -> Option<DeviceKind>
+    ensures { result ≡ device_named word.now }
+{
+    if word == "memory" {
+        Some(DeviceKind::Memory)
+    } else {
+        None
+    }
+}
+
+/// The options that a parsed command line gives. `None` where a word names no device; and where an option that has no
+/// default is not given, or one is not in its range, which the parser lets no command line do.
+fn given(matches: &ArgMatches<'_>) -> Option<Options>
+    ensures numbers { IfSome result (HasGiven matches.now) }
+    ensures device { IfSome result (λ options. device_by (first_value (found_of matches.now) (codes "device")) ≡ Some options.device) }
+    ensures none { IfNone result (IsInRange matches.now → device_by (first_value (found_of matches.now) (codes "device")) ≡ None) }
+{
+    let device = given_device(matches)?;
     let port = given_port(matches)?;
     let accept = given_accept(matches)?;
     let stripes = given_or(matches, "stripes", STRIPES_DEFAULT);
+    let buckets = given_or(matches, "buckets", BUCKETS_DEFAULT);
+    let frames = given_or(matches, "frames", FRAMES_DEFAULT);
+    let places = given_or(matches, "places", PLACES_DEFAULT);
     let workers = given_or(matches, "workers", CLIENTS_DEFAULT);
-    Options::new(port, accept, stripes, workers)
+    Options::new(
+        port, accept, stripes, buckets, frames, places, workers, device,
+    )
 }
 
 /// The port, or `None` where no number of 16 bits is given.
@@ -196,31 +314,51 @@ mod tests {
     use super::*;
     use std::test::Fail;
 
+    /// A command line with each option.
+    const ALL: &[&str] = &[
+        "garnetd",
+        "--port",
+        "65535",
+        "--accept=1000000",
+        "--stripes=1",
+        "--buckets=65536",
+        "--frames",
+        "12",
+        "--places=65536",
+        "--workers",
+        "64",
+        "--device=memory",
+    ];
+
+    /// What that asks for.
+    fn all() -> Option<Options> {
+        let memory = DeviceKind::Memory;
+        Options::new(65_535, 1_000_000, 1, 65_536, 12, 65_536, 64, memory)
+    }
+
     #[test]
     fn every_option_is_read(rt: HostRuntime) -> Result<(), Fail> {
-        let words = [
-            "garnetd",
-            "--port",
-            "65535",
-            "--accept=1000000",
-            "--stripes=1",
-            "--workers",
-            "64",
-        ];
-        let options = options_of(rt.alloc(), words.as_slice())?;
-        assert_eq!(rt; Some(options), Options::new(65_535, 1_000_000, 1, 64));
+        let options = options_of(rt.alloc(), ALL)?;
+        assert_eq!(rt; Some(options), all());
         Ok(())
+    }
+
+    /// A command line with the options that have no default.
+    const LEAST: &[&str] = &["garnetd", "--port=0", "--accept=1"];
+
+    /// What that asks for.
+    fn least() -> Option<Options> {
+        Options::new(0, 1, 16, 4_096, 32, 4_096, 4, DeviceKind::Memory)
     }
 
     #[test]
-    fn stripes_and_workers_have_defaults(rt: HostRuntime) -> Result<(), Fail> {
-        let words = ["garnetd", "--port=0", "--accept=1"];
-        let options = options_of(rt.alloc(), words.as_slice())?;
-        assert_eq!(rt; Some(options), Options::new(0, 1, 16, 4));
+    fn all_but_port_and_accept_have_defaults(rt: HostRuntime) -> Result<(), Fail> {
+        let options = options_of(rt.alloc(), LEAST)?;
+        assert_eq!(rt; Some(options), least());
         Ok(())
     }
 
-    /// Options of which one is not in its range, is no number, stands twice or is not known.
+    /// Options of which one is not in its range, is no number, names no device, stands twice or is not known.
     const REFUSED: &[&[&str]] = &[
         &["garnetd", "--port=0"],
         &["garnetd", "--accept=1"],
@@ -233,9 +371,18 @@ mod tests {
         &["garnetd", "--port=0", "--accept=1", "--stripes=0"],
         &["garnetd", "--port=0", "--accept=1", "--stripes=65"],
         &["garnetd", "--port=0", "--accept=1", "--stripes="],
+        &["garnetd", "--port=0", "--accept=1", "--buckets=0"],
+        &["garnetd", "--port=0", "--accept=1", "--buckets=65537"],
+        &["garnetd", "--port=0", "--accept=1", "--frames=11"],
+        &["garnetd", "--port=0", "--accept=1", "--frames=257"],
+        &["garnetd", "--port=0", "--accept=1", "--places=63"],
+        &["garnetd", "--port=0", "--accept=1", "--places=65537"],
         &["garnetd", "--port=0", "--accept=1", "--workers=0"],
         &["garnetd", "--port=0", "--accept=1", "--workers=65"],
         &["garnetd", "--port=0", "--accept=1", "--workers=-1"],
+        &["garnetd", "--port=0", "--accept=1", "--device=pages"],
+        &["garnetd", "--port=0", "--accept=1", "--device=Memory"],
+        &["garnetd", "--port=0", "--accept=1", "--device="],
         &["garnetd", "--port=0", "--accept=1", "--colour=red"],
     ];
 
@@ -257,8 +404,16 @@ mod tests {
         "1 to 1000000; no default",
         "--stripes <S>",
         "1 to 64; default 16",
+        "--buckets <B>",
+        "8 bytes each, 1 to 65536; default 4096",
+        "--frames <F>",
+        "16 KiB each, 12 to 256; default 32",
+        "--places <L>",
+        "16 KiB each when used, 64 to 65536; default 4096",
         "--workers <W>",
         "1 to 64; default 4",
+        "--device <DEVICE>",
+        "memory; default memory",
     ];
 
     #[test]

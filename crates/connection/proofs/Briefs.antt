@@ -13,7 +13,6 @@ use Rattle.words.specs.Commands.{command_of, touches_keys}
 use Rattle.words.specs.Bounds.{IsBounded}
 use Rattle.words.specs.Briefs.{IsGet, IsSet, IsPing}
 use Rattle.words.specs.Session.{Idle, Says, Calls, Run, turn, turn_idle, line_reply}
-use Rattle.gates.specs.declared.view.Knowledge.{Knowledge}
 use Rattle.transact.specs.declared.call.Call.TheVariants.{One}
 use Rattle.transact.specs.declared.call.Answer.{Answer}
 use Rattle.transact.specs.declared.call.Answer.TheVariants as answer
@@ -21,7 +20,8 @@ use Rattle.transact.specs.Calls.{reply_to}
 use Rattle.transact.specs.Submits.{IfReply, IfFault}
 use Rattle.session.specs.Standings.{Wait, ForAnswer, stands}
 use Rattle.session.specs.Laws.{WatchesPairsOfEntry, WatchesPairsOfFault}
-use Rattle.engine.specs.Calls.{IsDone, IsUndone}
+use Rattle.engine.specs.Passes.{Known}
+use Rattle.engine.specs.Calls.{Promises, IsDone, IsUndone}
 use Rattle.connection.specs.declared.client.Next.TheVariants as next
 use Rattle.connection.specs.Clients.{Progress, Called, Resumes, TakesUp, IsIdle, before}
 use Rattle.connection.specs.Served.{Attends, Turned}
@@ -44,53 +44,45 @@ says_it at idle (answer.Reply reply) = (stands Idle idle.0, idle.1, (refl, refl)
 says_it at idle (answer.Fault fault) = (stands Idle idle.0, idle.1, (refl, refl))
 
 -- a client watches what it watched before its request was taken off
-pub attends_before : (knows : Knowledge) (words : List Bytes) (at : Progress) → Attends knows at → Attends knows (before words at)
+pub attends_before : (knows : Known) (words : List Bytes) (at : Progress) → Attends knows at → Attends knows (before words at)
 attends_before knows words at attends = record { ready = attends.ready; watches = attends.watches }
 
 -- the turn
-turned_brief : (was now : Knowledge) (stripes : List ℕ) (words : List Bytes) (command : Command) (a : Answer) (reply : Reply) (at : Progress)
+turned_brief : {promises : Promises} (was now : Known) (stripes : List ℕ) (words : List Bytes) (command : Command) (a : Answer) (reply : Reply) (at : Progress)
     → WatchesPairsOfEntry → WatchesPairsOfFault → Attends was at → (idle : IsIdle at.stage) → IsRequest words
     → turn Idle idle.0 words ≡ Calls (Run command) Idle Idle → IsTrue (touches_keys command) × IsBounded command
-    → IfReply a (λ given. IsDone stripes (Some (Run command)) given was now) → IfFault a (λ f. IsUndone stripes (Some (Run command)) f was now)
-    → reply ≡ reply_to a → Turned was now (before words at) at reply
+    → IfReply a (λ given. IsDone stripes (Some (Run command)) given was now) → IfFault a (λ f. IsUndone promises stripes (Some (Run command)) f was now)
+    → reply ≡ reply_to a → Turned promises was now (before words at) at reply
 turned_brief was now stripes words command a reply at entry law attends idle request asks place done undone says =
     turned_called was now stripes (One command) a reply (before words at) (record at { stage = Called (waits idle.0) }) at entry law
     (attends_before was words at attends) (hands_on words command at idle request asks place) done undone refl (rw says (says_it at idle a))
 
 -- of a GET
-pub turned_get : (was now : Knowledge) (stripes : List ℕ) (words : List Bytes) (a : Answer) (reply : Reply) (at : Progress)
+pub turned_get : {promises : Promises} (was now : Known) (stripes : List ℕ) (words : List Bytes) (a : Answer) (reply : Reply) (at : Progress)
     → WatchesPairsOfEntry → WatchesPairsOfFault → Attends was at → IsIdle at.stage → IsRequest words → (get : IsGet words) → IsBounded (Get get.key)
     → IfReply a (λ given. IsDone stripes (Some (Run (Get get.key))) given was now)
-    → IfFault a (λ f. IsUndone stripes (Some (Run (Get get.key))) f was now)
-    → reply ≡ reply_to a → Turned was now (before words at) at reply
+    → IfFault a (λ f. IsUndone promises stripes (Some (Run (Get get.key))) f was now)
+    → reply ≡ reply_to a → Turned promises was now (before words at) at reply
 turned_get was now stripes words a reply at entry law attends idle request get bounded done undone says =
     turned_brief was now stripes words (Get get.key) a reply at entry law attends idle request (ap (turn_idle idle.0) get.command) (refl, bounded) done undone says
 
 -- of a SET without an option
-pub turned_set : (was now : Knowledge) (stripes : List ℕ) (words : List Bytes) (a : Answer) (reply : Reply) (at : Progress)
+pub turned_set : {promises : Promises} (was now : Known) (stripes : List ℕ) (words : List Bytes) (a : Answer) (reply : Reply) (at : Progress)
     → WatchesPairsOfEntry → WatchesPairsOfFault → Attends was at → IsIdle at.stage → IsRequest words → (set : IsSet words) → IsBounded (Set set.key set.value Always)
     → IfReply a (λ given. IsDone stripes (Some (Run (Set set.key set.value Always))) given was now)
-    → IfFault a (λ f. IsUndone stripes (Some (Run (Set set.key set.value Always))) f was now)
-    → reply ≡ reply_to a → Turned was now (before words at) at reply
+    → IfFault a (λ f. IsUndone promises stripes (Some (Run (Set set.key set.value Always))) f was now)
+    → reply ≡ reply_to a → Turned promises was now (before words at) at reply
 turned_set was now stripes words a reply at entry law attends idle request set bounded done undone says =
     turned_brief was now stripes words (Set set.key set.value Always) a reply at entry law attends idle request (ap (turn_idle idle.0) set.command)
     (refl, bounded) done undone says
 
 -- of a PING without a text
-pub turned_ping : (was : Knowledge) (words : List Bytes) (at : Progress) → Attends was at → IsIdle at.stage → IsRequest words → IsPing words
-    → Turned was was (before words at) at (line_reply Pong)
+pub turned_ping : {promises : Promises} (was : Known) (words : List Bytes) (at : Progress) → Attends was at → IsIdle at.stage → IsRequest words → IsPing words
+    → Turned promises was was (before words at) at (line_reply Pong)
 turned_ping was words at attends idle request ping =
     let says : turn Idle idle.0 words ≡ Says (line_reply Pong) Idle = ap (turn_idle idle.0) ping.command in
     turned_said was (before words at) at (line_reply Pong) (attends_before was words at attends)
     (words, record { request = request; taken = refl }, (stands Idle idle.0, idle.1, rw (idle.1, says) (refl, refl)))
-
--- what is left where the last of three words is taken off, and that word
-pub last_off : (left : List Bytes) (last name key value : Bytes) → name ∷ key ∷ value ∷ [] ≡ left ++ last ∷ [] → (left ≡ name ∷ key ∷ []) × (last ≡ value)
-last_off [] last name key value is = absurd (cc is)
-last_off (a ∷ []) last name key value is = absurd (cc is)
-last_off (a ∷ b ∷ []) last name key value is = (cc is, cc is)
-last_off (a ∷ b ∷ c ∷ []) last name key value is = absurd (cc is)
-last_off (a ∷ b ∷ c ∷ d ∷ more) last name key value is = absurd (cc is)
 
 -- A GET and a SET without an option of a request within the limits are within them.
 

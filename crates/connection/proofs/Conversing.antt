@@ -14,8 +14,9 @@ use Rattle.words.specs.declared.history.Operation.{Operation}
 use Rattle.words.specs.History.{Pair, Placed, keys_of_pairs}
 use Rattle.words.specs.Watches.{watched_after}
 use Rattle.words.specs.Session.{Mode, Idle, Turn, Says, Forgets, Tries, Calls, Never, operation_of, watched_at_fault, turn, Rest, TakesEntry, Follows, Transcript}
-use Rattle.gates.specs.declared.view.Knowledge.{Knowledge}
 use Rattle.gates.specs.declared.view.Note.{Note}
+use Rattle.engine.specs.Passes.{Known}
+use Rattle.engine.specs.Calls.{Promises}
 use Rattle.connection.specs.Clients.{Progress, beginning, TakesOff, IsOpen, mode_of, WantsMemory}
 use Rattle.connection.specs.Conversations.{Leads, Talk, Conversation, Answers, Went}
 use Rattle.connection.specs.declared.serving.Ended.{Ended}
@@ -146,11 +147,11 @@ conversation_next session own entries pairs after fed said old new reply talk on
 }
 
 -- a pass that has made no entry
-abbrev pub went_none : (was : Knowledge) → Went was was []
-went_none was = record { number = refl; more = []; seen = refl; mine = refl; told = []; notes = refl }
+abbrev pub went_none : (was : Known) → Went was was []
+went_none was = record { number = refl; more = []; seen = refl; mine = refl; told = []; notes = refl; failures = omega arith }
 
 -- a pass that goes on
-pub went_then : (was mid now : Knowledge) (own entries : List Placed) → Went was mid own → Went mid now entries → Went was now (own ++ entries)
+pub went_then : (was mid now : Known) (own entries : List Placed) → Went was mid own → Went mid now entries → Went was now (own ++ entries)
 went_then was mid now own entries one two = record {
   number = two.number ∙ one.number;
   more = two.more ++ one.more;
@@ -162,6 +163,7 @@ went_then was mid now own entries one two = record {
       ∙ ap (λ (t : List Placed). t ++ was.mine) (sym (reverse-append own entries));
   told = two.told ++ one.told;
   notes = two.notes ∙ ap (λ (t : List Note). two.told ++ t) one.notes ∙ sym (append_assoc two.told one.told was.notes);
+  failures = omega (arith, one.failures, two.failures);
 }
 
 -- bytes at the end of what is unread change no turn
@@ -174,8 +176,8 @@ taken_longer piece old new words taken = record {
   taken = ap (λ (t : Bytes). t ++ piece) taken.taken ∙ append_assoc (spelling words) new piece;
 }
 
-turned_longer : (piece : Bytes) (was now : Knowledge) (old new : Progress) (reply : Reply) → Turned was now old new reply
-    → Turned was now (more_unread piece old) (more_unread piece new) reply
+turned_longer : {promises : Promises} (piece : Bytes) (was now : Known) (old new : Progress) (reply : Reply) → Turned promises was now old new reply
+    → Turned promises was now (more_unread piece old) (more_unread piece new) reply
 turned_longer piece was now old new reply turned = record {
   own = turned.own;
   went = turned.went;
@@ -189,25 +191,25 @@ turned_longer piece was now old new reply turned = record {
   spared = (turned.spared.0, taken_longer piece old.unread new.unread turned.spared.0 turned.spared.1, turned.spared.2);
 }
 
-turns_longer : (piece : Bytes) (was now : Knowledge) (old new : Progress) (replies : List Reply) → Turns was now old new replies
-    → Turns was now (more_unread piece old) (more_unread piece new) replies
-turns_longer piece was now old new [] turns = (turns.0, ap (more_unread piece) turns.1)
-turns_longer piece was now old new (reply ∷ replies) turns = (
+turns_longer : (promises : Promises) (piece : Bytes) (was now : Known) (old new : Progress) (replies : List Reply) → Turns promises was now old new replies
+    → Turns promises was now (more_unread piece old) (more_unread piece new) replies
+turns_longer promises piece was now old new [] turns = (turns.0, ap (more_unread piece) turns.1)
+turns_longer promises piece was now old new (reply ∷ replies) turns = (
   turns.0,
   more_unread piece turns.1,
   turned_longer piece was turns.0 old turns.1 reply turns.2,
-  turns_longer piece turns.0 now turns.1 new replies turns.3,
+  turns_longer promises piece turns.0 now turns.1 new replies turns.3,
 )
 
 -- one turn more
-turns_then : (was mid now : Knowledge) (old at new : Progress) (replies : List Reply) (reply : Reply) → Turns was mid old at replies → Turned mid now at new reply
-    → Turns was now old new (replies ++ reply ∷ [])
+turns_then : {promises : Promises} (was mid now : Known) (old at new : Progress) (replies : List Reply) (reply : Reply) → Turns promises was mid old at replies → Turned promises mid now at new reply
+    → Turns promises was now old new (replies ++ reply ∷ [])
 turns_then was mid now old at new [] reply turns one = (now, new, rw (turns.0, turns.1) at one, (refl, refl))
 turns_then was mid now old at new (first ∷ replies) reply turns one =
     (turns.0, turns.1, turns.2, turns_then turns.0 mid now turns.1 at new replies reply turns.3 one)
 
 -- the conversation of a pass that watches nothing begins
-pub conversing_begins : (was : Knowledge) (at : Progress) → was.watched ≡ [] → at ≡ beginning → Conversing was was [] at []
+pub conversing_begins : {promises : Promises} (was : Known) (at : Progress) → was.watched ≡ [] → at ≡ beginning → Conversing promises was was [] at []
 conversing_begins was at none begins = record {
   own = [];
   went = went_none was;
@@ -225,24 +227,24 @@ conversing_begins was at none begins = record {
 }
 
 -- it goes on with a piece, of a client that stands as before but for that
-pub conversing_with : (was now : Knowledge) (fed said piece : Bytes) (at : Progress) → Conversing was now fed at said
-    → Conversing was now (fed ++ piece) (record at { unread = at.unread ++ piece }) said
+pub conversing_with : {promises : Promises} (was now : Known) (fed said piece : Bytes) (at : Progress) → Conversing promises was now fed at said
+    → Conversing promises was now (fed ++ piece) (record at { unread = at.unread ++ piece }) said
 unfolding conversation_fed
 conversing_with was now fed said piece at talk = record {
   own = talk.own;
   went = talk.went;
   conversation = conversation_fed was.number talk.own now.watched fed said piece at talk.conversation;
-  turns = turns_longer piece was now (fed_at_once fed) at talk.conversation.replies talk.turns;
+  turns = turns_longer _ piece was now (fed_at_once fed) at talk.conversation.replies talk.turns;
 }
 
 -- it goes on with a piece
-pub conversing_fed : (was now : Knowledge) (fed said piece : Bytes) (at after : Progress) → Conversing was now fed at said
-    → after ≡ record at { unread = at.unread ++ piece } → Conversing was now (fed ++ piece) after said
+pub conversing_fed : {promises : Promises} (was now : Known) (fed said piece : Bytes) (at after : Progress) → Conversing promises was now fed at said
+    → after ≡ record at { unread = at.unread ++ piece } → Conversing promises was now (fed ++ piece) after said
 conversing_fed was now fed said piece at after talk is = rw is (conversing_with was now fed said piece at talk)
 
 -- it goes on with one answered request
-pub conversing_next : (was mid now : Knowledge) (fed said : Bytes) (old new : Progress) (reply : Reply)
-    → Conversing was mid fed old said → Turned mid now old new reply → Conversing was now fed new (said ++ encoding reply)
+pub conversing_next : {promises : Promises} (was mid now : Known) (fed said : Bytes) (old new : Progress) (reply : Reply)
+    → Conversing promises was mid fed old said → Turned promises mid now old new reply → Conversing promises was now fed new (said ++ encoding reply)
 unfolding conversation_next
 conversing_next was mid now fed said old new reply talk one = record {
   own = talk.own ++ one.own;
@@ -254,18 +256,18 @@ conversing_next was mid now fed said old new reply talk one = record {
 }
 
 -- the same of an equal text
-pub conversing_says : (was now : Knowledge) (fed : Bytes) (at : Progress) {said text : Bytes} → Conversing was now fed at said → said ≡ text
-    → Conversing was now fed at text
+pub conversing_says : {promises : Promises} (was now : Known) (fed : Bytes) (at : Progress) {said text : Bytes} → Conversing promises was now fed at said → said ≡ text
+    → Conversing promises was now fed at text
 conversing_says was now fed at talk is = rw is at talk
 
 -- the same of a pass that knows the same
-pub conversing_same : (was mid now : Knowledge) (fed said : Bytes) (at : Progress) → Conversing was mid fed at said → now ≡ mid
-    → Conversing was now fed at said
+pub conversing_same : {promises : Promises} (was mid now : Known) (fed said : Bytes) (at : Progress) → Conversing promises was mid fed at said → now ≡ mid
+    → Conversing promises was now fed at said
 conversing_same was mid now fed said at talk is = rw is talk
 
 -- a conversation, closed
-abbrev pub closed : {was now : Knowledge} {fed : Bytes} {at : Progress} {said : Bytes} → Conversing was now fed at said → Answered was now fed
-closed {was} {now} {fed} {at} {said} talk = record {
+abbrev pub closed : {promises : Promises} {was now : Known} {fed : Bytes} {at : Progress} {said : Bytes} → Conversing promises was now fed at said → Answered promises was now fed
+closed {promises} {was} {now} {fed} {at} {said} talk = record {
   requests = talk.conversation.requests;
   rest = at.unread;
   own = talk.own;
@@ -281,12 +283,13 @@ closed {was} {now} {fed} {at} {said} talk = record {
   stands = at;
   turns = talk.turns;
   forgets = went_none now;
+  no_failure = refl;
 }
 
--- a connection whose pass has gone on by no entry of its own since it ended
-pub served_later : (was now then : Knowledge) (e : Ended) (bytes text : Bytes) → Served was now e bytes text → Went now then []
-    → Served was then e bytes text
-served_later was now then e bytes text served later = record {
+-- a connection whose pass has gone on by no entry of its own since it ended, and by no failed call of its device
+pub served_later : {promises : Promises} (was now then : Known) (e : Ended) (bytes text : Bytes) → Served promises was now e bytes text → Went now then []
+    → then.failures ≡ now.failures → Served promises was then e bytes text
+served_later was now then e bytes text served later same = record {
   talk = record {
     requests = served.talk.requests;
     rest = served.talk.rest;
@@ -303,67 +306,68 @@ served_later was now then e bytes text served later = record {
     stands = served.talk.stands;
     turns = served.talk.turns;
     forgets = went_then served.talk.last now then [] [] served.talk.forgets later;
+    no_failure = same ∙ served.talk.no_failure;
   };
   ends = served.ends;
 }
 
 -- a conversation whose text was cut
-pub served_cut : {was now : Knowledge} {fed : Bytes} {at : Progress} {whole : Bytes} (text more : Bytes)
-    → Conversing was now fed at whole → whole ≡ text ++ more → Served was now ended.WriteFailed fed text
+pub served_cut : {promises : Promises} {was now : Known} {fed : Bytes} {at : Progress} {whole : Bytes} (text more : Bytes)
+    → Conversing promises was now fed at whole → whole ≡ text ++ more → Served promises was now ended.WriteFailed fed text
 served_cut {whole = whole} text more talk is = record { talk = closed talk; ends = (whole, more, inl talk.conversation.text, is) }
 
 -- the same of one whose client was not fed the piece that was read last
-pub served_cut_unfed : {was now : Knowledge} {fed : Bytes} {at : Progress} {whole : Bytes} (bytes piece text more : Bytes)
-    → Conversing was now fed at whole → bytes ≡ fed ++ piece → whole ≡ text ++ more → Served was now ended.WriteFailed bytes text
+pub served_cut_unfed : {promises : Promises} {was now : Known} {fed : Bytes} {at : Progress} {whole : Bytes} (bytes piece text more : Bytes)
+    → Conversing promises was now fed at whole → bytes ≡ fed ++ piece → whole ≡ text ++ more → Served promises was now ended.WriteFailed bytes text
 unfolding conversing_with conversation_fed
-served_cut_unfed {was} {now} {fed} {at} {whole} bytes piece text more talk joined is = rw joined (record {
+served_cut_unfed {promises} {was} {now} {fed} {at} {whole} bytes piece text more talk joined is = rw joined (record {
   talk = closed (conversing_with was now fed whole piece at talk);
   ends = (whole, more, inl talk.conversation.text, is);
 })
 
 -- the same of a text that a fault's line ends
-pub served_cut_fault : {was now : Knowledge} {fed : Bytes} {at : Progress} {said : Bytes} (fault : ProtocolFault) (text more : Bytes)
-    → Conversing was now fed at said → front at.unread ≡ Faulty fault → said ++ fault_line fault ≡ text ++ more
-    → Served was now ended.WriteFailed fed text
+pub served_cut_fault : {promises : Promises} {was now : Known} {fed : Bytes} {at : Progress} {said : Bytes} (fault : ProtocolFault) (text more : Bytes)
+    → Conversing promises was now fed at said → front at.unread ≡ Faulty fault → said ++ fault_line fault ≡ text ++ more
+    → Served promises was now ended.WriteFailed fed text
 served_cut_fault {said = said} fault text more talk stands is = record {
   talk = closed talk;
   ends = (said ++ fault_line fault, more, inr (fault, stands, ap (λ (t : Bytes). t ++ fault_line fault) talk.conversation.text), is);
 }
 
 -- a conversation that a fault's line ended
-pub served_fault : {was now : Knowledge} {fed : Bytes} {at : Progress} {said : Bytes} (fault : ProtocolFault) (text : Bytes)
-    → Conversing was now fed at said → front at.unread ≡ Faulty fault → IsOpen (mode_of at.stage) → said ++ fault_line fault ≡ text
-    → Served was now ended.ProtocolFault fed text
+pub served_fault : {promises : Promises} {was now : Known} {fed : Bytes} {at : Progress} {said : Bytes} (fault : ProtocolFault) (text : Bytes)
+    → Conversing promises was now fed at said → front at.unread ≡ Faulty fault → IsOpen (mode_of at.stage) → said ++ fault_line fault ≡ text
+    → Served promises was now ended.ProtocolFault fed text
 served_fault fault text talk stands is_open is = record {
   talk = closed talk;
   ends = (fault, stands, is_open, sym is ∙ ap (λ (t : Bytes). t ++ fault_line fault) talk.conversation.text);
 }
 
 -- a conversation that QUIT ended
-pub served_quit : {was now : Knowledge} {fed : Bytes} {at : Progress} {said : Bytes} (text : Bytes)
-    → Conversing was now fed at said → mode_of at.stage ≡ Mode.Closed → said ≡ text → Served was now ended.Quit fed text
+pub served_quit : {promises : Promises} {was now : Known} {fed : Bytes} {at : Progress} {said : Bytes} (text : Bytes)
+    → Conversing promises was now fed at said → mode_of at.stage ≡ Mode.Closed → said ≡ text → Served promises was now ended.Quit fed text
 served_quit text talk is_closed is = record { talk = closed talk; ends = (is_closed, sym is ∙ talk.conversation.text) }
 
 -- a connection that found no memory before it began
-pub served_nothing : (was : Knowledge) → was.watched ≡ [] → Served was was ended.NoMemory [] []
+pub served_nothing : {promises : Promises} (was : Known) → was.watched ≡ [] → Served promises was was ended.NoMemory [] []
 served_nothing was none =
     let talk = conversing_begins was beginning none refl in
     record { talk = closed talk; ends = (ForOutput refl, tt, talk.conversation.text) }
 
 -- a connection that found no memory for a request
-pub served_no_memory : {was now : Knowledge} {fed : Bytes} {at : Progress} {said : Bytes} (text : Bytes)
-    → Conversing was now fed at said → WantsMemory at.unread → IsOpen (mode_of at.stage) → said ≡ text → Served was now ended.NoMemory fed text
+pub served_no_memory : {promises : Promises} {was now : Known} {fed : Bytes} {at : Progress} {said : Bytes} (text : Bytes)
+    → Conversing promises was now fed at said → WantsMemory at.unread → IsOpen (mode_of at.stage) → said ≡ text → Served promises was now ended.NoMemory fed text
 served_no_memory text talk wants is_open is = record {
   talk = closed talk;
   ends = (ForRequest wants, is_open, sym is ∙ talk.conversation.text);
 }
 
 -- a connection that found no memory to feed what was read last
-pub served_unfed : {was now : Knowledge} {fed : Bytes} {at : Progress} {said : Bytes} (bytes piece text : Bytes)
-    → Conversing was now fed at said → bytes ≡ fed ++ piece → 0 < length piece → length piece ≤ PIECE_BYTES → front at.unread ≡ Part
-    → IsOpen (mode_of at.stage) → said ≡ text → Served was now ended.NoMemory bytes text
+pub served_unfed : {promises : Promises} {was now : Known} {fed : Bytes} {at : Progress} {said : Bytes} (bytes piece text : Bytes)
+    → Conversing promises was now fed at said → bytes ≡ fed ++ piece → 0 < length piece → length piece ≤ PIECE_BYTES → front at.unread ≡ Part
+    → IsOpen (mode_of at.stage) → said ≡ text → Served promises was now ended.NoMemory bytes text
 unfolding conversing_with conversation_fed
-served_unfed {was} {now} {fed} {at} {said} bytes piece text talk joined some short waits is_open is = rw joined (record {
+served_unfed {promises} {was} {now} {fed} {at} {said} bytes piece text talk joined some short waits is_open is = rw joined (record {
   talk = closed (conversing_with was now fed said piece at talk);
   ends = (
     ForPiece (record { fed = at.unread; piece = piece; joined = refl; waits = waits; some = some; short = short }),
@@ -378,9 +382,9 @@ unfolding front
 front-none = refl
 
 -- a connection that ends where it took a piece
-pub served_taken : (was now : Knowledge) (fed piece said : Bytes) (at after : Progress) (e : Ended)
-    → Conversing was now fed at said → front at.unread ≡ Part → IsOpen (mode_of at.stage) → length piece ≤ PIECE_BYTES
-    → HasTaken (Some e) at piece after → Served was now e (fed ++ piece) said
+pub served_taken : {promises : Promises} (was now : Known) (fed piece said : Bytes) (at after : Progress) (e : Ended)
+    → Conversing promises was now fed at said → front at.unread ≡ Part → IsOpen (mode_of at.stage) → length piece ≤ PIECE_BYTES
+    → HasTaken (Some e) at piece after → Served promises was now e (fed ++ piece) said
 unfolding conversing_with conversation_fed
 served_taken was now fed piece said at after ended.EndOfInput talk waits is_open short taken = record {
   talk = closed (conversing_with was now fed said piece at talk);
@@ -403,7 +407,7 @@ served_taken was now fed piece said at after ended.NoMemory talk waits is_open s
 }
 
 -- a client that took a piece, or none, watches what it watched
-pub attends_taken : (knows : Knowledge) (e : Option Ended) (piece : Bytes) (at after : Progress) → Attends knows at → HasTaken e at piece after
+pub attends_taken : (knows : Known) (e : Option Ended) (piece : Bytes) (at after : Progress) → Attends knows at → HasTaken e at piece after
     → Attends knows after
 attends_taken knows None piece at after attends taken = rw taken (record { ready = attends.ready; watches = attends.watches })
 attends_taken knows (Some ended.EndOfInput) piece at after attends taken = rw taken.1 attends
@@ -414,24 +418,24 @@ attends_taken knows (Some ended.WriteFailed) piece at after attends taken = absu
 attends_taken knows (Some ended.NoMemory) piece at after attends taken = rw taken.1 attends
 
 -- a client at the beginning watches what its pass does, which is nothing
-pub attends_begins : (knows : Knowledge) (at : Progress) → knows.watched ≡ [] → at ≡ beginning → Attends knows at
+pub attends_begins : (knows : Known) (at : Progress) → knows.watched ≡ [] → at ≡ beginning → Attends knows at
 attends_begins knows at none begins = rw begins (record { ready = tt; watches = ap keys_of_pairs (sym none) })
 
 -- it goes on where no piece was read
-pub conversing_none : (was now : Knowledge) (fed said piece : Bytes) (at after : Progress) → Conversing was now fed at said
-    → piece ≡ [] → after ≡ at → Conversing was now (fed ++ piece) after said
+pub conversing_none : {promises : Promises} (was now : Known) (fed said piece : Bytes) (at after : Progress) → Conversing promises was now fed at said
+    → piece ≡ [] → after ≡ at → Conversing promises was now (fed ++ piece) after said
 conversing_none was now fed said piece at after talk none is = rw (none, is, append-nil fed) talk
 
 -- the same of bytes and a text that are grouped another way
-pub conversing_grouped : (was now : Knowledge) (at : Progress) (a b c d e f held : Bytes)
-    → Conversing was now ((a ++ b) ++ c) at (((d ++ e) ++ f) ++ held) → Conversing was now (a ++ (b ++ c)) at ((d ++ (e ++ f)) ++ held)
+pub conversing_grouped : {promises : Promises} (was now : Known) (at : Progress) (a b c d e f held : Bytes)
+    → Conversing promises was now ((a ++ b) ++ c) at (((d ++ e) ++ f) ++ held) → Conversing promises was now (a ++ (b ++ c)) at ((d ++ (e ++ f)) ++ held)
 conversing_grouped was now at a b c d e f held talk = rw (append_assoc a b c, append_assoc d e f) at talk
 
 -- the same of a pause
-pub paused_says : (was now : Knowledge) (fed : Bytes) (pause : Paused) (at : Progress) (held : Bytes) {written text : Bytes}
-    → HasPaused was now fed pause at written held → written ≡ text → HasPaused was now fed pause at text held
-paused_says was now fed pause at held {written} {text} talk is =
-    let P : Bytes → Type 0 = λ t. HasPaused was now fed pause at t held in subst P is talk
+pub paused_says : (promises : Promises) (was now : Known) (fed : Bytes) (pause : Paused) (at : Progress) (held : Bytes) {written text : Bytes}
+    → HasPaused promises was now fed pause at written held → written ≡ text → HasPaused promises was now fed pause at text held
+paused_says promises was now fed pause at held {written} {text} talk is =
+    let P : Bytes → Type 0 = λ t. HasPaused promises was now fed pause at t held in subst P is talk
 
 -- a room in which nothing is
 pub leaves_at : (pause : Paused) (held : Bytes) → held ≡ [] → LeavesAt pause held
@@ -443,15 +447,15 @@ leaves_at paused.WriteFailed held none = tt
 leaves_at paused.Closed held none = tt
 
 -- a conversation with an empty buffer
-pub conversing_empty : (was now : Knowledge) (fed before held : Bytes) (at : Progress) → held ≡ []
-    → Conversing was now fed at before → Conversing was now fed at (before ++ held)
+pub conversing_empty : {promises : Promises} (was now : Known) (fed before held : Bytes) (at : Progress) → held ≡ []
+    → Conversing promises was now fed at before → Conversing promises was now fed at (before ++ held)
 conversing_empty was now fed before held at none talk = rw (none, append-nil before) talk
 
 -- the same of what an answering came to
-pub answered_says : (was now : Knowledge) (fed : Bytes) (ends : Option Ended) (at : Progress) {written text : Bytes}
-    → HasAnswered was now fed ends at written → written ≡ text → HasAnswered was now fed ends at text
-answered_says was now fed ends at {written} {text} talk is =
-    let P : Bytes → Type 0 = λ t. HasAnswered was now fed ends at t in subst P is talk
+pub answered_says : (promises : Promises) (was now : Known) (fed : Bytes) (ends : Option Ended) (at : Progress) {written text : Bytes}
+    → HasAnswered promises was now fed ends at written → written ≡ text → HasAnswered promises was now fed ends at text
+answered_says promises was now fed ends at {written} {text} talk is =
+    let P : Bytes → Type 0 = λ t. HasAnswered promises was now fed ends at t in subst P is talk
 
 -- a connection goes on where the answering paused for input
 pub goes_on_at : (pause : Paused) (ends : Option Ended) (at : Progress) (held : Bytes)

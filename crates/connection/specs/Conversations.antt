@@ -1,13 +1,13 @@
 -- What a client and its driver have said to each other so far, whoever the driver is: the transcript of the session.
-use Rattle.std.specs.Prelude.{ℕ, ◌≡◌, List, [], ◌∷◌, ◌++◌, reverse}
+use Rattle.std.specs.Prelude.{ℕ, ◌≡◌, ◌≤◌, List, [], ◌∷◌, ◌++◌, reverse}
 use Rattle.words.specs.declared.reply.Reply.{Reply}
 use Rattle.words.specs.Store.{Bytes}
 use Rattle.words.specs.Spelling.{spellings, AreRequests}
 use Rattle.words.specs.Encoding.{encodings}
 use Rattle.words.specs.History.{History, Pair, Placed, keys_of_pairs}
 use Rattle.words.specs.Session.{Mode, Idle, turn, Follows}
-use Rattle.gates.specs.declared.view.Knowledge.{Knowledge}
 use Rattle.gates.specs.declared.view.Note.{Note}
+use Rattle.engine.specs.Passes.{Known}
 use Rattle.connection.specs.Clients.{Progress, IsReady, mode_of, watched_of, TakesOff}
 
 -- A transcript with its end: a session that is in this mode and watches these pairs was asked these requests, made these entries of its own,
@@ -50,11 +50,13 @@ pub record Answers (session : ℕ) (entries : List Placed) (pairs after : List P
       → Leads session (mode_of new.stage) after others later more last watched
       → Leads session (mode_of old.stage) pairs (words ∷ others) (entries ++ later) (reply ∷ more) last watched
 
--- What a pass has seen has gone on, the entries that it has made since are these, and this was it told beside.
-pub record Went (was now : Knowledge) (own : List Placed) : Type 0 where
+-- What a pass has seen has gone on, the entries that it has made since are these, and this was it told beside. Calls of its device may have
+-- failed since.
+pub record Went (was now : Known) (own : List Placed) : Type 0 where
   pub number : now.number ≡ was.number
   pub more : History
   pub seen : now.seen ≡ more ++ was.seen
   pub mine : now.mine ≡ reverse own ++ was.mine
   pub told : List Note
   pub notes : now.notes ≡ told ++ was.notes
+  pub failures : was.failures ≤ now.failures

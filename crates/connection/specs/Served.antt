@@ -1,21 +1,21 @@
 -- What serving one connection did, for each way in which it ends.
-use Rattle.std.specs.Prelude.{ℕ, ◌≡◌, ◌<◌, ◌≤◌, ◌⊎◌, List, [], ◌∷◌, ◌++◌, length, Option, Some, None}
+use Rattle.std.specs.Prelude.{ℕ, ◌≡◌, ◌≢◌, ◌<◌, ◌≤◌, ◌⊎◌, List, [], ◌∷◌, ◌++◌, length, Option, Some, None}
 use Rattle.words.specs.declared.reply.ProtocolFault.{ProtocolFault}
 use Rattle.words.specs.declared.reply.Reply.{Reply}
 use Rattle.words.specs.declared.reply.Fault.{Fault}
 use Rattle.words.specs.declared.reply.Line.TheVariants as line
-use Rattle.words.specs.Store.{Bytes, Store}
+use Rattle.words.specs.Store.{Bytes}
 use Rattle.words.specs.Spelling.{spellings, AreRequests}
 use Rattle.words.specs.Stream.{front, Part, Faulty}
 use Rattle.words.specs.Stream as stream
 use Rattle.words.specs.Encoding.{encoding, encodings}
-use Rattle.words.specs.History.{Pair, Placed, after, keys_of_pairs}
+use Rattle.words.specs.History.{Pair, Placed, keys_of_pairs}
 use Rattle.words.specs.Session.{Asked, Mode, Idle, Closed, Turn, Calls, Transcript, line_reply, value_reply}
-use Rattle.gates.specs.declared.view.Knowledge.{Knowledge}
 use Rattle.gates.specs.declared.view.Note.{Note}
 use Rattle.streams.specs.declared.observed.Told.{Told}
 use Rattle.streams.specs.declared.observed.Told.TheVariants as told
-use Rattle.engine.specs.Calls.{IsCause}
+use Rattle.engine.specs.Passes.{Known}
+use Rattle.engine.specs.Calls.{Promises, IsCause}
 use Rattle.connection.specs.declared.answering.Due.{Due}
 use Rattle.connection.specs.declared.answering.Due.TheVariants as due
 use Rattle.connection.specs.declared.serving.Ended.{Ended}
@@ -28,65 +28,9 @@ use Rattle.connection.specs.declared.reading.Waiting.TheVariants as waiting
 use Rattle.connection.specs.Clients.{Progress, beginning, IsReady, IsOpen, mode_of, watched_of, turn_at, TakesOff, WantsMemory}
 use Rattle.connection.specs.Conversations.{Went, Leads, Conversation, Answers}
 
--- What was asked was answered by the line of a fault that had its cause, where a store stood and the pass was told this meanwhile: the store
--- was asked for what may want memory, or the pass was told last that commits are worn out.
-pub record IsFaulty (asked : Asked) (store : Store) (told : List Note) (reply : Reply) : Type 0 where
-  pub fault : Fault
-  pub says : reply ≡ line_reply (line.Faulty fault)
-  pub stripes : List ℕ
-  pub cause : IsCause fault stripes asked store told
-
--- a request that asks the store makes its entry, or is answered by the line of a fault that had its cause
-abbrev pub Spares : Turn → Store → List Note → List Placed → Reply → Type 0
-Spares (Calls asked done faulty) store told own reply = own ≡ [] → IsFaulty asked store told reply
-Spares _ store told own reply = Unit {0}
-
--- the same of the request that was taken off
-abbrev pub Spared : Progress → Store → List Note → List Placed → Progress → Reply → Type 0
-Spared old store told own new reply = (words : List Bytes) × TakesOff old.unread words new.unread × Spares (turn_at old.stage words) store told own reply
-
--- The next turn of a client whose pass knew the one and then knows the other answered its request with this reply.
-pub record Turned (was now : Knowledge) (old new : Progress) (reply : Reply) : Type 0 where
-  pub own : List Placed
-  pub went : Went was now own
-  pub answers : Answers was.number own was.watched now.watched old new reply
-  pub spared : Spared old (after now.seen) went.told own new reply
-
--- The next turns of a client, of a pass that knew the one and then knows the other, answered its requests with these replies, in order.
-abbrev pub Turns : (was now : Knowledge) → (old new : Progress) → List Reply → Type 0
-Turns was now old new [] = (now ≡ was) × (new ≡ old)
-Turns was now old new (reply ∷ replies) = (mid : Knowledge) × (at : Progress) × Turned was mid old at reply × Turns mid now at new replies
-
 -- a client that was fed these bytes at once, and has answered none of them
 abbrev pub fed_at_once : Bytes → Progress
 fed_at_once bytes = record beginning { unread = bytes }
-
--- A connection that read these bytes, of a pass that knew the one and then knows the other: the bytes are the spellings of requests, in
--- order, and a rest; the requests, the entries that the pass made and the replies are a transcript, which leads the session to this mode.
--- Each reply is that of a turn, the line of a fault with its cause; after the last turn the pass made no entry.
-pub record Answered (was now : Knowledge) (bytes : Bytes) : Type 0 where
-  pub requests : List (List Bytes)
-  pub rest : Bytes
-  pub own : List Placed
-  pub replies : List Reply
-  pub mode : Mode
-  pub pairs : List Pair
-  pub joined : bytes ≡ spellings requests ++ rest
-  pub within : AreRequests requests
-  pub went : Went was now own
-  pub transcript : Transcript was.number Idle [] requests own replies
-  pub leads : Leads was.number Idle [] requests own replies mode pairs
-  pub last : Knowledge
-  pub stands : Progress
-  pub turns : Turns was last (fed_at_once bytes) stands replies
-  pub forgets : Went last now []
-
--- A conversation of a pass that knew the one when it began and knows the other now.
-pub record Conversing (was now : Knowledge) (fed : Bytes) (at : Progress) (said : Bytes) : Type 0 where
-  pub own : List Placed
-  pub went : Went was now own
-  pub conversation : Conversation was.number own now.watched fed at said
-  pub turns : Turns was now (fed_at_once fed) at conversation.replies
 
 -- the line of a protocol fault
 abbrev pub fault_line : ProtocolFault → Bytes
@@ -127,10 +71,103 @@ Ends ended.ReadFailed bytes rest mode replies text = (front rest ≡ Part) × Is
 Ends ended.WriteFailed bytes rest mode replies text = (whole more : Bytes) × IsWhole rest replies whole × (whole ≡ text ++ more)
 Ends ended.NoMemory bytes rest mode replies text = LacksMemory bytes rest × IsOpen mode × (text ≡ encodings replies)
 
--- What was read and what was written of a connection that ended so, whose pass knew the one when it began and then knows the other.
-pub record Served (was now : Knowledge) (ended : Ended) (bytes text : Bytes) : Type 0 where
-  pub talk : Answered was now bytes
-  pub ends : Ends ended bytes talk.rest talk.mode talk.replies text
+-- What a connection comes to over a device whose receipts promise this.
+module _ (promises : Promises) where
+  -- What was asked was answered by the line of a fault that had its cause, by a pass that knew the one, then knows the other and was told this
+  -- meanwhile: the store was asked for what may want memory, or a call of the device failed, or a stripe that would be written was full, or
+  -- commits are worn out.
+  pub record IsFaulty (asked : Asked) (was now : Known) (told : List Note) (reply : Reply) : Type 0 where
+    pub fault : Fault
+    pub says : reply ≡ line_reply (line.Faulty fault)
+    pub stripes : List ℕ
+    pub cause : IsCause promises fault stripes asked was now told
+
+  -- A request that asks the store makes its entry, and no call of the device has failed in it, or is answered by the line of a fault that had
+  -- its cause. With any other request no call of the device has failed.
+  abbrev pub Spares : Turn → (was now : Known) → List Note → List Placed → Reply → Type 0
+  Spares (Calls asked done faulty) was now told own reply =
+      (own ≡ [] → IsFaulty asked was now told reply) × (own ≢ [] → now.failures ≡ was.failures)
+  Spares _ was now told own reply = now.failures ≡ was.failures
+
+  -- the same of the request that was taken off
+  abbrev pub Spared : Progress → (was now : Known) → List Note → List Placed → Progress → Reply → Type 0
+  Spared old was now told own new reply =
+      (words : List Bytes) × TakesOff old.unread words new.unread × Spares (turn_at old.stage words) was now told own reply
+
+  -- The next turn of a client whose pass knew the one and then knows the other answered its request with this reply.
+  pub record Turned (was now : Known) (old new : Progress) (reply : Reply) : Type 0 where
+    pub own : List Placed
+    pub went : Went was now own
+    pub answers : Answers was.number own was.watched now.watched old new reply
+    pub spared : Spared old was now went.told own new reply
+
+  -- The next turns of a client, of a pass that knew the one and then knows the other, answered its requests with these replies, in order.
+  abbrev pub Turns : (was now : Known) → (old new : Progress) → List Reply → Type 0
+  Turns was now old new [] = (now ≡ was) × (new ≡ old)
+  Turns was now old new (reply ∷ replies) = (mid : Known) × (at : Progress) × Turned was mid old at reply × Turns mid now at new replies
+
+  -- A connection that read these bytes, of a pass that knew the one and then knows the other: the bytes are the spellings of requests, in
+  -- order, and a rest; the requests, the entries that the pass made and the replies are a transcript, which leads the session to this mode.
+  -- Each reply is that of a turn, the line of a fault with its cause; after the last turn the pass made no entry, and no call of its device
+  -- has failed.
+  pub record Answered (was now : Known) (bytes : Bytes) : Type 0 where
+    pub requests : List (List Bytes)
+    pub rest : Bytes
+    pub own : List Placed
+    pub replies : List Reply
+    pub mode : Mode
+    pub pairs : List Pair
+    pub joined : bytes ≡ spellings requests ++ rest
+    pub within : AreRequests requests
+    pub went : Went was now own
+    pub transcript : Transcript was.number Idle [] requests own replies
+    pub leads : Leads was.number Idle [] requests own replies mode pairs
+    pub last : Known
+    pub stands : Progress
+    pub turns : Turns was last (fed_at_once bytes) stands replies
+    pub forgets : Went last now []
+    pub no_failure : now.failures ≡ last.failures
+
+  -- A conversation of a pass that knew the one when it began and knows the other now.
+  pub record Conversing (was now : Known) (fed : Bytes) (at : Progress) (said : Bytes) : Type 0 where
+    pub own : List Placed
+    pub went : Went was now own
+    pub conversation : Conversation was.number own now.watched fed at said
+    pub turns : Turns was now (fed_at_once fed) at conversation.replies
+
+  -- What was read and what was written of a connection that ended so, whose pass knew the one when it began and then knows the other.
+  pub record Served (was now : Known) (ended : Ended) (bytes text : Bytes) : Type 0 where
+    pub talk : Answered was now bytes
+    pub ends : Ends ended bytes talk.rest talk.mode talk.replies text
+
+  -- Where the answering of what was fed paused: `written` was written since the connection began, and the output buffer holds the rest. Where
+  -- a piece could not be fed, it was read last, and the client stands as before it: with no whole request.
+  abbrev pub HasPaused : (was now : Known) → Bytes → Paused → Progress → (written held : Bytes) → Type 0
+  HasPaused was now fed paused.Input standing written held =
+      (front standing.unread ≡ Part) × IsOpen (mode_of standing.stage) × Conversing was now fed standing (written ++ held)
+  HasPaused was now fed (paused.Malformed fault) standing written held =
+      (front standing.unread ≡ Faulty fault) × IsOpen (mode_of standing.stage) × Conversing was now fed standing (written ++ held)
+  HasPaused was now fed paused.Closed standing written held =
+      (mode_of standing.stage ≡ Closed) × Conversing was now fed standing (written ++ held)
+  HasPaused was now fed paused.NoMemory standing written held =
+      (at : Progress) × WantsMemory at.unread × IsOpen (mode_of at.stage) × Conversing was now fed at (written ++ held)
+  HasPaused was now fed paused.Unfed standing written held =
+      (before piece : Bytes) × (fed ≡ before ++ piece) × (0 < length piece) × (length piece ≤ PIECE_BYTES)
+      × (front standing.unread ≡ Part) × IsOpen (mode_of standing.stage) × Conversing was now before standing (written ++ held)
+  HasPaused was now fed paused.WriteFailed standing written held =
+      (at : Progress) × (whole more : Bytes) × Conversing was now fed at whole × (whole ≡ written ++ more)
+
+  -- What the answering of a piece came to: all is written and the conversation goes on, or the connection ended.
+  abbrev pub HasAnswered : (was now : Known) → Bytes → Option Ended → Progress → (written : Bytes) → Type 0
+  HasAnswered was now fed None standing written = Conversing was now fed standing written
+  HasAnswered was now fed (Some ended) standing written = Served was now ended fed written
+
+  -- what a turn did: it answered the request, or the pass knows what it knew
+  abbrev pub IsDue : (was now : Known) → Progress → Due → Progress → Type 0
+  IsDue was now old (due.Reply reply) new = Turned was now old new reply
+  IsDue was now old (due.Line said) new = Turned was now old new (line_reply said)
+  IsDue was now old (due.Value found) new = Turned was now old new (value_reply found)
+  IsDue was now old _ new = now ≡ was
 
 -- what the reader has told when a connection ended so
 abbrev pub reader_told : Ended → Told → Told
@@ -158,23 +195,6 @@ number_of ended.ProtocolFault = 3
 number_of ended.ReadFailed = 4
 number_of ended.WriteFailed = 5
 number_of ended.NoMemory = 6
-
--- Where the answering of what was fed paused: `written` was written since the connection began, and the output buffer holds the rest. Where
--- a piece could not be fed, it was read last, and the client stands as before it: with no whole request.
-abbrev pub HasPaused : (was now : Knowledge) → Bytes → Paused → Progress → (written held : Bytes) → Type 0
-HasPaused was now fed paused.Input standing written held =
-    (front standing.unread ≡ Part) × IsOpen (mode_of standing.stage) × Conversing was now fed standing (written ++ held)
-HasPaused was now fed (paused.Malformed fault) standing written held =
-    (front standing.unread ≡ Faulty fault) × IsOpen (mode_of standing.stage) × Conversing was now fed standing (written ++ held)
-HasPaused was now fed paused.Closed standing written held =
-    (mode_of standing.stage ≡ Closed) × Conversing was now fed standing (written ++ held)
-HasPaused was now fed paused.NoMemory standing written held =
-    (at : Progress) × WantsMemory at.unread × IsOpen (mode_of at.stage) × Conversing was now fed at (written ++ held)
-HasPaused was now fed paused.Unfed standing written held =
-    (before piece : Bytes) × (fed ≡ before ++ piece) × (0 < length piece) × (length piece ≤ PIECE_BYTES)
-    × (front standing.unread ≡ Part) × IsOpen (mode_of standing.stage) × Conversing was now before standing (written ++ held)
-HasPaused was now fed paused.WriteFailed standing written held =
-    (at : Progress) × (whole more : Bytes) × Conversing was now fed at whole × (whole ≡ written ++ more)
 
 -- what the writer has told where the answering paused so
 abbrev pub paused_told : Paused → Told → Told
@@ -204,11 +224,6 @@ LeavesAt _ held = Unit {0}
 abbrev pub GoesOn : Option Ended → Progress → (held : Bytes) → Type 0
 GoesOn None standing held = (front standing.unread ≡ Part) × IsOpen (mode_of standing.stage) × (held ≡ [])
 GoesOn (Some ended) standing held = Unit {0}
-
--- What the answering of a piece came to: all is written and the conversation goes on, or the connection ended.
-abbrev pub HasAnswered : (was now : Knowledge) → Bytes → Option Ended → Progress → (written : Bytes) → Type 0
-HasAnswered was now fed None standing written = Conversing was now fed standing written
-HasAnswered was now fed (Some ended) standing written = Served was now ended fed written
 
 -- the endings to which the answering of a piece may come
 abbrev pub EndsAnswering : Option Ended → Type 0
@@ -269,14 +284,7 @@ HasTurned old (due.Malformed fault) new = (stream.front old.unread ≡ stream.Fa
 HasTurned old due.Closed new = (mode_of old.stage ≡ Closed) × (new ≡ old)
 HasTurned old due.NoMemory new = WantsMemory old.unread × IsOpen (mode_of old.stage)
 
--- what a turn did: it answered the request, or the pass knows what it knew
-abbrev pub IsDue : (was now : Knowledge) → Progress → Due → Progress → Type 0
-IsDue was now old (due.Reply reply) new = Turned was now old new reply
-IsDue was now old (due.Line said) new = Turned was now old new (line_reply said)
-IsDue was now old (due.Value found) new = Turned was now old new (value_reply found)
-IsDue was now old _ new = now ≡ was
-
 -- the client's session waits for a request, or has ended, and watches what its pass does
-pub record Attends (knows : Knowledge) (at : Progress) : Type 0 where
+pub record Attends (knows : Known) (at : Progress) : Type 0 where
   pub ready : IsReady at.stage
   pub watches : watched_of at.stage ≡ keys_of_pairs knows.watched

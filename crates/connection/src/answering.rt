@@ -4,8 +4,8 @@
 ghost use Rattle.std.specs.Prelude.{◌≡◌, ◌≤◌, ◌+◌, ℕ, [], ◌++◌, List, IfNone};
 ghost use Rattle.streams.specs.Streams.{stream_of, told_of, reads_of};
 ghost use Rattle.streams.specs.declared.observed.Told.{Told as HasTold};
-ghost use Rattle.gates.specs.declared.view.Knowledge.{Knowledge};
-ghost use Rattle.engine.specs.Passes.{knows, Rests};
+ghost use Rattle.engine.specs.Passes.{Known, knows, Rests};
+ghost use Rattle.engine.specs.Calls.{promises_of};
 ghost use Rattle.words.specs.Session.{line_reply};
 ghost use Rattle.words.specs.Spelling.{IsRequest};
 ghost use Rattle.transact.specs.Calls.{answer_of, reply_to};
@@ -17,6 +17,7 @@ use crate::client::{Client, Front, Next};
 use crate::output::{flush, say_line, say_spent, say_value};
 use crate::reading::{MORE_PIECES, Room, Waiting, take_waiting};
 use crate::serving::Ended;
+use device::Device;
 use engine::{Engine, Pass};
 use gates::Latch;
 use session::watches_follow_entries;
@@ -49,20 +50,20 @@ pub(crate) enum Due {
 
 /// Answers the client's next request, if there is a whole one. It is taken up into these words.
 #[inline]
-fn answer_next<T: Wait, L: Latch>(
+fn answer_next<T: Wait, L: Latch, D: Device>(
     rt: &T,
     latch: &L,
     client: &mut Client,
     words: &mut Words,
-    engine: &Engine,
-    pass: &mut Pass,
+    engine: &Engine<D>,
+    pass: &mut Pass<D>,
 ) -> Due
-    requires rests { Rests engine.now pass.old }
-    requires attends { Attends (knows pass.old) client.old }
+    requires rests { Rests D.Receipt.is_steady engine.now pass.old }
+    requires attends { Attends (knows D.failures pass.old) client.old }
     ensures turned { HasTurned client.old result client.new }
-    ensures due { IsDue (knows pass.old) (knows pass.new) client.old result client.new }
-    ensures rests { Rests engine.now pass.new }
-    ensures attends { Attends (knows pass.new) client.new }
+    ensures due { IsDue (promises_of D.Receipt.is_steady D.Receipt.lends) (knows D.failures pass.old) (knows D.failures pass.new) client.old result client.new }
+    ensures rests { Rests D.Receipt.is_steady engine.now pass.new }
+    ensures attends { Attends (knows D.failures pass.new) client.new }
 {
     match client.take_up(words) {
         Front::Request => {
@@ -83,22 +84,22 @@ fn answer_next<T: Wait, L: Latch>(
 /// A GET and a SET without an option go to the engine with their words as they lie: the session does no more
 /// to them than to hand them on. A PING without a text is answered at once.
 #[inline]
-fn answer_idle<T: Wait, L: Latch>(
+fn answer_idle<T: Wait, L: Latch, D: Device>(
     rt: &T,
     latch: &L,
     client: &mut Client,
-    words: &mut Words,
-    engine: &Engine,
-    pass: &mut Pass,
+    words: &Words,
+    engine: &Engine<D>,
+    pass: &mut Pass<D>,
 ) -> Due
-    requires rests { Rests engine.now pass.old }
-    requires attends { Attends (knows pass.old) client.old }
+    requires rests { Rests D.Receipt.is_steady engine.now pass.old }
+    requires attends { Attends (knows D.failures pass.old) client.old }
     requires idle { IsIdle client.old.stage }
-    requires request { IsRequest words.old }
-    ensures turned { HasTurned (before words.old client.old) result client.new }
-    ensures due { IsDue (knows pass.old) (knows pass.new) (before words.old client.old) result client.new }
-    ensures rests { Rests engine.now pass.new }
-    ensures attends { Attends (knows pass.new) client.new }
+    requires request { IsRequest words.now }
+    ensures turned { HasTurned (before words.now client.old) result client.new }
+    ensures due { IsDue (promises_of D.Receipt.is_steady D.Receipt.lends) (knows D.failures pass.old) (knows D.failures pass.new) (before words.now client.old) result client.new }
+    ensures rests { Rests D.Receipt.is_steady engine.now pass.new }
+    ensures attends { Attends (knows D.failures pass.new) client.new }
 {
     match Brief::of(words) {
         Brief::Get => {
@@ -113,11 +114,9 @@ fn answer_idle<T: Wait, L: Latch>(
         Brief::Set => {
             watches_follow_entries();
             commands_are_bounded();
-            let mut value = words.pop();
             let key = &words.as_slice()[1];
-            let line = line_of(engine.set(rt, pass, key, &mut value, latch));
-            let _ = words.push(value); // what the key had is let go with the words
-            Due::Line(line)
+            let value = &words.as_slice()[2];
+            Due::Line(line_of(engine.set(rt, pass, key, value, latch)))
         }
         Brief::Ping => Due::Line(Line::Pong),
         Brief::Other => answer_obeyed(rt, latch, client, words, engine, pass),
@@ -136,22 +135,22 @@ fn line_of(told: Result<Line, Fault>) -> Line
 
 /// Answers the request of these words, which was taken off.
 #[inline(never)]
-fn answer_obeyed<T: Wait, L: Latch>(
+fn answer_obeyed<T: Wait, L: Latch, D: Device>(
     rt: &T,
     latch: &L,
     client: &mut Client,
     words: &Words,
-    engine: &Engine,
-    pass: &mut Pass,
+    engine: &Engine<D>,
+    pass: &mut Pass<D>,
 ) -> Due
-    requires rests { Rests engine.now pass.old }
-    requires attends { Attends (knows pass.old) client.old }
+    requires rests { Rests D.Receipt.is_steady engine.now pass.old }
+    requires attends { Attends (knows D.failures pass.old) client.old }
     requires is_open { IsOpen (mode_of client.old.stage) }
     requires request { IsRequest words.now }
     ensures turned { HasTurned (before words.now client.old) result client.new }
-    ensures due { IsDue (knows pass.old) (knows pass.new) (before words.now client.old) result client.new }
-    ensures rests { Rests engine.now pass.new }
-    ensures attends { Attends (knows pass.new) client.new }
+    ensures due { IsDue (promises_of D.Receipt.is_steady D.Receipt.lends) (knows D.failures pass.old) (knows D.failures pass.new) (before words.now client.old) result client.new }
+    ensures rests { Rests D.Receipt.is_steady engine.now pass.new }
+    ensures attends { Attends (knows D.failures pass.new) client.new }
 {
     match client.obey(words) {
         Next::Input => Due::Input,
@@ -187,28 +186,28 @@ pub(crate) enum Paused {
 
 /// Answers all whole requests that the client was fed. Each is taken up into these words. The replies go into
 /// the output buffer, and to the writer where it is full.
-pub(crate) fn answer_all<T: Wait, L: Latch, W: Write>(
+pub(crate) fn answer_all<T: Wait, L: Latch, W: Write, D: Device>(
     rt: &T,
     latch: &L,
     client: &mut Client,
     words: &mut Words,
     out: &mut Vec<u8>,
     writer: &mut Noted<W>,
-    engine: &Engine,
-    pass: &mut Pass,
+    engine: &Engine<D>,
+    pass: &mut Pass<D>,
 ) -> Paused
-    requires rests { Rests engine.now pass.old }
-    requires attends { Attends (knows pass.old) client.old }
-    ensures paused { (was : Knowledge) (fed before : List ℕ)
-        → Conversing was (knows pass.old) fed client.old (before ++ out.old.items)
+    requires rests { Rests D.Receipt.is_steady engine.now pass.old }
+    requires attends { Attends (knows D.failures pass.old) client.old }
+    ensures paused { (was : Known) (fed before : List ℕ)
+        → Conversing (promises_of D.Receipt.is_steady D.Receipt.lends) was (knows D.failures pass.old) fed client.old (before ++ out.old.items)
         → (sent : List ℕ)
         × Appends (W.contents (stream_of writer.old)) (W.contents (stream_of writer.new)) sent
-        × HasPaused was (knows pass.new) fed result client.new (before ++ sent) out.new.items }
+        × HasPaused (promises_of D.Receipt.is_steady D.Receipt.lends) was (knows D.failures pass.new) fed result client.new (before ++ sent) out.new.items }
     ensures fed { IsFed result }
     ensures stands { StandsAt result client.new }
     ensures told { told_of writer.new ≡ paused_told result (told_of writer.old) }
-    ensures rests { Rests engine.now pass.new }
-    ensures attends { Attends (knows pass.new) client.new }
+    ensures rests { Rests D.Receipt.is_steady engine.now pass.new }
+    ensures attends { Attends (knows D.failures pass.new) client.new }
 {
     loop {
         if client.wants_input() {
@@ -242,7 +241,7 @@ pub(crate) fn answer_all<T: Wait, L: Latch, W: Write>(
 /// where no whole request is left, at most [`MORE_PIECES`] times, so that no reply waits for more reads than these.
 /// Each request is taken up into these words. The replies go into the output buffer, and to the writer where it is
 /// full.
-fn answer_waiting<T: Wait, L: Latch, R: ReadReady, W: Write>(
+fn answer_waiting<T: Wait, L: Latch, R: ReadReady, W: Write, D: Device>(
     rt: &T,
     latch: &L,
     client: &mut Client,
@@ -251,19 +250,19 @@ fn answer_waiting<T: Wait, L: Latch, R: ReadReady, W: Write>(
     out: &mut Vec<u8>,
     reader: &mut Noted<R>,
     writer: &mut Noted<W>,
-    engine: &Engine,
-    pass: &mut Pass,
+    engine: &Engine<D>,
+    pass: &mut Pass<D>,
 ) -> Paused
-    requires rests { Rests engine.now pass.old }
-    requires attends { Attends (knows pass.old) client.old }
+    requires rests { Rests D.Receipt.is_steady engine.now pass.old }
+    requires attends { Attends (knows D.failures pass.old) client.old }
     requires room { room.old.items ≡ [] }
     requires few { room.old.more ≤ MORE_PIECES }
-    ensures paused { (was : Knowledge) (fed before : List ℕ)
-        → Conversing was (knows pass.old) fed client.old (before ++ out.old.items)
+    ensures paused { (was : Known) (fed before : List ℕ)
+        → Conversing (promises_of D.Receipt.is_steady D.Receipt.lends) was (knows D.failures pass.old) fed client.old (before ++ out.old.items)
         → (bytes sent : List ℕ)
         × Consumes (R.remaining (stream_of reader.old)) (R.remaining (stream_of reader.new)) bytes
         × Appends (W.contents (stream_of writer.old)) (W.contents (stream_of writer.new)) sent
-        × HasPaused was (knows pass.new) (fed ++ bytes) result client.new (before ++ sent)
+        × HasPaused (promises_of D.Receipt.is_steady D.Receipt.lends) was (knows D.failures pass.new) (fed ++ bytes) result client.new (before ++ sent)
         out.new.items }
     ensures stands { StandsAt result client.new }
     ensures told { told_of writer.new ≡ paused_told result (told_of writer.old) }
@@ -271,8 +270,8 @@ fn answer_waiting<T: Wait, L: Latch, R: ReadReady, W: Write>(
     ensures reads { reads_of reader.new ≤ reads_of reader.old }
     ensures few { reads_of reader.old ≤ reads_of reader.new + MORE_PIECES }
     ensures room { LeavesAt result room.new.items }
-    ensures rests { Rests engine.now pass.new }
-    ensures attends { Attends (knows pass.new) client.new }
+    ensures rests { Rests D.Receipt.is_steady engine.now pass.new }
+    ensures attends { Attends (knows D.failures pass.new) client.new }
 {
     loop {
         match answer_all(rt, latch, client, words, out, writer, engine, pass) {
@@ -289,16 +288,16 @@ fn answer_waiting<T: Wait, L: Latch, R: ReadReady, W: Write>(
 
 /// Writes what is held back where the answering paused so, after it the line of a fault that was met.
 /// `None` where the connection goes on.
-pub(crate) fn conclude<W: Write>(
+pub(crate) fn conclude<W: Write, D: Device>(
     paused: Paused,
     out: &mut Vec<u8>,
     writer: &mut Noted<W>,
 ) -> Option<Ended>
-    ensures answered { (was now : Knowledge) (fed before : List ℕ) (standing : Progress)
-        → HasPaused was now fed paused standing before out.old.items
+    ensures answered { (was now : Known) (fed before : List ℕ) (standing : Progress)
+        → HasPaused (promises_of D.Receipt.is_steady D.Receipt.lends) was now fed paused standing before out.old.items
         → (sent : List ℕ)
         × Appends (W.contents (stream_of writer.old)) (W.contents (stream_of writer.new)) sent
-        × HasAnswered was now fed result standing (before ++ sent) }
+        × HasAnswered (promises_of D.Receipt.is_steady D.Receipt.lends) was now fed result standing (before ++ sent) }
     ensures goes_on { IfNone result ((paused ≡ Paused.Input) × (out.new.items ≡ [])) }
     ensures ends { EndsAnswering result }
     ensures told { (told : HasTold)
@@ -345,7 +344,7 @@ pub(crate) fn conclude<W: Write>(
 
 /// Answers all whole requests that the client was fed, and of what is there already, and writes the
 /// replies. Each request is taken up into these words. `None` where the connection goes on.
-pub(crate) fn answer_piece<T: Wait, L: Latch, R: ReadReady, W: Write>(
+pub(crate) fn answer_piece<T: Wait, L: Latch, R: ReadReady, W: Write, D: Device>(
     rt: &T,
     latch: &L,
     client: &mut Client,
@@ -354,20 +353,20 @@ pub(crate) fn answer_piece<T: Wait, L: Latch, R: ReadReady, W: Write>(
     out: &mut Vec<u8>,
     reader: &mut Noted<R>,
     writer: &mut Noted<W>,
-    engine: &Engine,
-    pass: &mut Pass,
+    engine: &Engine<D>,
+    pass: &mut Pass<D>,
 ) -> Option<Ended>
-    requires rests { Rests engine.now pass.old }
-    requires attends { Attends (knows pass.old) client.old }
+    requires rests { Rests D.Receipt.is_steady engine.now pass.old }
+    requires attends { Attends (knows D.failures pass.old) client.old }
     requires room { room.old.items ≡ [] }
     requires few { room.old.more ≤ MORE_PIECES }
     requires empty { out.old.items ≡ [] }
-    ensures answered { (was : Knowledge) (fed before : List ℕ)
-        → Conversing was (knows pass.old) fed client.old before
+    ensures answered { (was : Known) (fed before : List ℕ)
+        → Conversing (promises_of D.Receipt.is_steady D.Receipt.lends) was (knows D.failures pass.old) fed client.old before
         → (bytes sent : List ℕ)
         × Consumes (R.remaining (stream_of reader.old)) (R.remaining (stream_of reader.new)) bytes
         × Appends (W.contents (stream_of writer.old)) (W.contents (stream_of writer.new)) sent
-        × HasAnswered was (knows pass.new) (fed ++ bytes) result client.new (before ++ sent) }
+        × HasAnswered (promises_of D.Receipt.is_steady D.Receipt.lends) was (knows D.failures pass.new) (fed ++ bytes) result client.new (before ++ sent) }
     ensures goes_on { GoesOn result client.new out.new.items }
     ensures ends { EndsAnswering result }
     ensures told { told_of writer.new ≡ answered_told result (told_of writer.old) }
@@ -375,11 +374,11 @@ pub(crate) fn answer_piece<T: Wait, L: Latch, R: ReadReady, W: Write>(
     ensures reads { reads_of reader.new ≤ reads_of reader.old }
     ensures few { reads_of reader.old ≤ reads_of reader.new + MORE_PIECES }
     ensures room { IfNone result (room.new.items ≡ []) }
-    ensures rests { Rests engine.now pass.new }
-    ensures attends { Attends (knows pass.new) client.new }
+    ensures rests { Rests D.Receipt.is_steady engine.now pass.new }
+    ensures attends { Attends (knows D.failures pass.new) client.new }
 {
     let paused = answer_waiting(
         rt, latch, client, words, room, out, reader, writer, engine, pass,
     );
-    conclude(paused, out, writer)
+    conclude::<W, D>(paused, out, writer)
 }

@@ -4,6 +4,7 @@
 ghost use Rattle.std.specs.Prelude.{◌≡◌, ◌≤◌, ℕ, [], List};
 ghost use Rattle.streams.specs.Streams.{stream_of, told_of, HasFailed};
 ghost use Rattle.engine.specs.Passes.{knows, Rests};
+ghost use Rattle.engine.specs.Calls.{promises_of};
 ghost use Rattle.connection.specs.Clients.{beginning};
 ghost use Rattle.connection.specs.Conversations.{Went};
 ghost use Rattle.connection.specs.Served.{Attends, Served, reader_told, writer_told};
@@ -12,6 +13,7 @@ ghost use Rattle.std.specs.Io.KnownBytes.{Appends, Consumes, IsAtEnd};
 use crate::answering::answer_piece;
 use crate::client::Client;
 use crate::reading::{Room, take_piece};
+use device::Device;
 use engine::{Engine, Pass};
 use gates::Latch;
 use std::alloc::Global;
@@ -62,7 +64,7 @@ impl Ended {
 }
 
 /// Reads, answers and writes, until the connection ends.
-fn converse<T: Wait, L: Latch, R: ReadReady, W: Write>(
+fn converse<T: Wait, L: Latch, R: ReadReady, W: Write, D: Device>(
     rt: &T,
     latch: &L,
     client: &mut Client,
@@ -70,23 +72,23 @@ fn converse<T: Wait, L: Latch, R: ReadReady, W: Write>(
     out: &mut Vec<u8>,
     reader: &mut Noted<R>,
     writer: &mut Noted<W>,
-    engine: &Engine,
-    pass: &mut Pass,
+    engine: &Engine<D>,
+    pass: &mut Pass<D>,
 ) -> Ended
-    requires rests { Rests engine.now pass.old }
-    requires watches { (knows pass.old).watched ≡ [] }
+    requires rests { Rests D.Receipt.is_steady engine.now pass.old }
+    requires watches { (knows D.failures pass.old).watched ≡ [] }
     requires begins { client.old ≡ beginning }
     requires room { room.old.items ≡ [] }
     requires empty { out.old.items ≡ [] }
     ensures served { (bytes text : List ℕ)
         × Consumes (R.remaining (stream_of reader.old)) (R.remaining (stream_of reader.new)) bytes
         × Appends (W.contents (stream_of writer.old)) (W.contents (stream_of writer.new)) text
-        × Served (knows pass.old) (knows pass.new) result bytes text }
+        × Served (promises_of D.Receipt.is_steady D.Receipt.lends) (knows D.failures pass.old) (knows D.failures pass.new) result bytes text }
     ensures end { result ≡ Ended.EndOfInput → IsAtEnd (R.remaining (stream_of reader.new)) }
     ensures reader_told { told_of reader.new ≡ reader_told result (told_of reader.old) }
     ensures writer_told { told_of writer.new ≡ writer_told result (told_of writer.old) }
-    ensures rests { Rests engine.now pass.new }
-    ensures attends { Attends (knows pass.new) client.new }
+    ensures rests { Rests D.Receipt.is_steady engine.now pass.new }
+    ensures attends { Attends (knows D.failures pass.new) client.new }
 {
     let mut words = client.no_words();
     converse_with(
@@ -95,7 +97,7 @@ fn converse<T: Wait, L: Latch, R: ReadReady, W: Write>(
 }
 
 /// Does what [`converse`] says. Each request is taken up into these words.
-fn converse_with<T: Wait, L: Latch, R: ReadReady, W: Write>(
+fn converse_with<T: Wait, L: Latch, R: ReadReady, W: Write, D: Device>(
     rt: &T,
     latch: &L,
     client: &mut Client,
@@ -104,23 +106,23 @@ fn converse_with<T: Wait, L: Latch, R: ReadReady, W: Write>(
     out: &mut Vec<u8>,
     reader: &mut Noted<R>,
     writer: &mut Noted<W>,
-    engine: &Engine,
-    pass: &mut Pass,
+    engine: &Engine<D>,
+    pass: &mut Pass<D>,
 ) -> Ended
-    requires rests { Rests engine.now pass.old }
-    requires watches { (knows pass.old).watched ≡ [] }
+    requires rests { Rests D.Receipt.is_steady engine.now pass.old }
+    requires watches { (knows D.failures pass.old).watched ≡ [] }
     requires begins { client.old ≡ beginning }
     requires room { room.old.items ≡ [] }
     requires empty { out.old.items ≡ [] }
     ensures served { (bytes text : List ℕ)
         × Consumes (R.remaining (stream_of reader.old)) (R.remaining (stream_of reader.new)) bytes
         × Appends (W.contents (stream_of writer.old)) (W.contents (stream_of writer.new)) text
-        × Served (knows pass.old) (knows pass.new) result bytes text }
+        × Served (promises_of D.Receipt.is_steady D.Receipt.lends) (knows D.failures pass.old) (knows D.failures pass.new) result bytes text }
     ensures end { result ≡ Ended.EndOfInput → IsAtEnd (R.remaining (stream_of reader.new)) }
     ensures reader_told { told_of reader.new ≡ reader_told result (told_of reader.old) }
     ensures writer_told { told_of writer.new ≡ writer_told result (told_of writer.old) }
-    ensures rests { Rests engine.now pass.new }
-    ensures attends { Attends (knows pass.new) client.new }
+    ensures rests { Rests D.Receipt.is_steady engine.now pass.new }
+    ensures attends { Attends (knows D.failures pass.new) client.new }
 {
     loop {
         if let Some(ended) = take_piece(reader, room, client) {
@@ -136,18 +138,19 @@ fn converse_with<T: Wait, L: Latch, R: ReadReady, W: Write>(
 }
 
 /// Ends a client, and what it watches.
-pub(crate) fn forget<T: Wait, L: Latch>(
+pub(crate) fn forget<T: Wait, L: Latch, D: Device>(
     rt: &T,
     latch: &L,
     client: Client,
-    engine: &Engine,
-    pass: &mut Pass,
+    engine: &Engine<D>,
+    pass: &mut Pass<D>,
 )
-    requires rests { Rests engine.now pass.old }
-    requires attends { Attends (knows pass.old) client }
-    ensures rests { Rests engine.now pass.new }
-    ensures watches { (knows pass.new).watched ≡ [] }
-    ensures went { Went (knows pass.old) (knows pass.new) [] }
+    requires rests { Rests D.Receipt.is_steady engine.now pass.old }
+    requires attends { Attends (knows D.failures pass.old) client }
+    ensures rests { Rests D.Receipt.is_steady engine.now pass.new }
+    ensures watches { (knows D.failures pass.new).watched ≡ [] }
+    ensures went { Went (knows D.failures pass.old) (knows D.failures pass.new) [] }
+    ensures no_failure { (knows D.failures pass.new).failures ≡ (knows D.failures pass.old).failures }
 {
     if let Some(call) = client.close() {
         let _ = engine.submit_with(rt, pass, call, latch);
@@ -157,6 +160,14 @@ pub(crate) fn forget<T: Wait, L: Latch>(
 /// Serves one connection: reads requests, answers them by the engine, and writes the replies, until
 /// the connection ends. It gives the pass back, which watches nothing, and says how the connection ended.
 /// It may wait for calls of other passes.
+///
+/// A request that the store did not do is answered by the line of a fault that had its cause:
+///
+/// - `-OOM out of memory`: it may want memory.
+/// - `-IOERR device fault`: a call of the pass's opening of the device failed in that very request. No call fails
+///   without this line.
+/// - `-FULL store is full`: the pass was told that a stripe has no place left on the device, and the request writes.
+/// - `-WORN commit numbers are used up`: the pass read the commit word at 2^62 or more.
 ///
 /// It reads pieces of at most 16,384 bytes. Where a piece has that many, and all of its complete requests are
 /// answered, the reader is asked for what is there already, and that is answered too, up to 15 pieces. The
@@ -175,27 +186,27 @@ pub(crate) fn forget<T: Wait, L: Latch>(
 /// at most two blocks. Each piece costs 40 bytes in the reader's list beside its own, so a client that sends
 /// one byte a piece costs 41 bytes a byte, or 81 just after the list has doubled. Only where memory was
 /// refused for a word do whole words stay in the pieces: then the request's 66,694 bytes stand in at most six
-/// blocks. The words of a request, 65,536 bytes at most, and the value that its SET has replaced stay until the
-/// reply is written. The output buffer has 65,536 bytes. A transaction keeps at most 128 commands with 65,536
-/// bytes of words, and a session at most 128 watched keys.
-pub fn serve<T: Wait, L: Latch, R: ReadReady, W: Write>(
+/// blocks. The words of a request, 65,536 bytes at most, stay until the reply is written. The output buffer has
+/// 65,536 bytes. A transaction keeps at most 128 commands with 65,536 bytes of words, and a session at most 128
+/// watched keys.
+pub fn serve<T: Wait, L: Latch, R: ReadReady, W: Write, D: Device>(
     rt: &T,
     alloc: Global,
     reader: &mut Noted<R>,
     writer: &mut Noted<W>,
-    engine: &Engine,
-    mut pass: Pass,
+    engine: &Engine<D>,
+    mut pass: Pass<D>,
     latch: &L,
-) -> (Pass, Ended)
-    requires rests { Rests engine.now pass }
-    requires watches { (knows pass).watched ≡ [] }
+) -> (Pass<D>, Ended)
+    requires rests { Rests D.Receipt.is_steady engine.now pass }
+    requires watches { (knows D.failures pass).watched ≡ [] }
 
     // Some bytes were read and some text was written, as this ending says, along the history that the pass
     // has seen.
     ensures served { (bytes text : List ℕ)
         × Consumes (R.remaining (stream_of reader.old)) (R.remaining (stream_of reader.new)) bytes
         × Appends (W.contents (stream_of writer.old)) (W.contents (stream_of writer.new)) text
-        × Served (knows pass) (knows result.0) result.1 bytes text }
+        × Served (promises_of D.Receipt.is_steady D.Receipt.lends) (knows D.failures pass) (knows D.failures result.0) result.1 bytes text }
 
     // An ending comes only where its cause came, and such a cause brings that ending.
     ensures end { result.1 ≡ Ended.EndOfInput → IsAtEnd (R.remaining (stream_of reader.new)) }
@@ -204,9 +215,9 @@ pub fn serve<T: Wait, L: Latch, R: ReadReady, W: Write>(
     ensures reader_failed { result.1 ≡ Ended.ReadFailed → HasFailed reader.new }
     ensures writer_failed { result.1 ≡ Ended.WriteFailed → HasFailed writer.new }
 
-    // The pass holds nothing, and what it has seen is legal.
-    ensures rests { Rests engine.now result.0 }
-    ensures watches { (knows result.0).watched ≡ [] }
+    // The pass holds nothing, and where the device is steady what it has seen is legal.
+    ensures rests { Rests D.Receipt.is_steady engine.now result.0 }
+    ensures watches { (knows D.failures result.0).watched ≡ [] }
 {
     let Ok(mut out) = Vec::with_capacity(alloc, LINE_ROOM) else {
         return (pass, Ended::NoMemory);

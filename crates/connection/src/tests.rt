@@ -1,10 +1,12 @@
 //! Connections over streams in memory.
 
-ghost use Rattle.std.specs.Prelude.{◌≡◌, [], IfOk};
+ghost use Rattle.std.specs.Prelude.{◌≡◌, ◌+◌, [], IfOk, vec_len};
 ghost use Rattle.engine.specs.Passes.{knows, Rests};
+ghost use Rattle.engine.specs.declared.TheConstants.{BACKGROUND_PASSES};
 
 use crate::serving::{Ended, serve};
-use engine::{Engine, Pass};
+use device::{Device, MemoryDevice};
+use engine::{BACKGROUND_PASSES, Engine, Pass};
 use gates::Open;
 use std::alloc::{AllocError, Global};
 use std::io;
@@ -13,8 +15,9 @@ use std::process::Abort;
 use std::sync::Wait;
 use std::test::Fail;
 use streams::{Noted, ReadReady, Told};
-use words::limits::Limits;
+use words::limits::{FRAMES_MIN, Limits, PLACES_MIN};
 
+mod cold;
 mod ready;
 mod refused;
 
@@ -152,28 +155,47 @@ struct Outcome {
     told: (Told, Told),
 }
 
-/// An empty engine, and one of its passes.
-fn engine(alloc: Global) -> Result<(Engine, Pass), AllocError>
-    ensures rests { IfOk result (λ made. Rests made.0 made.1) }
-    ensures watches { IfOk result (λ made. (knows made.1).watched ≡ []) }
+/// A store of 2 stripes with 12 frames each, for 2 clients.
+fn small() -> Limits
+    ensures { result.clients ≡ 2 }
 {
-    let (engine, mut passes) = Engine::new(alloc, &Limits::default())?;
-    let pass = passes.swap_remove(0);
-    Ok((engine, pass))
+    Limits {
+        stripes: 2,
+        buckets: 16,
+        frames: FRAMES_MIN,
+        places: PLACES_MIN,
+        clients: 2,
+    }
+}
+
+/// An empty engine over these openings, and two of its passes.
+fn engine_over<D: Device>(
+    alloc: Global,
+    limits: &Limits,
+    openings: Vec<D>,
+) -> Result<(Engine<D>, Pass<D>, Pass<D>), AllocError>
+    requires openings { vec_len openings ≡ limits.now.clients + BACKGROUND_PASSES }
+    ensures rests { IfOk result (λ made. Rests D.Receipt.is_steady made.0 made.1 × Rests D.Receipt.is_steady made.0 made.2) }
+    ensures watches { IfOk result (λ made. ((knows D.failures made.1).watched ≡ []) × ((knows D.failures made.2).watched ≡ [])) }
+{
+    let (engine, mut passes) = Engine::new(alloc, limits, openings)?;
+    let second = passes.swap_remove(1);
+    let first = passes.swap_remove(0);
+    Ok((engine, first, second))
 }
 
 /// Serves a connection, and gives the pass back.
-fn talk(
+fn talk<D: Device>(
     rt: &impl Wait,
     alloc: Global,
     streams: (Source<'_>, Sink),
-    engine: &Engine,
-    pass: Pass,
-) -> (Pass, Outcome)
-    requires rests { Rests engine.now pass }
-    requires watches { (knows pass).watched ≡ [] }
-    ensures rests { Rests engine.now result.0 }
-    ensures watches { (knows result.0).watched ≡ [] }
+    engine: &Engine<D>,
+    pass: Pass<D>,
+) -> (Pass<D>, Outcome)
+    requires rests { Rests D.Receipt.is_steady engine.now pass }
+    requires watches { (knows D.failures pass).watched ≡ [] }
+    ensures rests { Rests D.Receipt.is_steady engine.now result.0 }
+    ensures watches { (knows D.failures result.0).watched ≡ [] }
 {
     let mut reader = Noted::new(streams.0);
     let mut writer = Noted::new(streams.1);
@@ -190,6 +212,13 @@ fn talk(
     (pass, outcome)
 }
 
+/// So many openings of a device in memory as an engine of these limits has passes.
+fn memory(alloc: Global, limits: &Limits) -> Result<Vec<MemoryDevice>, AllocError>
+    ensures { IfOk result (λ openings. vec_len openings ≡ limits.now.clients + BACKGROUND_PASSES) }
+{
+    MemoryDevice::openings(alloc, limits.clients + BACKGROUND_PASSES)
+}
+
 /// Serves a connection over a new engine.
 fn run(
     rt: &impl Wait,
@@ -197,7 +226,8 @@ fn run(
     source: Source<'_>,
     sink: Sink,
 ) -> Result<Outcome, AllocError> {
-    let (engine, pass) = engine(alloc)?;
+    let limits = small();
+    let (engine, pass, _) = engine_over(alloc, &limits, memory(alloc, &limits)?)?;
     let (_pass, outcome) = talk(rt, alloc, (source, sink), &engine, pass);
     Ok(outcome)
 }
@@ -209,7 +239,8 @@ fn run_both(
     first: (Source<'_>, Sink),
     second: (Source<'_>, Sink),
 ) -> Result<(Outcome, Outcome), AllocError> {
-    let (engine, pass) = engine(alloc)?;
+    let limits = small();
+    let (engine, pass, _) = engine_over(alloc, &limits, memory(alloc, &limits)?)?;
     let (pass, first) = talk(rt, alloc, first, &engine, pass);
     let (_pass, second) = talk(rt, alloc, second, &engine, pass);
     Ok((first, second))

@@ -31,6 +31,8 @@ impl<R: Shows> Shows for FaultyReceipt<R> {
 
     ghost is_steady = { R.is_steady };
 
+    ghost lends = { ⊥ };
+
     ghost one_page = { λ r s same. R.one_page r s same };
 
     ghost steady_is_honest = { λ steady. R.steady_is_honest steady };

@@ -82,6 +82,8 @@ impl Shows for FileReceipt {
 
     ghost is_steady = { ⊥ };
 
+    ghost lends = { ⊥ };
+
     ghost one_page = { λ r s e. ap (λ l. drop 2 l) e };
 
     ghost steady_is_honest = { λ s. s };

@@ -11,7 +11,7 @@
 //! promise neither, as one over a file does, and is then proved safe alone. Which of these it promises is
 //! a property of its receipts, so that who keeps receipts knows it without the device.
 //!
-//! A receipt may hold its page, and then lends it without a read.
+//! A receipt may hold its page, and then lends it without a read. That is a property of its type too.
 //!
 //! A receipt is released once nobody can still read by it: it is retired at an epoch, and comes back to
 //! the device with that epoch drained by the epochs that retired it, as the crate `epoch` has it.
@@ -19,7 +19,7 @@
 //! `Device` and `Shows` state this. `MemoryDevice` is steady. `FileDevice` keeps pages in a file.
 //! `Faulty` fails calls of another device on demand, and promises what that device promises.
 
-ghost use Rattle.std.specs.Prelude.{◌≡◌, ◌≢◌, ℕ, ◌+◌, List, Some, codes, IsTrue, IfOk, IfSome, OnOk, OnErr};
+ghost use Rattle.std.specs.Prelude.{◌≡◌, ◌≢◌, ℕ, ◌+◌, List, Some, codes, IsTrue, IsSome, IfOk, IfSome, OnOk, OnErr};
 
 use epoch::{Drained, Retired};
 use records::Page;
@@ -69,6 +69,9 @@ pub trait Shows: Drop {
     // The receipts are those of a steady device.
     ghost is_steady: { Type 0 };
 
+    // The receipts hold their pages.
+    ghost lends: { Type 0 };
+
     /// A copy: it shows the same page, and has the same identity. `Err` only for want of memory.
     fn again(&self) -> Result<Self, AllocError>
         ensures shown { IfOk result (λ r. shown r ≡ shown self.now) }
@@ -81,9 +84,12 @@ pub trait Shows: Drop {
         ensures copies { identity self.now ≡ identity other.now → IsTrue result }
         ensures only_copies { is_honest → IsTrue result → identity self.now ≡ identity other.now };
 
-    /// The page shown, where the receipt holds it. A device's read gives no other one.
+    /// The page shown, where the receipt holds it: either all receipts of a type do, or none does. A
+    /// device's read gives no other one.
     fn page(&self) -> Option<&Page>
-        ensures { IfSome result (λ page. page.now ≡ shown self.now) };
+        ensures page { IfSome result (λ page. page.now ≡ shown self.now) }
+        ensures lent { lends → IsSome result }
+        ensures only_lent { IsSome result → lends };
 
     // Receipts with one identity show one page.
     ghost one_page: { (r s : Self) → identity r ≡ identity s → shown r ≡ shown s };

@@ -35,6 +35,8 @@ impl Shows for MemoryReceipt {
 
     ghost is_steady = { Unit {0} };
 
+    ghost lends = { Unit {0} };
+
     ghost one_page = { λ r s e. e };
 
     ghost steady_is_honest = { λ s. s };

@@ -144,14 +144,22 @@ pub(crate) fn number_lent<R: Shows>(receipt: &R) -> Option<u64> {
     Some(receipt.page()?.number())
 }
 
+// The same, where receipts hold their pages.
+fn number_held<R: Shows>(receipt: &R) -> u64
+    requires { R.lends }
+    ensures { result ≡ number_of (R.shown receipt.now) }
+{
+    match receipt.page() {
+        Some(page) => page.number(),
+        None => unreachable!(),
+    }
+}
+
 // The same of a receipt in memory, which always lends its page.
 fn number_in_memory(receipt: &MemoryReceipt) -> u64
     ensures { result ≡ number_of receipt.now }
 {
-    match receipt.page() {
-        Some(page) => page.number(),
-        None => 99,
-    }
+    number_held(receipt)
 }
 
 #[test]

@@ -1,5 +1,5 @@
 -- What is held before, between and after the steps of a call.
-use Rattle.std.proofs.Common.{◌≡◌, ◌≤◌, ◌∙◌, ℕ, List, [], ◌∷◌, ◌++◌, length, Bool, true, false, Option, Some, IsSome, refl, sym, ap, subst}
+use Rattle.std.proofs.Common.{◌≡◌, ◌≢◌, ◌+◌, ◌≤◌, ◌∙◌, ⊎_elim, inl, inr, arith, option_map, None, ℕ, List, [], ◌∷◌, ◌++◌, length, Bool, true, false, Option, Some, IsSome, refl, sym, ap, subst}
 use Rattle.std.specs.Borrow.{Bor, MutBor}
 use Rattle.words.specs.declared.reply.Reply.{Reply}
 use Rattle.words.specs.declared.reply.Fault.{Fault}
@@ -17,7 +17,13 @@ use Rattle.gates.specs.declared.gates.Pass.{Pass}
 use Rattle.gates.specs.declared.held.Held.{Held}
 use Rattle.gates.specs.declared.view.Knowledge.{Knowledge}
 use Rattle.gates.specs.declared.view.Note.{Note}
-use Rattle.gates.specs.declared.view.Note.TheVariants.{Worn}
+use Rattle.gates.specs.declared.view.Note.TheVariants.{Full, Worn}
+use Rattle.gates.specs.declared.report.Report.{Report}
+use Rattle.gates.specs.declared.report.Report.TheVariants as report
+use Rattle.gates.specs.Background.{IsAt, IsToldOf, notes_of}
+use Rattle.gates.specs.Pages as pages
+use Rattle.hybrid.specs.HybridLog.{HybridLog}
+use Rattle.hybrid.specs.Reserving.{IsFull}
 use Rattle.gates.specs.Sets.{part_at}
 use Rattle.gates.specs.Plays.{kept}
 use Rattle.gates.specs.Passes.{AllFit, Committed, KeysHeld, WasTold, stripes_of}
@@ -26,24 +32,22 @@ use Rattle.transact.specs.declared.call.Answer.{Answer}
 use Rattle.transact.specs.declared.call.Answer.TheVariants as answer
 use Rattle.transact.specs.declared.call.Call.{Call}
 use Rattle.transact.specs.declared.call.Call.TheVariants.{One, Watch, Exec, Forget}
-use Rattle.transact.specs.declared.shard.Shard.{Shard}
+use Rattle.plans.specs.declared.shard.Shard.{Shard}
 use Rattle.transact.specs.Calls.{asked_of, call_keys}
-use Rattle.transact.specs.Plans.{EndsAll, IsEntry, IsInstalled, IsPlan}
-use Rattle.transact.specs.Shards.{shard_meaning}
+use Rattle.transact.specs.Plans.{EndsAll, IsEntry, IsInstalled, IsPlan, made}
+use Rattle.plans.specs.Shards.{logs_of, shard_log, shard_meaning, shard_pages}
+use Rattle.plans.specs.declared.stop.Stop.{Stop}
+use Rattle.plans.specs.declared.stop.Stop.TheVariants as stop
+use Rattle.plans.specs.Stops.{IfCold, IfFull, IfNoMemory, faults}
 use Rattle.transact.specs.Submits.{IfFault, IfReply, asked_for}
 use Rattle.transact.specs.Tables.{AreThere, Became, Stand, clears, stays}
-use Rattle.engine.specs.Calls.{Forgot, HasItsPlace, IsCause, IsDone, IsUndone}
+use Rattle.engine.specs.Calls.{Forgot, HasItsPlace, IsCause, IsDone, IsUndone, Promises}
 use Rattle.engine.specs.Entering.{MayBeGiven, MayEnter, at_fault}
-use Rattle.engine.proofs.Parts.{there_after}
+use Rattle.engine.specs.Memory.{AsksNoMemory}
+use Rattle.engine.specs.Passes.{Known, know}
+use Rattle.engine.specs.Stops.{IsFullOf, fault_of, report_of}
+use Rattle.engine.proofs.Parts.{some_is, there_after}
 use Rattle.engine.proofs.Fit.{forgot_all, installed_all, kept_all, keys_held, stand_of}
-
--- what is held fits
-abbrev pub Fit : ℕ → Held Shard → Type 0
-Fit n held = AllFit shard_meaning n (known_to held) (held_taken held) (held_parts held)
-
--- the parts that are held
-abbrev pub parts_of : Held Shard → ℕ → Option Shard
-parts_of held = part_at (held_parts held)
 
 pub asks : (call : Call) → IsEntry call → asked_of call ≡ Some (asked_for call)
 asks (One command) entry = refl
@@ -63,136 +67,199 @@ named (Watch keys) watched entry ends = refl
 named (Exec commands watching) watched entry ends = ap (λ (l : List Bytes). keys_of_all commands ++ l) (sym ends)
 named (Forget watching) watched entry ends = absurd entry
 
--- the number of the pass that holds
-pub seat_is : (held : Held Shard) → IsOpen shard_meaning.trusted held → number_of held ≡ (known_to held).number
-seat_is held opened = sym opened.holding.seat.number_is
+-- a stripe that is full is so while logs stay
+pub full_still : (before later : ℕ → Option HybridLog) (report : Report) → ((i : ℕ) → later i ≡ before i) → IsFullOf before report → IsFullOf later report
+full_still before later report.Nothing same full = tt
+full_still before later (report.Full stripe) same full = record { log = full.log; there = same stripe ∙ full.there; full = full.full }
+full_still before later (report.Idle stripe work) same full = absurd full
+full_still before later (report.Done stripe work) same full = absurd full
 
--- the same is held, and parts have other bytes and the same meaning
-pub fit_kept : (n : ℕ) (start mid : Held Shard) → SameHold start mid → Fit n start → Became shard_meaning n [] stays (parts_of start) (parts_of mid) → Fit n mid
-fit_kept n start mid same fit became =
-    kept_all shard_meaning n (known_to start) (known_to mid) (held_taken mid) (held_parts start) (held_parts mid)
-    (ap (λ (k : Knowledge). k.number) same.known) (ap (λ (k : Knowledge). k.seen) same.known) (ap (λ (k : Knowledge). k.watched) same.known)
-    (subst (λ (l : List (ℕ × (ℕ × Shard))). AllFit shard_meaning n (known_to start) l (held_parts start)) (sym same.taken) fit) became
+module _ {R : Type 0} (steady : Type 0) where
+  -- what is held fits
+  abbrev pub Fit : ℕ → Held (Shard R) → Type 0
+  Fit n held = AllFit (shard_meaning steady) n (known_to held) (held_taken held) (held_parts held)
 
-pub stands : (n seat : ℕ) (start : Held Shard) → seat ≡ (known_to start).number → Fit n start → shard_meaning.trusted
-    → Stand shard_meaning n (parts_of start) (known_to start).seen seat (known_to start).watched
-stands n seat start is fit t =
-    subst (λ (s : ℕ). Stand shard_meaning n (parts_of start) (known_to start).seen s (known_to start).watched) (sym is)
-    (stand_of shard_meaning n (known_to start) (held_taken start) (held_parts start) fit t)
+  -- the parts that are held
+  abbrev pub parts_of : Held (Shard R) → ℕ → Option (Shard R)
+  parts_of held = part_at (held_parts held)
 
--- a plan that is due behind what was seen before
-pub reply_due : (start mid : Held Shard) (asked : Asked) (reply : Reply) (ws : List Write) → SameHold start mid
-    → (shard_meaning.trusted → IsPlan (known_to start).seen (operation_of (known_to start).watched asked) reply ws)
-    → shard_meaning.trusted → reply ≡ due (known_to mid).seen (operation_asked mid asked)
-reply_due start mid asked reply ws same plan t =
-    subst (λ (k : Knowledge). reply ≡ due k.seen (operation_of k.watched asked)) (sym same.known) (plan t).reply_due
+  -- the number of the pass that holds
+  pub seat_is : (held : Held (Shard R)) → IsOpen steady held → number_of held ≡ (known_to held).number
+  seat_is held opened = sym opened.holding.seat.number_is
 
-pub named_held : (n : ℕ) (start mid : Held Shard) (call : Call) → SameHold start mid → n ≡ stripes_of (gates_of start) → IsEntry call → EndsAll call (known_to start).watched
-    → AreThere n (parts_of mid) (call_keys call) → KeysHeld (stripes_of (gates_of mid)) (held_parts mid) (keys_named (operation_asked mid (asked_for call)))
-named_held n start mid call same n_is entry ends there =
-    subst (λ (k : Knowledge). KeysHeld (stripes_of (gates_of mid)) (held_parts mid) (keys_named (operation_of k.watched (asked_for call)))) (sym same.known)
-    (subst (λ (l : List Bytes). KeysHeld (stripes_of (gates_of mid)) (held_parts mid) l) (sym (named call (known_to start).watched entry ends))
-    (subst (λ (m : ℕ). KeysHeld m (held_parts mid) (call_keys call)) (n_is ∙ ap (λ (g : Bor (Gates Shard)). stripes_of g.now) (sym same.gates))
-    (keys_held shard_meaning n (held_parts mid) (call_keys call) there)))
+  -- the same is held, and parts have other bytes and the same meaning
+  pub fit_kept : (n : ℕ) (start mid : Held (Shard R)) → SameHold start mid → Fit n start → Became (shard_meaning steady) n [] stays (parts_of start) (parts_of mid) → Fit n mid
+  fit_kept n start mid same fit became =
+      kept_all (shard_meaning steady) n (known_to start) (known_to mid) (held_taken mid) (held_parts start) (held_parts mid)
+      (ap (λ (k : Knowledge). k.number) same.known) (ap (λ (k : Knowledge). k.seen) same.known) (ap (λ (k : Knowledge). k.watched) same.known)
+      (subst (λ (l : List (ℕ × (ℕ × Shard R))). AllFit (shard_meaning steady) n (known_to start) l (held_parts start)) (sym same.taken) fit) became
 
--- the entry of what is asked by the pass that holds
-abbrev pub WasCommitted : ℕ → Asked → Reply → (mid done : Held Shard) → Type 0
-WasCommitted place asked reply mid done =
-    Committed (stripes_of (gates_of mid)) (held_parts mid) (record { session = (known_to mid).number; operation = operation_asked mid asked; reply = reply }) place (known_to mid) (known_to done)
+  pub stands : (n seat : ℕ) (start : Held (Shard R)) → seat ≡ (known_to start).number → Fit n start → steady
+      → Stand (shard_meaning steady) n (parts_of start) (known_to start).seen seat (known_to start).watched
+  stands n seat start is fit t =
+      subst (λ (s : ℕ). Stand (shard_meaning steady) n (parts_of start) (known_to start).seen s (known_to start).watched) (sym is)
+      (stand_of (shard_meaning steady) n (known_to start) (held_taken start) (held_parts start) fit t)
 
--- What was committed was installed. Parts may have been written before the commit, and others after it.
-pub fit_installed : (n seat place : ℕ) (asked : Asked) (reply : Reply) (start mid done last : Held Shard)
-    → n ≡ stripes_of (gates_of start) → seat ≡ (known_to start).number
-    → (shard_meaning.trusted → IsInstalled shard_meaning n (known_to start).seen (record { session = seat; operation = operation_of (known_to start).watched asked; reply = reply }) (parts_of start) (parts_of last))
-    → Fit n start → SameHold start mid → ((i : ℕ) → IsSome (parts_of start i) → IsSome (parts_of mid i)) → held_taken done ≡ held_taken mid
-    → WasCommitted place asked reply mid done → SameHold done last → Fit n last
-fit_installed n seat place asked reply start mid done last n_is seat_is whole fit same there taken did same_last =
-    let operation : Operation = operation_of (known_to start).watched asked in
-    let own : Unit {0} → IsInstalled shard_meaning n (known_to start).seen (record { session = (known_to start).number; operation = operation; reply = reply }) (parts_of start) (parts_of last) = λ t.
-    subst (λ (s : ℕ). IsInstalled shard_meaning n (known_to start).seen (record { session = s; operation = operation; reply = reply }) (parts_of start) (parts_of last)) seat_is (whole t) in
-    let did_start : Committed (stripes_of (gates_of mid)) (held_parts mid) (record { session = (known_to start).number; operation = operation; reply = reply }) place (known_to start) (known_to done) =
-    subst (λ (k : Knowledge). Committed (stripes_of (gates_of mid)) (held_parts mid) (record { session = k.number; operation = operation_of k.watched asked; reply = reply }) place k (known_to done)) same.known did in
-    let did_n : Committed n (held_parts mid) (record { session = (known_to start).number; operation = operation; reply = reply }) place (known_to start) (known_to done) =
-    subst (λ (m : ℕ). Committed m (held_parts mid) (record { session = (known_to start).number; operation = operation; reply = reply }) place (known_to start) (known_to done))
-    (sym (n_is ∙ ap (λ (g : Bor (Gates Shard)). stripes_of g.now) (sym same.gates))) did_start in
-    let fit_known : AllFit shard_meaning n (known_to done) (held_taken start) (held_parts last) =
-    installed_all shard_meaning n operation reply place (known_to start) (known_to done) (held_taken start) (held_parts start) (held_parts mid) (held_parts last) did_n there fit own in
-    subst (λ (k : Knowledge). AllFit shard_meaning n k (held_taken last) (held_parts last)) (sym same_last.known)
-    (subst (λ (l : List (ℕ × (ℕ × Shard))). AllFit shard_meaning n (known_to done) l (held_parts last)) (sym (same_last.taken ∙ taken ∙ same.taken)) fit_known)
+  -- a plan that is due behind what was seen before
+  pub reply_due : (start mid : Held (Shard R)) (asked : Asked) (reply : Reply) (ws : List Write) → SameHold start mid
+      → (steady → IsPlan (known_to start).seen (operation_of (known_to start).watched asked) reply ws)
+      → steady → reply ≡ due (known_to mid).seen (operation_asked mid asked)
+  reply_due start mid asked reply ws same plan t =
+      subst (λ (k : Knowledge). reply ≡ due k.seen (operation_of k.watched asked)) (sym same.known) (plan t).reply_due
 
--- commits were worn out, and what was done for the call is undone
-pub fit_undone : (n : ℕ) (start mid told last : Held Shard) → SameHold start mid → held_taken told ≡ held_taken mid → WasTold Worn (known_to mid) (known_to told)
-    → SameHold told last → Fit n start → Became shard_meaning n [] stays (parts_of start) (parts_of last) → Fit n last
-fit_undone n start mid told last same taken worn same_last fit became =
-    kept_all shard_meaning n (known_to start) (known_to last) (held_taken last) (held_parts start) (held_parts last)
-    (ap (λ (k : Knowledge). k.number) same_last.known ∙ worn.number ∙ ap (λ (k : Knowledge). k.number) same.known)
-    (ap (λ (k : Knowledge). k.seen) same_last.known ∙ worn.seen ∙ ap (λ (k : Knowledge). k.seen) same.known)
-    (ap (λ (k : Knowledge). k.watched) same_last.known ∙ worn.watched ∙ ap (λ (k : Knowledge). k.watched) same.known)
-    (subst (λ (l : List (ℕ × (ℕ × Shard))). AllFit shard_meaning n (known_to start) l (held_parts start)) (sym (same_last.taken ∙ taken ∙ same.taken)) fit) became
+  pub named_held : (n : ℕ) (start mid : Held (Shard R)) (call : Call) → SameHold start mid → n ≡ stripes_of (gates_of start) → IsEntry call → EndsAll call (known_to start).watched
+      → AreThere n (parts_of mid) (call_keys call) → KeysHeld (stripes_of (gates_of mid)) (held_parts mid) (keys_named (operation_asked mid (asked_for call)))
+  named_held n start mid call same n_is entry ends there =
+      subst (λ (k : Knowledge). KeysHeld (stripes_of (gates_of mid)) (held_parts mid) (keys_named (operation_of k.watched (asked_for call)))) (sym same.known)
+      (subst (λ (l : List Bytes). KeysHeld (stripes_of (gates_of mid)) (held_parts mid) l) (sym (named call (known_to start).watched entry ends))
+      (subst (λ (m : ℕ). KeysHeld m (held_parts mid) (call_keys call)) (n_is ∙ ap (λ (g : Bor (Gates (Shard R))). stripes_of g.now) (sym same.gates))
+      (keys_held (shard_meaning steady) n (held_parts mid) (call_keys call) there)))
 
--- all that is watched is forgotten
-pub fit_forgot : (n seat : ℕ) (keys : List Bytes) (start last : Held Shard) → seat ≡ (known_to start).number → keys ≡ keys_of_pairs (known_to start).watched → Fit n start → SameHold start last
-    → Became shard_meaning n [] (clears seat keys) (parts_of start) (parts_of last) → AllFit shard_meaning n (kept true [] (known_to last)) (held_taken last) (held_parts last)
-fit_forgot n seat keys start last seat_is keys_are fit same became =
-    subst (λ (k : Knowledge). AllFit shard_meaning n (kept true [] k) (held_taken last) (held_parts last)) (sym same.known)
-    (forgot_all shard_meaning n seat keys (known_to start) (held_taken last) (held_parts start) (held_parts last) seat_is keys_are
-    (subst (λ (l : List (ℕ × (ℕ × Shard))). AllFit shard_meaning n (known_to start) l (held_parts start)) (sym same.taken) fit) became)
+  -- the entry of what is asked by the pass that holds
+  abbrev pub WasCommitted : ℕ → Asked → Reply → (mid done : Held (Shard R)) → Type 0
+  WasCommitted place asked reply mid done =
+      Committed (stripes_of (gates_of mid)) (held_parts mid) (record { session = (known_to mid).number; operation = operation_asked mid asked; reply = reply }) place (known_to mid) (known_to done)
 
--- the stripes of all that was watched are held
-forgot_held : (n : ℕ) (keys : List Bytes) (start last : Held Shard) → SameHold start last → keys ≡ keys_of_pairs (known_to start).watched → AreThere n (parts_of last) keys
-    → KeysHeld n (held_parts last) (keys_of_pairs (known_to last).watched)
-forgot_held n keys start last same keys_are there =
-    subst (λ (l : List Bytes). KeysHeld n (held_parts last) l) (keys_are ∙ ap (λ (k : Knowledge). keys_of_pairs k.watched) (sym same.known))
-    (keys_held shard_meaning n (held_parts last) keys there)
+  -- What was committed was installed. Parts may have been written before the commit, and others after it.
+  pub fit_installed : (n seat place : ℕ) (asked : Asked) (reply : Reply) (start mid done last : Held (Shard R))
+      → n ≡ stripes_of (gates_of start) → seat ≡ (known_to start).number
+      → (steady → IsInstalled (shard_meaning steady) n (known_to start).seen (record { session = seat; operation = operation_of (known_to start).watched asked; reply = reply }) (parts_of start) (parts_of last))
+      → Fit n start → SameHold start mid → ((i : ℕ) → IsSome (parts_of start i) → IsSome (parts_of mid i)) → held_taken done ≡ held_taken mid
+      → WasCommitted place asked reply mid done → SameHold done last → Fit n last
+  fit_installed n seat place asked reply start mid done last n_is seat_is whole fit same there taken did same_last =
+      let operation : Operation = operation_of (known_to start).watched asked in
+      let own : steady → IsInstalled (shard_meaning steady) n (known_to start).seen (record { session = (known_to start).number; operation = operation; reply = reply }) (parts_of start) (parts_of last) = λ t.
+      subst (λ (s : ℕ). IsInstalled (shard_meaning steady) n (known_to start).seen (record { session = s; operation = operation; reply = reply }) (parts_of start) (parts_of last)) seat_is (whole t) in
+      let did_start : Committed (stripes_of (gates_of mid)) (held_parts mid) (record { session = (known_to start).number; operation = operation; reply = reply }) place (known_to start) (known_to done) =
+      subst (λ (k : Knowledge). Committed (stripes_of (gates_of mid)) (held_parts mid) (record { session = k.number; operation = operation_of k.watched asked; reply = reply }) place k (known_to done)) same.known did in
+      let did_n : Committed n (held_parts mid) (record { session = (known_to start).number; operation = operation; reply = reply }) place (known_to start) (known_to done) =
+      subst (λ (m : ℕ). Committed m (held_parts mid) (record { session = (known_to start).number; operation = operation; reply = reply }) place (known_to start) (known_to done))
+      (sym (n_is ∙ ap (λ (g : Bor (Gates (Shard R))). stripes_of g.now) (sym same.gates))) did_start in
+      let fit_known : AllFit (shard_meaning steady) n (known_to done) (held_taken start) (held_parts last) =
+      installed_all (shard_meaning steady) n operation reply place (known_to start) (known_to done) (held_taken start) (held_parts start) (held_parts mid) (held_parts last) did_n there fit own in
+      subst (λ (k : Knowledge). AllFit (shard_meaning steady) n k (held_taken last) (held_parts last)) (sym same_last.known)
+      (subst (λ (l : List (ℕ × (ℕ × Shard R))). AllFit (shard_meaning steady) n (known_to done) l (held_parts last)) (sym (same_last.taken ∙ taken ∙ same.taken)) fit_known)
 
--- what is held once all that is watched is forgotten
-pub given_forgot : (n seat : ℕ) (keys : List Bytes) (start last : Held Shard) → IsOpen shard_meaning.trusted last → seat ≡ (known_to start).number
-    → keys ≡ keys_of_pairs (known_to start).watched → AreThere n (parts_of start) keys → Fit n start → SameHold start last
-    → Became shard_meaning n [] (clears seat keys) (parts_of start) (parts_of last) → MayBeGiven true n start last
-given_forgot n seat keys start last opened seat_is keys_are there fit same became = record {
-  is_open = opened;
-  gates = ap (λ (g : Bor (Gates Shard)). g.now) same.gates;
-  pass = same.pass;
-  keys = λ yes. forgot_held n keys start last same keys_are (there_after n keys (parts_of start) (parts_of last) became.there there);
-  fit = fit_forgot n seat keys start last seat_is keys_are fit same became;
-}
+  -- commits were worn out, and what was done for the call is undone
+  pub fit_undone : (n : ℕ) (start mid told last : Held (Shard R)) → SameHold start mid → held_taken told ≡ held_taken mid → WasTold Worn (known_to mid) (known_to told)
+      → SameHold told last → Fit n start → Became (shard_meaning steady) n [] stays (parts_of start) (parts_of last) → Fit n last
+  fit_undone n start mid told last same taken worn same_last fit became =
+      kept_all (shard_meaning steady) n (known_to start) (known_to last) (held_taken last) (held_parts start) (held_parts last)
+      (ap (λ (k : Knowledge). k.number) same_last.known ∙ worn.number ∙ ap (λ (k : Knowledge). k.number) same.known)
+      (ap (λ (k : Knowledge). k.seen) same_last.known ∙ worn.seen ∙ ap (λ (k : Knowledge). k.seen) same.known)
+      (ap (λ (k : Knowledge). k.watched) same_last.known ∙ worn.watched ∙ ap (λ (k : Knowledge). k.watched) same.known)
+      (subst (λ (l : List (ℕ × (ℕ × Shard R))). AllFit (shard_meaning steady) n (known_to start) l (held_parts start)) (sym (same_last.taken ∙ taken ∙ same.taken)) fit) became
 
--- what is held where the pass watches what it did
-pub given_still : (n : ℕ) (start last : Held Shard) → IsOpen shard_meaning.trusted last → gates_of last ≡ gates_of start → borrow_of last ≡ borrow_of start → Fit n last
-    → MayBeGiven false n start last
-given_still n start last opened gates pass fit = record {
-  is_open = opened;
-  gates = gates;
-  pass = pass;
-  keys = λ yes. absurd (cc yes);
-  fit = fit;
-}
+  -- all that is watched is forgotten
+  pub fit_forgot : (n seat : ℕ) (keys : List Bytes) (start last : Held (Shard R)) → seat ≡ (known_to start).number → keys ≡ keys_of_pairs (known_to start).watched → Fit n start → SameHold start last
+      → Became (shard_meaning steady) n [] (clears seat keys) (parts_of start) (parts_of last) → AllFit (shard_meaning steady) n (kept true [] (known_to last)) (held_taken last) (held_parts last)
+  fit_forgot n seat keys start last seat_is keys_are fit same became =
+      subst (λ (k : Knowledge). AllFit (shard_meaning steady) n (kept true [] k) (held_taken last) (held_parts last)) (sym same.known)
+      (forgot_all (shard_meaning steady) n seat keys (known_to start) (held_taken last) (held_parts start) (held_parts last) seat_is keys_are
+      (subst (λ (l : List (ℕ × (ℕ × Shard R))). AllFit (shard_meaning steady) n (known_to start) l (held_parts start)) (sym same.taken) fit) became)
 
--- the same, from before the last steps
-pub given_behind : (ends : Bool) (n : ℕ) (start mid last : Held Shard) → gates_of mid ≡ gates_of start → borrow_of mid ≡ borrow_of start → MayBeGiven ends n mid last → MayBeGiven ends n start last
-given_behind ends n start mid last gates pass given = record {
-  is_open = given.is_open;
-  gates = given.gates ∙ gates;
-  pass = given.pass ∙ pass;
-  keys = given.keys;
-  fit = given.fit;
-}
+  -- the stripes of all that was watched are held
+  forgot_held : (n : ℕ) (keys : List Bytes) (start last : Held (Shard R)) → SameHold start last → keys ≡ keys_of_pairs (known_to start).watched → AreThere n (parts_of last) keys
+      → KeysHeld n (held_parts last) (keys_of_pairs (known_to last).watched)
+  forgot_held n keys start last same keys_are there =
+      subst (λ (l : List Bytes). KeysHeld n (held_parts last) l) (keys_are ∙ ap (λ (k : Knowledge). keys_of_pairs k.watched) (sym same.known))
+      (keys_held (shard_meaning steady) n (held_parts last) keys there)
 
--- a call may be entered still
-pub may_still : (n : ℕ) (call : Call) (start mid : Held Shard) → MayEnter n call start → IsOpen shard_meaning.trusted mid → has_committed mid ≡ false → gates_of mid ≡ gates_of start
-    → ((i : ℕ) → IsSome (parts_of start i) → IsSome (parts_of mid i)) → Fit n mid → MayEnter n call mid
-may_still n call start mid may opened fresh gates there fit = record {
-  is_open = opened;
-  fresh = fresh;
-  some = may.some;
-  count = may.count ∙ sym (ap (λ (g : Gates Shard). stripes_of g) gates);
-  there = there_after n (call_keys call) (parts_of start) (parts_of mid) there may.there;
-  fit = fit;
-}
+  -- what is held once all that is watched is forgotten
+  pub given_forgot : (n seat : ℕ) (keys : List Bytes) (report : Report) (start last : Held (Shard R)) → IsOpen steady last → IsToldOf (shard_meaning steady) (held_taken last) (held_parts last) report → seat ≡ (known_to start).number
+      → keys ≡ keys_of_pairs (known_to start).watched → AreThere n (parts_of start) keys → Fit n start → SameHold start last
+      → Became (shard_meaning steady) n [] (clears seat keys) (parts_of start) (parts_of last) → MayBeGiven steady true report n start last
+  given_forgot n seat keys report start last opened told seat_is keys_are there fit same became = record {
+    is_open = opened;
+    gates = ap (λ (g : Bor (Gates (Shard R))). g.now) same.gates;
+    pass = same.pass;
+    told = told;
+    keys = λ yes. forgot_held n keys start last same keys_are (there_after n keys (parts_of start) (parts_of last) became.there there);
+    fit = fit_forgot n seat keys start last seat_is keys_are fit same became;
+  }
+
+  -- what is held where the pass watches what it did
+  pub given_still : (n : ℕ) (report : Report) (start last : Held (Shard R)) → IsOpen steady last → IsToldOf (shard_meaning steady) (held_taken last) (held_parts last) report → gates_of last ≡ gates_of start → borrow_of last ≡ borrow_of start → Fit n last
+      → MayBeGiven steady false report n start last
+  given_still n report start last opened told gates pass fit = record {
+    is_open = opened;
+    gates = gates;
+    pass = pass;
+    told = told;
+    keys = λ yes. absurd (cc yes);
+    fit = fit;
+  }
+
+  -- the same, from before the last steps
+  pub given_behind : (ends : Bool) (report : Report) (n : ℕ) (start mid last : Held (Shard R)) → gates_of mid ≡ gates_of start → borrow_of mid ≡ borrow_of start → MayBeGiven steady ends report n mid last → MayBeGiven steady ends report n start last
+  given_behind ends report n start mid last gates pass given = record {
+    is_open = given.is_open;
+    gates = given.gates ∙ gates;
+    pass = given.pass ∙ pass;
+    told = given.told;
+    keys = given.keys;
+    fit = given.fit;
+  }
+
+  -- a call may be entered still
+  pub may_still : (n : ℕ) (call : Call) (start mid : Held (Shard R)) → MayEnter steady n call start → IsOpen steady mid → has_committed mid ≡ false → gates_of mid ≡ gates_of start
+      → ((i : ℕ) → IsSome (parts_of start i) → IsSome (parts_of mid i)) → Fit n mid → MayEnter steady n call mid
+  may_still n call start mid may opened fresh gates there fit = record {
+    is_open = opened;
+    fresh = fresh;
+    some = may.some;
+    most = may.most;
+    count = may.count ∙ sym (ap (λ (g : Gates (Shard R)). stripes_of g) gates);
+    there = there_after n (call_keys call) (parts_of start) (parts_of mid) there may.there;
+    fit = fit;
+  }
+
+  -- what may be given back, by the number of stripes of its own gates
+  pub given_here : (ends : Bool) (report : Report) (n : ℕ) (start held : Held (Shard R)) (gates : Gates (Shard R)) → n ≡ stripes_of gates → gates_of held ≡ gates → MayBeGiven steady ends report n start held
+      → MayBeGiven steady ends report (stripes_of (gates_of held)) held held
+  given_here ends report n start held gates n_is same given =
+      subst (λ (m : ℕ). MayBeGiven steady ends report m held held) (n_is ∙ ap (λ (g : Gates (Shard R)). stripes_of g) (sym same)) (record {
+        is_open = given.is_open;
+        gates = refl;
+        pass = refl;
+        told = given.told;
+        keys = given.keys;
+        fit = given.fit;
+      })
+
+  -- a call may be entered where its stripes were taken
+  pub may_enter : (n : ℕ) (call : Call) (gates : Gates (Shard R)) (stripes : List ℕ) (pass : MutBor (Pass (Shard R))) (held : Held (Shard R)) → 1 ≤ n → n ≤ 64 → n ≡ stripes_of gates
+      → AreThere n (parts_of held) (call_keys call) → HasTaken (shard_meaning steady) gates stripes pass held → MayEnter steady n call held
+  may_enter n call gates stripes pass held some most n_is there taken = record {
+    is_open = taken.is_open;
+    fresh = taken.fresh;
+    some = some;
+    most = most;
+    count = n_is ∙ ap (λ (g : Gates (Shard R)). stripes_of g) (sym taken.gates_are);
+    there = there;
+    fit = subst (λ (m : ℕ). Fit m held) (sym n_is) taken.fit;
+  }
+
+  -- a stripe that a plan found full is so by its pages
+  full_pages : (p : Shard R) → IsFull (shard_log p) → pages.IsFull (shard_pages p)
+  full_pages p full = ⊎_elim (λ same. inl same) (λ last. inr (omega (arith, last))) full
+
+  full_at : (parts : List (ℕ × Shard R)) (stripe : ℕ) (o : Option (Shard R)) → part_at parts stripe ≡ o → (log : HybridLog) → option_map shard_log o ≡ Some log → IsFull log
+      → IsAt parts stripe (λ part. pages.IsFull (shard_pages part))
+  full_at parts stripe None is log there full = absurd (cc there)
+  full_at parts stripe (Some part) is log there full =
+      record { part = part; there = is; is = full_pages part (subst IsFull (sym (some_is (shard_log part) log there)) full) }
+
+  -- a report that says that a stripe is full is true
+  pub told_full : (parts : List (ℕ × Shard R)) (took : List (ℕ × (ℕ × Shard R))) (report : Report) → IsFullOf (logs_of (part_at parts)) report → IsToldOf (shard_meaning steady) took parts report
+  told_full parts took report.Nothing full = tt
+  told_full parts took (report.Full stripe) full = full_at parts stripe (part_at parts stripe) refl full.log full.there full.full
+  told_full parts took (report.Idle stripe work) full = absurd full
+  told_full parts took (report.Done stripe work) full = absurd full
 
 -- all that was watched is forgotten
-pub forgot_by : (start last : Knowledge) → last ≡ start → Forgot [] start (kept true [] last)
-forgot_by start last same = record {
+pub forgot_by : (start last : Knowledge) (f0 f1 : ℕ) → last ≡ start → f1 ≡ f0 → Forgot [] (know start f0) (know (kept true [] last) f1)
+forgot_by start last f0 f1 same failures = record {
   others = [];
   number = ap (λ (k : Knowledge). k.number) same;
   seen = ap (λ (k : Knowledge). k.seen) same;
@@ -201,19 +268,20 @@ forgot_by start last same = record {
   told = [];
   notes = ap (λ (k : Knowledge). k.notes) same;
   busy = tt;
+  failures = failures;
 }
 
 -- What was asked was done: it was committed, and what is known is the same since.
-pub done_by : (call : Call) (reply : Reply) (n place : ℕ) (parts : List (ℕ × Shard)) (start mid done last : Knowledge) → IsEntry call → mid ≡ start → last ≡ done
-    → Committed n parts (record { session = mid.number; operation = operation_of mid.watched (asked_for call); reply = reply }) place mid done
-    → IsDone [] (asked_of call) reply start last
-done_by call reply n place parts start mid done last entry same same_last did =
+pub done_by : {T : Type 0} (call : Call) (reply : Reply) (n place : ℕ) (parts : List (ℕ × T)) (start mid done last : Knowledge) (f0 f1 : ℕ) → IsEntry call → mid ≡ start → last ≡ done
+    → Committed n parts (record { session = mid.number; operation = operation_of mid.watched (asked_for call); reply = reply }) place mid done → f1 ≡ f0
+    → IsDone [] (asked_of call) reply (know start f0) (know last f1)
+done_by call reply n place parts start mid done last f0 f1 entry same same_last did failures =
     let e : Entry = record { session = start.number; operation = operation_of start.watched (asked_for call); reply = reply } in
     let was : Committed n parts e place start last =
     subst (λ (k : Knowledge). Committed n parts e place start k) (sym same_last)
     (subst (λ (k : Knowledge). Committed n parts (record { session = k.number; operation = operation_of k.watched (asked_for call); reply = reply }) place k done) same did) in
     let at : place ≡ length (was.goes_on.0 ++ start.seen) = was.place_is ∙ ap (λ (h : History). length h) was.goes_on.1 in
-    subst (λ (o : Option Asked). IsDone [] o reply start last) (sym (asks call entry)) (record {
+    subst (λ (o : Option Asked). IsDone [] o reply (know start f0) (know last f1)) (sym (asks call entry)) (record {
       others = was.goes_on.0;
       number = was.number;
       seen = was.seen ∙ ap (λ (h : History). e ∷ h) was.goes_on.1;
@@ -222,14 +290,32 @@ done_by call reply n place parts start mid done last entry same same_last did =
       told = [];
       notes = was.notes;
       busy = tt;
+      failures = failures;
     })
 
+-- A cause goes by the history that was seen last and by the failures of the device.
+cause_same : (promises : Promises) (f : Fault) (stripes : List ℕ) (asked : Asked) (was now other : Known) (told : List Note) → other.seen ≡ now.seen → other.failures ≡ now.failures
+    → IsCause promises f stripes asked was now told → IsCause promises f stripes asked was other told
+cause_same promises fault.OutOfMemory stripes asked was now other told seen failures cause =
+    (subst (λ (h : History). ¬ AsksNoMemory (promises.steady × promises.lends) (after h) asked) (sym seen) cause.0, failures ∙ cause.1, cause.2)
+cause_same promises fault.DeviceFault stripes asked was now other told seen failures cause = (failures ∙ cause.0, cause.1)
+cause_same promises fault.StoreFull stripes asked was now other told seen failures cause = record {
+  stripe = cause.stripe;
+  earlier = cause.earlier;
+  full = cause.full;
+  busy = cause.busy;
+  writes = subst (λ (h : History). promises.steady → made h (operation_of was.watched asked) ≢ []) (sym seen) cause.writes;
+  failures = failures ∙ cause.failures;
+}
+cause_same promises fault.CommitsWornOut stripes asked was now other told seen failures cause = (cause.0, cause.1, failures ∙ cause.2, cause.3)
+
 -- What was asked was not done, and what is known is what it was but for notes, and for watches that end.
-undone_by : (call : Call) (f : Fault) (start mid last : Knowledge) (told : List Note) → IsEntry call → last ≡ at_fault (asked_for call) mid → mid.number ≡ start.number
-    → mid.seen ≡ start.seen → mid.mine ≡ start.mine → mid.watched ≡ start.watched → mid.notes ≡ told ++ start.notes → IsCause f [] (asked_for call) (after start.seen) told
-    → IsUndone [] (asked_of call) f start last
-undone_by call f start mid last told entry is number seen mine watched notes cause =
-    subst (λ (o : Option Asked). IsUndone [] o f start last) (sym (asks call entry)) (record {
+pub undone_by : (promises : Promises) (call : Call) (f : Fault) (start mid last : Knowledge) (f0 f1 : ℕ) (told : List Note) → IsEntry call → last ≡ at_fault (asked_for call) mid → mid.number ≡ start.number
+    → mid.seen ≡ start.seen → mid.mine ≡ start.mine → mid.watched ≡ start.watched → mid.notes ≡ told ++ start.notes
+    → IsCause promises f [] (asked_for call) (know start f0) (know start f1) told
+    → IsUndone promises [] (asked_of call) f (know start f0) (know last f1)
+undone_by promises call f start mid last f0 f1 told entry is number seen mine watched notes cause =
+    subst (λ (o : Option Asked). IsUndone promises [] o f (know start f0) (know last f1)) (sym (asks call entry)) (record {
       others = [];
       number = ap (λ (k : Knowledge). k.number) is ∙ number;
       seen = ap (λ (k : Knowledge). k.seen) is ∙ seen;
@@ -237,7 +323,7 @@ undone_by call f start mid last told entry is number seen mine watched notes cau
       watched = ap (λ (k : Knowledge). k.watched) is ∙ ap (λ (w : List Pair). watched_at_fault w (asked_for call)) watched;
       told = told;
       notes = ap (λ (k : Knowledge). k.notes) is ∙ notes;
-      cause = subst (λ (h : History). IsCause f [] (asked_for call) (after h) told) (sym (ap (λ (k : Knowledge). k.seen) is ∙ seen)) cause;
+      cause = cause_same promises f [] (asked_for call) (know start f0) (know start f1) (know last f1) told (ap (λ (k : Knowledge). k.seen) is ∙ seen) refl cause;
     })
 
 -- what is still watched after a fault, where the call is no transaction
@@ -248,24 +334,38 @@ unended (Watch keys) watched entry never = refl
 unended (Exec commands watching) watched entry never = absurd (never commands watching refl)
 unended (Forget watching) watched entry never = absurd entry
 
--- there was no memory
-pub wanted_memory : (call : Call) (start mid last : Knowledge) → IsEntry call → last ≡ at_fault (asked_for call) mid → mid ≡ start
-    → IsCause fault.OutOfMemory [] (asked_for call) (after start.seen) [] → IsUndone [] (asked_of call) fault.OutOfMemory start last
-wanted_memory call start mid last entry is same cause =
-    undone_by call fault.OutOfMemory start mid last [] entry is (ap (λ (k : Knowledge). k.number) same) (ap (λ (k : Knowledge). k.seen) same) (ap (λ (k : Knowledge). k.mine) same)
-    (ap (λ (k : Knowledge). k.watched) same) (ap (λ (k : Knowledge). k.notes) same) cause
+-- the plan was not made, and that was told
+pub stopped_by : {R : Type 0} (promises : Promises) (call : Call) (stop : Stop R) (start mid last : Knowledge) (f0 f1 : ℕ) → IsEntry call
+    → last ≡ at_fault (asked_for call) (record mid { notes = notes_of (report_of stop) ++ mid.notes }) → mid ≡ start → IfCold stop (λ receipts. ⊥) → f1 ≡ f0 + faults stop
+    → IfNoMemory stop (¬ AsksNoMemory (promises.steady × promises.lends) (after start.seen) (asked_for call))
+    → IfFull stop (λ stripe. promises.steady → made start.seen (operation_of start.watched (asked_for call)) ≢ [])
+    → IsUndone promises [] (asked_of call) (fault_of stop) (know start f0) (know last f1)
+stopped_by promises call stop.OutOfMemory start mid last f0 f1 entry is same cold failures memory full =
+    let none : f1 ≡ f0 = omega (arith, failures) in
+    undone_by promises call fault.OutOfMemory start mid last f0 f1 [] entry is (ap (λ (k : Knowledge). k.number) same) (ap (λ (k : Knowledge). k.seen) same)
+    (ap (λ (k : Knowledge). k.mine) same) (ap (λ (k : Knowledge). k.watched) same) (ap (λ (k : Knowledge). k.notes) same) (memory, none, tt)
+stopped_by promises call stop.DeviceFault start mid last f0 f1 entry is same cold failures memory full =
+    undone_by promises call fault.DeviceFault start mid last f0 f1 [] entry is (ap (λ (k : Knowledge). k.number) same) (ap (λ (k : Knowledge). k.seen) same)
+    (ap (λ (k : Knowledge). k.mine) same) (ap (λ (k : Knowledge). k.watched) same) (ap (λ (k : Knowledge). k.notes) same) (failures, tt)
+stopped_by promises call (stop.StoreFull stripe) start mid last f0 f1 entry is same cold failures memory full =
+    let none : f1 ≡ f0 = omega (arith, failures) in
+    undone_by promises call fault.StoreFull start (record mid { notes = Full stripe ∷ mid.notes }) last f0 f1 (Full stripe ∷ []) entry is (ap (λ (k : Knowledge). k.number) same)
+    (ap (λ (k : Knowledge). k.seen) same)
+    (ap (λ (k : Knowledge). k.mine) same) (ap (λ (k : Knowledge). k.watched) same) (ap (λ (k : Knowledge). Full stripe ∷ k.notes) same)
+    (record { stripe = stripe; earlier = []; full = refl; busy = tt; writes = full; failures = none })
+stopped_by promises call (stop.Cold receipts) start mid last f0 f1 entry is same cold failures memory full = absurd cold
 
 -- commits were worn out
-pub was_worn : (call : Call) (start mid told later last : Knowledge) → IsEntry call → last ≡ at_fault (asked_for call) later → later ≡ told → mid ≡ start → WasTold Worn mid told
-    → IsUndone [] (asked_of call) fault.CommitsWornOut start last
-was_worn call start mid told later last entry is kept_is same worn =
-    undone_by call fault.CommitsWornOut start later last (Worn ∷ []) entry is
+pub was_worn : (promises : Promises) (call : Call) (start mid told later last : Knowledge) (f0 f1 : ℕ) → IsEntry call → last ≡ at_fault (asked_for call) later → later ≡ told → mid ≡ start
+    → WasTold Worn mid told → f1 ≡ f0 → IsUndone promises [] (asked_of call) fault.CommitsWornOut (know start f0) (know last f1)
+was_worn promises call start mid told later last f0 f1 entry is kept_is same worn failures =
+    undone_by promises call fault.CommitsWornOut start later last f0 f1 (Worn ∷ []) entry is
     (ap (λ (k : Knowledge). k.number) kept_is ∙ worn.number ∙ ap (λ (k : Knowledge). k.number) same)
     (ap (λ (k : Knowledge). k.seen) kept_is ∙ worn.seen ∙ ap (λ (k : Knowledge). k.seen) same)
     (ap (λ (k : Knowledge). k.mine) kept_is ∙ worn.mine ∙ ap (λ (k : Knowledge). k.mine) same)
     (ap (λ (k : Knowledge). k.watched) kept_is ∙ worn.watched ∙ ap (λ (k : Knowledge). k.watched) same)
     (ap (λ (k : Knowledge). k.notes) kept_is ∙ worn.notes ∙ ap (λ (k : Knowledge). Worn ∷ k.notes) same)
-    ([], refl, tt)
+    ([], refl, failures, tt)
 
 -- where the answer is a fault, it is no reply, and what is said of the fault is said of the answer
 pub no_reply : (a : Answer) (f : Fault) (P : Reply → Type 0) → a ≡ answer.Fault f → IfReply a P
@@ -273,27 +373,3 @@ no_reply a f P is = subst (λ (x : Answer). IfReply x P) (sym is) tt
 
 pub this_fault : (a : Answer) (f : Fault) (P : Fault → Type 0) → a ≡ answer.Fault f → P f → IfFault a P
 this_fault a f P is holds = subst (λ (x : Answer). IfFault x P) (sym is) holds
-
--- what may be given back, by the number of stripes of its own gates
-pub given_here : (ends : Bool) (n : ℕ) (start held : Held Shard) (gates : Gates Shard) → n ≡ stripes_of gates → gates_of held ≡ gates → MayBeGiven ends n start held
-    → MayBeGiven ends (stripes_of (gates_of held)) held held
-given_here ends n start held gates n_is same given =
-    subst (λ (m : ℕ). MayBeGiven ends m held held) (n_is ∙ ap (λ (g : Gates Shard). stripes_of g) (sym same)) (record {
-      is_open = given.is_open;
-      gates = refl;
-      pass = refl;
-      keys = given.keys;
-      fit = given.fit;
-    })
-
--- a call may be entered where its stripes were taken
-pub may_enter : (n : ℕ) (call : Call) (gates : Gates Shard) (stripes : List ℕ) (pass : MutBor (Pass Shard)) (held : Held Shard) → 1 ≤ n → n ≡ stripes_of gates
-    → AreThere n (parts_of held) (call_keys call) → HasTaken shard_meaning gates stripes pass held → MayEnter n call held
-may_enter n call gates stripes pass held some n_is there taken = record {
-  is_open = taken.is_open;
-  fresh = taken.fresh;
-  some = some;
-  count = n_is ∙ ap (λ (g : Gates Shard). stripes_of g) (sym taken.gates_are);
-  there = there;
-  fit = subst (λ (m : ℕ). Fit m held) (sym n_is) taken.fit;
-}

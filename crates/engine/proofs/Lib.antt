@@ -3,7 +3,8 @@ pub mod Parts
 pub mod Fit
 pub mod Behind
 pub mod Entering
+pub mod Values
+pub mod Stopped
 pub mod Memory
-pub mod Sets
 pub mod MemoryRows
 pub mod SizeRows

@@ -1,83 +1,63 @@
 -- Calls that need no memory are not answered by want of it.
-use Rattle.std.proofs.lemmas.Bool.{lt-ltb}
-use Rattle.std.proofs.Common.{◌≡◌, ◌≤◌, ◌<◌, ◌+◌, ⊎_elim, ◌∙◌, ◌∷◌, nat_lt, false, IsSome, ℕ, length, unwrap_or, [], Option, Result, Err, IsOk, sym, subst, refl}
+use Rattle.std.proofs.Common.{◌≡◌, ◌≤◌, ℕ, List, length, unwrap_or, [], Option, IsSome, refl, sym, subst}
 use Rattle.words.specs.declared.word.TheConstants.{WORD_INLINE}
 use Rattle.words.specs.declared.command.Command.{Command}
 use Rattle.words.specs.declared.command.Command.TheVariants.{Get, Set}
 use Rattle.words.specs.declared.command.When.TheVariants.{Always}
-use Rattle.words.specs.declared.limits.TheConstants.{WEIGHT_MAX, WEIGHT_OF_KEY}
-use Rattle.words.specs.declared.reply.Fault.TheVariants as fault
 use Rattle.words.specs.Commands.{keys_of}
 use Rattle.words.specs.History.{after}
 use Rattle.words.specs.Store.{Bytes, Store}
+use Rattle.gates.specs.Rule.{Meaning}
 use Rattle.gates.specs.declared.held.Held.{Held}
 use Rattle.gates.specs.Helds.{known_to}
 use Rattle.transact.specs.declared.call.Call.{Call}
 use Rattle.transact.specs.declared.call.Call.TheVariants.{One, Watch, Exec, Forget}
-use Rattle.transact.specs.declared.shard.Shard.{Shard}
 use Rattle.transact.specs.Calls.{call_keys}
-use Rattle.transact.specs.Memory.{AsksInPlace, IsShort, IsShortOn}
-use Rattle.transact.specs.Shards.{shard_meaning}
 use Rattle.transact.specs.Submits.{asked_for}
 use Rattle.transact.specs.Tables.{AllRead, AreThere, joined}
-use Rattle.engine.specs.Calls.{IsCause}
-use Rattle.engine.specs.Memory.{AsksNoMemory, set_call}
+use Rattle.plans.specs.declared.shard.Shard.{Shard}
+use Rattle.plans.specs.Memory.{IsBrief, IsBriefOn, IsPlannedInPlace, NeedsNoMemoryOn}
+use Rattle.plans.specs.Shards.{shard_meaning}
+use Rattle.engine.specs.Memory.{AsksNoMemory, NeedsNoMemory, set_call}
 use Rattle.engine.proofs.Parts.{joined_at}
 use Rattle.engine.proofs.Entering.{Fit, parts_of, stands}
 
--- a command that is short on the store that a history leaves is so on the parts of that store
-short_joined : (n : ℕ) (parts : ℕ → Option Shard) (store : Store) (command : Command) → AllRead shard_meaning n parts store → AreThere n parts (keys_of command)
-    → IsShortOn store command → IsShortOn (joined shard_meaning n parts) command
-short_joined n parts store command reads there short = (
-  short.0,
-  subst (λ (v : Option Bytes). IsShort short.0 v command)
-      (sym (joined_at n shard_meaning parts store short.0 reads (subst (AreThere n parts) short.1.keys there).0)) short.1,
-)
+module _ {T : Type 0} (contents : Meaning T) (n : ℕ) (parts : ℕ → Option T) (store : Store) (reads : AllRead contents n parts store) where
+  -- a command that is brief on the store that a history leaves is so on the parts of that store
+  brief_joined : (command : Command) → AreThere n parts (keys_of command) → IsBriefOn store command → IsBriefOn (joined contents n parts) command
+  brief_joined command there brief = (
+    brief.0,
+    subst (λ (v : Option Bytes). IsBrief brief.0 v command)
+        (sym (joined_at n contents parts store brief.0 reads (subst (AreThere n parts) brief.1.keys there).0)) brief.1,
+  )
 
--- what a call needs on a store, it needs on the parts of that store
-asks_joined : (n : ℕ) (parts : ℕ → Option Shard) (store : Store) (call : Call) → AllRead shard_meaning n parts store → AreThere n parts (call_keys call)
-    → AsksInPlace store (asked_for call) → AsksInPlace (joined shard_meaning n parts) (asked_for call)
-asks_joined n parts store (One (Get key)) reads there asks =
-    subst (λ (v : Option Bytes). length (unwrap_or v []) ≤ WORD_INLINE) (sym (joined_at n shard_meaning parts store key reads there.0)) asks
-asks_joined n parts store (One command) reads there asks = short_joined n parts store command reads there asks
-asks_joined n parts store (Watch keys) reads there asks = absurd asks
-asks_joined n parts store (Exec commands watching) reads there asks = absurd asks
-asks_joined n parts store (Forget watching) reads there asks = absurd asks
+  placed_joined : (command : Command) → AreThere n parts (keys_of command) → IsPlannedInPlace store command → IsPlannedInPlace (joined contents n parts) command
+  placed_joined (Get key) there placed = subst (λ (v : Option Bytes). length (unwrap_or v []) ≤ WORD_INLINE) (sym (joined_at n contents parts store key reads there.0)) placed
+  placed_joined command there placed = brief_joined command there placed
 
-planned_in_place : (store : Store) (call : Call) → ((key value : Bytes) → call ≡ set_call key value → ⊥) → AsksNoMemory store (asked_for call) → AsksInPlace store (asked_for call)
-planned_in_place store (One (Get key)) never asks = asks
-planned_in_place store (One (Set key value Always)) never asks = absurd (never key value refl)
-planned_in_place store (One _) never asks = asks
-planned_in_place store (Watch keys) never asks = absurd asks
-planned_in_place store (Exec commands watching) never asks = absurd asks
-planned_in_place store (Forget watching) never asks = absurd asks
+  -- what a call needs on a store, it needs on the parts of that store
+  needs_joined : (call : Call) → AreThere n parts (call_keys call) → NeedsNoMemoryOn store call → NeedsNoMemoryOn (joined contents n parts) call
+  needs_joined (One command) there needs = placed_joined command there needs
+  needs_joined (Watch keys) there needs = absurd needs
+  needs_joined (Exec commands watching) there needs = absurd needs
+  needs_joined (Forget watching) there needs = absurd needs
 
-refused_not : {A E : Type 0} (r : Result A E) (e : E) → r ≡ Err e → IsOk r → ⊥
-refused_not {A} {E} r e is ok = absurd (cc (subst (λ (x : Result A E). IsOk x) is ok))
+needs_in : (near : Type 0) (store : Store) (command : Command) → ((key value : Bytes) → One command ≡ set_call key value → ⊥) → NeedsNoMemory near store command
+    → near × IsPlannedInPlace store command
+needs_in near store (Set key value Always) never needs = absurd (never key value refl)
+needs_in near store _ never needs = needs
 
--- the plan of a call that is no SET without an option was refused, which needs memory then
-pub refused_plan : {A E : Type 0} (n : ℕ) (start : Held Shard) (call : Call) (r : Result A E) (e : E) → Fit n start → AreThere n (parts_of start) (call_keys call)
-    → ((key value : Bytes) → call ≡ set_call key value → ⊥) → r ≡ Err e → (AsksInPlace (joined shard_meaning n (parts_of start)) (asked_for call) → IsOk r)
-    → IsCause fault.OutOfMemory [] (asked_for call) (after (known_to start).seen) []
-refused_plan n start call r e fit there never refused memory = (
-  λ asks. refused_not r e refused
-      (memory (asks_joined n (parts_of start) (after (known_to start).seen) call (stands n (known_to start).number start refl fit tt).read there
-      (planned_in_place (after (known_to start).seen) call never asks))),
-  tt,
-)
+needs_near : (near : Type 0) (store : Store) (call : Call) → ((key value : Bytes) → call ≡ set_call key value → ⊥) → AsksNoMemory near store (asked_for call)
+    → near × NeedsNoMemoryOn store call
+needs_near near store (One command) never asks = needs_in near store command never asks
+needs_near near store (Watch keys) never asks = absurd asks
+needs_near near store (Exec commands watching) never asks = absurd asks
+needs_near near store (Forget watching) never asks = absurd asks
 
-not_heavy : (w : ℕ) → nat_lt WEIGHT_MAX w ≡ false → WEIGHT_MAX < w → ⊥
-not_heavy w is more = absurd (cc (sym is ∙ lt-ltb WEIGHT_MAX w more))
-
--- no place was made for the key of a SET that is light: it needs memory then
-pub refused_place : {A E : Type 0} (n : ℕ) (start : Held Shard) (key value : Bytes) (r : Result A E) (e : E) → Fit n start
-    → AreThere n (parts_of start) (key ∷ []) → nat_lt WEIGHT_MAX (WEIGHT_OF_KEY + length key + length value) ≡ false
-    → r ≡ Err e → (IsSome (joined shard_meaning n (parts_of start) key) → IsOk r)
-    → IsCause fault.OutOfMemory [] (asked_for (set_call key value)) (after (known_to start).seen) []
-refused_place n start key value r e fit there light refused memory = (
-  λ asks. ⊎_elim
-      (λ some. refused_not r e refused (memory (subst (λ (v : Option Bytes). IsSome v)
-      (sym (joined_at n shard_meaning (parts_of start) (after (known_to start).seen) key (stands n (known_to start).number start refl fit tt).read there.0)) some)))
-      (λ more. not_heavy (WEIGHT_OF_KEY + length key + length value) light more) asks,
-  tt,
-)
+-- A call that is no SET without an option, and needs no memory where pages are near, needs none on the parts that are held.
+pub asks_on : {R : Type 0} (steady lends : Type 0) (n : ℕ) (held : Held (Shard R)) (call : Call) → Fit steady n held → AreThere n (parts_of steady held) (call_keys call)
+    → ((key value : Bytes) → call ≡ set_call key value → ⊥) → AsksNoMemory (steady × lends) (after (known_to held).seen) (asked_for call)
+    → steady × lends × NeedsNoMemoryOn (joined (shard_meaning steady) n (parts_of steady held)) call
+asks_on steady lends n held call fit there never asks =
+    let needs = needs_near (steady × lends) (after (known_to held).seen) call never asks in
+    (needs.0.0, needs.0.1, needs_joined (shard_meaning steady) n (parts_of steady held) (after (known_to held).seen) (stands steady n (known_to held).number held refl fit needs.0.0).read call there needs.1)

@@ -16,6 +16,9 @@ pub some_of : {A : Type 0} (o : Option A) → IsSome o → (a : A) × (o ≡ Som
 some_of (Some a) s = (a, refl)
 some_of None s = absurd cc
 
+pub some_is : {A : Type 0} (a b : A) → Some a ≡ Some b → a ≡ b
+some_is a b e = cc e
+
 pub not_among : (pairs : List Pair) (key : Bytes) → is_among (keys_of_pairs pairs) key ≡ false → watched_at pairs key ≡ None
 not_among [] key e = refl
 not_among (pair ∷ pairs) key e = elim (bytes_eq pair.0 key) as (λ b. (b || is_among (keys_of_pairs pairs) key) ≡ false → cond b (Some pair.1) (watched_at pairs key) ≡ None) [

@@ -1,18 +1,28 @@
 -- What calls of a pass to an engine come to.
-use Rattle.std.specs.Prelude.{ℕ, ◌≡◌, List, [], ◌∷◌, ◌++◌, length, Option, Some, None}
+use Rattle.std.specs.Prelude.{ℕ, ◌≡◌, ◌≢◌, ◌+◌, List, [], ◌∷◌, ◌++◌, length, Option, Some, None}
 use Rattle.words.specs.declared.reply.Reply.{Reply}
 use Rattle.words.specs.declared.reply.Fault.{Fault}
 use Rattle.words.specs.declared.reply.Fault.TheVariants as fault
 use Rattle.words.specs.declared.history.Entry.{Entry}
-use Rattle.words.specs.Store.{Store}
 use Rattle.words.specs.History.{History, Pair, HasPlace, after}
 use Rattle.words.specs.Watches.{watched_after}
 use Rattle.words.specs.Session.{Asked, operation_of, watched_at_fault}
-use Rattle.gates.specs.declared.view.Knowledge.{Knowledge}
 use Rattle.gates.specs.declared.view.Note.{Note}
-use Rattle.gates.specs.declared.view.Note.TheVariants.{Worn}
+use Rattle.gates.specs.declared.view.Note.TheVariants.{Full, Worn}
 use Rattle.gates.specs.Passes.{AreBusy}
+use Rattle.transact.specs.Plans.{made}
 use Rattle.engine.specs.Memory.{AsksNoMemory}
+use Rattle.engine.specs.Passes.{Known}
+
+-- What the receipts of an engine's device promise: that what was written is read, for good; and that a receipt holds its page, so that no
+-- page has to be read.
+pub record Promises : Type 1 where
+  pub steady : Type 0
+  pub lends : Type 0
+
+-- the same, of receipts
+abbrev pub promises_of : (steady lends : Type 0) → Promises
+promises_of steady lends = record { steady = steady; lends = lends }
 
 -- what is asked by a session that watches these has its place in the history
 abbrev pub HasItsPlace : List Pair → Option Asked → Type 0
@@ -20,12 +30,12 @@ HasItsPlace pairs None = Unit {0}
 HasItsPlace pairs (Some asked) = HasPlace (operation_of pairs asked)
 
 -- the entry that a pass makes where what it asked is answered with this reply
-abbrev pub entry_of : Knowledge → Asked → Reply → Entry
+abbrev pub entry_of : Known → Asked → Reply → Entry
 entry_of knows asked reply = record { session = knows.number; operation = operation_of knows.watched asked; reply = reply }
 
 -- What was asked was done: the history went on, and then by the pass's entry; and the pass watches what that leaves. It was told of
--- stripes of these alone that others had them.
-pub record Did (stripes : List ℕ) (asked : Asked) (reply : Reply) (was now : Knowledge) : Type 0 where
+-- stripes of these alone that others had them. No call of its device has failed.
+pub record Did (stripes : List ℕ) (asked : Asked) (reply : Reply) (was now : Known) : Type 0 where
   pub others : History
   pub number : now.number ≡ was.number
   pub seen : now.seen ≡ entry_of was asked reply ∷ (others ++ was.seen)
@@ -34,17 +44,30 @@ pub record Did (stripes : List ℕ) (asked : Asked) (reply : Reply) (was now : K
   pub told : List Note
   pub notes : now.notes ≡ told ++ was.notes
   pub busy : AreBusy stripes told
+  pub failures : now.failures ≡ was.failures
 
--- Why what was asked is answered by a fault, where a store stood and the pass was told this meanwhile: there was no memory for what may
--- want some; or commits are worn out, which was told last.
-abbrev pub IsCause : Fault → List ℕ → Asked → Store → List Note → Type 0
-IsCause fault.OutOfMemory stripes asked store told = (¬ AsksNoMemory store asked) × AreBusy stripes told
-IsCause fault.CommitsWornOut stripes asked store told = (earlier : List Note) × (told ≡ Worn ∷ earlier) × AreBusy stripes earlier
-IsCause fault.DeviceFault stripes asked store told = ⊥
-IsCause fault.StoreFull stripes asked store told = ⊥
+-- The pass was told that a stripe is full, which was told last, and what was asked would write where the history stood that it has seen.
+pub record MetFull (steady : Type 0) (stripes : List ℕ) (asked : Asked) (was now : Known) (told : List Note) : Type 0 where
+  pub stripe : ℕ
+  pub earlier : List Note
+  pub full : told ≡ Full stripe ∷ earlier
+  pub busy : AreBusy stripes earlier
+  pub writes : steady → made now.seen (operation_of was.watched asked) ≢ []
+  pub failures : now.failures ≡ was.failures
+
+-- Why what was asked is answered by a fault, by a pass that knew the one, then knows the other and was told this meanwhile: there was no
+-- memory for what may want some; a call of the device failed; a stripe is full that it would write; or commits are worn out, which was told
+-- last. Only with a device fault has a call of the device failed.
+abbrev pub IsCause : Promises → Fault → List ℕ → Asked → (was now : Known) → List Note → Type 0
+IsCause promises fault.OutOfMemory stripes asked was now told =
+    (¬ AsksNoMemory (promises.steady × promises.lends) (after now.seen) asked) × (now.failures ≡ was.failures) × AreBusy stripes told
+IsCause promises fault.DeviceFault stripes asked was now told = (now.failures ≡ was.failures + 1) × AreBusy stripes told
+IsCause promises fault.StoreFull stripes asked was now told = MetFull promises.steady stripes asked was now told
+IsCause promises fault.CommitsWornOut stripes asked was now told =
+    (earlier : List Note) × (told ≡ Worn ∷ earlier) × (now.failures ≡ was.failures) × AreBusy stripes earlier
 
 -- What was asked was not done: the history went on by others' entries alone. A transaction ends its watches all the same.
-pub record DidNot (stripes : List ℕ) (asked : Asked) (fault : Fault) (was now : Knowledge) : Type 0 where
+pub record DidNot (promises : Promises) (stripes : List ℕ) (asked : Asked) (fault : Fault) (was now : Known) : Type 0 where
   pub others : History
   pub number : now.number ≡ was.number
   pub seen : now.seen ≡ others ++ was.seen
@@ -52,10 +75,10 @@ pub record DidNot (stripes : List ℕ) (asked : Asked) (fault : Fault) (was now 
   pub watched : now.watched ≡ watched_at_fault was.watched asked
   pub told : List Note
   pub notes : now.notes ≡ told ++ was.notes
-  pub cause : IsCause fault stripes asked (after now.seen) told
+  pub cause : IsCause promises fault stripes asked was now told
 
 -- Nothing is watched any more. The history went on by others' entries alone.
-pub record Forgot (stripes : List ℕ) (was now : Knowledge) : Type 0 where
+pub record Forgot (stripes : List ℕ) (was now : Known) : Type 0 where
   pub others : History
   pub number : now.number ≡ was.number
   pub seen : now.seen ≡ others ++ was.seen
@@ -64,13 +87,32 @@ pub record Forgot (stripes : List ℕ) (was now : Knowledge) : Type 0 where
   pub told : List Note
   pub notes : now.notes ≡ told ++ was.notes
   pub busy : AreBusy stripes told
+  pub failures : now.failures ≡ was.failures
 
 -- what a call comes to that is answered with a reply: what it asks was done, or its session's watches ended
-abbrev pub IsDone : List ℕ → Option Asked → Reply → (was now : Knowledge) → Type 0
+abbrev pub IsDone : List ℕ → Option Asked → Reply → (was now : Known) → Type 0
 IsDone stripes None reply was now = Forgot stripes was now
 IsDone stripes (Some asked) reply was now = Did stripes asked reply was now
 
 -- what a call comes to that is answered with a fault; one that ends watches is not
-abbrev pub IsUndone : List ℕ → Option Asked → Fault → (was now : Knowledge) → Type 0
-IsUndone stripes None fault was now = ⊥
-IsUndone stripes (Some asked) fault was now = DidNot stripes asked fault was now
+abbrev pub IsUndone : Promises → List ℕ → Option Asked → Fault → (was now : Known) → Type 0
+IsUndone promises stripes None fault was now = ⊥
+IsUndone promises stripes (Some asked) fault was now = DidNot promises stripes asked fault was now
+
+-- The pass tried a stripe that another held. What it has seen may have grown, and its own entries are the same.
+pub record FoundBusy (stripe : ℕ) (was now : Known) : Type 0 where
+  pub number : now.number ≡ was.number
+  pub mine : now.mine ≡ was.mine
+  pub seen : (more : History) × (now.seen ≡ more ++ was.seen)
+  pub notes : now.notes ≡ Rattle.gates.specs.declared.view.Note.TheVariants.Busy stripe ∷ was.notes
+  pub watched : now.watched ≡ was.watched
+  pub failures : now.failures ≡ was.failures
+
+-- What a pass knows only grew, and its own entries and what it watches are the same.
+pub record HasLearned (was now : Known) : Type 0 where
+  pub number : now.number ≡ was.number
+  pub mine : now.mine ≡ was.mine
+  pub seen : (more : History) × (now.seen ≡ more ++ was.seen)
+  pub notes : now.notes ≡ was.notes
+  pub watched : now.watched ≡ was.watched
+  pub failures : now.failures ≡ was.failures

@@ -5,16 +5,18 @@ use Rattle.words.specs.Session.{Asked, Run, value_reply, watched_at_fault}
 use Rattle.words.specs.declared.command.Command.TheVariants.{Get, Set}
 use Rattle.words.specs.declared.command.When.TheVariants.{Always}
 use Rattle.gates.specs.declared.held.Held.{Held}
+use Rattle.gates.specs.declared.report.Report.{Report}
 use Rattle.gates.specs.declared.view.Knowledge.{Knowledge}
+use Rattle.gates.specs.Background.{IsToldOf, notes_of}
 use Rattle.gates.specs.Sets.{part_at}
 use Rattle.gates.specs.Passes.{AllFit, MayEnd, stripes_of}
 use Rattle.gates.specs.Plays.{kept}
 use Rattle.gates.specs.Helds.{IsOpen, borrow_of, gates_of, has_committed, held_parts, held_taken, known_to}
 use Rattle.transact.specs.declared.call.Call.{Call}
-use Rattle.transact.specs.declared.shard.Shard.{Shard}
 use Rattle.transact.specs.Calls.{call_keys}
-use Rattle.transact.specs.Shards.{shard_meaning}
 use Rattle.transact.specs.Tables.{AreThere}
+use Rattle.plans.specs.declared.shard.Shard.{Shard}
+use Rattle.plans.specs.Shards.{shard_meaning}
 use Rattle.engine.specs.declared.short.Found.{Found}
 use Rattle.engine.specs.declared.short.Getting.{Getting}
 use Rattle.engine.specs.declared.short.Setting.{Setting}
@@ -31,24 +33,32 @@ getting_asked getting = Run (Get getting.key.now)
 abbrev pub found_reply : Found → Reply
 found_reply found = value_reply found.value.now
 
--- what a pass knows once what it asked is answered by a fault: a transaction ends its watches
+-- what a pass of the gates knows once what it asked is answered by a fault: a transaction ends its watches
 abbrev pub at_fault : Asked → Knowledge → Knowledge
 at_fault asked knows = record knows { watched = watched_at_fault knows.watched asked }
 
--- What is held before a call is entered: so many stripes there are, those of the call's keys are held, each part fits, and nothing was
--- committed since they were taken.
-pub record MayEnter (stripes : ℕ) (call : Call) (held : Held Shard) : Type 0 where
-  pub is_open : IsOpen shard_meaning.trusted held
-  pub fresh : has_committed held ≡ false
-  pub some : 1 ≤ stripes
-  pub count : stripes ≡ stripes_of (gates_of held)
-  pub there : AreThere stripes (part_at (held_parts held)) (call_keys call)
-  pub fit : AllFit shard_meaning stripes (known_to held) (held_taken held) (held_parts held)
+-- what a pass of the gates knows once it has given its stripes back with a report, and with an end of all that it watches or without
+abbrev pub given : (ends : Bool) → Report → Knowledge → Knowledge
+given ends report knows = kept ends (notes_of report) knows
 
--- What is held after it: the same stripes by the same pass, and they may be given back, with or without an end of all that it watches.
-pub record MayBeGiven (ends : Bool) (stripes : ℕ) (before later : Held Shard) : Type 0 where
-  pub is_open : IsOpen shard_meaning.trusted later
-  pub gates : gates_of later ≡ gates_of before
-  pub pass : borrow_of later ≡ borrow_of before
-  pub keys : MayEnd ends stripes (held_parts later) (known_to later).watched
-  pub fit : AllFit shard_meaning stripes (kept ends [] (known_to later)) (held_taken later) (held_parts later)
+module _ {R : Type 0} where
+  -- What is held before a call is entered: so many stripes there are, those of the call's keys are held, each part fits, and nothing was
+  -- committed since they were taken.
+  pub record MayEnter (steady : Type 0) (stripes : ℕ) (call : Call) (held : Held (Shard R)) : Type 0 where
+    pub is_open : IsOpen steady held
+    pub fresh : has_committed held ≡ false
+    pub some : 1 ≤ stripes
+    pub most : stripes ≤ 64
+    pub count : stripes ≡ stripes_of (gates_of held)
+    pub there : AreThere stripes (part_at (held_parts held)) (call_keys call)
+    pub fit : AllFit (shard_meaning steady) stripes (known_to held) (held_taken held) (held_parts held)
+
+  -- What is held after it: the same stripes by the same pass, and they may be given back, with this report, and with or without an end of all
+  -- that it watches.
+  pub record MayBeGiven (steady : Type 0) (ends : Bool) (report : Report) (stripes : ℕ) (before later : Held (Shard R)) : Type 0 where
+    pub is_open : IsOpen steady later
+    pub gates : gates_of later ≡ gates_of before
+    pub pass : borrow_of later ≡ borrow_of before
+    pub keys : MayEnd ends stripes (held_parts later) (known_to later).watched
+    pub told : IsToldOf (shard_meaning steady) (held_taken later) (held_parts later) report
+    pub fit : AllFit (shard_meaning steady) stripes (kept ends [] (known_to later)) (held_taken later) (held_parts later)

@@ -2,3 +2,4 @@ pub mod Memory
 pub mod Entering
 pub mod Passes
 pub mod Calls
+pub mod Stops

@@ -1,26 +1,25 @@
 -- Calls that need no memory.
-use Rattle.std.specs.Prelude.{◌<◌, ◌⊎◌, ◌+◌, length, IsSome}
 use Rattle.words.specs.declared.command.Command.{Command}
-use Rattle.words.specs.declared.command.Command.TheVariants.{Get, Set}
+use Rattle.words.specs.declared.command.Command.TheVariants.{Set}
 use Rattle.words.specs.declared.command.When.TheVariants.{Always}
-use Rattle.words.specs.declared.limits.TheConstants.{WEIGHT_MAX, WEIGHT_OF_KEY}
 use Rattle.words.specs.Store.{Bytes, Store}
 use Rattle.words.specs.Session.{Asked, Run, Watch, Exec}
-use Rattle.transact.specs.Memory.{IsPlannedInPlace}
 use Rattle.transact.specs.declared.call.Call.{Call}
 use Rattle.transact.specs.declared.call.Call.TheVariants.{One}
+use Rattle.plans.specs.Memory.{IsPlannedInPlace}
+use Rattle.words.specs.declared.command.Command.TheVariants.{Get}
 
--- A command that needs no memory on a store: it gives, without an option, a new value to a key that is there, or one that weighs too much, or it is
+-- A command that needs no memory on a store: one that gives a key a value, without an option; and, where no page has to be read, one that is
 -- planned without a growth.
-abbrev pub NeedsNoMemory : Store → Command → Type 0
-NeedsNoMemory store (Set key value Always) = IsSome (store key) ⊎ (WEIGHT_MAX < WEIGHT_OF_KEY + length key + length value)
-NeedsNoMemory store command = IsPlannedInPlace store command
+abbrev pub NeedsNoMemory : (near : Type 0) → Store → Command → Type 0
+NeedsNoMemory near store (Set key value Always) = Unit {0}
+NeedsNoMemory near store command = near × IsPlannedInPlace store command
 
 -- the same of what a session asks
-abbrev pub AsksNoMemory : Store → Asked → Type 0
-AsksNoMemory store (Run command) = NeedsNoMemory store command
-AsksNoMemory store (Watch keys) = ⊥
-AsksNoMemory store (Exec commands) = ⊥
+abbrev pub AsksNoMemory : (near : Type 0) → Store → Asked → Type 0
+AsksNoMemory near store (Run command) = NeedsNoMemory near store command
+AsksNoMemory near store (Watch keys) = ⊥
+AsksNoMemory near store (Exec commands) = ⊥
 
 -- a call that gives a key a value, without an option
 abbrev pub set_call : Bytes → Bytes → Call

@@ -1,26 +1,57 @@
 -- The passes of an engine, and what they know.
-use Rattle.std.specs.Prelude.{ℕ, ◌≡◌}
+use Rattle.std.specs.Prelude.{ℕ, ◌≡◌, ◌+◌, List, [], ◌∷◌}
+use Rattle.words.specs.History.{History, Pair, Placed}
 use Rattle.gates.specs.declared.view.Knowledge.{Knowledge}
-use Rattle.gates.specs.declared.gates.Pass.{Pass}
+use Rattle.gates.specs.declared.view.Note.{Note}
+use Rattle.gates.specs.declared.gates.Gates.{Gates}
 use Rattle.gates.specs.Plays.{newcomer}
 use Rattle.gates.specs.Passes.{known, stripes_of, IsResting}
-use Rattle.transact.specs.declared.shard.Shard.{Shard}
-use Rattle.transact.specs.Shards.{shard_meaning}
+use Rattle.plans.specs.declared.shard.Shard.{Shard}
+use Rattle.engine.specs.declared.pass.Pass.{Pass}
 use Rattle.engine.specs.declared.Engine.{Engine}
 
--- what a pass knows: the history that it has seen, its own entries of it, what it watches, and what it was told beside
-abbrev pub knows : Pass Shard → Knowledge
-knows pass = known pass
+-- What a pass knows: its number, the history that it has seen, its own entries of it, what it was told beside and what it watches; and how
+-- many calls of its opening of the device have failed.
+pub record Known : Type 0 where
+  pub number : ℕ
+  pub seen : History
+  pub mine : List Placed
+  pub notes : List Note
+  pub watched : List Pair
+  pub failures : ℕ
 
--- the pass is one of the engine's, and holds nothing; what it has seen is legal, and has its own entries
-abbrev pub Rests : Engine → Pass Shard → Type 0
-Rests engine pass = IsResting shard_meaning.trusted engine.gates pass
+-- the same, from what a pass of the gates knows
+abbrev pub know : Knowledge → (failures : ℕ) → Known
+know knows failures =
+    record { number = knows.number; seen = knows.seen; mine = knows.mine; notes = knows.notes; watched = knows.watched; failures = failures }
 
--- how many stripes an engine has
-abbrev pub stripe_count : Engine → ℕ
-stripe_count engine = stripes_of engine.gates
+module _ {D R : Type 0} where
+  -- what a pass knows; `failures` counts the failed calls of an opening
+  abbrev pub knows : (failures : D → ℕ) → Pass D R → Known
+  knows failures pass = know (known pass.gates) (failures pass.device)
 
--- a pass of the engine with this number, which has seen nothing
-pub record IsNew (engine : Engine) (number : ℕ) (pass : Pass Shard) : Type 0 where
-  pub rests : Rests engine pass
-  pub nothing : knows pass ≡ newcomer number
+  -- the pass is one of the engine's, and holds nothing; where the device is steady, what it has seen is legal. It has its own entries of it.
+  abbrev pub Rests : (steady : Type 0) → Engine D R → Pass D R → Type 0
+  Rests steady engine pass = IsResting steady engine.gates pass.gates
+
+  -- how many stripes an engine has
+  abbrev pub stripe_count : Engine D R → ℕ
+  stripe_count engine = stripes_of engine.gates
+
+  -- a pass of these gates with this number, which has seen nothing, and has this opening of the device
+  pub record IsNew (steady : Type 0) (gates : Gates (Shard R)) (number : ℕ) (pass : Pass D R) (opening : D) : Type 0 where
+    pub rests : IsResting steady gates pass.gates
+    pub nothing : known pass.gates ≡ newcomer number
+    pub device : pass.device ≡ opening
+
+  -- passes of these gates that have seen nothing, with the numbers from this one on, each with its opening of the device
+  abbrev pub AreDealt : (steady : Type 0) → Gates (Shard R) → (number : ℕ) → List (Pass D R) → List D → Type 0
+  AreDealt steady gates number [] [] = Unit {0}
+  AreDealt steady gates number [] (opening ∷ openings) = ⊥
+  AreDealt steady gates number (pass ∷ passes) [] = ⊥
+  AreDealt steady gates number (pass ∷ passes) (opening ∷ openings) =
+      IsNew steady gates number pass opening × AreDealt steady gates (number + 1) passes openings
+
+  -- they are those of an engine, from number 0 on
+  abbrev pub AreOf : (steady : Type 0) → Engine D R → List (Pass D R) → List D → Type 0
+  AreOf steady engine passes openings = AreDealt steady engine.gates 0 passes openings

@@ -4,22 +4,30 @@ ghost use Rattle.std.specs.Prelude.{◌≡◌, []};
 ghost use Rattle.words.specs.Store.{Bytes};
 ghost use Rattle.gates.specs.Passes.{IsResting, known, stripes_of};
 ghost use Rattle.gates.specs.Plays.{kept};
-ghost use Rattle.gates.specs.Helds.{gates_of, known_to};
+ghost use Rattle.gates.specs.Helds.{gates_of, held_parts, known_to};
 ghost use Rattle.transact.specs.Calls.{asked_of};
 ghost use Rattle.transact.specs.Plans.{EndsAll, IsEntry};
-ghost use Rattle.transact.specs.Shards.{shard_meaning};
 ghost use Rattle.transact.specs.Submits.{IfFault, IfReply, asked_for};
-ghost use Rattle.engine.specs.Calls.{HasItsPlace, IsDone, IsUndone};
-ghost use Rattle.engine.specs.Entering.{MayBeGiven, MayEnter, at_fault};
+ghost use Rattle.engine.specs.Calls.{HasItsPlace, IsDone, IsUndone, promises_of};
+ghost use Rattle.engine.specs.Entering.{MayBeGiven, MayEnter, at_fault, given};
 ghost use Rattle.engine.specs.Memory.{set_call};
+ghost use Rattle.engine.specs.Passes.{know};
+ghost use Rattle.engine.specs.Stops.{IsFullOf, fault_of, report_of};
+ghost use Rattle.gates.specs.Sets.{part_at};
+ghost use Rattle.plans.specs.Shards.{logs_of};
+ghost use Rattle.plans.specs.Stops.{IfCold};
 
 use crate::short::enter_set;
+use device::{Device, Shows};
 use gates::{Held, Report};
+use plans::laws::writes_install_a_call;
+use plans::marks::forget;
+use plans::reading::plan_held;
+use plans::shard::Shard;
+use plans::stop::Stop;
 use std::alloc::Global;
 use transact::call::{Answer, Call};
-use transact::plan::plan;
-use transact::shard::Shard;
-use transact::watches::forget;
+use words::bounds::values_are_bounded;
 use words::command::{Command, When};
 use words::reply::{Fault, Line, Reply};
 
@@ -29,22 +37,25 @@ pub(crate) struct Entered {
     pub(crate) answer: Answer,
     /// Whether the watches of its pass end where the stripes are given back.
     pub(crate) ends: bool,
+    /// What is told where the stripes are given back.
+    pub(crate) report: Report,
 }
 
 /// Does what a call asks whose stripes are held, and lets the call go. One that ends the watches makes no
 /// entry, takes no memory and cannot fail.
-pub(crate) fn enter_call(
+pub(crate) fn enter_call<R: Shows, D: Device<Receipt = R>>(
     alloc: Global,
-    held: &mut Held<'_, Shard>,
+    held: &mut Held<'_, Shard<R>>,
     stripes: usize,
+    device: &mut D,
     call: Call,
 ) -> Entered
-    requires may { MayEnter stripes call held.old }
+    requires may { MayEnter R.is_steady stripes call held.old }
     requires place { HasItsPlace (known_to held.old).watched (asked_of call) }
     requires ends { EndsAll call (known_to held.old).watched }
-    ensures back { MayBeGiven result.ends stripes held.old held.new }
-    ensures done { IfReply result.answer (λ reply. IsDone [] (asked_of call) reply (known_to held.old) (kept result.ends [] (known_to held.new))) }
-    ensures undone { IfFault result.answer (λ fault. IsUndone [] (asked_of call) fault (known_to held.old) (kept result.ends [] (known_to held.new))) }
+    ensures back { MayBeGiven R.is_steady result.ends result.report stripes held.old held.new }
+    ensures done { IfReply result.answer (λ reply. IsDone [] (asked_of call) reply (know (known_to held.old) (D.failures device.old)) (know (given result.ends result.report (known_to held.new)) (D.failures device.new))) }
+    ensures undone { IfFault result.answer (λ fault. IsUndone (promises_of R.is_steady R.lends) [] (asked_of call) fault (know (known_to held.old) (D.failures device.old)) (know (given result.ends result.report (known_to held.new)) (D.failures device.new))) }
 {
     match call {
         Call::Forget(watching) => {
@@ -54,74 +65,103 @@ pub(crate) fn enter_call(
             Entered {
                 answer: Answer::Reply(Reply::line(Line::Done)),
                 ends: true,
+                report: Report::Nothing,
             }
         }
-        Call::One(command) => enter_one(alloc, held, stripes, command),
-        call => enter_spent(alloc, held, stripes, call),
+        Call::One(command) => enter_one(alloc, held, stripes, device, command),
+        call => enter_spent(alloc, held, stripes, device, call),
     }
 }
 
-/// Gives all stripes back, and the pass watches nothing more where its watches end.
-pub(crate) fn give_back(held: Held<'_, Shard>, ends: bool)
-    requires may { MayBeGiven ends (stripes_of (gates_of held)) held held }
-    ensures rests { IsResting shard_meaning.trusted (gates_of held.entry) held.exit.1.0.now }
-    ensures known { known held.exit.1.0.now ≡ kept ends [] (known_to held.entry) }
+/// Gives all stripes back with this report, and the pass watches nothing more where its watches end.
+pub(crate) fn give_back<R: Shows>(held: Held<'_, Shard<R>>, ends: bool, report: &Report)
+    requires may { MayBeGiven R.is_steady ends report.now (stripes_of (gates_of held)) held held }
+    ensures rests { IsResting R.is_steady (gates_of held.entry) held.exit.1.0.now }
+    ensures known { known held.exit.1.0.now ≡ given ends report.now (known_to held.entry) }
 {
     if ends {
-        held.forget(&Report::Nothing);
+        held.forget(report);
     } else {
-        held.give(&Report::Nothing);
+        held.give(report);
     }
 }
 
-/// Enters a command. A SET without an option needs no plan: its words move into the stripe.
-fn enter_one(alloc: Global, held: &mut Held<'_, Shard>, stripes: usize, command: Command) -> Entered
-    requires may { MayEnter stripes (Call.One command) held.old }
+/// Enters a command. A SET without an option needs no plan: its value is copied into the page.
+fn enter_one<R: Shows, D: Device<Receipt = R>>(
+    alloc: Global,
+    held: &mut Held<'_, Shard<R>>,
+    stripes: usize,
+    device: &mut D,
+    command: Command,
+) -> Entered
+    requires may { MayEnter R.is_steady stripes (Call.One command) held.old }
     requires place { HasItsPlace (known_to held.old).watched (asked_of (Call.One command)) }
-    ensures back { MayBeGiven result.ends stripes held.old held.new }
-    ensures done { IfReply result.answer (λ reply. IsDone [] (asked_of (Call.One command)) reply (known_to held.old) (kept result.ends [] (known_to held.new))) }
-    ensures undone { IfFault result.answer (λ fault. IsUndone [] (asked_of (Call.One command)) fault (known_to held.old) (kept result.ends [] (known_to held.new))) }
+    ensures back { MayBeGiven R.is_steady result.ends result.report stripes held.old held.new }
+    ensures done { IfReply result.answer (λ reply. IsDone [] (asked_of (Call.One command)) reply (know (known_to held.old) (D.failures device.old)) (know (given result.ends result.report (known_to held.new)) (D.failures device.new))) }
+    ensures undone { IfFault result.answer (λ fault. IsUndone (promises_of R.is_steady R.lends) [] (asked_of (Call.One command)) fault (know (known_to held.old) (D.failures device.old)) (know (given result.ends result.report (known_to held.new)) (D.failures device.new))) }
 {
     match command {
-        Command::Set(key, mut value, When::Always) => Entered {
-            answer: Answer::of_line(enter_set(alloc, held, stripes, &key, &mut value)),
-            ends: false,
-        },
-        command => enter_spent(alloc, held, stripes, Call::One(command)),
+        Command::Set(key, value, When::Always) => {
+            let (line, report) = enter_set(held, stripes, device, &key, &value);
+            Entered {
+                answer: Answer::of_line(line),
+                ends: false,
+                report,
+            }
+        }
+        command => enter_spent(alloc, held, stripes, device, Call::One(command)),
     }
 }
 
 /// Enters a call that comes to an entry and is no SET without an option, and lets it go.
-fn enter_spent(alloc: Global, held: &mut Held<'_, Shard>, stripes: usize, call: Call) -> Entered
-    requires may { MayEnter stripes call held.old }
+fn enter_spent<R: Shows, D: Device<Receipt = R>>(
+    alloc: Global,
+    held: &mut Held<'_, Shard<R>>,
+    stripes: usize,
+    device: &mut D,
+    call: Call,
+) -> Entered
+    requires may { MayEnter R.is_steady stripes call held.old }
     requires entry { IsEntry call }
     requires place { HasItsPlace (known_to held.old).watched (asked_of call) }
     requires ends { EndsAll call (known_to held.old).watched }
     requires other { (key value : Bytes) → call ≡ set_call key value → ⊥ }
-    ensures back { MayBeGiven result.ends stripes held.old held.new }
-    ensures done { IfReply result.answer (λ reply. IsDone [] (asked_of call) reply (known_to held.old) (kept result.ends [] (known_to held.new))) }
-    ensures undone { IfFault result.answer (λ fault. IsUndone [] (asked_of call) fault (known_to held.old) (kept result.ends [] (known_to held.new))) }
+    ensures back { MayBeGiven R.is_steady result.ends result.report stripes held.old held.new }
+    ensures done { IfReply result.answer (λ reply. IsDone [] (asked_of call) reply (know (known_to held.old) (D.failures device.old)) (know (given result.ends result.report (known_to held.new)) (D.failures device.new))) }
+    ensures undone { IfFault result.answer (λ fault. IsUndone (promises_of R.is_steady R.lends) [] (asked_of call) fault (know (known_to held.old) (D.failures device.old)) (know (given result.ends result.report (known_to held.new)) (D.failures device.new))) }
 {
-    let entered = enter(alloc, held, stripes, &call);
+    let entered = enter(alloc, held, stripes, device, &call);
     call.spend();
     entered
 }
 
-/// Runs a call over the parts that are held: plans it, commits its one entry, and installs what it writes. With a
-/// fault nothing was committed, and values are as they were.
-fn enter(alloc: Global, held: &mut Held<'_, Shard>, stripes: usize, call: &Call) -> Entered
-    requires may { MayEnter stripes call.now held.old }
+/// Runs a call over the parts that are held: plans it, reading the pages that it wants, commits its one entry, and installs
+/// what it writes. With a fault nothing was committed, and values are as they were.
+fn enter<R: Shows, D: Device<Receipt = R>>(
+    alloc: Global,
+    held: &mut Held<'_, Shard<R>>,
+    stripes: usize,
+    device: &mut D,
+    call: &Call,
+) -> Entered
+    requires may { MayEnter R.is_steady stripes call.now held.old }
     requires entry { IsEntry call.now }
     requires place { HasItsPlace (known_to held.old).watched (asked_of call.now) }
     requires ends { EndsAll call.now (known_to held.old).watched }
     requires other { (key value : Bytes) → call.now ≡ set_call key value → ⊥ }
-    ensures back { MayBeGiven result.ends stripes held.old held.new }
-    ensures done { IfReply result.answer (λ reply. IsDone [] (asked_of call.now) reply (known_to held.old) (kept result.ends [] (known_to held.new))) }
-    ensures undone { IfFault result.answer (λ fault. IsUndone [] (asked_of call.now) fault (known_to held.old) (kept result.ends [] (known_to held.new))) }
+    ensures back { MayBeGiven R.is_steady result.ends result.report stripes held.old held.new }
+    ensures done { IfReply result.answer (λ reply. IsDone [] (asked_of call.now) reply (know (known_to held.old) (D.failures device.old)) (know (given result.ends result.report (known_to held.new)) (D.failures device.new))) }
+    ensures undone { IfFault result.answer (λ fault. IsUndone (promises_of R.is_steady R.lends) [] (asked_of call.now) fault (know (known_to held.old) (D.failures device.old)) (know (given result.ends result.report (known_to held.new)) (D.failures device.new))) }
 {
+    values_are_bounded();
+    writes_install_a_call::<R>();
     let seat = held.number();
-    let Ok(planned) = plan(alloc, held, stripes, seat, call) else {
-        return refuse(held, stripes, call, Fault::OutOfMemory);
+    let planned = match plan_held(alloc, held, stripes, seat, call, device) {
+        Ok(planned) => planned,
+        Err(stop) => {
+            let Stopped { fault, report } = told_of(stop);
+            return refuse(held, stripes, call, fault, report);
+        }
     };
     match held.commit(call, &planned.reply) {
         Ok(_) => {
@@ -129,22 +169,69 @@ fn enter(alloc: Global, held: &mut Held<'_, Shard>, stripes: usize, call: &Call)
             Entered {
                 answer: Answer::Reply(reply),
                 ends: false,
+                report: Report::Nothing,
             }
         }
         Err(_) => {
             planned.undo(held, stripes, seat);
-            refuse(held, stripes, call, Fault::CommitsWornOut)
+            refuse(
+                held,
+                stripes,
+                call,
+                Fault::CommitsWornOut,
+                Report::Nothing,
+            )
         }
     }
 }
 
+/// How a call is answered that was not done, and what is told of it.
+#[derive(Drop)]
+pub(crate) struct Stopped {
+    /// The fault.
+    pub(crate) fault: Fault,
+    /// What is told where the stripes are given back.
+    pub(crate) report: Report,
+}
+
+/// How a call is answered whose plan was not made, and what is told of it.
+pub(crate) fn told_of<R: Shows>(stop: Stop<R>) -> Stopped
+    requires never_cold { IfCold stop (λ receipts. ⊥) }
+    ensures fault { result.fault ≡ fault_of stop }
+    ensures report { result.report ≡ report_of stop }
+{
+    match stop {
+        Stop::OutOfMemory => Stopped {
+            fault: Fault::OutOfMemory,
+            report: Report::Nothing,
+        },
+        Stop::DeviceFault => Stopped {
+            fault: Fault::DeviceFault,
+            report: Report::Nothing,
+        },
+        Stop::StoreFull(stripe) => Stopped {
+            fault: Fault::StoreFull,
+            report: Report::Full(stripe as u64),
+        },
+        Stop::Cold(_) => unreachable!(),
+    }
+}
+
 /// Answers a call by a fault. The watches of a transaction end all the same.
-fn refuse(held: &mut Held<'_, Shard>, stripes: usize, call: &Call, fault: Fault) -> Entered
-    requires may { MayEnter stripes call.now held.old }
+fn refuse<R: Shows>(
+    held: &mut Held<'_, Shard<R>>,
+    stripes: usize,
+    call: &Call,
+    fault: Fault,
+    report: Report,
+) -> Entered
+    requires may { MayEnter R.is_steady stripes call.now held.old }
     requires entry { IsEntry call.now }
     requires ends { EndsAll call.now (known_to held.old).watched }
-    ensures back { MayBeGiven result.ends stripes held.old held.new }
+    requires full { IsFullOf (logs_of (part_at (held_parts held.old))) report }
+    ensures back { MayBeGiven R.is_steady result.ends result.report stripes held.old held.new }
     ensures answer { result.answer ≡ Answer.Fault fault }
+    ensures report { result.report ≡ report }
     ensures known { kept result.ends [] (known_to held.new) ≡ at_fault (asked_for call.now) (known_to held.old) }
 {
     if let Call::Exec(_, watching) = call {
@@ -153,10 +240,12 @@ fn refuse(held: &mut Held<'_, Shard>, stripes: usize, call: &Call, fault: Fault)
         return Entered {
             answer: Answer::Fault(fault),
             ends: true,
+            report,
         };
     }
     Entered {
         answer: Answer::Fault(fault),
         ends: false,
+        report,
     }
 }

@@ -5,11 +5,11 @@ use Rattle.words.specs.Store.{Bytes}
 use Rattle.words.specs.History.{keys_of_pairs}
 use Rattle.words.specs.Watches.{with_keys}
 use Rattle.words.specs.Session.{Watch}
-use Rattle.gates.specs.declared.view.Knowledge.{Knowledge}
+use Rattle.engine.specs.Passes.{Known}
 use Rattle.engine.specs.Calls.{IsDone}
 
 -- a pass that watched nothing watches one key alone
-pub watches_one : (stripes : List ℕ) (keys : List Bytes) (key : Bytes) (reply : Reply) (was now : Knowledge) → IsDone stripes (Some (Watch keys)) reply was now
+pub watches_one : (stripes : List ℕ) (keys : List Bytes) (key : Bytes) (reply : Reply) (was now : Known) → IsDone stripes (Some (Watch keys)) reply was now
     → was.watched ≡ [] → keys ≡ key ∷ [] → keys_of_pairs now.watched ≡ key ∷ []
 watches_one stripes keys key reply was now done nothing one =
     ap keys_of_pairs done.watched

@@ -1,12 +1,13 @@
 //! An engine, by one pass, by two, and by two threads.
 
-ghost use Rattle.std.specs.Prelude.{◌≡◌, ◌∷◌, [], IfOk, IfSome, IsTrue, true};
+ghost use Rattle.std.specs.Prelude.{◌≡◌, ◌∷◌, [], ⊤, All, IfOk, IfSome, IsTrue, true, vec_len};
 ghost use Rattle.words.specs.History.{keys_of_pairs};
 ghost use Rattle.words.specs.Bounds.{IsBounded};
 ghost use Rattle.words.specs.Commands.{touches_keys};
 ghost use Rattle.engine.specs.Passes.{knows, Rests};
 
-use engine::{Engine, Pass};
+use device::MemoryDevice;
+use engine::{BACKGROUND_PASSES, Engine, Pass};
 use gates::{Latch, Open, Point};
 use std::alloc::Global;
 use std::process::Abort;
@@ -132,12 +133,25 @@ fn compare(answer: &Answer, due: &str) -> Outcome {
     if is_due { Outcome::Due } else { Outcome::Other }
 }
 
+/// An engine over a device in memory, with its passes.
+fn new_engine(
+    alloc: Global,
+) -> Result<(Engine<MemoryDevice>, Vec<Pass<MemoryDevice>>), OutOfMemory>
+    ensures count { IfOk result (λ made. vec_len made.1 ≡ 7) }
+    ensures rest { IfOk result (λ made. All (Rests ⊤ made.0) made.1.items) }
+    ensures watch { IfOk result (λ made. All (λ pass. (knows (λ device. 0) pass).watched ≡ []) made.1.items) }
+{
+    let limits = Limits::default();
+    let openings = MemoryDevice::openings(alloc, limits.clients + BACKGROUND_PASSES)?;
+    Engine::new(alloc, &limits, openings)
+}
+
 /// An engine with a pass of it.
 #[derive(Drop)]
 struct Client {
     alloc: Global,
-    engine: Engine,
-    pass: Pass,
+    engine: Engine<MemoryDevice>,
+    pass: Pass<MemoryDevice>,
     /// How often want of memory was answered.
     refusals: u64,
 }
@@ -145,9 +159,9 @@ struct Client {
 impl Client {
     /// An engine that holds nothing. `None` where there was no memory.
     fn of_new_engine(alloc: Global) -> Option<Client>
-        ensures { IfSome result (λ client. Rests client.engine client.pass) }
+        ensures { IfSome result (λ client. Rests ⊤ client.engine client.pass) }
     {
-        let (engine, mut passes) = Engine::new(alloc, &Limits::default()).ok()?;
+        let (engine, mut passes) = new_engine(alloc).ok()?;
         let pass = passes.swap_remove(0);
         Some(Client {
             alloc,
@@ -159,7 +173,7 @@ impl Client {
 
     /// The same, made again where there was no memory for it.
     fn new(alloc: Global) -> Option<Client>
-        ensures { IfSome result (λ client. Rests client.engine client.pass) }
+        ensures { IfSome result (λ client. Rests ⊤ client.engine client.pass) }
     {
         match Client::of_new_engine(alloc) {
             Some(client) => Some(client),
@@ -169,9 +183,9 @@ impl Client {
 
     /// How a command is answered.
     fn run(&mut self, rt: &impl Wait, command: Command, due: &str) -> Outcome
-        requires rests { Rests self.old.engine self.old.pass }
+        requires rests { Rests ⊤ self.old.engine self.old.pass }
         requires place { IsTrue (touches_keys command) × IsBounded command }
-        ensures rests { Rests self.new.engine self.new.pass }
+        ensures rests { Rests ⊤ self.new.engine self.new.pass }
     {
         let answer = self.engine.submit(rt, &mut self.pass, Call::One(command));
         let outcome = compare(&answer, due);
@@ -183,8 +197,8 @@ impl Client {
 
     /// How a request is answered. `None` where there was no memory for its own words.
     fn ask_once(&mut self, rt: &impl Wait, exchange: Exchange<'_>) -> Option<Outcome>
-        requires rests { Rests self.old.engine self.old.pass }
-        ensures rests { Rests self.new.engine self.new.pass }
+        requires rests { Rests ⊤ self.old.engine self.old.pass }
+        ensures rests { Rests ⊤ self.new.engine self.new.pass }
     {
         let command = command_of(self.alloc, exchange.request);
         match command.filter(|command| has_place(command)) {
@@ -195,8 +209,8 @@ impl Client {
 
     /// How a request is answered. Its words are made again where there was no memory for them.
     fn ask(&mut self, rt: &impl Wait, exchange: Exchange<'_>) -> Outcome
-        requires rests { Rests self.old.engine self.old.pass }
-        ensures rests { Rests self.new.engine self.new.pass }
+        requires rests { Rests ⊤ self.old.engine self.old.pass }
+        ensures rests { Rests ⊤ self.new.engine self.new.pass }
     {
         match self.ask_once(rt, exchange) {
             Some(outcome) => outcome,
@@ -207,8 +221,8 @@ impl Client {
     /// Whether a request that only reads is answered as is due, the second time where there was no memory
     /// the first time.
     fn reads(&mut self, rt: &impl Wait, exchange: Exchange<'_>) -> bool
-        requires rests { Rests self.old.engine self.old.pass }
-        ensures rests { Rests self.new.engine self.new.pass }
+        requires rests { Rests ⊤ self.old.engine self.old.pass }
+        ensures rests { Rests ⊤ self.new.engine self.new.pass }
     {
         match self.ask(rt, exchange) {
             Outcome::Due => true,
@@ -220,8 +234,8 @@ impl Client {
     /// Whether a request is answered as is due. Where there was no memory, the reading is answered as it
     /// was before, and the request as is due when it is made again.
     fn answers(&mut self, rt: &impl Wait, exchange: Exchange<'_>, reading: Exchange<'_>) -> bool
-        requires rests { Rests self.old.engine self.old.pass }
-        ensures rests { Rests self.new.engine self.new.pass }
+        requires rests { Rests ⊤ self.old.engine self.old.pass }
+        ensures rests { Rests ⊤ self.new.engine self.new.pass }
     {
         match self.ask(rt, exchange) {
             Outcome::Due => true,
@@ -247,8 +261,8 @@ fn state_after<'a>(
     text: &'a str,
     reading: Exchange<'_>,
 ) -> Option<&'a str>
-    requires rests { Rests client.old.engine client.old.pass }
-    ensures rests { Rests client.new.engine client.new.pass }
+    requires rests { Rests ⊤ client.old.engine client.old.pass }
+    ensures rests { Rests ⊤ client.new.engine client.new.pass }
 {
     let (line, due) = text.rsplit_once(" -> ")?;
     let after = Exchange {
@@ -269,7 +283,7 @@ fn answer_all<'a, R: Abort + Wait>(
     mut reading: Exchange<'a>,
     lines: &'a str,
 )
-    requires rests { Rests client.old.engine client.old.pass }
+    requires rests { Rests ⊤ client.old.engine client.old.pass }
 {
     for line in lines.split('\n') {
         let state = state_after(rt, client, line, reading);
@@ -367,8 +381,8 @@ fn several_keys_with_each_growth_refused(rt: HostRuntime) -> Result<(), Fail> {
 
 #[test]
 fn a_pass_for_each_client_and_three_more(rt: HostRuntime) -> Result<(), Fail> {
-    let made = Engine::new(rt.alloc(), &Limits::default());
-    let (_engine, passes) = made.or_else(|_| Engine::new(rt.alloc(), &Limits::default()))?;
+    let made = new_engine(rt.alloc());
+    let (_engine, passes) = made.or_else(|_| new_engine(rt.alloc()))?;
     assert_eq!(rt; passes.len(), 7);
     Ok(())
 }
@@ -385,8 +399,8 @@ fn set(alloc: Global, value: &[u8]) -> Option<Command>
 
 /// How SET of the key `k` to a value is answered. `None` where there was no memory for its words.
 fn run_set(rt: &impl Wait, client: &mut Client, value: &[u8], due: &str) -> Option<Outcome>
-    requires rests { Rests client.old.engine client.old.pass }
-    ensures rests { Rests client.new.engine client.new.pass }
+    requires rests { Rests ⊤ client.old.engine client.old.pass }
+    ensures rests { Rests ⊤ client.new.engine client.new.pass }
 {
     let command = set(client.alloc, value)?;
     Some(client.run(rt, command, due))
@@ -395,8 +409,8 @@ fn run_set(rt: &impl Wait, client: &mut Client, value: &[u8], due: &str) -> Opti
 /// Whether SET of the key `k` to a value is answered as is due, the second time where there was no memory
 /// the first time.
 fn sets(rt: &impl Wait, client: &mut Client, value: &[u8], due: &str) -> bool
-    requires rests { Rests client.old.engine client.old.pass }
-    ensures rests { Rests client.new.engine client.new.pass }
+    requires rests { Rests ⊤ client.old.engine client.old.pass }
+    ensures rests { Rests ⊤ client.new.engine client.new.pass }
 {
     match run_set(rt, client, value, due) {
         Some(Outcome::Due) => true,
@@ -407,8 +421,8 @@ fn sets(rt: &impl Wait, client: &mut Client, value: &[u8], due: &str) -> bool
 
 /// Whether the key `k` has the value that follows `$` in a text, once it is set to it.
 fn keeps(rt: &impl Wait, client: &mut Client, due: &str) -> bool
-    requires rests { Rests client.old.engine client.old.pass }
-    ensures rests { Rests client.new.engine client.new.pass }
+    requires rests { Rests ⊤ client.old.engine client.old.pass }
+    ensures rests { Rests ⊤ client.new.engine client.new.pass }
 {
     let [_, value @ ..] = due.as_bytes() else {
         return false;
@@ -419,8 +433,8 @@ fn keeps(rt: &impl Wait, client: &mut Client, due: &str) -> bool
 
 /// Gives one key values, each read after it.
 fn keeps_values<R: Abort + Wait>(rt: &R, client: &mut Client)
-    requires rests { Rests client.old.engine client.old.pass }
-    ensures rests { Rests client.new.engine client.new.pass }
+    requires rests { Rests ⊤ client.old.engine client.old.pass }
+    ensures rests { Rests ⊤ client.new.engine client.new.pass }
 {
     for due in [
         "$1",
@@ -434,7 +448,7 @@ fn keeps_values<R: Abort + Wait>(rt: &R, client: &mut Client)
 
 /// Reads keys that are missing.
 fn misses_others<R: Abort + Wait>(rt: &R, client: &mut Client)
-    requires rests { Rests client.old.engine client.old.pass }
+    requires rests { Rests ⊤ client.old.engine client.old.pass }
 {
     for request in [
         "GET ",
@@ -523,8 +537,8 @@ fn a_call_that_weighs_too_much_changes_nothing(rt: HostRuntime) -> Result<(), Fa
 
 /// Whether a key that is missing is given a value. The byte tells it from others.
 fn sets_key(rt: &impl Wait, client: &mut Client, byte: u8) -> Option<bool>
-    requires rests { Rests client.old.engine client.old.pass }
-    ensures rests { Rests client.new.engine client.new.pass }
+    requires rests { Rests ⊤ client.old.engine client.old.pass }
+    ensures rests { Rests ⊤ client.new.engine client.new.pass }
 {
     let mut get = *b"GET 0-key-of-more-than-22-bytes";
     let mut set = *b"SET 0-key-of-more-than-22-bytes 0-value-of-more-than-22-bytes";
@@ -544,8 +558,8 @@ fn sets_key(rt: &impl Wait, client: &mut Client, byte: u8) -> Option<bool>
 
 /// Whether a key has the value that it was given.
 fn has_key(rt: &impl Wait, client: &mut Client, byte: u8) -> Option<bool>
-    requires rests { Rests client.old.engine client.old.pass }
-    ensures rests { Rests client.new.engine client.new.pass }
+    requires rests { Rests ⊤ client.old.engine client.old.pass }
+    ensures rests { Rests ⊤ client.new.engine client.new.pass }
 {
     let mut get = *b"GET 0-key-of-more-than-22-bytes";
     let mut value = *b"$0-value-of-more-than-22-bytes";
@@ -560,8 +574,8 @@ fn has_key(rt: &impl Wait, client: &mut Client, byte: u8) -> Option<bool>
 
 /// Gives keys values.
 fn sets_each<R: Abort + Wait>(rt: &R, client: &mut Client)
-    requires rests { Rests client.old.engine client.old.pass }
-    ensures rests { Rests client.new.engine client.new.pass }
+    requires rests { Rests ⊤ client.old.engine client.old.pass }
+    ensures rests { Rests ⊤ client.new.engine client.new.pass }
 {
     for byte in b'0'..b'Z' {
         assert!(rt; sets_key(rt, client, byte) == Some(true));
@@ -570,7 +584,7 @@ fn sets_each<R: Abort + Wait>(rt: &R, client: &mut Client)
 
 /// Reads each of them.
 fn has_each<R: Abort + Wait>(rt: &R, client: &mut Client)
-    requires rests { Rests client.old.engine client.old.pass }
+    requires rests { Rests ⊤ client.old.engine client.old.pass }
 {
     for byte in b'0'..b'Z' {
         assert!(rt; has_key(rt, client, byte) == Some(true));
@@ -589,12 +603,14 @@ fn a_refused_growth_changes_nothing(rt: HostRuntime) -> Result<(), Fail> {
 }
 
 /// An engine, and two passes of it.
-fn with_two(alloc: Global) -> Result<(Engine, Pass, Pass), OutOfMemory>
-    ensures first { IfOk result (λ made. Rests made.0 made.1) }
-    ensures second { IfOk result (λ made. Rests made.0 made.2) }
-    ensures nothing { IfOk result (λ made. (knows made.1).watched ≡ []) }
+fn with_two(
+    alloc: Global,
+) -> Result<(Engine<MemoryDevice>, Pass<MemoryDevice>, Pass<MemoryDevice>), OutOfMemory>
+    ensures first { IfOk result (λ made. Rests ⊤ made.0 made.1) }
+    ensures second { IfOk result (λ made. Rests ⊤ made.0 made.2) }
+    ensures nothing { IfOk result (λ made. (knows (λ device. 0) made.1).watched ≡ []) }
 {
-    let (engine, mut passes) = Engine::new(alloc, &Limits::default())?;
+    let (engine, mut passes) = new_engine(alloc)?;
     let second = passes.swap_remove(1);
     let first = passes.swap_remove(0);
     Ok((engine, first, second))
@@ -605,12 +621,12 @@ fn answer_of<R: Wait, L: Latch>(
     rt: &R,
     alloc: Global,
     latch: &L,
-    engine: &Engine,
-    pass: &mut Pass,
+    engine: &Engine<MemoryDevice>,
+    pass: &mut Pass<MemoryDevice>,
     request: &str,
 ) -> Option<Answer>
-    requires { Rests engine.now pass.old }
-    ensures { Rests engine.now pass.new }
+    requires { Rests ⊤ engine.now pass.old }
+    ensures { Rests ⊤ engine.now pass.new }
 {
     let command = command_of(alloc, request);
     match command.filter(|command| has_place(command)) {
@@ -624,12 +640,12 @@ fn is_due<R: Wait, L: Latch>(
     rt: &R,
     alloc: Global,
     latch: &L,
-    engine: &Engine,
-    pass: &mut Pass,
+    engine: &Engine<MemoryDevice>,
+    pass: &mut Pass<MemoryDevice>,
     exchange: Exchange<'_>,
 ) -> bool
-    requires { Rests engine.now pass.old }
-    ensures { Rests engine.now pass.new }
+    requires { Rests ⊤ engine.now pass.old }
+    ensures { Rests ⊤ engine.now pass.new }
 {
     match answer_of(rt, alloc, latch, engine, pass, exchange.request) {
         Some(answer) => compare(&answer, exchange.due) == Outcome::Due,
@@ -641,12 +657,12 @@ fn is_due<R: Wait, L: Latch>(
 fn replies_to<R: Wait>(
     rt: &R,
     alloc: Global,
-    engine: &Engine,
-    pass: &mut Pass,
+    engine: &Engine<MemoryDevice>,
+    pass: &mut Pass<MemoryDevice>,
     requests: &str,
 ) -> u64
-    requires { Rests engine.now pass.old }
-    ensures { Rests engine.now pass.new }
+    requires { Rests ⊤ engine.now pass.old }
+    ensures { Rests ⊤ engine.now pass.new }
 {
     let mut done = 0u64;
     for request in requests.split(',') {
@@ -662,12 +678,12 @@ fn replies_to<R: Wait>(
 fn count_up<R: Wait>(
     rt: &R,
     alloc: Global,
-    engine: &Engine,
-    mut pass: Pass,
+    engine: &Engine<MemoryDevice>,
+    mut pass: Pass<MemoryDevice>,
     requests: &str,
-) -> (Pass, u64)
-    requires { Rests engine.now pass }
-    ensures { Rests engine.now result.0 }
+) -> (Pass<MemoryDevice>, u64)
+    requires { Rests ⊤ engine.now pass }
+    ensures { Rests ⊤ engine.now result.0 }
 {
     let mut done = 0u64;
     for _n in 0..TIMES {
@@ -690,13 +706,13 @@ fn counts_to<R: Threads + Wait + Sync>(
     let shared = &engine;
     let ((mut first, a), (second, b)) = join(
         rt,
-        move || -> (Pass, u64)
-            requires { Rests shared.now one }
-            ensures { Rests shared.entry.now result.0 }
+        move || -> (Pass<MemoryDevice>, u64)
+            requires { Rests ⊤ shared.now one }
+            ensures { Rests ⊤ shared.entry.now result.0 }
         { count_up(rt, alloc, shared, one, requests) },
-        move || -> (Pass, u64)
-            requires { Rests shared.now two }
-            ensures { Rests shared.entry.now result.0 }
+        move || -> (Pass<MemoryDevice>, u64)
+            requires { Rests ⊤ shared.now two }
+            ensures { Rests ⊤ shared.entry.now result.0 }
         { count_up(rt, alloc, shared, two, requests) },
     );
     drop(second);
@@ -760,10 +776,10 @@ fn call_held<R: Wait + Clock>(
     rt: &R,
     alloc: Global,
     latch: &Holds<'_, R>,
-    engine: &Engine,
-    mut pass: Pass,
+    engine: &Engine<MemoryDevice>,
+    mut pass: Pass<MemoryDevice>,
 ) -> bool
-    requires { Rests engine.now pass }
+    requires { Rests ⊤ engine.now pass }
 {
     let request = "SET a value";
     let due = "+OK";
@@ -782,10 +798,10 @@ fn call_after<R: Wait + Clock>(
     rt: &R,
     alloc: Global,
     latch: &Holds<'_, R>,
-    engine: &Engine,
-    mut pass: Pass,
+    engine: &Engine<MemoryDevice>,
+    mut pass: Pass<MemoryDevice>,
 ) -> bool
-    requires { Rests engine.now pass }
+    requires { Rests ⊤ engine.now pass }
 {
     let came = latch.wait_for(&latch.came);
     let request = "GET b";
@@ -816,10 +832,10 @@ fn two_calls<R: Threads + Wait + Clock + Sync>(rt: &R, alloc: Global) -> Result<
     let (first, second) = join(
         rt,
         move || -> bool
-            requires { Rests shared.now one }
+            requires { Rests ⊤ shared.now one }
         { call_held(rt, alloc, held, shared, one) },
         move || -> bool
-            requires { Rests shared.now two }
+            requires { Rests ⊤ shared.now two }
         { call_after(rt, alloc, held, shared, two) },
     );
     Ok(first && second && !latch.late.load(Ordering::SeqCst))
@@ -853,9 +869,9 @@ impl Latch for Trail {
 }
 
 /// Whether a key within the limits is read.
-fn gets<R: Wait, L: Latch>(rt: &R, engine: &Engine, pass: &mut Pass, key: &Word, latch: &L) -> bool
-    requires { Rests engine.now pass.old }
-    ensures { Rests engine.now pass.new }
+fn gets<R: Wait, L: Latch>(rt: &R, engine: &Engine<MemoryDevice>, pass: &mut Pass<MemoryDevice>, key: &Word, latch: &L) -> bool
+    requires { Rests ⊤ engine.now pass.old }
+    ensures { Rests ⊤ engine.now pass.new }
 {
     key.len() <= KEY_BYTES_MAX && engine.get(rt, pass, key, latch).is_ok()
 }
@@ -863,14 +879,14 @@ fn gets<R: Wait, L: Latch>(rt: &R, engine: &Engine, pass: &mut Pass, key: &Word,
 /// Whether a key within the limits is set to a value within them.
 fn sets_to<R: Wait, L: Latch>(
     rt: &R,
-    engine: &Engine,
-    pass: &mut Pass,
+    engine: &Engine<MemoryDevice>,
+    pass: &mut Pass<MemoryDevice>,
     key: &Word,
-    value: &mut Word,
+    value: &Word,
     latch: &L,
 ) -> bool
-    requires { Rests engine.now pass.old }
-    ensures { Rests engine.now pass.new }
+    requires { Rests ⊤ engine.now pass.old }
+    ensures { Rests ⊤ engine.now pass.new }
 {
     key.len() <= KEY_BYTES_MAX
         && value.len() <= VALUE_BYTES_MAX
@@ -885,13 +901,13 @@ fn a_latch_is_told_where_each_call_is(rt: HostRuntime) -> Result<(), Fail> {
         digits: AtomicU64::new(0),
     };
     let key = Word::from_slice(alloc, b"n")?;
-    let mut value = Word::from_slice(alloc, b"2")?;
+    let value = Word::from_slice(alloc, b"2")?;
     let request = "INCR n";
     let due = ":1";
     let exchange = Exchange { request, due };
     assert!(rt; is_due(&rt, alloc, &trail, &engine, &mut pass, exchange));
     assert!(rt; gets(&rt, &engine, &mut pass, &key, &trail));
-    assert!(rt; sets_to(&rt, &engine, &mut pass, &key, &mut value, &trail));
+    assert!(rt; sets_to(&rt, &engine, &mut pass, &key, &value, &trail));
     assert_eq!(rt; trail.digits.load(Ordering::SeqCst), 123_123_123);
     Ok(())
 }
@@ -908,11 +924,11 @@ fn list_of(alloc: Global, key: &Word) -> Option<Keys>
 
 /// Watches this key alone, and says whether it does.
 #[tactic(auto, using(crate::proofs::Watching::watches_one))]
-fn watches<R: Wait>(rt: &R, alloc: Global, engine: &Engine, pass: &mut Pass, key: &Word) -> bool
-    requires rests { Rests engine.now pass.old }
-    requires nothing { (knows pass.old).watched ≡ [] }
-    ensures rests { Rests engine.now pass.new }
-    ensures watches { IsTrue result → keys_of_pairs (knows pass.new).watched ≡ key.now ∷ [] }
+fn watches<R: Wait>(rt: &R, alloc: Global, engine: &Engine<MemoryDevice>, pass: &mut Pass<MemoryDevice>, key: &Word) -> bool
+    requires rests { Rests ⊤ engine.now pass.old }
+    requires nothing { (knows (λ device. 0) pass.old).watched ≡ [] }
+    ensures rests { Rests ⊤ engine.now pass.new }
+    ensures watches { IsTrue result → keys_of_pairs (knows (λ device. 0) pass.new).watched ≡ key.now ∷ [] }
 {
     let Some(keys) = list_of(alloc, key) else {
         return false;
@@ -940,12 +956,12 @@ fn watching_of(alloc: Global, key: &Word) -> Option<Watching>
 fn is_null<R: Wait>(
     rt: &R,
     alloc: Global,
-    engine: &Engine,
-    pass: &mut Pass,
+    engine: &Engine<MemoryDevice>,
+    pass: &mut Pass<MemoryDevice>,
     key: &Word,
 ) -> Option<bool>
-    requires rests { Rests engine.now pass.old }
-    requires watches { keys_of_pairs (knows pass.old).watched ≡ key.now ∷ [] }
+    requires rests { Rests ⊤ engine.now pass.old }
+    requires watches { keys_of_pairs (knows (λ device. 0) pass.old).watched ≡ key.now ∷ [] }
 {
     let watching = watching_of(alloc, key)?;
     let commands = Commands::from_vec(Vec::new(alloc));
@@ -961,15 +977,15 @@ fn is_null<R: Wait>(
 fn null_after<R: Wait>(
     rt: &R,
     alloc: Global,
-    engine: &Engine,
-    first: &mut Pass,
-    second: &mut Pass,
+    engine: &Engine<MemoryDevice>,
+    first: &mut Pass<MemoryDevice>,
+    second: &mut Pass<MemoryDevice>,
     key: &Word,
     exchange: Exchange<'_>,
 ) -> Option<bool>
-    requires first { Rests engine.now first.old }
-    requires second { Rests engine.now second.old }
-    requires nothing { (knows first.old).watched ≡ [] }
+    requires first { Rests ⊤ engine.now first.old }
+    requires second { Rests ⊤ engine.now second.old }
+    requires nothing { (knows (λ device. 0) first.old).watched ≡ [] }
 {
     let watches = watches(rt, alloc, engine, first, key);
     let is_due = is_due(rt, alloc, &Open, engine, second, exchange);

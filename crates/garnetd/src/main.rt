@@ -4,8 +4,9 @@
 use anyhow::Result;
 use clap::error::ErrorKind;
 use command_line::options_of;
+use device::MemoryDevice;
 use gates::Open;
-use server::{Endings, Options, ServerFault, listen, run_workers};
+use server::{DeviceKind, Endings, Options, ServerFault, listen, opening_count, run_workers};
 use std::env;
 use std::net::{Net, TcpListener, TcpStream};
 use std::process::ExitCode;
@@ -54,7 +55,12 @@ where
     // Nobody has to read where the server listens.
     let _ = println!(rt; "listening on {address}");
     let endings = Endings::new(rt.alloc())?;
-    run_workers(rt, listener, options, &Open, &endings)
+    match options.device {
+        DeviceKind::Memory => {
+            let openings = MemoryDevice::openings(rt.alloc(), opening_count(options))?;
+            run_workers(rt, listener, options, openings, &Open, &endings)
+        }
+    }
 }
 
 /// Tells on standard error why the server stopped.

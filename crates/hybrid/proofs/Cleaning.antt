@@ -11,6 +11,9 @@ use Rattle.hybrid.proofs.Placed.{Split, split_at, placed-append, end_from-append
 use Rattle.hybrid.specs.Log.{Log, newest, IsAppended, begin_of}
 use Rattle.std.proofs.Common.{true, false, ◌==◌, Bool, cond, zero-add, append_assoc}
 use Rattle.std.proofs.lemmas.List.{length-take}
+use Rattle.records.specs.declared.entries.TheConstants.{KEY_BYTES_MAX, RECORD_HEADER}
+use Rattle.words.specs.declared.limits.TheConstants.{WEIGHT_OF_KEY}
+use Rattle.records.specs.declared.pages.TheConstants.{PAGE_SIZE, HEADER_SIZE}
 use Rattle.hybrid.specs.HybridLog.{IsGrown, HasRoom, HybridLog, head_of, log_of, SameContents}
 use Rattle.hybrid.specs.Staging.{IsLive, IsDead, IsCopied, IsGoneOver, AreAdded, AreShort, AreMarked}
 use Rattle.hybrid.specs.Writing.{IsAdded, write_weight}
@@ -43,22 +46,22 @@ pub record IsStep (page : List ℕ) (at : ℕ) (r : Stored) : Type 0 where
 pub step : (page : List ℕ) (at : ℕ) (r : Stored) → IsLaidOut page → Contains (records_of page) (at, r) → IsStep page at r
 step page at r laid c = go split split.after refl
   where
-    listed : Contains (placed 16 laid.stored) (at, r)
+    listed : Contains (placed HEADER_SIZE laid.stored) (at, r)
     listed = subst (λ (ps : List (ℕ × Stored)). Contains ps (at, r)) laid.records c
 
-    split : Split 16 laid.stored at r
-    split = split_at 16 laid.stored at r listed.0 listed.1 listed.2
+    split : Split HEADER_SIZE laid.stored at r
+    split = split_at HEADER_SIZE laid.stored at r listed.0 listed.1 listed.2
 
-    go : (s : Split 16 laid.stored at r) (after : List Stored) → s.after ≡ after → IsStep page at r
+    go : (s : Split HEADER_SIZE laid.stored at r) (after : List Stored) → s.after ≡ after → IsStep page at r
     go s after is =
         let whole : laid.stored ≡ s.before ++ r ∷ after = s.whole ∙ ap (λ (rs : List Stored). s.before ++ r ∷ rs) is in
-        let records : records_of page ≡ placed 16 s.before ++ (at, r) ∷ placed (at + size_of r) after =
-        laid.records ∙ ap (placed 16) whole ∙ placed-append 16 s.before (r ∷ after) ∙ ap (λ (n : ℕ). placed 16 s.before ++ (n, r) ∷ placed (n + size_of r) after) (sym s.at) in
-        let end : used_end page ≡ end_from (at + size_of r) after = laid.used ∙ ap (end_from 16) whole ∙ end_from-append 16 s.before (r ∷ after) ∙ ap (λ (n : ℕ). end_from (n + size_of r) after) (sym s.at) in
+        let records : records_of page ≡ placed HEADER_SIZE s.before ++ (at, r) ∷ placed (at + size_of r) after =
+        laid.records ∙ ap (placed HEADER_SIZE) whole ∙ placed-append HEADER_SIZE s.before (r ∷ after) ∙ ap (λ (n : ℕ). placed HEADER_SIZE s.before ++ (n, r) ∷ placed (n + size_of r) after) (sym s.at) in
+        let end : used_end page ≡ end_from (at + size_of r) after = laid.used ∙ ap (end_from HEADER_SIZE) whole ∙ end_from-append HEADER_SIZE s.before (r ∷ after) ∙ ap (λ (n : ℕ). end_from (n + size_of r) after) (sym s.at) in
         record {
           place = next after s.before records end;
-          before = λ o t d lt. elim (Contains-append_cases (placed 16 s.before) ((at, r) ∷ placed (at + size_of r) after) (o, t) (subst (λ (ps : List (ℕ × Stored)). Contains ps (o, t)) records d)) [
-            | inl low ↦ inl (omega (arith, placed-from 16 s.before o t low, s.at))
+          before = λ o t d lt. elim (Contains-append_cases (placed HEADER_SIZE s.before) ((at, r) ∷ placed (at + size_of r) after) (o, t) (subst (λ (ps : List (ℕ × Stored)). Contains ps (o, t)) records d)) [
+            | inl low ↦ inl (omega (arith, placed-from HEADER_SIZE s.before o t low, s.at))
             | inr high ↦ elim (cons_cases (at, r) (placed (at + size_of r) after) (o, t) high) [
               | inl e ↦ inr (sym (ap (λ (p : ℕ × Stored). p.0) e), sym (ap (λ (p : ℕ × Stored). p.1) e))
               | inr past ↦ absurd (omega (arith, placed-from (at + size_of r) after o t past))
@@ -71,12 +74,12 @@ step page at r laid c = go split split.after refl
         right [] ys y d = d
         right (x ∷ xs) ys y d = there x (xs ++ ys) y (right xs ys y d)
 
-        next : (after before : List Stored) → records_of page ≡ placed 16 before ++ (at, r) ∷ placed (at + size_of r) after → used_end page ≡ end_from (at + size_of r) after → IsPlace (records_of page) (used_end page) (at + size_of r)
+        next : (after before : List Stored) → records_of page ≡ placed HEADER_SIZE before ++ (at, r) ∷ placed (at + size_of r) after → used_end page ≡ end_from (at + size_of r) after → IsPlace (records_of page) (used_end page) (at + size_of r)
         next [] before records end = inl (sym end)
         next (x ∷ after) before records end = inr (
           x,
           subst (λ (ps : List (ℕ × Stored)). Contains ps (at + size_of r, x)) (sym records)
-              (right (placed 16 before) ((at, r) ∷ placed (at + size_of r) (x ∷ after)) (at + size_of r, x) (there (at, r) (placed (at + size_of r) (x ∷ after)) (at + size_of r, x) (here (at + size_of r, x) (placed (at + size_of r + size_of x) after)))),
+              (right (placed HEADER_SIZE before) ((at, r) ∷ placed (at + size_of r) (x ∷ after)) (at + size_of r, x) (there (at, r) (placed (at + size_of r) (x ∷ after)) (at + size_of r, x) (here (at + size_of r, x) (placed (at + size_of r + size_of x) after)))),
         )
 
 -- ---- which records are added
@@ -99,7 +102,7 @@ pub record IsAdding (old now : HybridLog) (page : List ℕ) (at weight : ℕ) : 
   pub leads : (new : HybridLog) → AreAdded (log_of old) old.oldest (placed at rest) now new → AreAdded (log_of old) old.oldest (records_of page) old new
   pub left : live_weight (log_of old) old.oldest (placed at rest) ≤ weight
 
-adding-start : (old : HybridLog) (page : List ℕ) (weight : ℕ) → IsLaidOut page → live_weight (log_of old) old.oldest (records_of page) ≤ weight → IsAdding old old page 16 weight
+adding-start : (old : HybridLog) (page : List ℕ) (weight : ℕ) → IsLaidOut page → live_weight (log_of old) old.oldest (records_of page) ≤ weight → IsAdding old old page HEADER_SIZE weight
 adding-start old page weight laid enough = record {
   before = [];
   rest = laid.stored;
@@ -111,7 +114,7 @@ adding-start old page weight laid enough = record {
 
 -- the weight of the record at an offset, where it is live
 abbrev pub weight_at : HybridLog → ℕ → Stored → ℕ
-weight_at p at r = cond (lives (log_of p) (p.oldest * 16384 + at) r) (write_weight r.key r.value) 0
+weight_at p at r = cond (lives (log_of p) (p.oldest * PAGE_SIZE + at) r) (write_weight r.key r.value) 0
 
 -- the record that begins there
 pub front : (page : List ℕ) (at : ℕ) (r x : Stored) (before : List (ℕ × Stored)) (rest : List Stored) → IsStep page at r → records_of page ≡ before ++ placed at (x ∷ rest) → x ≡ r
@@ -119,7 +122,7 @@ front page at r x before rest s whole =
     let listed : Contains (records_of page) (at, x) = subst (λ (ps : List (ℕ × Stored)). Contains ps (at, x)) (sym whole) (right before (placed at (x ∷ rest)) (at, x) (here (at, x) (placed (at + size_of x) rest))) in
     elim (s.before at x listed (omega arith)) [ inl low ↦ absurd (omega (arith, low)) | inr e ↦ e.1 ]
 
-adding-step : (old now next : HybridLog) (page : List ℕ) (at weight less : ℕ) (r : Stored) → IsStep page at r → IsGoneOver (log_of old) (old.oldest * 16384 + at) r now next → weight ≤ weight_at old at r + less
+adding-step : (old now next : HybridLog) (page : List ℕ) (at weight less : ℕ) (r : Stored) → IsStep page at r → IsGoneOver (log_of old) (old.oldest * PAGE_SIZE + at) r now next → weight ≤ weight_at old at r + less
     → IsAdding old now page at weight → IsAdding old next page (at + size_of r) less
 adding-step old now next page at weight less r s over fewer h = go h.rest h.whole h.end h.leads h.left
   where
@@ -135,7 +138,7 @@ adding-step old now next page at weight less r s over fewer h = go h.rest h.whol
           rest = rest;
           whole = whole ∙ sym (append_assoc h.before ((at, x) ∷ []) (placed (at + size_of x) rest));
           end = end;
-          leads = λ new more. leads new (next, subst (λ (y : Stored). IsGoneOver (log_of old) (old.oldest * 16384 + at) y now next) (sym same) over, more);
+          leads = λ new more. leads new (next, subst (λ (y : Stored). IsGoneOver (log_of old) (old.oldest * PAGE_SIZE + at) y now next) (sym same) over, more);
           left = less-left (weight_at old at x) (live_weight (log_of old) old.oldest (placed (at + size_of x) rest)) weight less left less_x;
         })
 
@@ -168,24 +171,24 @@ over-dead log address r now dead = record {
 pub record IsDone (old now : HybridLog) (page : List ℕ) (at weight : ℕ) : Type 0 where
   pub same : SameContents old now
   pub first : (key : List ℕ) (a : ℕ) (r : Stored) → newest (log_of now) key ≡ Some (a, r) → a < begin_of (old.oldest + 1) → newest (log_of old) key ≡ Some (a, r)
-  pub dead : (o : ℕ) (r : Stored) → Contains (records_of page) (o, r) → o < at → IsDead (log_of now) (old.oldest * 16384 + o) r
+  pub dead : (o : ℕ) (r : Stored) → Contains (records_of page) (o, r) → o < at → IsDead (log_of now) (old.oldest * PAGE_SIZE + o) r
   pub place : IsPlace (records_of page) (used_end page) at
   pub adding : IsAdding old now page at weight
 
-pub begins : (page : List ℕ) (rs : List Stored) → records_of page ≡ placed 16 rs → used_end page ≡ end_from 16 rs → IsPlace (records_of page) (used_end page) 16
+pub begins : (page : List ℕ) (rs : List Stored) → records_of page ≡ placed HEADER_SIZE rs → used_end page ≡ end_from HEADER_SIZE rs → IsPlace (records_of page) (used_end page) HEADER_SIZE
 begins page [] records end = inl (sym end)
-begins page (r ∷ rs) records end = inr (r, subst (λ (ps : List (ℕ × Stored)). Contains ps (16, r)) (sym records) (here (16, r) (placed (16 + size_of r) rs)))
+begins page (r ∷ rs) records end = inr (r, subst (λ (ps : List (ℕ × Stored)). Contains ps (HEADER_SIZE, r)) (sym records) (here (HEADER_SIZE, r) (placed (HEADER_SIZE + size_of r) rs)))
 
-pub done-start : (old : HybridLog) (page : List ℕ) (weight : ℕ) → IsLaidOut page → live_weight (log_of old) old.oldest (records_of page) ≤ weight → IsDone old old page 16 weight
+pub done-start : (old : HybridLog) (page : List ℕ) (weight : ℕ) → IsLaidOut page → live_weight (log_of old) old.oldest (records_of page) ≤ weight → IsDone old old page HEADER_SIZE weight
 done-start old page weight laid enough = record {
   same = λ key. refl;
   first = λ key a r e lt. e;
-  dead = λ o r c lt. absurd (omega (arith, placed-from 16 laid.stored o r (subst (λ (ps : List (ℕ × Stored)). Contains ps (o, r)) laid.records c)));
+  dead = λ o r c lt. absurd (omega (arith, placed-from HEADER_SIZE laid.stored o r (subst (λ (ps : List (ℕ × Stored)). Contains ps (o, r)) laid.records c)));
   place = begins page laid.stored laid.records laid.used;
   adding = adding-start old page weight laid enough;
 }
 
-pub done-skip : (old now : HybridLog) (page : List ℕ) (at weight : ℕ) (r : Stored) → IsLaidOut page → Contains (records_of page) (at, r) → used_end page ≤ 16384 → IsDead (log_of old) (old.oldest * 16384 + at) r
+pub done-skip : (old now : HybridLog) (page : List ℕ) (at weight : ℕ) (r : Stored) → IsLaidOut page → Contains (records_of page) (at, r) → used_end page ≤ PAGE_SIZE → IsDead (log_of old) (old.oldest * PAGE_SIZE + at) r
     → IsDone old now page at weight → IsDone old now page (at + size_of r) weight
 done-skip old now page at weight r laid c short gone done =
     let s = step page at r laid c in
@@ -195,16 +198,16 @@ done-skip old now page at weight r laid c short gone done =
       dead = λ o t d lt. elim (s.before o t d lt) [
         | inl low ↦ done.dead o t d low
         | inr e ↦ λ h.
-            let h_here : newest (log_of now) r.key ≡ Some (old.oldest * 16384 + at, r) = rw (← e.0, ← e.1) h in
-            let small : old.oldest * 16384 + at < begin_of (old.oldest + 1) = omega (arith, s.within) in
-            ap (λ (x : Stored). x.value) e.1 ∙ gone (done.first r.key (old.oldest * 16384 + at) r h_here small)
+            let h_here : newest (log_of now) r.key ≡ Some (old.oldest * PAGE_SIZE + at, r) = rw (← e.0, ← e.1) h in
+            let small : old.oldest * PAGE_SIZE + at < begin_of (old.oldest + 1) = omega (arith, s.within) in
+            ap (λ (x : Stored). x.value) e.1 ∙ gone (done.first r.key (old.oldest * PAGE_SIZE + at) r h_here small)
       ];
       place = s.place;
-      adding = adding-step old now now page at weight weight r s (over-dead (log_of old) (old.oldest * 16384 + at) r now gone) (more-than (weight_at old at r) weight) done.adding;
+      adding = adding-step old now now page at weight weight r s (over-dead (log_of old) (old.oldest * PAGE_SIZE + at) r now gone) (more-than (weight_at old at r) weight) done.adding;
     }
 
-pub done-copy : (old now next : HybridLog) (page : List ℕ) (at t weight : ℕ) (r : Stored) → IsLaidOut page → Contains (records_of page) (at, r) → used_end page ≤ 16384 → IsLive (log_of old) (old.oldest * 16384 + at) r
-    → IsAdded now next t r.key r.value → begin_of (old.oldest + 1) ≤ t → lives (log_of old) (old.oldest * 16384 + at) r ≡ true
+pub done-copy : (old now next : HybridLog) (page : List ℕ) (at t weight : ℕ) (r : Stored) → IsLaidOut page → Contains (records_of page) (at, r) → used_end page ≤ PAGE_SIZE → IsLive (log_of old) (old.oldest * PAGE_SIZE + at) r
+    → IsAdded now next t r.key r.value → begin_of (old.oldest + 1) ≤ t → lives (log_of old) (old.oldest * PAGE_SIZE + at) r ≡ true
     → IsDone old now page at weight → IsDone old next page (at + size_of r) (weight - write_weight r.key r.value)
 done-copy old now next page at t weight r laid c short live added far is_live done =
     let s = step page at r laid c in
@@ -215,17 +218,17 @@ done-copy old now next page at t weight r laid c short live added far is_live do
         | inr n ↦ done.first key a x (sym n ∙ e) lt
       ];
       dead = λ o x d lt h. elim (cases x.key) [
-        | inl y ↦ absurd (let it : (t, put.put) ≡ (old.oldest * 16384 + o, x) = some_is (t, put.put) (old.oldest * 16384 + o, x) (sym y.1 ∙ h) in
+        | inl y ↦ absurd (let it : (t, put.put) ≡ (old.oldest * PAGE_SIZE + o, x) = some_is (t, put.put) (old.oldest * PAGE_SIZE + o, x) (sym y.1 ∙ h) in
             omega (arith, ap (λ (p : ℕ × Stored). p.0) it, s.within, lt))
         | inr n ↦ elim (s.before o x d lt) [
           | inl low ↦ done.dead o x d low (sym n ∙ h)
-          | inr e ↦ absurd (let h_here : newest (log_of next) r.key ≡ Some (old.oldest * 16384 + at, r) = rw (← e.0, ← e.1) h in
-              let it : (t, put.put) ≡ (old.oldest * 16384 + at, r) = some_is (t, put.put) (old.oldest * 16384 + at, r) (sym newest_here ∙ h_here) in
+          | inr e ↦ absurd (let h_here : newest (log_of next) r.key ≡ Some (old.oldest * PAGE_SIZE + at, r) = rw (← e.0, ← e.1) h in
+              let it : (t, put.put) ≡ (old.oldest * PAGE_SIZE + at, r) = some_is (t, put.put) (old.oldest * PAGE_SIZE + at, r) (sym newest_here ∙ h_here) in
               omega (arith, ap (λ (p : ℕ × Stored). p.0) it, s.within))
         ]
       ];
       place = s.place;
-      adding = adding-step old now next page at weight (weight - write_weight r.key r.value) r s (over-live (log_of old) (old.oldest * 16384 + at) t r now next live added) fewer done.adding;
+      adding = adding-step old now next page at weight (weight - write_weight r.key r.value) r s (over-live (log_of old) (old.oldest * PAGE_SIZE + at) t r now next live added) fewer done.adding;
     }
   where
     put : IsAppended (log_of now) (log_of next) t (head_of now r.key) r.key r.value
@@ -246,8 +249,8 @@ done-copy old now next page at t weight r laid c short live added far is_live do
     same : SameContents old next
     same q = elim (cases q) [
       | inl y ↦
-          let old_is : newest (log_of old) q ≡ Some (old.oldest * 16384 + at, r) = subst (λ (k : List ℕ). newest (log_of old) k ≡ Some (old.oldest * 16384 + at, r)) (sym put.key_is ∙ y.0) live.newest in
-          contents-newest (log_of next) q (Some (t, put.put)) y.1 ∙ put.value_is ∙ sym (contents-newest (log_of old) q (Some (old.oldest * 16384 + at, r)) old_is)
+          let old_is : newest (log_of old) q ≡ Some (old.oldest * PAGE_SIZE + at, r) = subst (λ (k : List ℕ). newest (log_of old) k ≡ Some (old.oldest * PAGE_SIZE + at, r)) (sym put.key_is ∙ y.0) live.newest in
+          contents-newest (log_of next) q (Some (t, put.put)) y.1 ∙ put.value_is ∙ sym (contents-newest (log_of old) q (Some (old.oldest * PAGE_SIZE + at, r)) old_is)
       | inr n ↦ contents-alike (log_of next) (log_of now) q n ∙ done.same q
     ]
 
@@ -256,7 +259,7 @@ done-all old now page at weight laid done no_more = elim done.place [
   | inl end ↦ record {
     same = done.same;
     added = adding-all old now page at weight done.adding no_more;
-    dead = λ o r c. done.dead o r c (omega (arith, end, laid.used, placed-from 16 laid.stored o r (subst (λ (ps : List (ℕ × Stored)). Contains ps (o, r)) laid.records c)));
+    dead = λ o r c. done.dead o r c (omega (arith, end, laid.used, placed-from HEADER_SIZE laid.stored o r (subst (λ (ps : List (ℕ × Stored)). Contains ps (o, r)) laid.records c)));
   }
   | inr more ↦ absurd (no_more more.0 more.1)
 ]
@@ -268,20 +271,31 @@ pub record IsCopying (old now : HybridLog) (page : List ℕ) (live : List Bool) 
   pub parts : used + weight ≡ whole
   pub grown : IsGrown old now used
   pub room : HasRoom now weight
-  pub low : 16 ≤ at
-  pub high : at ≤ 16384
+  pub low : HEADER_SIZE ≤ at
+  pub high : at ≤ PAGE_SIZE
   pub done : IsLaidOut page → AreShort (records_of page) → AreMarked (log_of old) old.oldest (records_of page) live → live_weight (log_of old) old.oldest (records_of page) ≤ whole → IsDone old now page at weight
 
 -- a record that was read lies in the page
 pub record IsRead (at : ℕ) (s : Stored) : Type 0 where
-  pub low : 16 ≤ at
-  pub within : at + size_of s ≤ 16384
+  pub low : HEADER_SIZE ≤ at
+  pub within : at + size_of s ≤ PAGE_SIZE
   pub aligned : at % 8 ≡ 0
-  pub key : length s.key ≤ 512
+  pub key : length s.key ≤ KEY_BYTES_MAX
   pub value : length (value_bytes s.value) ≤ s.capacity
 
 value-of-kind : (kind : ℕ) (bytes : List ℕ) → length (value_bytes (value_of_kind kind bytes)) ≤ length bytes
 value-of-kind kind bytes = elim (cases_Bool (kind == 2)) [ inl y ↦ rw y (omega arith) | inr n ↦ rw n (omega arith) ]
+
+-- where the fields of a record stand in it: behind its link and its hash the lengths of its key and its value, and behind
+-- its capacity its kind
+abbrev key_length_at : ℕ
+key_length_at = 8 + 8
+
+abbrev value_length_at : ℕ
+value_length_at = key_length_at + 2
+
+abbrev kind_at : ℕ
+kind_at = value_length_at + 2 + 2
 
 take-short : (n : ℕ) (xs : List ℕ) → length (take n xs) ≤ n
 take-short n xs = omega (arith, length-take n xs)
@@ -290,15 +304,15 @@ pub read-fits : (page : List ℕ) (at : ℕ) (s : Stored) → IsRecordAt page at
 unfolding fields_at
 read-fits page at s is e = subst (λ (x : Stored). IsRead at x) (sym e) (record {
   low = is.past_header;
-  within = omega (arith, is.within, is.ends_in_page, take-short (u16_at page (at + 16)) (drop (at + 24) page));
+  within = omega (arith, is.within, is.ends_in_page, take-short (u16_at page (at + key_length_at)) (drop (at + RECORD_HEADER) page));
   aligned = is.aligned;
-  key = omega (arith, is.key_length, take-short (u16_at page (at + 16)) (drop (at + 24) page));
-  value = omega (arith, is.value_length, value-of-kind (slice_index page (at + 22)) (take (u16_at page (at + 18)) (drop (at + 24 + u16_at page (at + 16)) page)), take-short (u16_at page (at + 18)) (drop (at + 24 + u16_at page (at + 16)) page));
+  key = omega (arith, is.key_length, take-short (u16_at page (at + key_length_at)) (drop (at + RECORD_HEADER) page));
+  value = omega (arith, is.value_length, value-of-kind (slice_index page (at + kind_at)) (take (u16_at page (at + value_length_at)) (drop (at + RECORD_HEADER + u16_at page (at + key_length_at)) page)), take-short (u16_at page (at + value_length_at)) (drop (at + RECORD_HEADER + u16_at page (at + key_length_at)) page));
 })
 
 -- the three steps of the loop
 
-pub copying-start : (p : HybridLog) (page : List ℕ) (live : List Bool) (weight : ℕ) → HasRoom p weight → IsCopying p p page live 16 weight weight
+pub copying-start : (p : HybridLog) (page : List ℕ) (live : List Bool) (weight : ℕ) → HasRoom p weight → IsCopying p p page live HEADER_SIZE weight weight
 copying-start p page live weight room = record {
   used = 0;
   parts = zero-add weight;
@@ -323,7 +337,7 @@ listed page at s (inr more) lt found = subst (λ (x : Stored). Contains (records
 
 pub copying-skip : (old now : HybridLog) (page : List ℕ) (live : List Bool) (at weight whole : ℕ) (s : Stored) → IsRecordAt page at → s ≡ fields_at page at
     → (IsLaidOut page → (r : Stored) → Contains (records_of page) (at, r) → s ≡ r)
-    → (IsLaidOut page → AreShort (records_of page) → AreMarked (log_of old) old.oldest (records_of page) live → Contains (records_of page) (at, s) → IsDone old now page at weight → IsDead (log_of old) (old.oldest * 16384 + at) s)
+    → (IsLaidOut page → AreShort (records_of page) → AreMarked (log_of old) old.oldest (records_of page) live → Contains (records_of page) (at, s) → IsDone old now page at weight → IsDead (log_of old) (old.oldest * PAGE_SIZE + at) s)
     → IsCopying old now page live at weight whole → IsCopying old now page live (at + size_of s) weight whole
 copying-skip old now page live at weight whole s is e found dead h =
     let read = read-fits page at s is e in
@@ -343,15 +357,15 @@ copying-skip old now page live at weight whole s is e found dead h =
 pub copying-copy : (old now next : HybridLog) (page : List ℕ) (live : List Bool) (at weight whole t : ℕ) (s : Stored) → IsRecordAt page at → s ≡ fields_at page at
     → (IsLaidOut page → (r : Stored) → Contains (records_of page) (at, r) → s ≡ r)
     → slice_index_or live (at / 8) false ≡ true
-    → 48 + length s.key + length (value_bytes s.value) ≤ weight
-    → HasRoom next (weight - (48 + length s.key + length (value_bytes s.value))) → IsGrown now next (48 + length s.key + length (value_bytes s.value)) → IsAdded now next t s.key s.value → begin_of now.resident.oldest ≤ t → old.oldest < old.resident.oldest
-    → IsCopying old now page live at weight whole → IsCopying old next page live (at + size_of s) (weight - (48 + length s.key + length (value_bytes s.value))) whole
+    → WEIGHT_OF_KEY + length s.key + length (value_bytes s.value) ≤ weight
+    → HasRoom next (weight - (WEIGHT_OF_KEY + length s.key + length (value_bytes s.value))) → IsGrown now next (WEIGHT_OF_KEY + length s.key + length (value_bytes s.value)) → IsAdded now next t s.key s.value → begin_of now.resident.oldest ≤ t → old.oldest < old.resident.oldest
+    → IsCopying old now page live at weight whole → IsCopying old next page live (at + size_of s) (weight - (WEIGHT_OF_KEY + length s.key + length (value_bytes s.value))) whole
 copying-copy old now next page live at weight whole t s is e found mark enough room grown put far cold h =
     let read = read-fits page at s is e in
     record {
-      used = h.used + (48 + length s.key + length (value_bytes s.value));
+      used = h.used + (WEIGHT_OF_KEY + length s.key + length (value_bytes s.value));
       parts = omega (arith, h.parts, enough);
-      grown = grown-more old now next h.used (48 + length s.key + length (value_bytes s.value)) h.grown grown;
+      grown = grown-more old now next h.used (WEIGHT_OF_KEY + length s.key + length (value_bytes s.value)) h.grown grown;
       room = room;
       low = omega (arith, h.low);
       high = omega (arith, read.within);
@@ -365,7 +379,7 @@ copying-copy old now next page live at weight whole t s is e found mark enough r
 pub never-heavy : (old now : HybridLog) (page : List ℕ) (live : List Bool) (at weight : ℕ) (s : Stored) → IsLaidOut page → AreMarked (log_of old) old.oldest (records_of page) live → Contains (records_of page) (at, s) → slice_index_or live (at / 8) false ≡ true
     → IsDone old now page at weight → weight < write_weight s.key s.value → ⊥
 never-heavy old now page live at weight s laid marked c mark done heavy =
-    let is_live : lives (log_of old) (old.oldest * 16384 + at) s ≡ true = sym (marked at s c).2 ∙ mark in
+    let is_live : lives (log_of old) (old.oldest * PAGE_SIZE + at) s ≡ true = sym (marked at s c).2 ∙ mark in
     let weighs : weight_at old at s ≡ write_weight s.key s.value = ap (λ (b : Bool). cond b (write_weight s.key s.value) 0) is_live in
     let fits : write_weight s.key s.value ≤ weight = subst (λ (n : ℕ). n ≤ weight) weighs (adding-room old now page at weight s (step page at s laid c) done.adding) in
     omega (arith, fits, heavy)

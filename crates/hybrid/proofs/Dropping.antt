@@ -9,7 +9,7 @@ use Rattle.std.specs.List.{All}
 use Rattle.std.proofs.lemmas.List.{length-drop}
 use Rattle.std.proofs.lemmas.Grind.{get_or_after_one}
 use Rattle.std.proofs.lemmas.Bool.{cases_lt}
-use Rattle.records.specs.Records.{Stored, size_of}
+use Rattle.records.specs.Records.{Stored}
 use Rattle.frames.specs.Resident.{first_mutable, without_oldest}
 use Rattle.hybrid.specs.Log.{Log, log_from, AllLaid, IsLinked, Joins, begin_of, IsShort}
 use Rattle.hybrid.specs.HybridLog.{HybridLog, Kept, IsHybridLog, pages_of, log_of, shown_page, receipt_of, with_dropped, bucket_of}

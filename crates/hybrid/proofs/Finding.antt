@@ -8,9 +8,12 @@ use Rattle.hybrid.specs.Log.{Log, begin_of, top}
 use Rattle.hybrid.specs.HybridLog.{HybridLog, Kept, IsHybridLog, bucket_of, log_of, page_at, shown_page, cold, receipt_at, receipt_of}
 use Rattle.hybrid.specs.Lookups.{Leads}
 use Rattle.std.proofs.lemmas.List.{get_or_append_left, get_or-take}
-use Rattle.hybrid.proofs.Logs.{here}
+use Rattle.records.specs.declared.pages.TheConstants.{PAGE_SIZE}
+use Rattle.hybrid.specs.Staging.{StagedPage, IsStaged, IsMissing}
+use Rattle.hybrid.specs.Ways.{IsNear, IsFirstFar}
+use Rattle.hybrid.proofs.Logs.{here, some_is}
 use Rattle.hybrid.proofs.Chains.{joins_low}
-use Rattle.hybrid.proofs.Walk.{IsWalk, IsHere, walk-here, walk-start, here-visited}
+use Rattle.hybrid.proofs.Walk.{IsWalk, IsHere, walk-here, walk-start, here-visited, here-next}
 use Rattle.hybrid.proofs.Overwriting.{at-page}
 use Rattle.hybrid.proofs.Replacing.{cold-size}
 use Rattle.hybrid.proofs.Parts.{shown-at}
@@ -20,22 +23,22 @@ use Rattle.std.proofs.Common.{false}
 use Rattle.std.proofs.lemmas.Bool.{le-ltb}
 
 -- what the loop keeps
-pub record IsFinding (honest right : Type 0) (p : HybridLog) (key : List ℕ) (address : ℕ) : Type 0 where
-  pub below : address < next_number p.resident * 16384
-  pub walk : honest → right → IsWalk (bucket_of p) (begin_of p.oldest) (log_of p) key address
+pub record IsFinding (honest right : Type 0) (p : HybridLog) (key : List ℕ) (Near : ℕ → Type 0) (address : ℕ) : Type 0 where
+  pub below : address < next_number p.resident * PAGE_SIZE
+  pub walk : honest → right → IsWalk (bucket_of p) (begin_of p.oldest) (log_of p) key (λ e. Near (e.0 / PAGE_SIZE)) address
 
-pub record IsStart (p : HybridLog) (key : List ℕ) (address : ℕ) : Type 0 where
+pub record IsStart (p : HybridLog) (key : List ℕ) (Near : ℕ × Stored → Type 0) (address : ℕ) : Type 0 where
   pub is : IsHybridLog p
-  pub below : address < next_number p.resident * 16384
-  pub walk : IsWalk (bucket_of p) (begin_of p.oldest) (log_of p) key address
+  pub below : address < next_number p.resident * PAGE_SIZE
+  pub walk : IsWalk (bucket_of p) (begin_of p.oldest) (log_of p) key Near address
 
-top-in : (p : HybridLog) (log : Log) → IsHybridLog p → ((e : ℕ × Stored) → Contains log e → Contains (log_of p) e) → top log < next_number p.resident * 16384
+top-in : (p : HybridLog) (log : Log) → IsHybridLog p → ((e : ℕ × Stored) → Contains log e → Contains (log_of p) e) → top log < next_number p.resident * PAGE_SIZE
 top-in p [] is within = omega (arith, is.tail)
 top-in p (e ∷ log) is within = omega (arith, (at-page p e is (within e (here e log))).high)
 
-start : (p : HybridLog) (key : List ℕ) → IsHybridLog p → IsStart p key (slice_index p.heads (bucket_of p key))
-start p key is =
-    let w = walk-start p key is in
+start : (p : HybridLog) (key : List ℕ) (Near : ℕ × Stored → Type 0) → IsHybridLog p → IsStart p key Near (slice_index p.heads (bucket_of p key))
+start p key Near is =
+    let w = walk-start p key Near is in
     record {
       is = is;
       below = elim (joins_low (bucket_of p) (begin_of p.oldest) (log_of p) (slice_index p.heads (bucket_of p key)) (bucket_of p key) is.linked (is.joined (bucket_of p key) (mod-lt _ is.buckets))) [
@@ -46,33 +49,51 @@ start p key is =
     }
 
 -- the walk starts at the head of the bucket
-pub start-from : (v now : HybridLog) (key : List ℕ) (hash a : ℕ) → v ≡ now → IsHybridLog v → hash ≡ hash_of key → a ≡ slice_index v.heads (hash / v.stripes % length v.heads) → IsStart now key a
-start-from v now key hash a same is hashed at =
+pub start-from : (v now : HybridLog) (key : List ℕ) (Near : ℕ × Stored → Type 0) (hash a : ℕ) → v ≡ now → IsHybridLog v → hash ≡ hash_of key → a ≡ slice_index v.heads (hash / v.stripes % length v.heads) → IsStart now key Near a
+start-from v now key Near hash a same is hashed at =
     let at_head : a ≡ slice_index v.heads (bucket_of v key) = at ∙ ap (λ (h : ℕ). slice_index v.heads (h / v.stripes % length v.heads)) hashed in
-    subst (λ (q : HybridLog). IsStart q key a) same (subst (λ (n : ℕ). IsStart v key n) (sym at_head) (start v key is))
+    subst (λ (q : HybridLog). IsStart q key Near a) same (subst (λ (n : ℕ). IsStart v key Near n) (sym at_head) (start v key Near is))
 
 -- the record that the walk has come to stands in the page of its address
-pub record IsSeen (p : HybridLog) (key : List ℕ) (address : ℕ) (page : List ℕ) : Type 0 where
-  pub found : IsHere (bucket_of p) (begin_of p.oldest) (log_of p) key address
+pub record IsSeen (p : HybridLog) (key : List ℕ) (Near : ℕ × Stored → Type 0) (address : ℕ) (page : List ℕ) : Type 0 where
+  pub found : IsHere (bucket_of p) (begin_of p.oldest) (log_of p) key Near address
   pub laid : IsLaidOut page
-  pub listed : Contains (records_of page) (address % 16384, found.stored)
+  pub listed : Contains (records_of page) (address % PAGE_SIZE, found.stored)
 
-pub seen : (p : HybridLog) (key : List ℕ) (address number : ℕ) (page : List ℕ) → IsHybridLog p → begin_of p.oldest ≤ address → IsWalk (bucket_of p) (begin_of p.oldest) (log_of p) key address → number ≡ address / 16384 → page ≡ page_at p number → IsSeen p key address page
-seen p key address number page is low walk at same =
-    let h = walk-here (bucket_of p) (begin_of p.oldest) (log_of p) key address low walk in
+pub seen : (p : HybridLog) (key : List ℕ) (Near : ℕ × Stored → Type 0) (address number : ℕ) (page : List ℕ) → IsHybridLog p → begin_of p.oldest ≤ address → IsWalk (bucket_of p) (begin_of p.oldest) (log_of p) key Near address → number ≡ address / PAGE_SIZE → page ≡ page_at p number → IsSeen p key Near address page
+seen p key Near address number page is low walk at same =
+    let h = walk-here (bucket_of p) (begin_of p.oldest) (log_of p) key Near address low walk in
     let f = at-page p (address, h.stored) is h.listed in
-    let there : page_at p (address / 16384) ≡ page = sym (same ∙ ap (page_at p) at) in
+    let there : page_at p (address / PAGE_SIZE) ≡ page = sym (same ∙ ap (page_at p) at) in
     record {
       found = h;
       laid = subst IsLaidOut there f.laid;
-      listed = subst (λ (q : List ℕ). Contains (records_of q) (address % 16384, h.stored)) there f.listed;
+      listed = subst (λ (q : List ℕ). Contains (records_of q) (address % PAGE_SIZE, h.stored)) there f.listed;
     }
 
 -- it leads there
-pub leads-here : (p : HybridLog) (key : List ℕ) (address number : ℕ) → begin_of p.oldest ≤ address → IsWalk (bucket_of p) (begin_of p.oldest) (log_of p) key address → number ≡ address / 16384 → Leads p key number
-leads-here p key address number low walk at =
-    let h = walk-here (bucket_of p) (begin_of p.oldest) (log_of p) key address low walk in
-    record { entry = (address, h.stored); listed = here-visited (bucket_of p) (begin_of p.oldest) (log_of p) key address h; there = sym at }
+pub leads-here : (p : HybridLog) (key : List ℕ) (Near : ℕ × Stored → Type 0) (address number : ℕ) → begin_of p.oldest ≤ address → IsWalk (bucket_of p) (begin_of p.oldest) (log_of p) key Near address → number ≡ address / PAGE_SIZE → Leads p key number
+leads-here p key Near address number low walk at =
+    let h = walk-here (bucket_of p) (begin_of p.oldest) (log_of p) key Near address low walk in
+    record { entry = (address, h.stored); listed = here-visited (bucket_of p) (begin_of p.oldest) (log_of p) key Near address h; there = sym at }
+
+-- no page before it is far
+pub far-here : (lends : Type 0) (p : HybridLog) (staged : List StagedPage) (key : List ℕ) (address number : ℕ) → begin_of p.oldest ≤ address
+    → IsWalk (bucket_of p) (begin_of p.oldest) (log_of p) key (λ e. IsNear lends p staged (e.0 / PAGE_SIZE)) address → number ≡ address / PAGE_SIZE → (IsNear lends p staged number → ⊥) → IsFirstFar lends p staged key number
+far-here lends p staged key address number low walk at far =
+    let h = walk-here (bucket_of p) (begin_of p.oldest) (log_of p) key (λ e. IsNear lends p staged (e.0 / PAGE_SIZE)) address low walk in
+    let n = here-next (bucket_of p) (begin_of p.oldest) (log_of p) key (λ e. IsNear lends p staged (e.0 / PAGE_SIZE)) address h in
+    record { passed = h.passed; entry = (address, h.stored); more = n.more; way = n.way; near = h.near; there = sym at; far = far }
+
+-- a page is far that is missing, where receipts lend none
+pub far-missing : (lends : Type 0) (p : HybridLog) (staged : List StagedPage) (number : ℕ) → IsMissing p staged number → (lends → ⊥) → IsNear lends p staged number → ⊥
+far-missing lends p staged number missing alone near = elim near [
+  | inl there ↦ missing.away there
+  | inr kept ↦ elim kept.2 [
+    | inl lent ↦ alone lent
+    | inr read ↦ missing.unread (subst (λ (k : Kept). IsStaged staged k.identity) (some_is kept.0 missing.kept (sym kept.1 ∙ missing.has)) read)
+  ]
+]
 
 -- ---- a page that is not resident
 

@@ -19,6 +19,7 @@ pub mod Keeping
 pub mod Opening
 pub mod Tail
 pub mod Putting
+pub mod Values
 mod SizeRows
 pub mod Shedding
 pub mod Serving

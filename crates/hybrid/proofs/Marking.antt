@@ -12,6 +12,7 @@ use Rattle.std.specs.Option.{is_some}
 use Rattle.std.proofs.lemmas.Bool.{eq-eqb, ne_eqb}
 use Rattle.std.proofs.lemmas.List.Elements.{All-contains}
 use Rattle.std.proofs.lemmas.List.{get_or-set_same, get_or-set_other}
+use Rattle.records.specs.declared.pages.TheConstants.{PAGE_SIZE, HEADER_SIZE}
 use Rattle.records.specs.Records.{size_of, value_bytes, placed, end_from, IsPlaced, IsRecordAt}
 use Rattle.hybrid.specs.Log.{newest, page_log, begin_of}
 use Rattle.hybrid.specs.HybridLog.{Kept, IsHybridLog, receipt_of, without_oldest_page, bucket_of}
@@ -35,13 +36,13 @@ pub record IsWeighing (p : HybridLog) (page : List ℕ) (at weight : ℕ) : Type
   pub end : used_end page ≡ end_from at rest
   pub sum : live_weight (log_of p) p.oldest (records_of page) ≡ weight + live_weight (log_of p) p.oldest (placed at rest)
 
-weighing-start : (p : HybridLog) (page : List ℕ) → IsLaidOut page → IsWeighing p page 16 0
+weighing-start : (p : HybridLog) (page : List ℕ) → IsLaidOut page → IsWeighing p page HEADER_SIZE 0
 weighing-start p page laid = record {
   before = [];
   rest = laid.stored;
   whole = laid.records;
   end = laid.used;
-  sum = ap (live_weight (log_of p) p.oldest) laid.records ∙ sym (zero-add (live_weight (log_of p) p.oldest (placed 16 laid.stored)));
+  sum = ap (live_weight (log_of p) p.oldest) laid.records ∙ sym (zero-add (live_weight (log_of p) p.oldest (placed HEADER_SIZE laid.stored)));
 }
 
 -- one record more
@@ -72,15 +73,15 @@ weighing-all p page at weight h no_more = go h.rest h.whole h.sum
 
 -- the records before `at` are marked, and the live ones weigh this
 pub record IsMarking (p : HybridLog) (page : List ℕ) (live : List Bool) (at weight : ℕ) : Type 0 where
-  pub live_are : (o : ℕ) (r : Stored) → Contains (records_of page) (o, r) → o < at → slice_index_or live (o / 8) false ≡ true → IsLive (log_of p) (p.oldest * 16384 + o) r
-  pub dead_are : (o : ℕ) (r : Stored) → Contains (records_of page) (o, r) → o < at → slice_index_or live (o / 8) false ≡ false → IsDead (log_of p) (p.oldest * 16384 + o) r
-  pub lives_are : (o : ℕ) (r : Stored) → Contains (records_of page) (o, r) → o < at → slice_index_or live (o / 8) false ≡ lives (log_of p) (p.oldest * 16384 + o) r
+  pub live_are : (o : ℕ) (r : Stored) → Contains (records_of page) (o, r) → o < at → slice_index_or live (o / 8) false ≡ true → IsLive (log_of p) (p.oldest * PAGE_SIZE + o) r
+  pub dead_are : (o : ℕ) (r : Stored) → Contains (records_of page) (o, r) → o < at → slice_index_or live (o / 8) false ≡ false → IsDead (log_of p) (p.oldest * PAGE_SIZE + o) r
+  pub lives_are : (o : ℕ) (r : Stored) → Contains (records_of page) (o, r) → o < at → slice_index_or live (o / 8) false ≡ lives (log_of p) (p.oldest * PAGE_SIZE + o) r
   pub place : IsPlace (records_of page) (used_end page) at
   pub weighing : IsWeighing p page at weight
 
 -- a record of the oldest page stands in the log
-pub stands : (p : HybridLog) (k : Kept) (o : ℕ) (r : Stored) → IsHybridLog p → p.oldest < p.resident.oldest → receipt_of p p.oldest ≡ Some k → Contains (records_of k.shown) (o, r) → Contains (log_of p) (p.oldest * 16384 + o, r)
-stands p k o r is lt e c = subst (λ l. Contains l (p.oldest * 16384 + o, r)) (sym (oldest p k is lt e).log) (right (log_of (without_oldest_page p)) (page_log p.oldest k.shown) (p.oldest * 16384 + o, r) (in-page_log p.oldest k.shown o r c))
+pub stands : (p : HybridLog) (k : Kept) (o : ℕ) (r : Stored) → IsHybridLog p → p.oldest < p.resident.oldest → receipt_of p p.oldest ≡ Some k → Contains (records_of k.shown) (o, r) → Contains (log_of p) (p.oldest * PAGE_SIZE + o, r)
+stands p k o r is lt e c = subst (λ l. Contains l (p.oldest * PAGE_SIZE + o, r)) (sym (oldest p k is lt e).log) (right (log_of (without_oldest_page p)) (page_log p.oldest k.shown) (p.oldest * PAGE_SIZE + o, r) (in-page_log p.oldest k.shown o r c))
 
 is-it : (o : Option (ℕ × Stored)) (a : ℕ) → option_map (λ e. e.0) o ≡ Some a → (r : Stored) × (o ≡ Some (a, r))
 is-it None a e = absurd cc
@@ -104,26 +105,26 @@ lives-is (Some e) (Some v) found a false f test =
 
 -- what a mark says of its record
 pub mark-is : (p : HybridLog) (k : Kept) (o : ℕ) (r : Stored) (found : Option ℕ) (b : Bool) → IsHybridLog p → p.oldest < p.resident.oldest → receipt_of p p.oldest ≡ Some k → Contains (records_of k.shown) (o, r)
-    → found ≡ option_map (λ e. e.0) (newest (log_of p) r.key) → (IsTrue b ↔ ((found ≡ Some (p.oldest * 16384 + o)) × IsSome r.value))
-    → (b ≡ true → IsLive (log_of p) (p.oldest * 16384 + o) r) × (b ≡ false → IsDead (log_of p) (p.oldest * 16384 + o) r) × (b ≡ lives (log_of p) (p.oldest * 16384 + o) r)
-mark-is p k o r found b is lt e c f test = (live_so, dead_so, lives-is (newest (log_of p) r.key) r.value found (p.oldest * 16384 + o) b f test)
+    → found ≡ option_map (λ e. e.0) (newest (log_of p) r.key) → (IsTrue b ↔ ((found ≡ Some (p.oldest * PAGE_SIZE + o)) × IsSome r.value))
+    → (b ≡ true → IsLive (log_of p) (p.oldest * PAGE_SIZE + o) r) × (b ≡ false → IsDead (log_of p) (p.oldest * PAGE_SIZE + o) r) × (b ≡ lives (log_of p) (p.oldest * PAGE_SIZE + o) r)
+mark-is p k o r found b is lt e c f test = (live_so, dead_so, lives-is (newest (log_of p) r.key) r.value found (p.oldest * PAGE_SIZE + o) b f test)
   where
     a : ℕ
-    a = p.oldest * 16384 + o
+    a = p.oldest * PAGE_SIZE + o
 
-    live_so : b ≡ true → IsLive (log_of p) (p.oldest * 16384 + o) r
+    live_so : b ≡ true → IsLive (log_of p) (p.oldest * PAGE_SIZE + o) r
     live_so t =
         let both = test.0 t in
-        let it = is-it (newest (log_of p) r.key) (p.oldest * 16384 + o) (sym f ∙ both.0) in
-        let same : it.0 ≡ r = unique (bucket_of p) (begin_of p.oldest) (log_of p) (p.oldest * 16384 + o) it.0 r is.linked (newest-listed (log_of p) r.key (p.oldest * 16384 + o, it.0) it.1) (stands p k o r is lt e c) in
-        record { newest = it.1 ∙ ap (λ (x : Stored). Some (p.oldest * 16384 + o, x)) same; value = both.1 }
+        let it = is-it (newest (log_of p) r.key) (p.oldest * PAGE_SIZE + o) (sym f ∙ both.0) in
+        let same : it.0 ≡ r = unique (bucket_of p) (begin_of p.oldest) (log_of p) (p.oldest * PAGE_SIZE + o) it.0 r is.linked (newest-listed (log_of p) r.key (p.oldest * PAGE_SIZE + o, it.0) it.1) (stands p k o r is lt e c) in
+        record { newest = it.1 ∙ ap (λ (x : Stored). Some (p.oldest * PAGE_SIZE + o, x)) same; value = both.1 }
 
-    dead_so : b ≡ false → IsDead (log_of p) (p.oldest * 16384 + o) r
+    dead_so : b ≡ false → IsDead (log_of p) (p.oldest * PAGE_SIZE + o) r
     dead_so t h = none-is r.value (λ some. let bad : b ≡ true = test.1 (f ∙ ap (option_map (λ (x : ℕ × Stored). x.0)) h, some) in absurd cc)
 
 -- one more mark
-pub marking-step : (p : HybridLog) (page : List ℕ) (live : List Bool) (at weight more : ℕ) (s : Stored) (b : Bool) → IsLaidOut page → IsRecordAt page at → ((r : Stored) → Contains (records_of page) (at, r) → s ≡ r) → length live ≡ 2048
-    → (Contains (records_of page) (at, s) → (b ≡ true → IsLive (log_of p) (p.oldest * 16384 + at) s) × (b ≡ false → IsDead (log_of p) (p.oldest * 16384 + at) s) × (b ≡ lives (log_of p) (p.oldest * 16384 + at) s))
+pub marking-step : (p : HybridLog) (page : List ℕ) (live : List Bool) (at weight more : ℕ) (s : Stored) (b : Bool) → IsLaidOut page → IsRecordAt page at → ((r : Stored) → Contains (records_of page) (at, r) → s ≡ r) → length live ≡ PAGE_SIZE / 8
+    → (Contains (records_of page) (at, s) → (b ≡ true → IsLive (log_of p) (p.oldest * PAGE_SIZE + at) s) × (b ≡ false → IsDead (log_of p) (p.oldest * PAGE_SIZE + at) s) × (b ≡ lives (log_of p) (p.oldest * PAGE_SIZE + at) s))
     → more ≡ cond b (write_weight s.key s.value) 0 → IsMarking p page live at weight → IsMarking p page (set live (at / 8) b) (at + size_of s) (weight + more)
 marking-step p page live at weight more s b laid is found size mark added h =
     let c = listed page at s h.place is.used found in
@@ -151,7 +152,7 @@ marking-step p page live at weight more s b laid is found size mark added h =
       weighing = subst (λ (n : ℕ). IsWeighing p page (at + size_of s) (weight + n)) (sym (added ∙ ap (λ (t : Bool). cond t (write_weight s.key s.value) 0) m.2)) (weighing-step p page at weight s st h.weighing);
     }
 
-pub marking-start : (p : HybridLog) (page : List ℕ) (live : List Bool) → IsLaidOut page → IsMarking p page live 16 0
+pub marking-start : (p : HybridLog) (page : List ℕ) (live : List Bool) → IsLaidOut page → IsMarking p page live HEADER_SIZE 0
 marking-start p page live laid =
     record {
       live_are = λ o r c lt t. absurd (low o r c lt);
@@ -161,7 +162,7 @@ marking-start p page live laid =
       weighing = weighing-start p page laid;
     }
   where
-    low : (o : ℕ) (r : Stored) → Contains (records_of page) (o, r) → o < 16 → ⊥
+    low : (o : ℕ) (r : Stored) → Contains (records_of page) (o, r) → o < HEADER_SIZE → ⊥
     low o r c lt = let q : IsPlaced (used_end page) (o, r) = All-contains (IsPlaced (used_end page)) (records_of page) (o, r) laid.each c in omega (arith, q.past_header)
 
 pub marking-all : (p : HybridLog) (page : List ℕ) (live : List Bool) (at weight : ℕ) → IsLaidOut page → IsMarking p page live at weight → ((r : Stored) → Contains (records_of page) (at, r) → ⊥) → AreMarked (log_of p) p.oldest (records_of page) live
@@ -175,9 +176,9 @@ marking-all p page live at weight laid h no_more = elim h.place [
 
 -- the loop's invariant, by a stripe with an honest device and staged pages that are right
 pub record IsMarkLoop (honest : Type 0) (right : Type 0) (p : HybridLog) (page : List ℕ) (live : List Bool) (at weight : ℕ) : Type 0 where
-  pub low : 16 ≤ at
-  pub high : at ≤ 16384
-  pub size : length live ≡ 2048
+  pub low : HEADER_SIZE ≤ at
+  pub high : at ≤ PAGE_SIZE
+  pub size : length live ≡ PAGE_SIZE / 8
   pub light : weight + 32 ≤ 2 * at
   pub marked : honest → right → p.oldest < p.resident.oldest → (k : Kept) → receipt_of p p.oldest ≡ Some k → page ≡ k.shown → IsMarking p page live at weight
 

@@ -1,10 +1,11 @@
 -- How a stripe's value changes when a page is opened behind the tail page.
-use Rattle.std.proofs.Common.{◌≡◌, ℕ, zero, suc, ◌+◌, ◌-◌, ◌^◌, ◌<◌, ◌≤◌, List, [], ◌∷◌, ◌++◌, length, take, map, slice_index, Option, Some, None, refl, sym, ap, ◌∙◌, subst, arith, length-append, append_assoc}
+use Rattle.std.proofs.Common.{◌≡◌, ℕ, zero, suc, ◌+◌, ◌-◌, ◌<◌, ◌≤◌, List, [], ◌∷◌, ◌++◌, length, take, map, slice_index, Option, Some, None, refl, sym, ap, ◌∙◌, subst, arith, length-append, append_assoc, ◌*◌}
 use Rattle.std.specs.Prelude.{slice_index_or, IsSome, option_map}
 use Rattle.std.specs.List.{All}
 use Rattle.std.proofs.lemmas.List.{map-append, length-map, get_or_append_left, take-append-le, length-take-le}
+use Rattle.hybrid.specs.declared.stripe.TheConstants.{LAST_PAGE}
 use Rattle.records.specs.Page.{empty_page, number_of}
-use Rattle.records.specs.Records.{Stored, size_of, records_of, IsLaidOut}
+use Rattle.records.specs.Records.{Stored, records_of, IsLaidOut}
 use Rattle.frames.specs.Resident.{Resident, next_number, with_opened, IsEmptyPage}
 use Rattle.hybrid.specs.Log.{Log, log_from, page_log, newest_first, AllLaid, IsLinked, Joins, begin_of, IsShort}
 use Rattle.hybrid.specs.HybridLog.{HybridLog, Kept, IsHybridLog, pages_of, log_of, shown_page, cold, count_kept, bucket_of, with_page_opened}
@@ -40,7 +41,7 @@ pub record IsOpened (p : HybridLog) : Type 0 where
   pub part : IsHybridLog (with_page_opened p)
   pub log : log_of (with_page_opened p) ≡ log_of p
 
-pub opened : (p : HybridLog) → IsHybridLog p → length p.resident.pages < p.resident.frames → next_number p.resident ≤ 2 ^ 47 → IsEmptyPage (next_number p.resident) (empty_page (next_number p.resident)) → IsOpened p
+pub opened : (p : HybridLog) → IsHybridLog p → length p.resident.pages < p.resident.frames → next_number p.resident ≤ 2 * LAST_PAGE → IsEmptyPage (next_number p.resident) (empty_page (next_number p.resident)) → IsOpened p
 opened p is room few empty =
     let new : HybridLog = with_page_opened p in
     let fits : cold p ≤ length p.kept = omega (arith, is.numbered, is.live) in
@@ -85,12 +86,12 @@ pub kept-fits : (p : HybridLog) → IsHybridLog p → length p.kept ≤ p.places
 kept-fits p is = omega (arith, is.numbered, is.live, is.counted, is.limited, all-cold p.kept (cold p) (omega (arith, is.numbered, is.live)) is.cold_kept)
 
 -- the same from the stripe's fields
-pub opened-from : {X : Type 0} (f : X → Kept) (items : List (Option X)) (v now : HybridLog) (frames : Resident) → v ≡ now → IsHybridLog v → v.kept ≡ map (option_map f) items → 0 < now.resident.frames - length now.resident.pages → next_number now.resident ≤ 2 ^ 47
+pub opened-from : {X : Type 0} (f : X → Kept) (items : List (Option X)) (v now : HybridLog) (frames : Resident) → v ≡ now → IsHybridLog v → v.kept ≡ map (option_map f) items → 0 < now.resident.frames - length now.resident.pages → next_number now.resident ≤ 2 * LAST_PAGE
     → frames ≡ with_opened v.resident → IsEmptyPage (next_number v.resident) (empty_page (next_number v.resident))
     → IsHybridLog (record v { kept = map (option_map f) (items ++ None ∷ []); resident = frames })
 opened-from f items v now frames same is e room few fr empty =
     let room_v : length v.resident.pages < v.resident.frames = subst (λ (q : HybridLog). length q.resident.pages < q.resident.frames) (sym same) (omega arith) in
-    let few_v : next_number v.resident ≤ 2 ^ 47 = subst (λ (q : HybridLog). next_number q.resident ≤ 2 ^ 47) (sym same) few in
+    let few_v : next_number v.resident ≤ 2 * LAST_PAGE = subst (λ (q : HybridLog). next_number q.resident ≤ 2 * LAST_PAGE) (sym same) few in
     let o = opened v is room_v few_v empty in
     let lists : v.kept ++ None ∷ [] ≡ map (option_map f) (items ++ None ∷ []) = ap (λ (l : List (Option Kept)). l ++ None ∷ []) e ∙ sym (map-append (option_map f) items (None ∷ [])) in
     subst (λ (l : List (Option Kept)). IsHybridLog (record v { kept = l; resident = frames })) lists (subst (λ (r : Resident). IsHybridLog (record v { kept = v.kept ++ None ∷ []; resident = r })) (sym fr) o.part)
@@ -98,12 +99,12 @@ opened-from f items v now frames same is e room few fr empty =
 pub kept-room : {X : Type 0} (f : X → Kept) (items : List (Option X)) (v : HybridLog) → IsHybridLog v → v.kept ≡ map (option_map f) items → length v.resident.pages < v.resident.frames → length items < v.places + v.resident.frames
 kept-room f items v is e room = omega (arith, kept-fits v is, ap length e, length-map items (option_map f))
 
-pub opened-log-from : {X : Type 0} (f : X → Kept) (items new_items : List (Option X)) (v now : HybridLog) (frames : Resident) → v ≡ now → IsHybridLog v → v.kept ≡ map (option_map f) items → 0 < now.resident.frames - length now.resident.pages → next_number now.resident ≤ 2 ^ 47
+pub opened-log-from : {X : Type 0} (f : X → Kept) (items new_items : List (Option X)) (v now : HybridLog) (frames : Resident) → v ≡ now → IsHybridLog v → v.kept ≡ map (option_map f) items → 0 < now.resident.frames - length now.resident.pages → next_number now.resident ≤ 2 * LAST_PAGE
     → frames ≡ with_opened v.resident → IsEmptyPage (next_number v.resident) (empty_page (next_number v.resident)) → new_items ≡ items ++ None ∷ []
     → log_of (record v { kept = map (option_map f) new_items; resident = frames }) ≡ log_of now
 opened-log-from f items new_items v now frames same is e room few fr empty more =
     let room_v : length v.resident.pages < v.resident.frames = subst (λ (q : HybridLog). length q.resident.pages < q.resident.frames) (sym same) (omega arith) in
-    let few_v : next_number v.resident ≤ 2 ^ 47 = subst (λ (q : HybridLog). next_number q.resident ≤ 2 ^ 47) (sym same) few in
+    let few_v : next_number v.resident ≤ 2 * LAST_PAGE = subst (λ (q : HybridLog). next_number q.resident ≤ 2 * LAST_PAGE) (sym same) few in
     let o = opened v is room_v few_v empty in
     let lists : v.kept ++ None ∷ [] ≡ map (option_map f) new_items = ap (λ (l : List (Option Kept)). l ++ None ∷ []) e ∙ sym (map-append (option_map f) items (None ∷ [])) ∙ ap (map (option_map f)) (sym more) in
     ap (λ (l : List (Option Kept)). log_of (record v { kept = l; resident = frames })) (sym lists) ∙ ap (λ (r : Resident). log_of (record v { kept = v.kept ++ None ∷ []; resident = r })) fr ∙ o.log ∙ ap (λ (q : HybridLog). log_of q) same

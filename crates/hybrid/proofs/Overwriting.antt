@@ -8,6 +8,7 @@ use Rattle.std.proofs.lemmas.List.{map-append, get_or-set_same, get_or-set_other
 use Rattle.std.proofs.lemmas.List.Elements.{Contains-append_cases, All-contains}
 use Rattle.std.proofs.lemmas.Bool.{cases_Bool, cases_eq, eq-eqb, ne_eqb}
 use Rattle.std.proofs.lemmas.Slice.Eq.{bytes_eq-Decides}
+use Rattle.records.specs.declared.pages.TheConstants.{PAGE_SIZE, HEADER_SIZE}
 use Rattle.records.specs.Page.{number_of, used_end}
 use Rattle.words.specs.declared.limits.TheConstants.{VALUE_BYTES_MAX}
 use Rattle.records.specs.Records.{Stored, size_of, value_bytes, with_value, records_of, IsLaidOut, IsPlaced, HasRoomAt}
@@ -24,11 +25,11 @@ use Rattle.hybrid.proofs.Replacing.{with_bytes, IsReplaced, replaced, page-resid
 
 -- the record at an address stands in the page that the address names
 pub record IsFrom (n : ℕ) (pages : List (List ℕ)) (e : ℕ × Stored) : Type 0 where
-  pub low : n ≤ e.0 / 16384
-  pub high : e.0 / 16384 < n + length pages
-  pub laid : IsLaidOut (slice_index_or pages (e.0 / 16384 - n) [])
-  pub number : number_of (slice_index_or pages (e.0 / 16384 - n) []) ≡ e.0 / 16384
-  pub listed : Contains (records_of (slice_index_or pages (e.0 / 16384 - n) [])) (e.0 % 16384, e.1)
+  pub low : n ≤ e.0 / PAGE_SIZE
+  pub high : e.0 / PAGE_SIZE < n + length pages
+  pub laid : IsLaidOut (slice_index_or pages (e.0 / PAGE_SIZE - n) [])
+  pub number : number_of (slice_index_or pages (e.0 / PAGE_SIZE - n) []) ≡ e.0 / PAGE_SIZE
+  pub listed : Contains (records_of (slice_index_or pages (e.0 / PAGE_SIZE - n) [])) (e.0 % PAGE_SIZE, e.1)
 
 pub log-page : (n : ℕ) (pages : List (List ℕ)) (e : ℕ × Stored) → AllLaid n pages → Contains (log_from n pages) e → IsFrom n pages e
 unfolding log_from
@@ -36,38 +37,38 @@ log-page n [] e laid c = absurd (omega (arith, c.1))
 log-page n (p ∷ pages) e laid c = elim (Contains-append_cases (log_from (n + 1) pages) (page_log n p) e c) [
   | inl new ↦
       let f = log-page (n + 1) pages e laid.2 new in
-      let shift : e.0 / 16384 - n ≡ suc (e.0 / 16384 - (n + 1)) = omega (arith, f.low) in
-      let page : slice_index_or (p ∷ pages) (e.0 / 16384 - n) [] ≡ slice_index_or pages (e.0 / 16384 - (n + 1)) [] = ap (λ (i : ℕ). slice_index_or (p ∷ pages) i []) shift in
+      let shift : e.0 / PAGE_SIZE - n ≡ suc (e.0 / PAGE_SIZE - (n + 1)) = omega (arith, f.low) in
+      let page : slice_index_or (p ∷ pages) (e.0 / PAGE_SIZE - n) [] ≡ slice_index_or pages (e.0 / PAGE_SIZE - (n + 1)) [] = ap (λ (i : ℕ). slice_index_or (p ∷ pages) i []) shift in
       record {
         low = omega (arith, f.low);
         high = omega (arith, f.high);
         laid = subst IsLaidOut (sym page) f.laid;
         number = ap number_of page ∙ f.number;
-        listed = subst (λ (q : List ℕ). Contains (records_of q) (e.0 % 16384, e.1)) (sym page) f.listed;
+        listed = subst (λ (q : List ℕ). Contains (records_of q) (e.0 % PAGE_SIZE, e.1)) (sym page) f.listed;
       }
   | inr old ↦
       let it = from-page_log n p e old in
       let at : IsPlaced (used_end p) (it.offset, e.1) = All-contains (IsPlaced (used_end p)) (records_of p) (it.offset, e.1) laid.0.each it.listed in
-      let div : e.0 / 16384 ≡ n = omega (arith, it.address, at.within, at.stored.key_fits, laid.0.in_page) in
-      let rem : e.0 % 16384 ≡ it.offset = omega (arith, it.address, at.within, at.stored.key_fits, laid.0.in_page) in
-      let first : e.0 / 16384 - n ≡ 0 = omega (arith, div) in
-      let page : slice_index_or (p ∷ pages) (e.0 / 16384 - n) [] ≡ p = ap (λ (i : ℕ). slice_index_or (p ∷ pages) i []) first in
+      let div : e.0 / PAGE_SIZE ≡ n = omega (arith, it.address, at.within, at.stored.key_fits, laid.0.in_page) in
+      let rem : e.0 % PAGE_SIZE ≡ it.offset = omega (arith, it.address, at.within, at.stored.key_fits, laid.0.in_page) in
+      let first : e.0 / PAGE_SIZE - n ≡ 0 = omega (arith, div) in
+      let page : slice_index_or (p ∷ pages) (e.0 / PAGE_SIZE - n) [] ≡ p = ap (λ (i : ℕ). slice_index_or (p ∷ pages) i []) first in
       record {
         low = omega (arith, div);
         high = omega (arith, div);
         laid = subst IsLaidOut (sym page) laid.0;
         number = ap number_of page ∙ laid.1 ∙ sym div;
-        listed = subst (λ (q : List ℕ). Contains (records_of q) (e.0 % 16384, e.1)) (sym page) (subst (λ (o : ℕ). Contains (records_of p) (o, e.1)) (sym rem) it.listed);
+        listed = subst (λ (q : List ℕ). Contains (records_of q) (e.0 % PAGE_SIZE, e.1)) (sym page) (subst (λ (o : ℕ). Contains (records_of p) (o, e.1)) (sym rem) it.listed);
       }
 ]
 
 -- the same of a stripe's log
 pub record IsAtPage (p : HybridLog) (e : ℕ × Stored) : Type 0 where
-  pub low : p.oldest ≤ e.0 / 16384
-  pub high : e.0 / 16384 < next_number p.resident
-  pub laid : IsLaidOut (page_at p (e.0 / 16384))
-  pub number : number_of (page_at p (e.0 / 16384)) ≡ e.0 / 16384
-  pub listed : Contains (records_of (page_at p (e.0 / 16384))) (e.0 % 16384, e.1)
+  pub low : p.oldest ≤ e.0 / PAGE_SIZE
+  pub high : e.0 / PAGE_SIZE < next_number p.resident
+  pub laid : IsLaidOut (page_at p (e.0 / PAGE_SIZE))
+  pub number : number_of (page_at p (e.0 / PAGE_SIZE)) ≡ e.0 / PAGE_SIZE
+  pub listed : Contains (records_of (page_at p (e.0 / PAGE_SIZE))) (e.0 % PAGE_SIZE, e.1)
 
 pub at-page : (p : HybridLog) (e : ℕ × Stored) → IsHybridLog p → Contains (log_of p) e → IsAtPage p e
 at-page p e is c =
@@ -82,36 +83,36 @@ changed-other n a value (e ∷ log) apart =
     let f : (e.0 == a) ≡ false = ne_eqb e.0 a (apart e (0, omega arith, refl)) in
     rw f (ap (λ (l : Log). e ∷ l) (changed-other n a value log (λ x c. apart x (suc c.0, omega (arith, c.1), c.2))))
 
-changed-first : (n o : ℕ) (value : Option (List ℕ)) (rs : List (ℕ × Stored)) → newest_first n (map (with_value o value) rs) ≡ map (with_value (n * 16384 + o) value) (newest_first n rs)
+changed-first : (n o : ℕ) (value : Option (List ℕ)) (rs : List (ℕ × Stored)) → newest_first n (map (with_value o value) rs) ≡ map (with_value (n * PAGE_SIZE + o) value) (newest_first n rs)
 changed-first n o value [] = refl
 changed-first n o value (e ∷ rs) =
     ap (λ (l : Log). l ++ addressed n (with_value o value e) ∷ []) (changed-first n o value rs)
-    ∙ ap (λ (x : ℕ × Stored). map (with_value (n * 16384 + o) value) (newest_first n rs) ++ x ∷ []) one
-    ∙ sym (map-append (with_value (n * 16384 + o) value) (newest_first n rs) (addressed n e ∷ []))
+    ∙ ap (λ (x : ℕ × Stored). map (with_value (n * PAGE_SIZE + o) value) (newest_first n rs) ++ x ∷ []) one
+    ∙ sym (map-append (with_value (n * PAGE_SIZE + o) value) (newest_first n rs) (addressed n e ∷ []))
   where
-    one : addressed n (with_value o value e) ≡ with_value (n * 16384 + o) value (addressed n e)
+    one : addressed n (with_value o value e) ≡ with_value (n * PAGE_SIZE + o) value (addressed n e)
     one = elim (cases_eq e.0 o) [
       | inl y ↦
           let t : (e.0 == o) ≡ true = eq-eqb e.0 o y in
-          let u : (n * 16384 + e.0 == n * 16384 + o) ≡ true = eq-eqb (n * 16384 + e.0) (n * 16384 + o) (omega (arith, y)) in
+          let u : (n * PAGE_SIZE + e.0 == n * PAGE_SIZE + o) ≡ true = eq-eqb (n * PAGE_SIZE + e.0) (n * PAGE_SIZE + o) (omega (arith, y)) in
           rw (t, u) refl
       | inr other ↦
           let t : (e.0 == o) ≡ false = ne_eqb e.0 o other in
-          let u : (n * 16384 + e.0 == n * 16384 + o) ≡ false = ne_eqb (n * 16384 + e.0) (n * 16384 + o) (λ s. other (omega (arith, s))) in
+          let u : (n * PAGE_SIZE + e.0 == n * PAGE_SIZE + o) ≡ false = ne_eqb (n * PAGE_SIZE + e.0) (n * PAGE_SIZE + o) (λ s. other (omega (arith, s))) in
           rw (t, u) refl
     ]
 
-changed-page : (n o : ℕ) (value : Option (List ℕ)) (page w : List ℕ) → records_of w ≡ map (with_value o value) (records_of page) → page_log n w ≡ map (with_value (n * 16384 + o) value) (page_log n page)
+changed-page : (n o : ℕ) (value : Option (List ℕ)) (page w : List ℕ) → records_of w ≡ map (with_value o value) (records_of page) → page_log n w ≡ map (with_value (n * PAGE_SIZE + o) value) (page_log n page)
 unfolding page_log
 changed-page n o value page w e = ap (newest_first n) e ∙ changed-first n o value (records_of page)
 
 -- the page of number n + i gets another value at offset o
-pub log-changed : (n : ℕ) (pages : List (List ℕ)) (i o a : ℕ) (value : Option (List ℕ)) (w : List ℕ) → AllLaid n pages → i < length pages → o < 16384 → a ≡ (n + i) * 16384 + o
+pub log-changed : (n : ℕ) (pages : List (List ℕ)) (i o a : ℕ) (value : Option (List ℕ)) (w : List ℕ) → AllLaid n pages → i < length pages → o < PAGE_SIZE → a ≡ (n + i) * PAGE_SIZE + o
     → records_of w ≡ map (with_value o value) (records_of (slice_index_or pages i [])) → log_from n (set pages i w) ≡ map (with_value a value) (log_from n pages)
 unfolding log_from
 log-changed n [] i o a value w laid lt in_page at e = absurd (omega (arith, lt))
 log-changed n (p ∷ pages) zero o a value w laid lt in_page at e =
-    let here : a ≡ n * 16384 + o = omega (arith, at) in
+    let here : a ≡ n * PAGE_SIZE + o = omega (arith, at) in
     ap (λ (l : Log). log_from (n + 1) pages ++ l) (changed-page n o value p w e ∙ ap (λ (x : ℕ). map (with_value x value) (page_log n p)) (sym here))
     ∙ ap (λ (l : Log). l ++ map (with_value a value) (page_log n p)) (sym (changed-other n a value (log_from (n + 1) pages) (λ x c same. let f = log-page (n + 1) pages x laid.2 c in omega (arith, f.low, same, here, in_page))))
     ∙ sym (map-append (with_value a value) (log_from (n + 1) pages) (page_log n p))
@@ -170,36 +171,36 @@ changed-short a value (e ∷ log) fits all (suc k) d lt = changed-short a value 
 
 -- where the record lies
 pub record IsRoomAt (p : HybridLog) (address size : ℕ) : Type 0 where
-  pub low : first_mutable p.resident ≤ address / 16384
-  pub high : address / 16384 < next_number p.resident
-  pub laid : IsLaidOut (page_of p.resident (address / 16384))
-  pub number : number_of (page_of p.resident (address / 16384)) ≡ address / 16384
-  pub room : HasRoomAt (records_of (page_of p.resident (address / 16384))) (address % 16384) size
+  pub low : first_mutable p.resident ≤ address / PAGE_SIZE
+  pub high : address / PAGE_SIZE < next_number p.resident
+  pub laid : IsLaidOut (page_of p.resident (address / PAGE_SIZE))
+  pub number : number_of (page_of p.resident (address / PAGE_SIZE)) ≡ address / PAGE_SIZE
+  pub room : HasRoomAt (records_of (page_of p.resident (address / PAGE_SIZE))) (address % PAGE_SIZE) size
 
 pub room-at : (p : HybridLog) (address size : ℕ) → IsHybridLog p → IsRoomy p address size → IsRoomAt p address size
 room-at p address size is roomy =
     let f = at-page p (address, roomy.stored) is roomy.listed in
-    let low : first_mutable p.resident ≤ address / 16384 = omega (arith, roomy.mutable) in
-    let page : page_at p (address / 16384) ≡ page_of p.resident (address / 16384) = page-resident p (address / 16384) is (omega (arith, low)) in
+    let low : first_mutable p.resident ≤ address / PAGE_SIZE = omega (arith, roomy.mutable) in
+    let page : page_at p (address / PAGE_SIZE) ≡ page_of p.resident (address / PAGE_SIZE) = page-resident p (address / PAGE_SIZE) is (omega (arith, low)) in
     record {
       low = low;
       high = f.high;
       laid = subst IsLaidOut page f.laid;
       number = ap number_of (sym page) ∙ f.number;
-      room = record { stored = roomy.stored; listed = subst (λ (q : List ℕ). Contains (records_of q) (address % 16384, roomy.stored)) page f.listed; fits = roomy.fits };
+      room = record { stored = roomy.stored; listed = subst (λ (q : List ℕ). Contains (records_of q) (address % PAGE_SIZE, roomy.stored)) page f.listed; fits = roomy.fits };
     }
 
-pub overwritten : (p : HybridLog) (address size : ℕ) (value : Option (List ℕ)) (w : List ℕ) → IsHybridLog p → IsRoomy p address size → length (value_bytes value) ≤ VALUE_BYTES_MAX → IsLaidOut w → number_of w ≡ number_of (page_of p.resident (address / 16384))
-    → records_of w ≡ map (with_value (address % 16384) value) (records_of (page_of p.resident (address / 16384))) → IsReplaced p (with_bytes p (address / 16384) w p.heads) (map (with_value address value) (log_of p))
+pub overwritten : (p : HybridLog) (address size : ℕ) (value : Option (List ℕ)) (w : List ℕ) → IsHybridLog p → IsRoomy p address size → length (value_bytes value) ≤ VALUE_BYTES_MAX → IsLaidOut w → number_of w ≡ number_of (page_of p.resident (address / PAGE_SIZE))
+    → records_of w ≡ map (with_value (address % PAGE_SIZE) value) (records_of (page_of p.resident (address / PAGE_SIZE))) → IsReplaced p (with_bytes p (address / PAGE_SIZE) w p.heads) (map (with_value address value) (log_of p))
 overwritten p address size value w is roomy fits laid numbered records =
     let at = room-at p address size is roomy in
-    let n : ℕ = address / 16384 in
+    let n : ℕ = address / PAGE_SIZE in
     let page : page_at p n ≡ page_of p.resident n = page-resident p n is (omega (arith, at.low)) in
     let i : ℕ = n - p.oldest in
     let there : p.oldest + i ≡ n = omega (arith, at.low, is.live) in
-    let records_there : records_of w ≡ map (with_value (address % 16384) value) (records_of (slice_index_or (pages_of p) i [])) = records ∙ ap (λ (q : List ℕ). map (with_value (address % 16384) value) (records_of q)) (sym page) in
+    let records_there : records_of w ≡ map (with_value (address % PAGE_SIZE) value) (records_of (slice_index_or (pages_of p) i [])) = records ∙ ap (λ (q : List ℕ). map (with_value (address % PAGE_SIZE) value) (records_of q)) (sym page) in
     let lt : i < length (pages_of p) = omega (arith, pages-size p is, at.high, at.low, is.live) in
-    let log = log-changed p.oldest (pages_of p) i (address % 16384) address value w is.laid lt (omega arith) (omega (arith, there)) records_there in
+    let log = log-changed p.oldest (pages_of p) i (address % PAGE_SIZE) address value w is.laid lt (omega arith) (omega (arith, there)) records_there in
     replaced p n w p.heads (map (with_value address value) (log_of p)) is at.low at.high laid (numbered ∙ at.number) log refl
     (changed-linked (bucket_of p) (begin_of p.oldest) address value (log_of p) is.linked)
     (λ b within. changed-joins (bucket_of p) (begin_of p.oldest) address value (log_of p) (slice_index p.heads b) b (is.joined b within))
@@ -215,10 +216,10 @@ tail-same p number w heads is low high end = go (cases_eq (length p.resident.pag
         let last : slice_index_or (set p.resident.pages (number - p.resident.oldest) w) (length (set p.resident.pages (number - p.resident.oldest) w) - 1) [] ≡ w =
         ap (λ (k : ℕ). slice_index_or (set p.resident.pages (number - p.resident.oldest) w) k []) (ap (λ (k : ℕ). k - 1) count ∙ e) ∙ get_or-set_same p.resident.pages (number - p.resident.oldest) w [] (omega (arith, high, low)) in
         let was : page_of p.resident number ≡ slice_index_or p.resident.pages (length p.resident.pages - 1) [] = ap (λ (k : ℕ). slice_index_or p.resident.pages k []) (sym e) in
-        ap (λ (q : List ℕ). used_end q - 16) last ∙ ap (λ (k : ℕ). k - 16) (end ∙ ap used_end was)
+        ap (λ (q : List ℕ). used_end q - HEADER_SIZE) last ∙ ap (λ (k : ℕ). k - HEADER_SIZE) (end ∙ ap used_end was)
     go (inr n) =
         let count : length (set p.resident.pages (number - p.resident.oldest) w) ≡ length p.resident.pages = length-set p.resident.pages (number - p.resident.oldest) w in
-        ap (λ (q : List ℕ). used_end q - 16) (ap (λ (k : ℕ). slice_index_or (set p.resident.pages (number - p.resident.oldest) w) k []) (ap (λ (k : ℕ). k - 1) count) ∙ get_or-set_other p.resident.pages (number - p.resident.oldest) (length p.resident.pages - 1) w [] n)
+        ap (λ (q : List ℕ). used_end q - HEADER_SIZE) (ap (λ (k : ℕ). slice_index_or (set p.resident.pages (number - p.resident.oldest) w) k []) (ap (λ (k : ℕ). k - 1) count) ∙ get_or-set_other p.resident.pages (number - p.resident.oldest) (length p.resident.pages - 1) w [] n)
 
 -- ---- what keys have after it
 
@@ -291,11 +292,11 @@ pub record IsOverwritten (now new : HybridLog) (address : ℕ) (value : Option (
   pub heads : new.heads ≡ now.heads
   pub bytes : tail_bytes new ≡ tail_bytes now
 
-pub overwritten-from : (v now : HybridLog) (address size : ℕ) (value : Option (List ℕ)) (page w : List ℕ) → v ≡ now → IsHybridLog v → IsRoomy now address size → length (value_bytes value) ≤ VALUE_BYTES_MAX → page ≡ page_of v.resident (address / 16384) → IsLaidOut w → number_of w ≡ number_of page → used_end w ≡ used_end page
-    → records_of w ≡ map (with_value (address % 16384) value) (records_of page) → IsOverwritten now (with_bytes v (address / 16384) w v.heads) address value
+pub overwritten-from : (v now : HybridLog) (address size : ℕ) (value : Option (List ℕ)) (page w : List ℕ) → v ≡ now → IsHybridLog v → IsRoomy now address size → length (value_bytes value) ≤ VALUE_BYTES_MAX → page ≡ page_of v.resident (address / PAGE_SIZE) → IsLaidOut w → number_of w ≡ number_of page → used_end w ≡ used_end page
+    → records_of w ≡ map (with_value (address % PAGE_SIZE) value) (records_of page) → IsOverwritten now (with_bytes v (address / PAGE_SIZE) w v.heads) address value
 overwritten-from v now address size value page w same is roomy fits there laid numbered end records =
     let roomy_v : IsRoomy v address size = subst (λ (q : HybridLog). IsRoomy q address size) (sym same) roomy in
     let at = room-at v address size is roomy_v in
-    let r = overwritten v address size value w is roomy_v fits laid (numbered ∙ ap number_of there) (records ∙ ap (λ (q : List ℕ). map (with_value (address % 16384) value) (records_of q)) there) in
-    let tail = tail-same v (address / 16384) w v.heads is (omega (arith, at.low)) at.high (end ∙ ap used_end there) in
-    subst (λ (q : HybridLog). IsOverwritten q (with_bytes v (address / 16384) w v.heads) address value) same (record { is = r.is; log = r.log; put = r.put; heads = refl; bytes = tail })
+    let r = overwritten v address size value w is roomy_v fits laid (numbered ∙ ap number_of there) (records ∙ ap (λ (q : List ℕ). map (with_value (address % PAGE_SIZE) value) (records_of q)) there) in
+    let tail = tail-same v (address / PAGE_SIZE) w v.heads is (omega (arith, at.low)) at.high (end ∙ ap used_end there) in
+    subst (λ (q : HybridLog). IsOverwritten q (with_bytes v (address / PAGE_SIZE) w v.heads) address value) same (record { is = r.is; log = r.log; put = r.put; heads = refl; bytes = tail })

@@ -5,8 +5,9 @@ use Rattle.std.specs.List.{Contains, All}
 use Rattle.std.proofs.lemmas.List.Elements.{All-contains, Contains-append_cases}
 use Rattle.std.proofs.lemmas.List.{length-drop, get_or_default, length-map, length-take-le, get_or_append_left, get_or-append_right, get_or-take}
 use Rattle.std.proofs.lemmas.Bool.{cases_lt}
+use Rattle.records.specs.declared.pages.TheConstants.{PAGE_SIZE}
 use Rattle.records.specs.Page.{used_end, number_of}
-use Rattle.records.specs.Records.{Stored, size_of, records_of, IsLaidOut, IsPlaced}
+use Rattle.records.specs.Records.{Stored, records_of, IsLaidOut, IsPlaced}
 use Rattle.hybrid.specs.Log.{Log, log_from, page_log, newest_first, addressed, AllLaid, IsLinked, Joins, begin_of, top, IsShort}
 use Rattle.hybrid.specs.HybridLog.{HybridLog, Kept, IsHybridLog, IsCut, pages_of, log_of, shown_page, cold, count_kept, receipt_of, without_oldest_page, bucket_of}
 use Rattle.hybrid.proofs.Logs.{cons_cases, here, there}
@@ -28,18 +29,18 @@ pub cons-one : {X : Type 0} (x y : X) → Contains (x ∷ []) y → x ≡ y
 cons-one x y c = elim (cons_cases x [] y c) [ inl e ↦ e | inr d ↦ absurd (omega (arith, d.1)) ]
 
 -- the records of a page, newest first, each at its address
-in-first : (n : ℕ) (rs : List (ℕ × Stored)) (o : ℕ) (r : Stored) → Contains rs (o, r) → Contains (newest_first n rs) (n * 16384 + o, r)
+in-first : (n : ℕ) (rs : List (ℕ × Stored)) (o : ℕ) (r : Stored) → Contains rs (o, r) → Contains (newest_first n rs) (n * PAGE_SIZE + o, r)
 in-first n [] o r c = absurd (omega (arith, c.1))
 in-first n (e ∷ rs) o r c = elim (cons_cases e rs (o, r) c) [
-  | inl is ↦ right (newest_first n rs) (addressed n e ∷ []) (n * 16384 + o, r) (subst (λ (x : ℕ × Stored). Contains (addressed n e ∷ []) (addressed n x)) is (here (addressed n e) []))
-  | inr more ↦ left (newest_first n rs) (addressed n e ∷ []) (n * 16384 + o, r) (in-first n rs o r more)
+  | inl is ↦ right (newest_first n rs) (addressed n e ∷ []) (n * PAGE_SIZE + o, r) (subst (λ (x : ℕ × Stored). Contains (addressed n e ∷ []) (addressed n x)) is (here (addressed n e) []))
+  | inr more ↦ left (newest_first n rs) (addressed n e ∷ []) (n * PAGE_SIZE + o, r) (in-first n rs o r more)
 ]
 
 -- and no other
 pub record IsIn (n : ℕ) (rs : List (ℕ × Stored)) (e : ℕ × Stored) : Type 0 where
   pub offset : ℕ
   pub listed : Contains rs (offset, e.1)
-  pub address : e.0 ≡ n * 16384 + offset
+  pub address : e.0 ≡ n * PAGE_SIZE + offset
 
 from-first : (n : ℕ) (rs : List (ℕ × Stored)) (e : ℕ × Stored) → Contains (newest_first n rs) e → IsIn n rs e
 from-first n [] e c = absurd (omega (arith, c.1))
@@ -49,7 +50,7 @@ from-first n (x ∷ rs) e c = elim (Contains-append_cases (newest_first n rs) (a
       subst (λ (y : ℕ × Stored). IsIn n (x ∷ rs) y) is (record { offset = x.0; listed = here x rs; address = refl })
 ]
 
-pub in-page_log : (n : ℕ) (page : List ℕ) (o : ℕ) (r : Stored) → Contains (records_of page) (o, r) → Contains (page_log n page) (n * 16384 + o, r)
+pub in-page_log : (n : ℕ) (page : List ℕ) (o : ℕ) (r : Stored) → Contains (records_of page) (o, r) → Contains (page_log n page) (n * PAGE_SIZE + o, r)
 unfolding page_log
 in-page_log n page o r c = in-first n (records_of page) o r c
 
@@ -58,7 +59,7 @@ unfolding page_log
 from-page_log n page e c = from-first n (records_of page) e c
 
 -- the addresses of a page that is laid out
-pub address-in : (n : ℕ) (page : List ℕ) (e : ℕ × Stored) → IsLaidOut page → Contains (page_log n page) e → (begin_of n ≤ e.0) × (e.0 < (n + 1) * 16384)
+pub address-in : (n : ℕ) (page : List ℕ) (e : ℕ × Stored) → IsLaidOut page → Contains (page_log n page) e → (begin_of n ≤ e.0) × (e.0 < (n + 1) * PAGE_SIZE)
 address-in n page e laid c =
     let i = from-page_log n page e c in
     let p : IsPlaced (used_end page) (i.offset, e.1) = All-contains (IsPlaced (used_end page)) (records_of page) (i.offset, e.1) laid.each i.listed in
@@ -123,8 +124,8 @@ oldest p k is lt e =
       number = laid.1;
       rest = laid.2;
       log = log;
-      short = λ o r c. All-contains (λ (x : ℕ × Stored). IsShort x.1) (log_of p) (p.oldest * 16384 + o, r) is.short
-          (subst (λ (l : Log). Contains l (p.oldest * 16384 + o, r)) (sym log) (right (log_of (without_oldest_page p)) (page_log p.oldest k.shown) (p.oldest * 16384 + o, r) (in-page_log p.oldest k.shown o r c)));
+      short = λ o r c. All-contains (λ (x : ℕ × Stored). IsShort x.1) (log_of p) (p.oldest * PAGE_SIZE + o, r) is.short
+          (subst (λ (l : Log). Contains l (p.oldest * PAGE_SIZE + o, r)) (sym log) (right (log_of (without_oldest_page p)) (page_log p.oldest k.shown) (p.oldest * PAGE_SIZE + o, r) (in-page_log p.oldest k.shown o r c)));
     }
 
 some_first : (kept : List (Option Kept)) → (0 < length kept) → slice_index_or kept 0 None ≡ None → count_kept (drop 1 kept) ≤ count_kept kept

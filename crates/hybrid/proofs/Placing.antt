@@ -1,6 +1,8 @@
 -- The loop that looks for a place in the mutable part.
 use Rattle.std.proofs.Common.{◌≡◌, ℕ, ◌/◌, ◌%◌, ◌<◌, ◌≤◌, List, sym, ap, ◌∙◌, subst, arith}
+use Rattle.std.specs.Prelude.{⊤}
 use Rattle.std.specs.List.{Contains}
+use Rattle.records.specs.declared.pages.TheConstants.{PAGE_SIZE}
 use Rattle.records.specs.Records.{Stored, records_of, IsLaidOut}
 use Rattle.frames.specs.Resident.{page_of, first_mutable, IsResident}
 use Rattle.hybrid.specs.Log.{begin_of}
@@ -13,56 +15,56 @@ use Rattle.hybrid.proofs.Replacing.{page-resident}
 
 -- what stands in a resident page
 pub record IsThere (p : HybridLog) (address : ℕ) (r : Stored) : Type 0 where
-  pub resident : IsResident p.resident (address / 16384)
-  pub laid : IsLaidOut (page_of p.resident (address / 16384))
-  pub listed : Contains (records_of (page_of p.resident (address / 16384))) (address % 16384, r)
+  pub resident : IsResident p.resident (address / PAGE_SIZE)
+  pub laid : IsLaidOut (page_of p.resident (address / PAGE_SIZE))
+  pub listed : Contains (records_of (page_of p.resident (address / PAGE_SIZE))) (address % PAGE_SIZE, r)
 
 pub resident-there : (p : HybridLog) (address : ℕ) (r : Stored) → IsHybridLog p → IsResidentAt p address r → IsThere p address r
 resident-there p address r is at =
     let f = at-page p (address, r) is at.listed in
-    let low : p.resident.oldest ≤ address / 16384 = omega (arith, at.resident) in
-    let page : page_at p (address / 16384) ≡ page_of p.resident (address / 16384) = page-resident p (address / 16384) is low in
+    let low : p.resident.oldest ≤ address / PAGE_SIZE = omega (arith, at.resident) in
+    let page : page_at p (address / PAGE_SIZE) ≡ page_of p.resident (address / PAGE_SIZE) = page-resident p (address / PAGE_SIZE) is low in
     record {
       resident = (low, f.high);
       laid = subst IsLaidOut page f.laid;
-      listed = subst (λ (q : List ℕ). Contains (records_of q) (address % 16384, r)) page f.listed;
+      listed = subst (λ (q : List ℕ). Contains (records_of q) (address % PAGE_SIZE, r)) page f.listed;
     }
 
 -- the record that the walk has come to
 pub record IsReached (p : HybridLog) (key : List ℕ) (address : ℕ) : Type 0 where
-  pub found : IsHere (bucket_of p) (begin_of p.oldest) (log_of p) key address
+  pub found : IsHere (bucket_of p) (begin_of p.oldest) (log_of p) key (λ _. ⊤) address
   pub there : IsResidentAt p address found.stored
   pub falls : found.stored.link < address
 
-pub reached : (p : HybridLog) (key : List ℕ) (address : ℕ) → IsHybridLog p → begin_of (first_mutable p.resident) ≤ address → IsWalk (bucket_of p) (begin_of p.oldest) (log_of p) key address → IsReached p key address
+pub reached : (p : HybridLog) (key : List ℕ) (address : ℕ) → IsHybridLog p → begin_of (first_mutable p.resident) ≤ address → IsWalk (bucket_of p) (begin_of p.oldest) (log_of p) key (λ _. ⊤) address → IsReached p key address
 reached p key address is low walk =
     let begin : begin_of p.oldest ≤ address = omega (arith, low, is.live) in
-    let h = walk-here (bucket_of p) (begin_of p.oldest) (log_of p) key address begin walk in
+    let h = walk-here (bucket_of p) (begin_of p.oldest) (log_of p) key (λ _. ⊤) address begin walk in
     record {
       found = h;
       there = record { listed = h.listed; resident = omega (arith, low) };
-      falls = link-falls (bucket_of p) (begin_of p.oldest) (log_of p) key address begin h;
+      falls = link-falls (bucket_of p) (begin_of p.oldest) (log_of p) key (λ _. ⊤) address begin h;
     }
 
-pub place-here : (p : HybridLog) (key : List ℕ) (size address : ℕ) → begin_of (first_mutable p.resident) ≤ address → (h : IsHere (bucket_of p) (begin_of p.oldest) (log_of p) key address) → h.stored.key ≡ key → size ≤ h.stored.capacity → IsInPlace p key size address
+pub place-here : (p : HybridLog) (key : List ℕ) (size address : ℕ) → begin_of (first_mutable p.resident) ≤ address → (h : IsHere (bucket_of p) (begin_of p.oldest) (log_of p) key (λ _. ⊤) address) → h.stored.key ≡ key → size ≤ h.stored.capacity → IsInPlace p key size address
 place-here p key size address low h same fits = record {
   stored = h.stored;
-  newest = here-found (bucket_of p) (begin_of p.oldest) (log_of p) key address h same;
+  newest = here-found (bucket_of p) (begin_of p.oldest) (log_of p) key (λ _. ⊤) address h same;
   mutable = low;
   fits = fits;
 }
 
 -- the newest record has no room
-pub place-small : (p : HybridLog) (key : List ℕ) (size address : ℕ) → (h : IsHere (bucket_of p) (begin_of p.oldest) (log_of p) key address) → h.stored.key ≡ key → h.stored.capacity < size → (other : ℕ) → IsInPlace p key size other → ⊥
+pub place-small : (p : HybridLog) (key : List ℕ) (size address : ℕ) → (h : IsHere (bucket_of p) (begin_of p.oldest) (log_of p) key (λ _. ⊤) address) → h.stored.key ≡ key → h.stored.capacity < size → (other : ℕ) → IsInPlace p key size other → ⊥
 place-small p key size address h same small other there =
-    let it : (other, there.stored) ≡ (address, h.stored) = some_is (other, there.stored) (address, h.stored) (sym there.newest ∙ here-found (bucket_of p) (begin_of p.oldest) (log_of p) key address h same) in
+    let it : (other, there.stored) ≡ (address, h.stored) = some_is (other, there.stored) (address, h.stored) (sym there.newest ∙ here-found (bucket_of p) (begin_of p.oldest) (log_of p) key (λ _. ⊤) address h same) in
     let room : there.stored.capacity ≡ h.stored.capacity = ap (λ (e : ℕ × Stored). e.1.capacity) it in
     omega (arith, room, small, there.fits)
 
 -- the newest record, if any, is older than the mutable part
-pub place-below : (p : HybridLog) (key : List ℕ) (size address : ℕ) → address < begin_of (first_mutable p.resident) → IsWalk (bucket_of p) (begin_of p.oldest) (log_of p) key address → (other : ℕ) → IsInPlace p key size other → ⊥
+pub place-below : (p : HybridLog) (key : List ℕ) (size address : ℕ) → address < begin_of (first_mutable p.resident) → IsWalk (bucket_of p) (begin_of p.oldest) (log_of p) key (λ _. ⊤) address → (other : ℕ) → IsInPlace p key size other → ⊥
 place-below p key size address low walk other there =
-    let e = walk-low (bucket_of p) (begin_of p.oldest) (log_of p) key address (other, there.stored) walk there.newest in
+    let e = walk-low (bucket_of p) (begin_of p.oldest) (log_of p) key (λ _. ⊤) address (other, there.stored) walk there.newest in
     omega (arith, e.1, low, there.mutable)
 
 pub roomy : (p : HybridLog) (key : List ℕ) (size address : ℕ) → IsInPlace p key size address → IsRoomy p address size

@@ -5,6 +5,7 @@ use Rattle.std.specs.List.{Contains, All}
 use Rattle.std.proofs.lemmas.List.{get_or-set_same, get_or-set_other}
 use Rattle.std.proofs.lemmas.List.Elements.{Contains-append_cases, All-contains}
 use Rattle.std.proofs.lemmas.Bool.{cases_eq, eq-eqb, ne_eqb}
+use Rattle.records.specs.declared.pages.TheConstants.{PAGE_SIZE, HEADER_SIZE}
 use Rattle.records.specs.Page.{number_of, used_end}
 use Rattle.records.specs.Records.{Stored, size_of, size_for, value_bytes, new_record, records_of, IsLaidOut, IsPlaced}
 use Rattle.frames.specs.Resident.{next_number, page_of, first_mutable}
@@ -15,16 +16,16 @@ use Rattle.hybrid.proofs.Parts.{address-in, from-page_log, top-below, number-at}
 use Rattle.hybrid.proofs.Tail.{laid-at, size-short, used-fits}
 use Rattle.hybrid.proofs.Replacing.{with_bytes, IsReplaced, replaced, page-resident, pages-size}
 
-first-more : (n : ℕ) (rs : List (ℕ × Stored)) (o : ℕ) (r : Stored) → newest_first n (rs ++ (o, r) ∷ []) ≡ (n * 16384 + o, r) ∷ newest_first n rs
+first-more : (n : ℕ) (rs : List (ℕ × Stored)) (o : ℕ) (r : Stored) → newest_first n (rs ++ (o, r) ∷ []) ≡ (n * PAGE_SIZE + o, r) ∷ newest_first n rs
 first-more n [] o r = refl
 first-more n (e ∷ rs) o r = ap (λ (l : Log). l ++ addressed n e ∷ []) (first-more n rs o r)
 
-page_log-more : (n : ℕ) (page w : List ℕ) (o : ℕ) (r : Stored) → records_of w ≡ records_of page ++ (o, r) ∷ [] → page_log n w ≡ (n * 16384 + o, r) ∷ page_log n page
+page_log-more : (n : ℕ) (page w : List ℕ) (o : ℕ) (r : Stored) → records_of w ≡ records_of page ++ (o, r) ∷ [] → page_log n w ≡ (n * PAGE_SIZE + o, r) ∷ page_log n page
 unfolding page_log
 page_log-more n page w o r e = ap (newest_first n) e ∙ first-more n (records_of page) o r
 
 -- one record more in the newest page
-pub log-more : (n : ℕ) (pages : List (List ℕ)) (i : ℕ) (w : List ℕ) (o a : ℕ) (r : Stored) → suc i ≡ length pages → records_of w ≡ records_of (slice_index_or pages i []) ++ (o, r) ∷ [] → a ≡ (n + i) * 16384 + o
+pub log-more : (n : ℕ) (pages : List (List ℕ)) (i : ℕ) (w : List ℕ) (o a : ℕ) (r : Stored) → suc i ≡ length pages → records_of w ≡ records_of (slice_index_or pages i []) ++ (o, r) ∷ [] → a ≡ (n + i) * PAGE_SIZE + o
     → log_from n (set pages i w) ≡ (a, r) ∷ log_from n pages
 unfolding log_from
 log-more n [] i w o a r last e at = absurd (omega arith)
@@ -33,7 +34,7 @@ log-more n (p ∷ q ∷ pages) zero w o a r last e at = absurd (omega arith)
 log-more n (p ∷ pages) (suc i) w o a r last e at = ap (λ (l : Log). l ++ page_log n p) (log-more (n + 1) pages i w o a r (omega arith) e (omega arith))
 
 -- each record stands before the end of the newest page's used part
-log-below : (n : ℕ) (pages : List (List ℕ)) (i : ℕ) (e : ℕ × Stored) → AllLaid n pages → suc i ≡ length pages → Contains (log_from n pages) e → e.0 < (n + i) * 16384 + used_end (slice_index_or pages i [])
+log-below : (n : ℕ) (pages : List (List ℕ)) (i : ℕ) (e : ℕ × Stored) → AllLaid n pages → suc i ≡ length pages → Contains (log_from n pages) e → e.0 < (n + i) * PAGE_SIZE + used_end (slice_index_or pages i [])
 unfolding log_from
 log-below n [] i e laid last c = absurd (omega arith)
 log-below n (p ∷ []) zero e laid last c =
@@ -58,8 +59,8 @@ joins-here bucket begin a b e log same at = rw (eq-eqb (bucket e.1.key) b same) 
 
 -- a record of the key is put into the tail page, which becomes w
 pub put-log : (p : HybridLog) (number a : ℕ) (w heads key : List ℕ) (r : Stored) → IsHybridLog p → number + 1 ≡ next_number p.resident → IsLaidOut w → number_of w ≡ number
-    → records_of w ≡ records_of (page_of p.resident number) ++ (used_end (page_of p.resident number), r) ∷ [] → a ≡ number * 16384 + used_end (page_of p.resident number)
-    → r.key ≡ key → r.link ≡ slice_index p.heads (bucket_of p key) → heads ≡ set p.heads (bucket_of p key) a → IsShort r → 16 ≤ used_end (page_of p.resident number)
+    → records_of w ≡ records_of (page_of p.resident number) ++ (used_end (page_of p.resident number), r) ∷ [] → a ≡ number * PAGE_SIZE + used_end (page_of p.resident number)
+    → r.key ≡ key → r.link ≡ slice_index p.heads (bucket_of p key) → heads ≡ set p.heads (bucket_of p key) a → IsShort r → HEADER_SIZE ≤ used_end (page_of p.resident number)
     → IsReplaced p (with_bytes p number w heads) ((a, r) ∷ log_of p)
 put-log p number a w heads key r is last laid numbered records at same link moved short low =
     let bucket : List ℕ → ℕ = bucket_of p in
@@ -70,14 +71,14 @@ put-log p number a w heads key r is last laid numbered records at same link move
     let size : suc i ≡ length (pages_of p) = omega (arith, pages-size p is, last, is.live, is.tail) in
     let there : p.oldest + i ≡ number = omega (arith, last, is.live, is.tail) in
     let page_records : records_of w ≡ records_of (slice_index_or (pages_of p) i []) ++ (used_end (page_of p.resident number), r) ∷ [] = records ∙ ap (λ (q : List ℕ). records_of q ++ (used_end (page_of p.resident number), r) ∷ []) (sym page) in
-    let log : log_from p.oldest (set (pages_of p) i w) ≡ (a, r) ∷ log_of p = log-more p.oldest (pages_of p) i w (used_end (page_of p.resident number)) a r size page_records (at ∙ ap (λ (n : ℕ). n * 16384 + used_end (page_of p.resident number)) (sym there)) in
+    let log : log_from p.oldest (set (pages_of p) i w) ≡ (a, r) ∷ log_of p = log-more p.oldest (pages_of p) i w (used_end (page_of p.resident number)) a r size page_records (at ∙ ap (λ (n : ℕ). n * PAGE_SIZE + used_end (page_of p.resident number)) (sym there)) in
     let inside : b < length p.heads = mod-lt _ is.buckets in
     let here_is : bucket r.key ≡ b = ap bucket same in
     replaced p number w heads ((a, r) ∷ log_of p) is mutable (omega (arith, last)) laid numbered log (ap (λ (l : List ℕ). length l) moved ∙ length-set p.heads b a) (
       record {
         live = omega (arith, at, low, last, is.live, is.tail);
         falls = top-below (log_of p) a (omega (arith, at, low)) (λ e c.
-            let lt : e.0 < (p.oldest + i) * 16384 + used_end (page_at p number) = log-below p.oldest (pages_of p) i e is.laid size c in
+            let lt : e.0 < (p.oldest + i) * PAGE_SIZE + used_end (page_at p number) = log-below p.oldest (pages_of p) i e is.laid size c in
             let end : used_end (page_at p number) ≡ used_end (page_of p.resident number) = ap used_end page in
             omega (arith, lt, at, there, end));
         joins = subst (λ (x : ℕ). Joins bucket (begin_of p.oldest) r.link (log_of p) x) (sym here_is) (subst (λ (x : ℕ). Joins bucket (begin_of p.oldest) x (log_of p) b) (sym link) (is.joined b inside));
@@ -97,9 +98,9 @@ pub record IsTail (v : HybridLog) (number : ℕ) (page : List ℕ) : Type 0 wher
   pub last : number + 1 ≡ next_number v.resident
   pub laid : IsLaidOut page
   pub numbered : number_of page ≡ number
-  pub low : 16 ≤ used_end page
-  pub high : used_end page ≤ 16384
-  pub end : used_end page ≡ 16 + tail_bytes v
+  pub low : HEADER_SIZE ≤ used_end page
+  pub high : used_end page ≤ PAGE_SIZE
+  pub end : used_end page ≡ HEADER_SIZE + tail_bytes v
 
 pub tail-is : (v : HybridLog) (number : ℕ) (page : List ℕ) → IsHybridLog v → number ≡ next_number v.resident - 1 → page ≡ page_of v.resident number → IsTail v number page
 tail-is v number page is at same =
@@ -134,11 +135,11 @@ pub record IsPutIn (now new : HybridLog) (a : ℕ) (key : List ℕ) (value : Opt
 
 pub put-from : (v now : HybridLog) (number offset link hash : ℕ) (page w heads key : List ℕ) (value : Option (List ℕ)) → v ≡ now → IsHybridLog v → number ≡ next_number v.resident - 1 → page ≡ page_of v.resident number → IsLaidOut w → number_of w ≡ number_of page
     → records_of w ≡ records_of page ++ (used_end page, new_record link hash key value) ∷ [] → used_end w ≡ used_end page + size_for (length key) (length (value_bytes value)) → offset ≡ used_end page
-    → hash ≡ hash_of key → link ≡ slice_index v.heads (hash / v.stripes % length v.heads) → heads ≡ set v.heads (hash / v.stripes % length v.heads) (number * 16384 + offset) → Fits key value
-    → IsPutIn now (with_bytes v number w heads) (number * 16384 + offset) key value
+    → hash ≡ hash_of key → link ≡ slice_index v.heads (hash / v.stripes % length v.heads) → heads ≡ set v.heads (hash / v.stripes % length v.heads) (number * PAGE_SIZE + offset) → Fits key value
+    → IsPutIn now (with_bytes v number w heads) (number * PAGE_SIZE + offset) key value
 put-from v now number offset link hash page w heads key value same is at there laid numbered records end offset_is hashed linked moved fits =
     let t = tail-is v number page is at there in
-    let a : ℕ = number * 16384 + offset in
+    let a : ℕ = number * PAGE_SIZE + offset in
     let r : Stored = new_record link hash key value in
     let b_is : hash / v.stripes % length v.heads ≡ bucket_of v key = ap (λ (h : ℕ). h / v.stripes % length v.heads) hashed in
     let size : size_of r ≡ size_for (length key) (length (value_bytes value)) = omega arith in
@@ -146,8 +147,8 @@ put-from v now number offset link hash page w heads key value same is at there l
     let link_is : link ≡ head_of v key = linked ∙ ap (slice_index v.heads) b_is in
     let heads_are : heads ≡ set v.heads (bucket_of v key) a = moved ∙ ap (λ (b : ℕ). set v.heads b a) b_is in
     let records_there : records_of w ≡ records_of (page_of v.resident number) ++ (used_end (page_of v.resident number), r) ∷ [] = subst (λ (q : List ℕ). records_of w ≡ records_of q ++ (used_end q, r) ∷ []) there records in
-    let a_is : a ≡ number * 16384 + used_end (page_of v.resident number) = ap (λ (o : ℕ). number * 16384 + o) (offset_is ∙ ap used_end there) in
-    let low : 16 ≤ used_end (page_of v.resident number) = subst (λ (q : List ℕ). 16 ≤ used_end q) there t.low in
+    let a_is : a ≡ number * PAGE_SIZE + used_end (page_of v.resident number) = ap (λ (o : ℕ). number * PAGE_SIZE + o) (offset_is ∙ ap used_end there) in
+    let low : HEADER_SIZE ≤ used_end (page_of v.resident number) = subst (λ (q : List ℕ). HEADER_SIZE ≤ used_end q) there t.low in
     let done = put-log v number a w heads key r is t.last laid (numbered ∙ t.numbered) records_there a_is refl link_is heads_are short low in
     let new : HybridLog = with_bytes v number w heads in
     let count : length (set v.resident.pages (number - v.resident.oldest) w) ≡ length v.resident.pages = length-set v.resident.pages (number - v.resident.oldest) w in

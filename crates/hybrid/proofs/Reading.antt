@@ -1,12 +1,11 @@
 -- Reading ends: each page that is read makes the unread ones fewer.
-use Rattle.std.proofs.Common.{◌≡◌, ◌||◌, ◌⊎◌, inl, inr, ℕ, zero, suc, ◌+◌, ◌-◌, ◌<◌, ◌≤◌, Bool, true, false, List, [], ◌∷◌, ◌++◌, Option, Some, None, cond, bytes_eq, length, set, sym, ap, subst, refl, ◌∙◌, arith}
+use Rattle.std.proofs.Common.{◌≡◌, ◌||◌, inl, inr, ℕ, zero, suc, ◌-◌, ◌<◌, ◌≤◌, Bool, true, false, List, [], ◌∷◌, ◌++◌, Option, Some, None, cond, bytes_eq, length, set, ap, refl, ◌∙◌, arith}
 use Rattle.std.specs.Prelude.{slice_index_or}
-use Rattle.std.specs.List.{Contains}
 use Rattle.std.specs.Bool.{Decides}
 use Rattle.std.proofs.lemmas.Slice.Eq.{bytes_eq-Decides}
-use Rattle.hybrid.specs.HybridLog.{HybridLog, Kept, receipt_of}
-use Rattle.hybrid.specs.Staging.{AreRight, StagedPage, IsStaged, IsMissing}
-use Rattle.hybrid.specs.Reading.{HasStaged, is_staged, staged_of, unread, unread_of}
+use Rattle.hybrid.specs.HybridLog.{HybridLog, Kept}
+use Rattle.hybrid.specs.Staging.{StagedPage, IsStaged, IsMissing}
+use Rattle.hybrid.specs.Reading.{is_staged, staged_of, unread, unread_of}
 use Rattle.hybrid.proofs.Logs.{some_is, cons_cases, here, there}
 
 -- ---- whether a page is staged

@@ -4,7 +4,7 @@ use Rattle.std.specs.Prelude.{slice_index_or}
 use Rattle.std.specs.List.{All}
 use Rattle.std.proofs.lemmas.List.{length-map, length-take-le, get_or-append_right, get_or-set_other}
 use Rattle.records.specs.Page.{number_of}
-use Rattle.records.specs.Records.{Stored, size_of, IsLaidOut}
+use Rattle.records.specs.Records.{Stored, IsLaidOut}
 use Rattle.frames.specs.Resident.{next_number, page_of, first_mutable, with_page}
 use Rattle.words.specs.Stripes.{hash_of}
 use Rattle.hybrid.specs.Log.{Log, log_from, AllLaid, IsLinked, Joins, begin_of, IsShort}

@@ -1,8 +1,11 @@
 -- What the loop of flushes and drops keeps.
-use Rattle.std.proofs.Common.{◌≡◌, ℕ, zero, suc, ◌+◌, ◌-◌, ◌/◌, ◌<◌, ◌≤◌, ◌^◌, inl, inr, List, [], ◌∷◌, length, drop, set, Option, Some, None, refl, sym, ap, ◌∙◌, subst, arith, length-set, true, false}
+use Rattle.std.proofs.Common.{◌≡◌, ℕ, ◌+◌, ◌-◌, ◌/◌, ◌<◌, ◌≤◌, inl, inr, List, length, drop, Option, Some, None, refl, sym, ap, ◌∙◌, subst, arith, length-set, true, false}
 use Rattle.std.specs.Prelude.{slice_index_or, IsSome, nat_lt}
 use Rattle.std.proofs.lemmas.List.{get_or-set_other, length-drop, drop-drop}
 use Rattle.std.proofs.lemmas.Bool.{cases_eq, cases_lt, lt-ltb, le-ltb}
+use Rattle.words.specs.declared.limits.TheConstants.{WEIGHT_MAX}
+use Rattle.hybrid.specs.declared.stripe.TheConstants.{CLOSED_MIN, LAST_PAGE}
+use Rattle.records.specs.declared.pages.TheConstants.{PAGE_SIZE, HEADER_SIZE}
 use Rattle.frames.specs.Resident.{Resident, next_number, without_oldest}
 use Rattle.hybrid.specs.HybridLog.{HybridLog, Kept, HasRoom, count_kept, free, log_of, pages_for, receipt_of, tail_bytes, with_dropped, with_receipt}
 use Rattle.hybrid.specs.Reserving.{IsFlushed, IsReserved}
@@ -16,9 +19,9 @@ pub record IsReserving (old now : HybridLog) (before failures needed : ℕ) : Ty
   pub few : count ≤ needed - free old
   pub frames : free now ≡ free old + count
   pub still : needed ≤ free old → now ≡ old
-  pub numbers : 0 < needed → next_number now.resident ≤ 2 ^ 46
+  pub numbers : 0 < needed → next_number now.resident ≤ LAST_PAGE
 
-pub reserving-start : (p : HybridLog) (failures needed : ℕ) → (0 < needed → next_number p.resident ≤ 2 ^ 46) → IsReserving p p failures failures needed
+pub reserving-start : (p : HybridLog) (failures needed : ℕ) → (0 < needed → next_number p.resident ≤ LAST_PAGE) → IsReserving p p failures failures needed
 reserving-start p failures needed numbers = record {
   count = 0;
   reserved = record {
@@ -117,14 +120,14 @@ reserving-step old now mid next before failures failures_now needed h lacks fail
       numbers = λ any. omega (arith, h.numbers any, first, count, some);
     }
 
-pub pages-some : (p : HybridLog) (weight : ℕ) → 16368 < weight + tail_bytes p → weight / 7640 + 1 ≡ pages_for p weight
-pages-some p weight lt = let t : nat_lt 16368 (weight + tail_bytes p) ≡ true = lt-ltb 16368 (weight + tail_bytes p) lt in rw t refl
+pub pages-some : (p : HybridLog) (weight : ℕ) → PAGE_SIZE - HEADER_SIZE < weight + tail_bytes p → weight / CLOSED_MIN + 1 ≡ pages_for p weight
+pages-some p weight lt = let t : nat_lt (PAGE_SIZE - HEADER_SIZE) (weight + tail_bytes p) ≡ true = lt-ltb (PAGE_SIZE - HEADER_SIZE) (weight + tail_bytes p) lt in rw t refl
 
-pub pages-none : (p : HybridLog) (weight : ℕ) → weight + tail_bytes p ≤ 16368 → 0 ≡ pages_for p weight
-pages-none p weight le = let t : nat_lt 16368 (weight + tail_bytes p) ≡ false = le-ltb 16368 (weight + tail_bytes p) le in rw t refl
+pub pages-none : (p : HybridLog) (weight : ℕ) → weight + tail_bytes p ≤ PAGE_SIZE - HEADER_SIZE → 0 ≡ pages_for p weight
+pages-none p weight le = let t : nat_lt (PAGE_SIZE - HEADER_SIZE) (weight + tail_bytes p) ≡ false = le-ltb (PAGE_SIZE - HEADER_SIZE) (weight + tail_bytes p) le in rw t refl
 
-pub room-reserved : (old now : HybridLog) (weight before failures : ℕ) → weight ≤ 49152 → IsReserving old now before failures (pages_for old weight) → pages_for old weight ≤ free now → HasRoom now weight
-room-reserved old now weight before failures light h enough = elim (cases_lt 16368 (weight + tail_bytes old)) [
+pub room-reserved : (old now : HybridLog) (weight before failures : ℕ) → weight ≤ WEIGHT_MAX → IsReserving old now before failures (pages_for old weight) → pages_for old weight ≤ free now → HasRoom now weight
+room-reserved old now weight before failures light h enough = elim (cases_lt (PAGE_SIZE - HEADER_SIZE) (weight + tail_bytes old)) [
   | inl lt ↦
       let pages = pages-some old weight lt in
       record { room = inr (record { frames = inr (omega (arith, pages, enough)); numbers = omega (arith, h.numbers (omega (arith, pages)), light) }) }

@@ -6,7 +6,7 @@ use Rattle.std.proofs.lemmas.List.Elements.{All-push}
 use Rattle.std.proofs.lemmas.Bool.{cases_lt}
 use Rattle.hybrid.specs.HybridLog.{Kept}
 use Rattle.hybrid.specs.Staging.{StagedPage, AreRight, IsStaged}
-use Rattle.hybrid.specs.Reading.{HasStaged, staged_of}
+use Rattle.hybrid.specs.Reading.{staged_of}
 use Rattle.hybrid.proofs.Reading.{page-beyond, page-read, pages-beyond, staged-at, staged-size}
 
 -- ---- a page is looked for
@@ -29,6 +29,12 @@ module _ {X : Type 0} (f : X → Kept) (items : List X) (pages : List (List ℕ)
   same-found i x page lt it there right =
       let d : StagedPage = record { kept = f x; page = page } in
       there ∙ subst (λ (s : StagedPage). s.page ≡ s.kept.shown) (at-place i x page d lt it) (right i d (omega (arith, lt, count)))
+
+  -- a page is staged that was read by a receipt of its identity
+  pub is-there : (i : ℕ) (x : X) (identity : List ℕ) → i < length items → x ≡ slice_index_or items i x → (f x).identity ≡ identity → IsStaged staged identity
+  is-there i x identity lt it same =
+      let s : StagedPage = record { kept = f x; page = slice_index_or pages i [] } in
+      (s, (i, omega (arith, lt, count), at-place i x [] s lt it), same)
 
   pub more-missed : (i : ℕ) (x : X) (identity : List ℕ) → i < length items → x ≡ slice_index_or items i x → ((f x).identity ≡ identity → ⊥)
       → ((k : ℕ) (d : StagedPage) → k < i → (slice_index_or staged k d).kept.identity ≡ identity → ⊥) → (k : ℕ) (d : StagedPage) → k < i + 1 → (slice_index_or staged k d).kept.identity ≡ identity → ⊥

@@ -4,10 +4,11 @@ use Rattle.std.specs.Prelude.{slice_index_or, option_map}
 use Rattle.std.specs.List.{All}
 use Rattle.std.proofs.Common.{inl, inr}
 use Rattle.std.proofs.lemmas.Bool.{cases_lt}
+use Rattle.words.specs.declared.limits.TheConstants.{FRAMES_MIN}
 use Rattle.records.specs.Page.{empty_page}
-use Rattle.records.specs.Records.{Stored, size_of, records_of}
+use Rattle.records.specs.Records.{Stored, records_of}
 use Rattle.frames.specs.Resident.{Resident, IsEmptyPage, with_opened, next_number, first_mutable}
-use Rattle.hybrid.specs.Log.{Log, log_from, IsLinked, Joins, begin_of, IsShort}
+use Rattle.hybrid.specs.Log.{Log, contents, newest, log_from, IsLinked, Joins, begin_of, IsShort}
 use Rattle.hybrid.specs.HybridLog.{HybridLog, Kept, IsHybridLog, IsSealed, empty_log, bucket_of, log_of, receipt_at}
 use Rattle.hybrid.proofs.Opening.{page_log-empty}
 use Rattle.hybrid.proofs.Finding.{receipt-there}
@@ -25,7 +26,7 @@ none-kept : (i : ℕ) (k : Kept) → slice_index_or (None ∷ []) i None ≡ Som
 none-kept zero k e = absurd cc
 none-kept (suc i) k e = absurd cc
 
-pub empty-is : (stripes buckets frames places : ℕ) → 1 ≤ stripes → 1 ≤ buckets → 12 ≤ frames → IsEmptyPage 0 (empty_page 0) → IsHybridLog (empty_log stripes buckets frames places)
+pub empty-is : (stripes buckets frames places : ℕ) → 1 ≤ stripes → 1 ≤ buckets → FRAMES_MIN ≤ frames → IsEmptyPage 0 (empty_page 0) → IsHybridLog (empty_log stripes buckets frames places)
 empty-is stripes buckets frames places s b f page =
     let p : HybridLog = empty_log stripes buckets frames places in
     let log : log_of p ≡ [] = log-one (empty_page 0) page.records in
@@ -52,8 +53,13 @@ empty-is stripes buckets frames places s b f page =
     zeros-length zero = refl
     zeros-length (suc n) = ap suc (zeros-length n)
 
+-- an empty log has no key
+pub empty-contents : (stripes buckets frames places : ℕ) → IsEmptyPage 0 (empty_page 0) → (key : List ℕ) → contents (log_of (empty_log stripes buckets frames places)) key ≡ None
+unfolding contents newest
+empty-contents stripes buckets frames places page key = ap (λ (l : Log). contents l key) (log-one (empty_page 0) page.records)
+
 -- the same from what was made
-pub empty-from : {X : Type 0} (f : X → Kept) (items none : List (Option X)) (frames opened : Resident) (heads : List ℕ) (stripes buckets count places : ℕ) → 1 ≤ stripes → 1 ≤ buckets → 12 ≤ count
+pub empty-from : {X : Type 0} (f : X → Kept) (items none : List (Option X)) (frames opened : Resident) (heads : List ℕ) (stripes buckets count places : ℕ) → 1 ≤ stripes → 1 ≤ buckets → FRAMES_MIN ≤ count
     → none ≡ [] → items ≡ none ++ None ∷ [] → frames ≡ record { oldest = 0; pages = []; frames = count } → opened ≡ with_opened frames → heads ≡ replicate buckets 0 → IsEmptyPage (next_number frames) (empty_page (next_number frames))
     → record { oldest = 0; kept = map (option_map f) items; resident = opened; heads = heads; stripes = stripes; unreleased = 0; places = places } ≡ empty_log stripes buckets count places
 empty-from f items none frames opened heads stripes buckets count places s b c empty it fr op hd page =

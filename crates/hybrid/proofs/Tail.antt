@@ -4,6 +4,10 @@ use Rattle.std.specs.Prelude.{slice_index_or, slice_set, nat_lt}
 use Rattle.std.proofs.Common.{true, false}
 use Rattle.std.proofs.lemmas.Bool.{lt-ltb, le-ltb}
 use Rattle.std.proofs.lemmas.List.{length-map, length-take-le, get_or-append_right, get_or_append_left, append-nil, replicate-append-replicate}
+use Rattle.records.specs.declared.entries.TheConstants.{KEY_BYTES_MAX}
+use Rattle.words.specs.declared.limits.TheConstants.{WEIGHT_OF_KEY, VALUE_BYTES_MAX}
+use Rattle.hybrid.specs.declared.stripe.TheConstants.{CLOSED_MIN, RECORD_MAX}
+use Rattle.records.specs.declared.pages.TheConstants.{PAGE_SIZE, HEADER_SIZE}
 use Rattle.records.specs.Page.{empty_page, used_end}
 use Rattle.records.specs.Records.{size_for, value_bytes, IsLaidOut}
 use Rattle.hybrid.proofs.Placed.{end_from-le}
@@ -27,8 +31,8 @@ tail-laid p is =
     get_or-append_right cold_pages p.resident.pages (cold p) (cold p + (length p.resident.pages - 1)) [] size (omega arith) ∙ ap (λ (n : ℕ). slice_index_or p.resident.pages n []) (let e : cold p + (length p.resident.pages - 1) - cold p ≡ length p.resident.pages - 1 = omega arith in e) in
     subst (λ (b : List ℕ). IsLaidOut b) page (laid-at p.oldest (pages_of p) (cold p + (length p.resident.pages - 1)) is.laid (omega (arith, all, is.tail)))
 
-pub used-fits : (page : List ℕ) → IsLaidOut page → (16 ≤ used_end page) × (used_end page ≤ 16384)
-used-fits page laid = (omega (arith, laid.used, end_from-le 16 laid.stored), laid.in_page)
+pub used-fits : (page : List ℕ) → IsLaidOut page → (HEADER_SIZE ≤ used_end page) × (used_end page ≤ PAGE_SIZE)
+used-fits page laid = (omega (arith, laid.used, end_from-le HEADER_SIZE laid.stored), laid.in_page)
 
 -- ---- the room of a call: the weight that is left, the bytes of records in the tail page, the free frames
 
@@ -53,7 +57,7 @@ grown-put a b x s small bytes p = record {
 }
 
 -- a put into a page that was opened for it
-pub grown-opened : (a b : HybridLog) (x s : ℕ) → s ≤ x → s ≤ 8728 → 16368 < tail_bytes a + s → tail_bytes b ≡ s → IsPut (with_page_opened a) b → IsGrown a b x
+pub grown-opened : (a b : HybridLog) (x s : ℕ) → s ≤ x → s ≤ RECORD_MAX → PAGE_SIZE - HEADER_SIZE < tail_bytes a + s → tail_bytes b ≡ s → IsPut (with_page_opened a) b → IsGrown a b x
 grown-opened a b x s small short full bytes p = record {
   opened = 1;
   few = omega arith;
@@ -77,11 +81,11 @@ grown-opened a b x s small short full bytes p = record {
 pub grown-none : (p : HybridLog) → IsGrown p p 0
 grown-none p = record { opened = 0; few = omega arith; oldest = refl; kept = sym (append-nil p.kept); first = refl; next = sym (add-zero (next_number p.resident)); frames = refl; buckets = refl; stripes = refl; unreleased = refl; places = refl; read_only = λ n from lt. refl; none = λ fits. refl; bytes = omega arith; closed = inl refl }
 
-few-so : (opened tail weight : ℕ) → (opened ≡ 0) ⊎ (7640 * (opened - 1) + tail ≤ weight) → opened ≤ weight / 7640 + 1
+few-so : (opened tail weight : ℕ) → (opened ≡ 0) ⊎ (CLOSED_MIN * (opened - 1) + tail ≤ weight) → opened ≤ weight / CLOSED_MIN + 1
 few-so opened tail weight (inl e) = omega (arith, e)
 few-so opened tail weight (inr l) = omega (arith, l)
 
-closed-more : (n m t1 t2 u v : ℕ) → 7640 * m + t2 ≤ t1 + v → (n ≡ 0) ⊎ (7640 * (n - 1) + t1 ≤ u) → (m ≡ 0) ⊎ (7640 * (m - 1) + t2 ≤ v) → ((n + m) ≡ 0) ⊎ (7640 * (n + m - 1) + t2 ≤ u + v)
+closed-more : (n m t1 t2 u v : ℕ) → CLOSED_MIN * m + t2 ≤ t1 + v → (n ≡ 0) ⊎ (CLOSED_MIN * (n - 1) + t1 ≤ u) → (m ≡ 0) ⊎ (CLOSED_MIN * (m - 1) + t2 ≤ v) → ((n + m) ≡ 0) ⊎ (CLOSED_MIN * (n + m - 1) + t2 ≤ u + v)
 closed-more zero m t1 t2 u v b f (inl g) = inl (omega (arith, g))
 closed-more zero m t1 t2 u v b f (inr g) = inr (let e : zero + m ≡ m = omega arith in omega (arith, g, e))
 closed-more (suc n) m t1 t2 u v b (inl bad) g = absurd (omega (arith, bad))
@@ -89,7 +93,7 @@ closed-more (suc n) m t1 t2 u v b (inr f) g = inr (omega (arith, f, b))
 
 pub grown-more : (a b c : HybridLog) (u v : ℕ) → IsGrown a b u → IsGrown b c v → IsGrown a c (u + v)
 grown-more a b c u v f g =
-    let closed : ((f.opened + g.opened) ≡ 0) ⊎ (7640 * (f.opened + g.opened - 1) + tail_bytes c ≤ u + v) = closed-more f.opened g.opened (tail_bytes b) (tail_bytes c) u v g.bytes f.closed g.closed in
+    let closed : ((f.opened + g.opened) ≡ 0) ⊎ (CLOSED_MIN * (f.opened + g.opened - 1) + tail_bytes c ≤ u + v) = closed-more f.opened g.opened (tail_bytes b) (tail_bytes c) u v g.bytes f.closed g.closed in
     record {
       opened = f.opened + g.opened;
       few = few-so (f.opened + g.opened) (tail_bytes c) (u + v) closed;
@@ -113,7 +117,7 @@ grown-more a b c u v f g =
 
 pub grown-less : (a b : HybridLog) (u w : ℕ) → u ≤ w → IsGrown a b u → IsGrown a b w
 grown-less a b u w le f =
-    let closed : (f.opened ≡ 0) ⊎ (7640 * (f.opened - 1) + tail_bytes b ≤ w) = elim f.closed [ inl e ↦ inl e | inr l ↦ inr (omega (arith, l, le)) ] in
+    let closed : (f.opened ≡ 0) ⊎ (CLOSED_MIN * (f.opened - 1) + tail_bytes b ≤ w) = elim f.closed [ inl e ↦ inl e | inr l ↦ inr (omega (arith, l, le)) ] in
     record {
       opened = f.opened;
       few = few-so f.opened (tail_bytes b) w closed;
@@ -138,7 +142,7 @@ opened-tail a empty =
     let last : slice_index_or (a.resident.pages ++ empty_page (next_number a.resident) ∷ []) (length (a.resident.pages ++ empty_page (next_number a.resident) ∷ []) - 1) [] ≡ empty_page (next_number a.resident) =
     ap (λ (n : ℕ). slice_index_or (a.resident.pages ++ empty_page (next_number a.resident) ∷ []) n []) (let e : length (a.resident.pages ++ empty_page (next_number a.resident) ∷ []) - 1 ≡ length a.resident.pages = omega (arith, more) in e)
     ∙ get_or-append_right a.resident.pages (empty_page (next_number a.resident) ∷ []) (length a.resident.pages) (length a.resident.pages) [] refl (omega arith) ∙ ap (λ (n : ℕ). slice_index_or (empty_page (next_number a.resident) ∷ []) n []) (let e : length a.resident.pages - length a.resident.pages ≡ 0 = omega arith in e) in
-    let end : used_end (slice_index_or (a.resident.pages ++ empty_page (next_number a.resident) ∷ []) (length (a.resident.pages ++ empty_page (next_number a.resident) ∷ []) - 1) []) ≡ 16 = ap used_end last ∙ empty.end in
+    let end : used_end (slice_index_or (a.resident.pages ++ empty_page (next_number a.resident) ∷ []) (length (a.resident.pages ++ empty_page (next_number a.resident) ∷ []) - 1) []) ≡ HEADER_SIZE = ap used_end last ∙ empty.end in
     omega (arith, end)
 
 -- the room that is left after a put into the tail page
@@ -154,16 +158,16 @@ room-put a b w x s small fits put bytes has = record {
 }
 
 -- where the tail page is full a frame is free, and the page that is opened there has room
-pub room-frames : (a : HybridLog) (w x s : ℕ) → s < x → x ≤ w → 16368 ≤ tail_bytes a + s → HasRoom a w → HasFrames a w
+pub room-frames : (a : HybridLog) (w x s : ℕ) → s < x → x ≤ w → PAGE_SIZE - HEADER_SIZE ≤ tail_bytes a + s → HasRoom a w → HasFrames a w
 room-frames a w x s small fits full has = elim has.room [
   | inl l ↦ absurd (omega (arith, l, small, fits, full))
   | inr h ↦ h
 ]
 
-pub room-opened : (a : HybridLog) (w x s : ℕ) → s ≤ x → x ≤ w → 1 ≤ x → s ≤ 8728 → 16368 ≤ tail_bytes a + s → HasFrames a w → 0 < free a
+pub room-opened : (a : HybridLog) (w x s : ℕ) → s ≤ x → x ≤ w → 1 ≤ x → s ≤ RECORD_MAX → PAGE_SIZE - HEADER_SIZE ≤ tail_bytes a + s → HasFrames a w → 0 < free a
 room-opened a w x s small fits some short full h = elim h.frames [ inl l ↦ omega (arith, l) | inr l ↦ omega (arith, l) ]
 
-pub room-put-opened : (a b : HybridLog) (w x s : ℕ) → s ≤ x → x ≤ w → 1 ≤ x → s ≤ 8728 → 16368 ≤ tail_bytes a + s → IsPut (with_page_opened a) b → tail_bytes b ≡ s → HasFrames a w → HasRoom b (w - x)
+pub room-put-opened : (a b : HybridLog) (w x s : ℕ) → s ≤ x → x ≤ w → 1 ≤ x → s ≤ RECORD_MAX → PAGE_SIZE - HEADER_SIZE ≤ tail_bytes a + s → IsPut (with_page_opened a) b → tail_bytes b ≡ s → HasFrames a w → HasRoom b (w - x)
 room-put-opened a b w x s small fits some short full put bytes h =
     let more : length (a.resident.pages ++ empty_page (next_number a.resident) ∷ []) ≡ length a.resident.pages + 1 = length-append a.resident.pages (empty_page (next_number a.resident) ∷ []) in
     record {
@@ -174,34 +178,34 @@ room-put-opened a b w x s small fits some short full put bytes h =
     }
 
 -- a record is no larger than what its write weighs
-pub size-small : (k v : ℕ) → size_for k v ≤ 48 + k + v
+pub size-small : (k v : ℕ) → size_for k v ≤ WEIGHT_OF_KEY + k + v
 size-small k v = omega arith
 
-pub size-less : (k v : ℕ) → size_for k v < 48 + k + v
+pub size-less : (k v : ℕ) → size_for k v < WEIGHT_OF_KEY + k + v
 size-less k v = omega arith
 
 -- a record of a key and a value that fit is no larger than the largest
-pub size-short : (k v : ℕ) → k ≤ 512 → v ≤ 8192 → size_for k v ≤ 8728
+pub size-short : (k v : ℕ) → k ≤ KEY_BYTES_MAX → v ≤ VALUE_BYTES_MAX → size_for k v ≤ RECORD_MAX
 size-short k v a b = omega arith
 
-pub opened-tail-from : (v now : HybridLog) (frames : Resident) → v ≡ now → frames ≡ with_opened v.resident → IsEmptyPage (next_number v.resident) (empty_page (next_number v.resident)) → used_end (slice_index_or frames.pages (length frames.pages - 1) []) - 16 ≡ 0
-opened-tail-from v now frames same fr empty = ap (λ (r : Resident). used_end (slice_index_or r.pages (length r.pages - 1) []) - 16) fr ∙ opened-tail v empty
+pub opened-tail-from : (v now : HybridLog) (frames : Resident) → v ≡ now → frames ≡ with_opened v.resident → IsEmptyPage (next_number v.resident) (empty_page (next_number v.resident)) → used_end (slice_index_or frames.pages (length frames.pages - 1) []) - HEADER_SIZE ≡ 0
+opened-tail-from v now frames same fr empty = ap (λ (r : Resident). used_end (slice_index_or r.pages (length r.pages - 1) []) - HEADER_SIZE) fr ∙ opened-tail v empty
 
 -- ---- where a record goes
 
 -- a put into the tail page, into which the record fits
-pub added-put : (a b : HybridLog) (address : ℕ) (key : List ℕ) (value : Option (List ℕ)) → tail_bytes a + size_for (length key) (length (value_bytes value)) ≤ 16368 → IsPut a b
+pub added-put : (a b : HybridLog) (address : ℕ) (key : List ℕ) (value : Option (List ℕ)) → tail_bytes a + size_for (length key) (length (value_bytes value)) ≤ PAGE_SIZE - HEADER_SIZE → IsPut a b
     → tail_bytes b ≡ tail_bytes a + size_for (length key) (length (value_bytes value)) → address ≡ begin_of (next_number a.resident - 1) + tail_bytes a
     → IsAppended (log_of a) (log_of b) address (head_of a key) key value → b.heads ≡ slice_set a.heads (bucket_of a key) address → IsAdded a b address key value
 added-put a b address key value fits put bytes at log heads =
     let size : ℕ = size_for (length key) (length (value_bytes value)) in
     let page : next_number b.resident - 1 ≡ next_number a.resident - 1 = omega (arith, put.first, put.count) in
-    let f : nat_lt 16368 (tail_bytes a + size) ≡ false = le-ltb 16368 (tail_bytes a + size) fits in
+    let f : nat_lt (PAGE_SIZE - HEADER_SIZE) (tail_bytes a + size) ≡ false = le-ltb (PAGE_SIZE - HEADER_SIZE) (tail_bytes a + size) fits in
     let tail : tail_of b ≡ record { page = next_number a.resident - 1; bytes = tail_bytes a + size } = λ i. record { page = page i; bytes = bytes i } in
     record { log = log; heads = heads; tail = rw f tail; end = omega (arith, at, page, bytes) }
 
 -- a put into a page that was opened for it, since the record does not fit into the tail page
-pub added-opened : (a mid b : HybridLog) (address : ℕ) (key : List ℕ) (value : Option (List ℕ)) → 16368 < tail_bytes a + size_for (length key) (length (value_bytes value)) → 0 < length a.resident.pages
+pub added-opened : (a mid b : HybridLog) (address : ℕ) (key : List ℕ) (value : Option (List ℕ)) → PAGE_SIZE - HEADER_SIZE < tail_bytes a + size_for (length key) (length (value_bytes value)) → 0 < length a.resident.pages
     → mid ≡ with_page_opened a → log_of mid ≡ log_of a → tail_bytes mid ≡ 0 → IsPut mid b → tail_bytes b ≡ tail_bytes mid + size_for (length key) (length (value_bytes value))
     → address ≡ begin_of (next_number mid.resident - 1) + tail_bytes mid → IsAppended (log_of mid) (log_of b) address (head_of mid key) key value → b.heads ≡ slice_set mid.heads (bucket_of mid key) address
     → IsAdded a b address key value
@@ -211,7 +215,7 @@ added-opened a mid b address key value full some opened same empty put bytes_mid
     let next : next_number mid.resident ≡ next_number a.resident + 1 = ap (λ (q : HybridLog). next_number q.resident) opened ∙ omega (arith, more) in
     let page : next_number b.resident - 1 ≡ next_number a.resident - 1 + 1 = omega (arith, put.first, put.count, next, some) in
     let bytes : tail_bytes b ≡ size = omega (arith, bytes_mid, empty) in
-    let t : nat_lt 16368 (tail_bytes a + size) ≡ true = lt-ltb 16368 (tail_bytes a + size) full in
+    let t : nat_lt (PAGE_SIZE - HEADER_SIZE) (tail_bytes a + size) ≡ true = lt-ltb (PAGE_SIZE - HEADER_SIZE) (tail_bytes a + size) full in
     let tail : tail_of b ≡ record { page = next_number a.resident - 1 + 1; bytes = size } = λ i. record { page = page i; bytes = bytes i } in
     record {
       log = subst (λ (l : Log). IsAppended l (log_of b) address (head_of a key) key value) same

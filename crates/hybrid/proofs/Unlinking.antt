@@ -2,6 +2,7 @@
 use Rattle.std.proofs.Common.{◌≡◌, ℕ, zero, suc, refl, ◌+◌, ◌-◌, ◌*◌, List, [], ◌∷◌, ◌++◌, replicate, Option, Some, None, sym, ap, ◌∙◌, subst, arith}
 use Rattle.std.specs.Prelude.{slice_index_or}
 use Rattle.std.specs.List.{Contains}
+use Rattle.records.specs.declared.pages.TheConstants.{PAGE_SIZE}
 use Rattle.records.specs.Records.{Stored, records_of}
 use Rattle.hybrid.specs.Log.{Log, contents, newest, page_log}
 use Rattle.hybrid.specs.HybridLog.{HybridLog, Kept, IsGrown, IsCut, count_kept, page_at, receipt_of, log_of, without_oldest_page, SameContents}
@@ -29,7 +30,7 @@ cleaned-same old mid new page k r w grown copied cut e f same q =
     let dead : (x : ℕ × Stored) → Contains (page_log mid.oldest r.shown) x → newest (log_of new ++ page_log mid.oldest r.shown) x.1.key ≡ Some x → x.1.value ≡ None = λ x c h.
     let i : IsIn mid.oldest (records_of r.shown) x = from-page_log mid.oldest r.shown x c in
     let listed : Contains (records_of page) (i.offset, x.1) = subst (λ (p : List ℕ). Contains (records_of p) (i.offset, x.1)) shown i.listed in
-    let at : x.0 ≡ old.oldest * 16384 + i.offset = i.address ∙ ap (λ (n : ℕ). n * 16384 + i.offset) grown.oldest in
+    let at : x.0 ≡ old.oldest * PAGE_SIZE + i.offset = i.address ∙ ap (λ (n : ℕ). n * PAGE_SIZE + i.offset) grown.oldest in
     let whole : newest (log_of mid) x.1.key ≡ Some x = subst (λ (l : Log). newest l x.1.key ≡ Some x) (sym cut.log) h in
     copied.dead i.offset x.1 listed (whole ∙ ap (λ (n : ℕ). Some (n, x.1)) at) in
     sym (contents-without (log_of new) (page_log mid.oldest r.shown) q dead) ∙ ap (λ (l : Log). contents l q) (sym cut.log) ∙ copied.same q

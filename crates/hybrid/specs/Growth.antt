@@ -1,5 +1,5 @@
 -- How the growths of a log by several writes add up, and what room there is.
-use Rattle.std.specs.Prelude.{◌≡◌, ℕ, ◌+◌, ◌≤◌}
+use Rattle.std.specs.Prelude.{ℕ, ◌+◌, ◌≤◌}
 use Rattle.words.specs.declared.limits.TheConstants.{WEIGHT_MAX}
 use Rattle.hybrid.specs.declared.stripe.TheConstants.{CALL_PAGES}
 use Rattle.hybrid.specs.HybridLog.{HybridLog, HasRoom, IsGrown, IsHybridLog}

@@ -3,6 +3,7 @@ pub mod HybridLog
 pub mod Lookups
 pub mod Writing
 pub mod Staging
+pub mod Ways
 pub mod Reading
 pub mod Weighing
 pub mod Reserving

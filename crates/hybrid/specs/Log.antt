@@ -92,6 +92,10 @@ pub record IsShort (r : Stored) : Type 0 where
   pub size : size_of r ≤ RECORD_MAX
   pub fits : Fits r.key r.value
 
+-- the value of each key is one that a record may have
+abbrev pub AreValuesShort : Log → Type 0
+AreValuesShort log = (key : List ℕ) → length (value_bytes (contents log key)) ≤ VALUE_BYTES_MAX
+
 -- a log with one record more, of this link, key and value, which has room for all that its size leaves
 pub record IsAppended (older newer : Log) (address link : ℕ) (key : List ℕ) (value : Option (List ℕ)) : Type 0 where
   pub put : Stored

@@ -1,8 +1,9 @@
 // Pages that were read outside.
 
-ghost use Rattle.std.specs.Prelude.{◌≡◌, ◌+◌, ◌<◌, ◌≤◌, ◌++◌, ℕ, List, IfSome, IfNone, [], OnOk, OnErr, IfErr, vec_len};
+ghost use Rattle.std.specs.Prelude.{◌≡◌, ◌+◌, ◌<◌, ◌≤◌, ◌++◌, ℕ, List, IsSome, IfSome, IfNone, [], OnOk, OnErr, IfErr, vec_len};
 ghost use Rattle.hybrid.specs.Staging.{AreRight, IsStaged};
 ghost use Rattle.hybrid.specs.Reading.{HasStaged, MatchReadFault};
+ghost use Rattle.hybrid.specs.Ways.{IsAtHand};
 
 use device::{Device, Shows};
 use records::Page;
@@ -97,6 +98,8 @@ impl<R: Shows> Staged<R> {
     pub fn page<'a>(&'a self, receipt: &'a R) -> Option<&'a Page>
         ensures found { R.is_honest → AreRight self.now → IfSome result (λ page. page.now ≡ R.shown receipt.now) }
         ensures missing { IfNone result (IsStaged self.now (R.identity receipt.now) → ⊥) }
+        ensures lent { R.lends → IsSome result }
+        ensures near { R.is_honest → IfSome result (λ _. IsAtHand R.lends self.now (R.identity receipt.now)) }
     {
         if let Some(page) = receipt.page() {
             return Some(page);

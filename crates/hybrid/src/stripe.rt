@@ -1,10 +1,11 @@
 // A stripe's log: its pages, receipts and index.
 
-ghost use Rattle.std.specs.Prelude.{◌≡◌, ◌+◌, ◌-◌, ◌<◌, ◌≤◌, ◌^◌, ◌↔◌, [], length, slice_index_or, IsTrue, IsSome, IfOk, IfSome, MatchOption, OnErr, OnOk, ◌⊎◌, ℕ, option_map};
+ghost use Rattle.std.specs.Prelude.{◌≡◌, ◌+◌, ◌-◌, ◌<◌, ◌≤◌, ◌^◌, ◌↔◌, [], length, List, None, slice_index_or, IsTrue, IsSome, IfOk, IfSome, MatchOption, OnErr, OnOk, ◌⊎◌, ℕ, option_map};
 ghost use Rattle.std.specs.Bool.{OnTrue, OnFalse};
 ghost use Rattle.records.specs.Page.{used_end};
 ghost use Rattle.frames.specs.Resident.{IsResident, next_number, page_of};
-ghost use Rattle.hybrid.specs.HybridLog.{HybridLog, IsHybridLog, IsSealed, count_kept, empty_log, free, receipt_at, receipt_of};
+ghost use Rattle.hybrid.specs.HybridLog.{HybridLog, IsHybridLog, IsSealed, count_kept, empty_log, free, log_of, receipt_at, receipt_of};
+ghost use Rattle.hybrid.specs.Log.{contents};
 ghost use Rattle.hybrid.specs.Reserving.{IsFull};
 
 use device::Shows;
@@ -74,7 +75,8 @@ impl<R: Shows> Stripe<R> {
     /// An empty log, whose page 0 is open. Takes 16,384 bytes a frame, 8 a bucket, and the size of a
     /// receipt for each place and frame.
     pub fn new(alloc: Global, limits: &Limits) -> Result<Self, AllocError>
-        ensures { IfOk result (λ made. made ≡ empty_log limits.now.stripes limits.now.buckets limits.now.frames limits.now.places) }
+        ensures empty { IfOk result (λ made. made ≡ empty_log limits.now.stripes limits.now.buckets limits.now.frames limits.now.places) }
+        ensures contents { IfOk result (λ made. (key : List ℕ) → contents (log_of made) key ≡ None) }
     {
         let mut frames = Frames::new(alloc, limits.frames)?;
         let index = Index::new(alloc, limits.buckets)?;

@@ -1,7 +1,9 @@
 ghost use Rattle.std.specs.Prelude.{◌≡◌, ◌≤◌, ◌+◌, length};
 ghost use Rattle.std.specs.Option.{option_copied};
 ghost use Rattle.records.specs.Records.{value_bytes};
-ghost use Rattle.hybrid.specs.HybridLog.{HasRoom};
+ghost use Rattle.hybrid.specs.HybridLog.{HasRoom, log_of};
+ghost use Rattle.hybrid.specs.Log.{contents};
+ghost use Rattle.hybrid.specs.Staging.{AreRight};
 
 use device::{Device, Faulty, FaultyReceipt, MemoryDevice, MemoryReceipt, Shows};
 use hybrid::{Cleaned, Fault, Lookup, Room, Staged, Stripe, Weighed, Write};
@@ -618,11 +620,39 @@ fn over_memory_no_lookup_is_cold(rt: HostRuntime) -> Result<(), Fail> {
     Ok(())
 }
 
+// What a key has, where receipts lend their pages.
+fn value_lent<'a, R: Shows>(
+    stripe: &'a Stripe<R>,
+    staged: &'a Staged<R>,
+    key: &[u8],
+) -> Option<&'a [u8]>
+    requires { R.lends }
+    ensures right { R.is_honest → AreRight staged.now → option_copied result ≡ contents (log_of stripe.now) key.now }
+    ensures short { length (value_bytes (option_copied result)) ≤ VALUE_BYTES_MAX }
+{
+    match stripe.find(key, staged) {
+        Lookup::Found(value) => Some(value),
+        Lookup::Absent => None,
+        Lookup::Cold(_) => unreachable!(),
+    }
+}
+
+// What lives in the oldest page, where receipts lend their pages and it is not resident.
+fn weight_lent<R: Shows>(stripe: &Stripe<R>, staged: &Staged<R>) -> Option<usize>
+    requires { R.lends }
+{
+    match stripe.weigh_oldest(staged) {
+        Weighed::Live(weight) => Some(weight),
+        Weighed::Resident => None,
+        Weighed::Cold(_) => unreachable!(),
+    }
+}
+
 fn is_never_cold(stripe: &Stripe<MemoryReceipt>, alloc: Global, rt: &impl Abort) {
     let staged = Staged::new(alloc);
     assert!(rt; stripe.page(0).is_none());
     for number in 0..3001 {
-        assert!(rt; !is_cold(stripe, &staged, number));
+        assert!(rt; value_lent(stripe, &staged, &key_of(number)).is_some() == (number < 3000));
     }
-    assert!(rt; matches!(stripe.weigh_oldest(&staged), Weighed::Live(weight) if weight > 15_000));
+    assert!(rt; weight_lent(stripe, &staged).unwrap_or(0) > 15_000);
 }

@@ -15,5 +15,5 @@ mod working;
 pub use accepting::listen;
 pub use ending_list::Endings;
 pub use fault::ServerFault;
-pub use setting::{ACCEPT_MAX, Options};
-pub use workers::run_workers;
+pub use setting::{ACCEPT_MAX, DeviceKind, Options};
+pub use workers::{opening_count, run_workers};

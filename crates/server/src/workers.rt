@@ -1,7 +1,8 @@
 //! A server: the thread that accepts, one for each worker, and one that closes.
 
-ghost use Rattle.std.specs.Prelude.{◌≡◌, ◌≢◌, [], IfErr, All};
+ghost use Rattle.std.specs.Prelude.{◌≡◌, ◌≢◌, ◌+◌, [], IfErr, All, vec_len};
 ghost use Rattle.engine.specs.Passes.{knows, Rests};
+ghost use Rattle.engine.specs.declared.TheConstants.{BACKGROUND_PASSES};
 
 use crate::accepting::accept_all;
 use crate::closing::{LEAVING_MAX, Leaving, close_all};
@@ -11,7 +12,8 @@ use crate::serving::Serving;
 use crate::setting::Options;
 use crate::working::work;
 use crossbeam_channel::{Receiver, Sender, bounded};
-use engine::{Engine, Pass};
+use device::Device;
+use engine::{BACKGROUND_PASSES, Engine, Pass};
 use gates::Latch;
 use std::net::{TcpListener, TcpStream};
 use std::rt::Clock;
@@ -19,41 +21,64 @@ use std::sync::Wait;
 use std::thread;
 use std::thread::{Scope, Threads, available_parallelism};
 
+/// How many openings of its device a server with these options wants: one for each worker, and one for each thread that works
+/// in the background.
+pub fn opening_count(options: &Options) -> usize
+    ensures { result ≡ options.now.workers + BACKGROUND_PASSES }
+{
+    options.workers + BACKGROUND_PASSES
+}
+
 /// Serves connections over one store: as many as the options say are accepted, and each is served by a
 /// worker until it ends. One for which no worker is free, or comes free within 100 milliseconds, reads
 /// `-ERR max number of clients reached` and is closed; it counts too. The latch is told where each call is.
 /// How each connection that was served ended goes to `endings`. It answers `Ok` when the last has ended.
+///
+/// The pages of the store that have left their frames lie on the device of these openings, of which there are as many as
+/// [`opening_count`] says: each worker has one of its own. What the options say of a device is the caller's to heed.
 ///
 /// # Errors
 ///
 /// [`ServerFault::CannotAccept`] where the listener gives no further connection, once those that were
 /// accepted have ended, and [`ServerFault::OutOfMemory`] where there is no memory for the store or for the
 /// threads, before the first is accepted.
-pub fn run_workers<R: AllocGlobal + Clock + Threads + Wait + Sync, L: Latch + Sync>(
+pub fn run_workers<R, L, D>(
     rt: &R,
     listener: TcpListener,
     options: &Options,
+    openings: Vec<D>,
     latch: &L,
     endings: &Endings,
 ) -> Result<(), ServerFault>
+where
+    R: AllocGlobal + Clock + Threads + Wait + Sync,
+    L: Latch + Sync,
+    D: Device + Send + Sync,
+    D::Receipt: Send + Sync,
+    requires openings { vec_len openings ≡ options.now.workers + BACKGROUND_PASSES }
     ensures { IfErr result (λ fault. fault ≢ ServerFault.CannotListen) }
 {
-    let (engine, passes) = Engine::new(rt.alloc(), &options.limits())?;
+    let (engine, passes) = Engine::new(rt.alloc(), &options.limits(), openings)?;
     serve_all(rt, listener, options, latch, endings, &engine, passes)
 }
 
 /// Starts the threads, and accepts connections for them. It returns when all have ended.
-fn serve_all<R: AllocGlobal + Clock + Threads + Wait + Sync, L: Latch + Sync>(
+fn serve_all<R, L, D>(
     rt: &R,
     listener: TcpListener,
     options: &Options,
     latch: &L,
     endings: &Endings,
-    engine: &Engine,
-    passes: Vec<Pass>,
+    engine: &Engine<D>,
+    passes: Vec<Pass<D>>,
 ) -> Result<(), ServerFault>
-    requires rest { All (Rests engine.now) passes.items }
-    requires watch { All (λ pass. (knows pass).watched ≡ []) passes.items }
+where
+    R: AllocGlobal + Clock + Threads + Wait + Sync,
+    L: Latch + Sync,
+    D: Device + Send + Sync,
+    D::Receipt: Send + Sync,
+    requires rest { All (Rests D.Receipt.is_steady engine.now) passes.items }
+    requires watch { All (λ pass. (knows D.failures pass).watched ≡ []) passes.items }
     ensures { IfErr result (λ fault. fault ≢ ServerFault.CannotListen) }
 {
     let (to_workers, for_workers) = bounded(rt.alloc(), 0)?;
@@ -64,8 +89,8 @@ fn serve_all<R: AllocGlobal + Clock + Threads + Wait + Sync, L: Latch + Sync>(
         thread::scope_env(),
         rt,
         move |scope| -> Result<(), ServerFault>
-            requires rest { All (Rests engine.now) passes.items }
-            requires watch { All (λ pass. (knows pass).watched ≡ []) passes.items }
+            requires rest { All (Rests D.Receipt.is_steady engine.now) passes.items }
+            requires watch { All (λ pass. (knows D.failures pass).watched ≡ []) passes.items }
             ensures { IfErr result (λ fault. fault ≢ ServerFault.CannotListen) }
         {
             let to_closer = start_closer(rt, scope)?;
@@ -108,20 +133,25 @@ fn start_closer<'s, 'e, R: AllocGlobal + Clock + Wait + Sync>(
 }
 
 /// Starts so many workers, each with a pass of its own. Further passes are dropped.
-fn start_workers<'s, 'e, R: AllocGlobal + Clock + Wait + Sync, L: Latch + Sync>(
+fn start_workers<'s, 'e, R, L, D>(
     rt: &'s R,
     scope: &Scope<'s, &'e ()>,
     latch: &'s L,
     endings: &'s Endings,
     serving: &'s Serving,
-    engine: &'s Engine,
-    mut passes: Vec<Pass>,
+    engine: &'s Engine<D>,
+    mut passes: Vec<Pass<D>>,
     count: usize,
     handed: &'s Receiver<TcpStream>,
     closer: &Sender<Leaving>,
 ) -> Result<(), ServerFault>
-    requires rest { All (Rests engine.now) passes.items }
-    requires watch { All (λ pass. (knows pass).watched ≡ []) passes.items }
+where
+    R: AllocGlobal + Clock + Wait + Sync,
+    L: Latch + Sync,
+    D: Device + Send + Sync,
+    D::Receipt: Send + Sync,
+    requires rest { All (Rests D.Receipt.is_steady engine.now) passes.items }
+    requires watch { All (λ pass. (knows D.failures pass).watched ≡ []) passes.items }
     ensures { IfErr result (λ fault. fault ≡ ServerFault.OutOfMemory) }
 {
     passes.truncate(count);
@@ -142,25 +172,30 @@ fn start_workers<'s, 'e, R: AllocGlobal + Clock + Wait + Sync, L: Latch + Sync>(
 }
 
 /// Starts one worker.
-fn start_worker<'s, 'e, R: AllocGlobal + Clock + Wait + Sync, L: Latch + Sync>(
+fn start_worker<'s, 'e, R, L, D>(
     rt: &'s R,
     scope: &Scope<'s, &'e ()>,
     latch: &'s L,
     endings: &'s Endings,
     serving: &'s Serving,
-    engine: &'s Engine,
-    pass: Pass,
+    engine: &'s Engine<D>,
+    pass: Pass<D>,
     handed: &'s Receiver<TcpStream>,
     closer: Sender<Leaving>,
 ) -> Result<(), ServerFault>
-    requires rests { Rests engine.now pass }
-    requires watches { (knows pass).watched ≡ [] }
+where
+    R: AllocGlobal + Clock + Wait + Sync,
+    L: Latch + Sync,
+    D: Device + Send + Sync,
+    D::Receipt: Send + Sync,
+    requires rests { Rests D.Receipt.is_steady engine.now pass }
+    requires watches { (knows D.failures pass).watched ≡ [] }
     ensures { IfErr result (λ fault. fault ≡ ServerFault.OutOfMemory) }
 {
     scope.spawn(
         move ||
-            requires rests { Rests engine.now pass }
-            requires watches { (knows pass).watched ≡ [] }
+            requires rests { Rests D.Receipt.is_steady engine.now pass }
+            requires watches { (knows D.failures pass).watched ≡ [] }
         {
             let _ = work(rt, latch, endings, serving, engine, pass, handed, &closer);
         },

@@ -9,6 +9,7 @@ use crate::serving::Serving;
 use crate::socket::{Socket, SocketReader, SocketWriter};
 use connection::{Ended, serve};
 use crossbeam_channel::{Receiver, Sender};
+use device::Device;
 use engine::{Engine, Pass};
 use gates::Latch;
 use std::net::TcpStream;
@@ -18,20 +19,20 @@ use streams::Noted;
 
 /// Serves connections as they are handed over, one after the other, until nobody can hand over another.
 /// The pass is kept from one to the next.
-pub(crate) fn work<R: AllocGlobal + Clock + Wait, L: Latch>(
+pub(crate) fn work<R: AllocGlobal + Clock + Wait, L: Latch, D: Device>(
     rt: &R,
     latch: &L,
     endings: &Endings,
     serving: &Serving,
-    engine: &Engine,
-    pass: Pass,
+    engine: &Engine<D>,
+    pass: Pass<D>,
     handed: &Receiver<TcpStream>,
     closer: &Sender<Leaving>,
-) -> Pass
-    requires rests { Rests engine.now pass }
-    requires watches { (knows pass).watched ≡ [] }
-    ensures rests { Rests engine.now result }
-    ensures watches { (knows result).watched ≡ [] }
+) -> Pass<D>
+    requires rests { Rests D.Receipt.is_steady engine.now pass }
+    requires watches { (knows D.failures pass).watched ≡ [] }
+    ensures rests { Rests D.Receipt.is_steady engine.now result }
+    ensures watches { (knows D.failures result).watched ≡ [] }
 {
     let mut pass = pass;
     for _ in rt.forever() {
@@ -49,18 +50,18 @@ pub(crate) fn work<R: AllocGlobal + Clock + Wait, L: Latch>(
 }
 
 /// Serves one connection until it ends.
-fn serve_stream<R: AllocGlobal + Clock + Wait, L: Latch>(
+fn serve_stream<R: AllocGlobal + Clock + Wait, L: Latch, D: Device>(
     rt: &R,
     latch: &L,
     stream: &TcpStream,
     serving: &Serving,
-    engine: &Engine,
-    pass: Pass,
-) -> (Pass, Ended)
-    requires rests { Rests engine.now pass }
-    requires watches { (knows pass).watched ≡ [] }
-    ensures rests { Rests engine.now result.0 }
-    ensures watches { (knows result.0).watched ≡ [] }
+    engine: &Engine<D>,
+    pass: Pass<D>,
+) -> (Pass<D>, Ended)
+    requires rests { Rests D.Receipt.is_steady engine.now pass }
+    requires watches { (knows D.failures pass).watched ≡ [] }
+    ensures rests { Rests D.Receipt.is_steady engine.now result.0 }
+    ensures watches { (knows D.failures result.0).watched ≡ [] }
 {
     // Without this a short reply may wait for the client's acknowledgement of the one before.
     let _ = stream.set_nodelay(true);

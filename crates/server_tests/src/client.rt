@@ -1,8 +1,12 @@
 //! A server with its clients, and what clients send and read.
 
+ghost use Rattle.std.specs.Prelude.{◌≡◌, ◌+◌, IfOk, vec_len};
+ghost use Rattle.engine.specs.declared.TheConstants.{BACKGROUND_PASSES};
+
+use device::MemoryDevice;
 use gates::{Latch, Open};
-use server::{Endings, Options, listen, run_workers};
-use std::alloc::Global;
+use server::{DeviceKind, Endings, Options, listen, opening_count, run_workers};
+use std::alloc::{AllocError, Global};
 use std::io::{Read, Write};
 use std::net::{Ipv4Addr, Net, SocketAddrV4, TcpListener, TcpStream};
 use std::rt::Clock;
@@ -10,6 +14,7 @@ use std::sync::Wait;
 use std::test::Fail;
 use std::thread::Threads;
 use std::{io, str, thread};
+use words::limits::{BUCKETS_DEFAULT, FRAMES_DEFAULT, PLACES_DEFAULT};
 
 pub(crate) const PING: &[u8] = b"*1\r\n$4\r\nPING\r\n";
 
@@ -61,6 +66,32 @@ fn first_numbers(endings: &Endings) -> [Option<u8>; 4] {
     ]
 }
 
+/// A server's options with these numbers, and the defaults of the others.
+pub(crate) fn options_with(
+    port: u16,
+    accept: u32,
+    stripes: usize,
+    workers: usize,
+) -> Option<Options> {
+    Options::new(
+        port,
+        accept,
+        stripes,
+        BUCKETS_DEFAULT,
+        FRAMES_DEFAULT,
+        PLACES_DEFAULT,
+        workers,
+        DeviceKind::Memory,
+    )
+}
+
+/// So many openings of a device in memory as a server with these options wants.
+pub(crate) fn memory(alloc: Global, options: &Options) -> Result<Vec<MemoryDevice>, AllocError>
+    ensures { IfOk result (λ openings. vec_len openings ≡ options.now.workers + BACKGROUND_PASSES) }
+{
+    MemoryDevice::openings(alloc, opening_count(options))
+}
+
 /// A listener, and its port.
 fn listening<R>(rt: &R, options: &Options) -> Option<(TcpListener, u16)>
 where
@@ -90,10 +121,13 @@ where
     requires { F.IsAlwaysCallable talk }
 {
     let options = &options?;
+    let openings = memory(rt.alloc(), options).ok()?;
     let (listener, port) = listening(rt, options)?;
     let (served, told) = thread::join(
         rt,
-        || run_workers(rt, listener, options, latch, endings).is_ok(),
+        || -> bool
+            requires openings { vec_len openings ≡ options.now.workers + BACKGROUND_PASSES }
+        { run_workers(rt, listener, options, openings, latch, endings).is_ok() },
         move || talk(rt, port),
     );
     Some(served && told == Some(true))
@@ -138,7 +172,25 @@ where
         + Sync,
     requires { F.IsAlwaysCallable talk }
 {
-    let options = Options::new(0, accept, stripes, workers);
+    with_options(rt, latch, options_with(0, accept, stripes, workers), talk)
+}
+
+/// A server with these options, which tells this latch where its calls are.
+pub(crate) fn with_options<R, L: Latch + Sync, F: FnOnce(&R, u16) -> Option<bool>>(
+    rt: &R,
+    latch: &L,
+    options: Option<Options>,
+    talk: F,
+) -> Result<Outcome, Fail>
+where
+    R: AllocGlobal
+        + Clock
+        + Net<Listener = TcpListener, Stream = TcpStream>
+        + Threads
+        + Wait
+        + Sync,
+    requires { F.IsAlwaysCallable talk }
+{
     let endings = Endings::new(rt.alloc())?;
     let well = end_well(rt, options, latch, &endings, talk);
     Ok(Outcome {

@@ -13,6 +13,8 @@ mod crowds;
 #[cfg(test)]
 mod holding;
 #[cfg(test)]
+mod pages;
+#[cfg(test)]
 mod pipelines;
 #[cfg(test)]
 mod refusals;

@@ -1,7 +1,8 @@
 //! Options, listening and faults.
 
+use crate::client::{memory, options_with};
 use gates::Open;
-use server::{Endings, Options, ServerFault, listen, run_workers};
+use server::{DeviceKind, Endings, Options, ServerFault, listen, run_workers};
 use std::alloc::Global;
 use std::net::{Net, TcpListener, TcpStream};
 use std::rt::Clock;
@@ -11,7 +12,7 @@ use std::thread::Threads;
 
 /// A server's options with this port, for one connection.
 fn options(port: u16) -> Option<Options> {
-    Options::new(port, 1, 16, 4)
+    options_with(port, 1, 16, 4)
 }
 
 /// A listener on a free port.
@@ -67,8 +68,9 @@ where
         + Sync,
 {
     let options = options(0)?;
+    let openings = memory(rt.alloc(), &options).ok()?;
     let listener = listen_without_waiting(rt)?;
-    run_workers(rt, listener, &options, &Open, endings).err()
+    run_workers(rt, listener, &options, openings, &Open, endings).err()
 }
 
 /// The system refuses to wait for a connection.
@@ -108,9 +110,26 @@ const ACCEPTED: &[(u32, bool)] = &[(0, false), (1, true), (1_000_000, true), (1_
 /// Numbers of stripes and of workers, and whether there are options with them.
 const COUNTS: &[(usize, bool)] = &[(0, false), (1, true), (64, true), (65, false)];
 
+/// Numbers of buckets, frames and places, and whether there are options with them.
+const SIZES: &[(usize, usize, usize, bool)] = &[
+    (1, 12, 64, true),
+    (65_536, 256, 65_536, true),
+    (0, 12, 64, false),
+    (65_537, 12, 64, false),
+    (1, 11, 64, false),
+    (1, 257, 64, false),
+    (1, 12, 63, false),
+    (1, 12, 65_537, false),
+];
+
 /// Whether there are options with these numbers.
 fn is_in_range(accept: u32, stripes: usize, workers: usize) -> bool {
-    Options::new(7, accept, stripes, workers).is_some()
+    options_with(7, accept, stripes, workers).is_some()
+}
+
+/// Whether there are options with these sizes.
+fn is_size(buckets: usize, frames: usize, places: usize) -> bool {
+    Options::new(7, 1, 16, buckets, frames, places, 4, DeviceKind::Memory).is_some()
 }
 
 #[test]
@@ -121,5 +140,13 @@ fn options_are_in_range(rt: HostRuntime) {
     for &(count, want) in COUNTS {
         let same = is_in_range(1, count, 4) == want && is_in_range(1, 16, count) == want;
         assert!(rt; same, "{count} stripes or workers");
+    }
+}
+
+#[test]
+fn sizes_are_in_range(rt: HostRuntime) {
+    for &(buckets, frames, places, want) in SIZES {
+        let same = is_size(buckets, frames, places) == want;
+        assert!(rt; same, "{buckets} buckets, {frames} frames and {places} places");
     }
 }

@@ -1,6 +1,6 @@
 //! Transactions where an allocation is refused.
 
-ghost use Rattle.std.specs.Prelude.{◌≡◌, [], IfOk};
+ghost use Rattle.std.specs.Prelude.{◌≡◌, []};
 ghost use Rattle.engine.specs.Passes.{knows, Rests};
 ghost use Rattle.connection.specs.Served.{Attends};
 
@@ -118,31 +118,20 @@ const WATCHER: &[&[u8]] = &[
 /// What may be said to the other session.
 const DELETER: &[&[u8]] = &[b":0\r\n", b"-OOM out of memory\r\n"];
 
-/// An empty engine, and two of its passes.
-fn engine_for_two(alloc: Global) -> Result<(Engine, Pass, Pass), AllocError>
-    ensures rests { IfOk result (λ made. Rests made.0 made.1 × Rests made.0 made.2) }
-    ensures watches { IfOk result (λ made. ((knows made.1).watched ≡ []) × ((knows made.2).watched ≡ [])) }
-{
-    let (engine, mut passes) = Engine::new(alloc, &Limits::default())?;
-    let second = passes.swap_remove(1);
-    let first = passes.swap_remove(0);
-    Ok((engine, first, second))
-}
-
 /// Feeds a client a piece, and writes the answers. How its connection ended, where it did.
-fn say<R: Wait>(
+fn say<R: Wait, D: Device>(
     rt: &R,
     alloc: Global,
     client: &mut Client,
     writer: &mut Noted<Sink>,
-    engine: &Engine,
-    pass: &mut Pass,
+    engine: &Engine<D>,
+    pass: &mut Pass<D>,
     piece: &'static [u8],
 ) -> Option<Ended>
-    requires rests { Rests engine.now pass.old }
-    requires attends { Attends (knows pass.old) client.old }
-    ensures rests { Rests engine.now pass.new }
-    ensures attends { Attends (knows pass.new) client.new }
+    requires rests { Rests D.Receipt.is_steady engine.now pass.old }
+    requires attends { Attends (knows D.failures pass.old) client.old }
+    ensures rests { Rests D.Receipt.is_steady engine.now pass.new }
+    ensures attends { Attends (knows D.failures pass.new) client.new }
 {
     if let Err(_) = client.feed(Bytes::from_static(piece)) {
         return Some(Ended::NoMemory);
@@ -152,7 +141,7 @@ fn say<R: Wait>(
     let paused = answer_all(
         rt, &Open, client, &mut words, &mut out, writer, engine, pass,
     );
-    conclude(paused, &mut out, writer)
+    conclude::<Sink, D>(paused, &mut out, writer)
 }
 
 /// Whether one of these texts was said, or a beginning of one where the connection ended for want of memory.
@@ -167,19 +156,19 @@ fn was_said(writer: Noted<Sink>, ended: Option<Ended>, texts: &[&[u8]]) -> bool 
 }
 
 /// The end of what the watcher says, unless its connection has ended.
-fn say_last<R: Wait>(
+fn say_last<R: Wait, D: Device>(
     rt: &R,
     alloc: Global,
     client: &mut Client,
     writer: &mut Noted<Sink>,
-    engine: &Engine,
-    pass: &mut Pass,
+    engine: &Engine<D>,
+    pass: &mut Pass<D>,
     ended: Option<Ended>,
 ) -> Option<Ended>
-    requires rests { Rests engine.now pass.old }
-    requires attends { Attends (knows pass.old) client.old }
-    ensures rests { Rests engine.now pass.new }
-    ensures attends { Attends (knows pass.new) client.new }
+    requires rests { Rests D.Receipt.is_steady engine.now pass.old }
+    requires attends { Attends (knows D.failures pass.old) client.old }
+    ensures rests { Rests D.Receipt.is_steady engine.now pass.new }
+    ensures attends { Attends (knows D.failures pass.new) client.new }
 {
     if ended.is_some() {
         return ended;
@@ -189,15 +178,15 @@ fn say_last<R: Wait>(
 }
 
 /// Whether each of the two is answered as it may be, of an engine of theirs.
-fn both_are_answered<R: Wait>(
+fn both_are_answered<R: Wait, D: Device>(
     rt: &R,
     alloc: Global,
-    engine: &Engine,
-    mut passes: (Pass, Pass),
+    engine: &Engine<D>,
+    mut passes: (Pass<D>, Pass<D>),
     sinks: (Sink, Sink),
 ) -> bool
-    requires rests { Rests engine.now passes.0 × Rests engine.now passes.1 }
-    requires watches { ((knows passes.0).watched ≡ []) × ((knows passes.1).watched ≡ []) }
+    requires rests { Rests D.Receipt.is_steady engine.now passes.0 × Rests D.Receipt.is_steady engine.now passes.1 }
+    requires watches { ((knows D.failures passes.0).watched ≡ []) × ((knows D.failures passes.1).watched ≡ []) }
 {
     let mut to_watcher = Noted::new(sinks.0);
     let mut to_deleter = Noted::new(sinks.1);
@@ -240,7 +229,8 @@ fn both_are_answered<R: Wait>(
 /// The same of a new engine.
 fn are_answered<R: Wait>(rt: &R, alloc: Global) -> Result<bool, AllocError> {
     let sinks = (Sink::new(alloc, 16_384)?, Sink::new(alloc, 16_384)?);
-    let (engine, first, second) = engine_for_two(alloc)?;
+    let limits = small();
+    let (engine, first, second) = engine_over(alloc, &limits, memory(alloc, &limits)?)?;
     Ok(both_are_answered(rt, alloc, &engine, (first, second), sinks))
 }
 

@@ -1,7 +1,7 @@
 use Rattle.std.proofs.Common.{◌≡◌, vec_len}
 use Rattle.gates.specs.Plays.{AreEmpty}
-use Rattle.transact.specs.Shards.{shard_meaning}
+use Rattle.plans.specs.Shards.{shard_meaning}
 use Rattle.engine.proofs.empty_shards.Given as goal
 
 abbrev pub invariant-loop : goal.invariant-loop
-invariant-loop l = (vec_len l.shards ≡ l.counter) × AreEmpty shard_meaning l.shards.items
+invariant-loop g l = (vec_len l.shards ≡ l.counter) × AreEmpty (shard_meaning g.R.Shows.is_steady) l.shards.items

@@ -1,11 +1,12 @@
 //! Transactions that move a number from one key to another, and a pass that reads both.
 
-ghost use Rattle.std.specs.Prelude.{◌≡◌, [], IfOk, IfSome};
+ghost use Rattle.std.specs.Prelude.{⊤, ◌≡◌, [], IfOk, IfSome};
 ghost use Rattle.words.specs.Bounds.{AreBounded};
 ghost use Rattle.words.specs.History.{MayAllBeQueued};
 ghost use Rattle.engine.specs.Passes.{knows, Rests};
 
-use super::{Exchange, answer_of, is_due};
+use super::{Exchange, answer_of, is_due, new_engine};
+use device::MemoryDevice;
 use engine::{Engine, Pass};
 use gates::Open;
 use std::alloc::Global;
@@ -15,7 +16,6 @@ use std::thread::{Threads, join};
 use transact::call::{Answer, Call, Watching};
 use words::command::Command;
 use words::history::Commands;
-use words::limits::Limits;
 use words::number;
 use words::reply::{CommandReply, Item, Reply};
 use words::word::{OutOfMemory, Word};
@@ -37,11 +37,11 @@ fn moving(alloc: Global, number: i64) -> Option<Commands>
 }
 
 /// Moves a number once, and says whether it was done.
-fn moves<R: Wait>(rt: &R, alloc: Global, engine: &Engine, pass: &mut Pass, number: i64) -> bool
-    requires rests { Rests engine.now pass.old }
-    requires nothing { (knows pass.old).watched ≡ [] }
-    ensures rests { Rests engine.now pass.new }
-    ensures nothing { (knows pass.new).watched ≡ [] }
+fn moves<R: Wait>(rt: &R, alloc: Global, engine: &Engine<MemoryDevice>, pass: &mut Pass<MemoryDevice>, number: i64) -> bool
+    requires rests { Rests ⊤ engine.now pass.old }
+    requires nothing { (knows (λ device. 0) pass.old).watched ≡ [] }
+    ensures rests { Rests ⊤ engine.now pass.new }
+    ensures nothing { (knows (λ device. 0) pass.new).watched ≡ [] }
 {
     let Some(commands) = moving(alloc, number) else {
         return false;
@@ -52,9 +52,9 @@ fn moves<R: Wait>(rt: &R, alloc: Global, engine: &Engine, pass: &mut Pass, numbe
 }
 
 /// Moves a number over and over, and says how often it was done.
-fn moves_often<R: Wait>(rt: &R, alloc: Global, engine: &Engine, mut pass: Pass, number: i64) -> u64
-    requires rests { Rests engine.now pass }
-    requires nothing { (knows pass).watched ≡ [] }
+fn moves_often<R: Wait>(rt: &R, alloc: Global, engine: &Engine<MemoryDevice>, mut pass: Pass<MemoryDevice>, number: i64) -> u64
+    requires rests { Rests ⊤ engine.now pass }
+    requires nothing { (knows (λ device. 0) pass).watched ≡ [] }
 {
     let mut done = 0u64;
     for _n in 0..MOVES {
@@ -89,18 +89,18 @@ fn is_whole(answer: &Answer) -> bool {
 }
 
 /// Whether both keys have the whole together.
-fn sums<R: Wait>(rt: &R, alloc: Global, engine: &Engine, pass: &mut Pass) -> bool
-    requires rests { Rests engine.now pass.old }
-    ensures rests { Rests engine.now pass.new }
+fn sums<R: Wait>(rt: &R, alloc: Global, engine: &Engine<MemoryDevice>, pass: &mut Pass<MemoryDevice>) -> bool
+    requires rests { Rests ⊤ engine.now pass.old }
+    ensures rests { Rests ⊤ engine.now pass.new }
 {
     let answer = answer_of(rt, alloc, &Open, engine, pass, "MGET a b");
     answer.is_some_and(|answer| is_whole(&answer))
 }
 
 /// Reads both keys over and over, and says how often they had the whole together.
-fn sums_often<R: Wait>(rt: &R, alloc: Global, engine: &Engine, mut pass: Pass) -> (Pass, u64)
-    requires rests { Rests engine.now pass }
-    ensures rests { Rests engine.now result.0 }
+fn sums_often<R: Wait>(rt: &R, alloc: Global, engine: &Engine<MemoryDevice>, mut pass: Pass<MemoryDevice>) -> (Pass<MemoryDevice>, u64)
+    requires rests { Rests ⊤ engine.now pass }
+    ensures rests { Rests ⊤ engine.now result.0 }
 {
     let mut done = 0u64;
     for _n in 0..MOVES {
@@ -115,37 +115,42 @@ fn sums_often<R: Wait>(rt: &R, alloc: Global, engine: &Engine, mut pass: Pass) -
 fn moves_and_reads<R: Threads + Wait + Sync>(
     rt: &R,
     alloc: Global,
-    engine: &Engine,
-    mover: Pass,
-    reader: Pass,
-) -> (u64, (Pass, u64))
-    requires mover { Rests engine.now mover }
-    requires nothing { (knows mover).watched ≡ [] }
-    requires reader { Rests engine.now reader }
-    ensures reader { Rests engine.now result.1.0 }
+    engine: &Engine<MemoryDevice>,
+    mover: Pass<MemoryDevice>,
+    reader: Pass<MemoryDevice>,
+) -> (u64, (Pass<MemoryDevice>, u64))
+    requires mover { Rests ⊤ engine.now mover }
+    requires nothing { (knows (λ device. 0) mover).watched ≡ [] }
+    requires reader { Rests ⊤ engine.now reader }
+    ensures reader { Rests ⊤ engine.now result.1.0 }
 {
     join(
         rt,
         move || -> u64
-            requires rests { Rests engine.now mover }
-            requires nothing { (knows mover).watched ≡ [] }
+            requires rests { Rests ⊤ engine.now mover }
+            requires nothing { (knows (λ device. 0) mover).watched ≡ [] }
         { moves_often(rt, alloc, engine, mover, -3) },
-        move || -> (Pass, u64)
-            requires { Rests engine.now reader }
-            ensures { Rests engine.entry.now result.0 }
+        move || -> (Pass<MemoryDevice>, u64)
+            requires { Rests ⊤ engine.now reader }
+            ensures { Rests ⊤ engine.entry.now result.0 }
         { sums_often(rt, alloc, engine, reader) },
     )
 }
 
 /// An engine, and three passes of it.
-fn with_three(alloc: Global) -> Result<(Engine, Pass, Pass, Pass), OutOfMemory>
-    ensures first { IfOk result (λ made. Rests made.0 made.1) }
-    ensures second { IfOk result (λ made. Rests made.0 made.2) }
-    ensures third { IfOk result (λ made. Rests made.0 made.3) }
-    ensures first_nothing { IfOk result (λ made. (knows made.1).watched ≡ []) }
-    ensures second_nothing { IfOk result (λ made. (knows made.2).watched ≡ []) }
+fn with_three(alloc: Global) -> Result<(
+    Engine<MemoryDevice>,
+    Pass<MemoryDevice>,
+    Pass<MemoryDevice>,
+    Pass<MemoryDevice>,
+), OutOfMemory>
+    ensures first { IfOk result (λ made. Rests ⊤ made.0 made.1) }
+    ensures second { IfOk result (λ made. Rests ⊤ made.0 made.2) }
+    ensures third { IfOk result (λ made. Rests ⊤ made.0 made.3) }
+    ensures first_nothing { IfOk result (λ made. (knows (λ device. 0) made.1).watched ≡ []) }
+    ensures second_nothing { IfOk result (λ made. (knows (λ device. 0) made.2).watched ≡ []) }
 {
-    let (engine, mut passes) = Engine::new(alloc, &Limits::default())?;
+    let (engine, mut passes) = new_engine(alloc)?;
     let third = passes.swap_remove(2);
     let second = passes.swap_remove(1);
     let first = passes.swap_remove(0);
@@ -169,14 +174,14 @@ fn whole_is_kept<R: Threads + Wait + Sync>(rt: &R, alloc: Global) -> Result<bool
     let (first, (second, (mut reader, found))) = join(
         rt,
         move || -> u64
-            requires rests { Rests shared.now one }
-            requires nothing { (knows one).watched ≡ [] }
+            requires rests { Rests ⊤ shared.now one }
+            requires nothing { (knows (λ device. 0) one).watched ≡ [] }
         { moves_often(rt, alloc, shared, one, 7) },
-        move || -> (u64, (Pass, u64))
-            requires mover { Rests shared.now two }
-            requires nothing { (knows two).watched ≡ [] }
-            requires reader { Rests shared.now three }
-            ensures { Rests shared.entry.now result.1.0 }
+        move || -> (u64, (Pass<MemoryDevice>, u64))
+            requires mover { Rests ⊤ shared.now two }
+            requires nothing { (knows (λ device. 0) two).watched ≡ [] }
+            requires reader { Rests ⊤ shared.now three }
+            ensures { Rests ⊤ shared.entry.now result.1.0 }
         { moves_and_reads(rt, alloc, shared, two, three) },
     );
     let request = "MGET a b";

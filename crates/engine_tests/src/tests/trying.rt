@@ -1,6 +1,6 @@
 //! Calls that do not wait.
 
-ghost use Rattle.std.specs.Prelude.{◌≡◌, IfErr, IfSome, IsTrue};
+ghost use Rattle.std.specs.Prelude.{⊤, ◌≡◌, IfErr, IfSome, IsTrue};
 ghost use Rattle.words.specs.Bounds.{IsBounded};
 ghost use Rattle.words.specs.Commands.{touches_keys};
 ghost use Rattle.engine.specs.Passes.{Rests};
@@ -9,6 +9,7 @@ use super::{
     Exchange, Holds, Outcome, call_held, command_of, compare, exchange_of, has_place, is_due,
     with_two,
 };
+use device::MemoryDevice;
 use engine::{Engine, Pass};
 use gates::Open;
 use std::alloc::Global;
@@ -24,13 +25,13 @@ use words::word::{OutOfMemory, Word};
 
 /// What a command is answered, or the stripe that was another pass's, with the command.
 fn try_command(
-    engine: &Engine,
-    pass: &mut Pass,
+    engine: &Engine<MemoryDevice>,
+    pass: &mut Pass<MemoryDevice>,
     command: Command,
 ) -> Result<Answer, (usize, Command)>
-    requires rests { Rests engine.now pass.old }
+    requires rests { Rests ⊤ engine.now pass.old }
     requires place { IsTrue (touches_keys command) × IsBounded command }
-    ensures rests { Rests engine.now pass.new }
+    ensures rests { Rests ⊤ engine.now pass.new }
     ensures back { IfErr result (λ refused. refused.1 ≡ command) }
 {
     match engine.try_submit(pass, Call::One(command)) {
@@ -69,10 +70,10 @@ fn let_go(tried: Result<Answer, (usize, Command)>) {
 }
 
 /// Whether a command that is tried is answered as is due.
-fn command_is_answered(engine: &Engine, pass: &mut Pass, command: Command, due: &str) -> bool
-    requires rests { Rests engine.now pass.old }
+fn command_is_answered(engine: &Engine<MemoryDevice>, pass: &mut Pass<MemoryDevice>, command: Command, due: &str) -> bool
+    requires rests { Rests ⊤ engine.now pass.old }
     requires place { IsTrue (touches_keys command) × IsBounded command }
-    ensures rests { Rests engine.now pass.new }
+    ensures rests { Rests ⊤ engine.now pass.new }
 {
     let tried = try_command(engine, pass, command);
     let is_due = is_answer(&tried, due);
@@ -81,9 +82,9 @@ fn command_is_answered(engine: &Engine, pass: &mut Pass, command: Command, due: 
 }
 
 /// Whether a request that is tried is answered as is due.
-fn is_answered(alloc: Global, engine: &Engine, pass: &mut Pass, exchange: Exchange<'_>) -> bool
-    requires rests { Rests engine.now pass.old }
-    ensures rests { Rests engine.now pass.new }
+fn is_answered(alloc: Global, engine: &Engine<MemoryDevice>, pass: &mut Pass<MemoryDevice>, exchange: Exchange<'_>) -> bool
+    requires rests { Rests ⊤ engine.now pass.old }
+    ensures rests { Rests ⊤ engine.now pass.new }
 {
     match keyed(alloc, exchange.request) {
         Some(command) => command_is_answered(engine, pass, command, exchange.due),
@@ -102,9 +103,9 @@ fn is_back(answer: &Result<Answer, (usize, Command)>, key: &str, stripe: usize) 
 }
 
 /// The same of a GET of this word.
-fn command_is_busy(engine: &Engine, pass: &mut Pass, word: Word, key: &str, stripe: usize) -> bool
-    requires rests { Rests engine.now pass.old }
-    ensures rests { Rests engine.now pass.new }
+fn command_is_busy(engine: &Engine<MemoryDevice>, pass: &mut Pass<MemoryDevice>, word: Word, key: &str, stripe: usize) -> bool
+    requires rests { Rests ⊤ engine.now pass.old }
+    ensures rests { Rests ⊤ engine.now pass.new }
 {
     let Some(command) = Some(Command::Get(word)).filter(|command| has_place(command)) else {
         return false;
@@ -116,9 +117,9 @@ fn command_is_busy(engine: &Engine, pass: &mut Pass, word: Word, key: &str, stri
 }
 
 /// Whether a GET that is tried finds this stripe to be another pass's, and is handed back.
-fn is_busy(alloc: Global, engine: &Engine, pass: &mut Pass, key: &str, stripe: usize) -> bool
-    requires rests { Rests engine.now pass.old }
-    ensures rests { Rests engine.now pass.new }
+fn is_busy(alloc: Global, engine: &Engine<MemoryDevice>, pass: &mut Pass<MemoryDevice>, key: &str, stripe: usize) -> bool
+    requires rests { Rests ⊤ engine.now pass.old }
+    ensures rests { Rests ⊤ engine.now pass.new }
 {
     match Word::from_slice(alloc, key.as_bytes()) {
         Ok(word) => command_is_busy(engine, pass, word, key, stripe),
@@ -127,9 +128,9 @@ fn is_busy(alloc: Global, engine: &Engine, pass: &mut Pass, key: &str, stripe: u
 }
 
 /// Whether the line of a request, ` -> ` and what is due is so where the request is tried.
-fn line_is_answered(alloc: Global, engine: &Engine, pass: &mut Pass, line: &str) -> bool
-    requires rests { Rests engine.now pass.old }
-    ensures rests { Rests engine.now pass.new }
+fn line_is_answered(alloc: Global, engine: &Engine<MemoryDevice>, pass: &mut Pass<MemoryDevice>, line: &str) -> bool
+    requires rests { Rests ⊤ engine.now pass.old }
+    ensures rests { Rests ⊤ engine.now pass.new }
 {
     match exchange_of(line) {
         Some(exchange) => is_answered(alloc, engine, pass, exchange),
@@ -138,8 +139,8 @@ fn line_is_answered(alloc: Global, engine: &Engine, pass: &mut Pass, line: &str)
 }
 
 /// Tries the requests of some lines, one after the other.
-fn lines_are_answered<R: Abort>(rt: &R, alloc: Global, engine: &Engine, mut pass: Pass, lines: &str)
-    requires rests { Rests engine.now pass }
+fn lines_are_answered<R: Abort>(rt: &R, alloc: Global, engine: &Engine<MemoryDevice>, mut pass: Pass<MemoryDevice>, lines: &str)
+    requires rests { Rests ⊤ engine.now pass }
 {
     for line in lines.split('\n') {
         assert!(rt; line_is_answered(alloc, engine, &mut pass, line), "{line}");
@@ -181,10 +182,10 @@ fn tries_both<R: Wait + Clock>(
     rt: &R,
     alloc: Global,
     latch: &Holds<'_, R>,
-    engine: &Engine,
-    mut pass: Pass,
+    engine: &Engine<MemoryDevice>,
+    mut pass: Pass<MemoryDevice>,
 ) -> bool
-    requires rests { Rests engine.now pass }
+    requires rests { Rests ⊤ engine.now pass }
 {
     let came = latch.wait_for(&latch.came);
     let busy = is_busy(alloc, engine, &mut pass, "a", 12);
@@ -216,10 +217,10 @@ fn tries_while_held<R: Threads + Wait + Clock + Sync>(
     let (first, second) = join(
         rt,
         move || -> bool
-            requires { Rests shared.now one }
+            requires { Rests ⊤ shared.now one }
         { call_held(rt, alloc, held, shared, one) },
         move || -> bool
-            requires { Rests shared.now two }
+            requires { Rests ⊤ shared.now two }
         { tries_both(rt, alloc, held, shared, two) },
     );
     Ok(first && second && !latch.late.load(Ordering::SeqCst))

@@ -1,6 +1,6 @@
 // The cleaner's step.
 
-ghost use Rattle.std.specs.Prelude.{◌≡◌, ◌≢◌, ◌+◌, ◌<◌, ◌≤◌, ◌↔◌, IsTrue, IsSome, IfOk, IfErr, IfSome, Some, option_map, ◌⊎◌, ⊤};
+ghost use Rattle.std.specs.Prelude.{◌≡◌, ◌≢◌, ◌+◌, ◌<◌, ◌≤◌, ◌↔◌, IsTrue, IsSome, IsOk, IfOk, IfErr, IfSome, Some, option_map, ◌⊎◌, ⊤};
 ghost use Rattle.std.specs.List.{Contains};
 ghost use Rattle.std.specs.Option.{option_copied};
 ghost use Rattle.records.specs.Records.{records_of, IsLaidOut};
@@ -61,6 +61,7 @@ impl<R: Shows> Stripe<R> {
         ensures weight { R.is_honest → AreRight staged.now → MatchWeighed result (λ weight. weight ≡ oldest_weight self.now) (λ number. ⊤) ⊤ }
         ensures most { MatchWeighed result (λ weight. weight ≤ CLEAN_WEIGHT) (λ number. ⊤) ⊤ }
         ensures cold { MatchWeighed result (λ weight. ⊤) (λ number. IsMissing self.now staged.now number) ⊤ }
+        ensures lent { R.lends → MatchWeighed result (λ weight. ⊤) (λ number. ⊥) ⊤ }
         ensures needed { R.is_honest → AreRight staged.now → MatchWeighed result (λ weight. ⊤) (λ number. (number ≡ self.now.oldest) ⊎ IsNeeded self.now number) ⊤ }
         ensures resident { MatchWeighed result (λ weight. self.now.oldest < self.now.resident.oldest) (λ number. self.now.oldest < self.now.resident.oldest) (self.now.resident.oldest ≡ self.now.oldest) }
     {
@@ -88,6 +89,7 @@ impl<R: Shows> Stripe<R> {
         ensures added { R.is_honest → AreRight staged.now → MatchCleaned result (λ r. IsCleaned self.old self.new) (λ number rest. ⊤) (λ weight. ⊤) ⊤ }
         ensures counted { MatchCleaned result (λ r. (count_kept self.new.kept < self.new.unreleased) × (count_kept self.old.kept ≡ count_kept self.new.kept + 1)) (λ number rest. ⊤) (λ weight. ⊤) ⊤ }
         ensures cold { MatchCleaned result (λ r. ⊤) (λ number rest. (self.new ≡ self.old) × (rest ≡ room) × IsMissing self.old staged.now number) (λ weight. ⊤) ⊤ }
+        ensures lent { R.lends → MatchCleaned result (λ r. ⊤) (λ number rest. ⊥) (λ weight. ⊤) ⊤ }
         ensures needed { R.is_honest → AreRight staged.now → MatchCleaned result (λ r. ⊤) (λ number rest. (number ≡ self.old.oldest) ⊎ IsNeeded self.old number) (λ weight. ⊤) ⊤ }
         ensures heavy { MatchCleaned result (λ r. ⊤) (λ number rest. ⊤) (λ weight. (self.new ≡ self.old) × (room.weight < weight) × (weight ≤ CLEAN_WEIGHT)) ⊤ }
         ensures weighed { R.is_honest → AreRight staged.now → MatchCleaned result (λ r. oldest_weight self.old ≤ room.weight) (λ number rest. ⊤) (λ weight. weight ≡ oldest_weight self.old) ⊤ }
@@ -136,6 +138,7 @@ impl<R: Shows> Stripe<R> {
         ensures most { IfOk result (λ marks. marks.weight ≤ CLEAN_WEIGHT) }
         ensures needed { R.is_honest → AreRight staged.now → self.now.oldest < self.now.resident.oldest → (k : Kept) → receipt_of self.now self.now.oldest ≡ Some k → page.now ≡ k.shown → IfErr result (λ number. IsNeeded self.now number) }
         ensures cold { IfErr result (λ number. IsMissing self.now staged.now number) }
+        ensures lent { R.lends → IsOk result }
     {
         let mut live = [false; SLOTS];
         let mut weight = 0;
@@ -162,6 +165,7 @@ impl<R: Shows> Stripe<R> {
         ensures live { R.is_honest → AreRight staged.now → IfOk result (λ live. IsTrue live ↔ ((option_map (λ e. e.0) (newest (log_of self.now) key.now) ≡ Some address) × IsSome (option_copied value.entry))) }
         ensures needed { R.is_honest → AreRight staged.now → IfErr result (λ number. IsSome (option_copied value.entry) × Leads self.now key.now number) }
         ensures cold { IfErr result (λ number. IsMissing self.now staged.now number) }
+        ensures lent { R.lends → IsOk result }
     {
         if value.is_none() {
             return Ok(false);

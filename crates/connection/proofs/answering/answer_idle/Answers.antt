@@ -1,4 +1,4 @@
-use Rattle.std.proofs.Common.{rules, ◌≡◌, ◌∙◌, [], ◌∷◌, Ok, Err, refl, sym, subst}
+use Rattle.std.proofs.Common.{rules, ◌≡◌, Ok, Err, refl, sym, subst}
 use Rattle.words.specs.declared.reply.Line.TheVariants.{Faulty}
 use Rattle.words.specs.Store.{Bytes}
 use Rattle.words.specs.Bounds.{IsBounded}
@@ -6,7 +6,7 @@ use Rattle.words.specs.declared.command.Command.TheVariants.{Get}
 use Rattle.words.specs.Session.{line_reply, value_reply}
 use Rattle.transact.specs.Calls.{answer_of, answer_with}
 use Rattle.connection.proofs.Called.{attends_turned}
-use Rattle.connection.proofs.Briefs.{get_bounded, set_bounded, last_off, turned_get, turned_set, turned_ping}
+use Rattle.connection.proofs.Briefs.{get_bounded, set_bounded, turned_get, turned_set, turned_ping}
 use Rattle.connection.proofs.answering.answer_idle.Goals as goal
 
 pub returns-in-Ok-clause-due : goal.returns-in-Ok-clause-due
@@ -17,12 +17,7 @@ returns-in-Ok-clause-due g c =
     c.requires.attends c.requires.idle c.requires.request get (get_bounded c.commands_are_bounded.ensures c.args.words.now c.requires.request get) (rw same at c.in-Ok.ensures.done) tt refl
 
 pub returns-in-Ok-clause-attends : goal.returns-in-Ok-clause-attends
-returns-in-Ok-clause-attends g c =
-    let get = c.in-Get.ensures.get refl in
-    let same : c.index-as_slice-1.result ≡ get.key = search (rules, get.words_are) in
-    let turned = turned_get _ _ _ c.args.words.now (answer_with (Ok c.in-Ok.value)) (value_reply c.in-Ok.value) _ c.watches_follow_entries.ensures.entry c.watches_follow_entries.ensures.fault
-    c.requires.attends c.requires.idle c.requires.request get (get_bounded c.commands_are_bounded.ensures c.args.words.now c.requires.request get) (rw same at c.in-Ok.ensures.done) tt refl in
-    attends_turned _ _ _ _ _ turned
+returns-in-Ok-clause-attends g c = attends_turned _ _ _ _ _ (returns-in-Ok-clause-due g c)
 
 pub returns-in-Err-clause-due : goal.returns-in-Err-clause-due
 returns-in-Err-clause-due g c =
@@ -32,33 +27,18 @@ returns-in-Err-clause-due g c =
     c.requires.attends c.requires.idle c.requires.request get (get_bounded c.commands_are_bounded.ensures c.args.words.now c.requires.request get) tt (rw same at c.in-Err.ensures.undone) refl
 
 pub returns-in-Err-clause-attends : goal.returns-in-Err-clause-attends
-returns-in-Err-clause-attends g c =
-    let get = c.in-Get.ensures.get refl in
-    let same : c.index-as_slice-1.result ≡ get.key = search (rules, get.words_are) in
-    let turned = turned_get _ _ _ c.args.words.now (answer_with (Err c.in-Err.fault)) (line_reply (Faulty c.in-Err.fault)) _ c.watches_follow_entries.ensures.entry c.watches_follow_entries.ensures.fault
-    c.requires.attends c.requires.idle c.requires.request get (get_bounded c.commands_are_bounded.ensures c.args.words.now c.requires.request get) tt (rw same at c.in-Err.ensures.undone) refl in
-    attends_turned _ _ _ _ _ turned
+returns-in-Err-clause-attends g c = attends_turned _ _ _ _ _ (returns-in-Err-clause-due g c)
 
 pub returns-in-Set-clause-due : goal.returns-in-Set-clause-due
 returns-in-Set-clause-due g c =
     let set = c.in-Set.ensures.set refl in
-    let off = last_off c.pop-value.new.self c.pop-value.result set.name set.key set.value (sym set.words_are ∙ c.pop-value.ensures) in
-    let left : c.pop-value.new.self ≡ set.name ∷ set.key ∷ [] = off.0 in
-    let same : c.index-as_slice-1-in-Set.result ≡ set.key = search (rules, left) in
-    let value : c.pop-value.result ≡ set.value = off.1 in
-    turned_set _ _ _ c.args.words.now (answer_of c.set.result) (line_reply c.line_of-line.result) _ c.watches_follow_entries-in-Set.ensures.entry c.watches_follow_entries-in-Set.ensures.fault
-    c.requires.attends c.requires.idle c.requires.request set (set_bounded c.commands_are_bounded-in-Set.ensures c.args.words.now c.requires.request set) (rw (same, value) at c.set.ensures.done) (rw (same, value) at c.set.ensures.undone) c.line_of-line.ensures
+    let same : c.index-as_slice-1-in-Set.result ≡ set.key = search (rules, set.words_are) in
+    let value : c.index-as_slice-2.result ≡ set.value = search (rules, set.words_are) in
+    turned_set _ _ _ c.args.words.now (answer_of c.set.result) (line_reply c.line_of.result) _ c.watches_follow_entries-in-Set.ensures.entry c.watches_follow_entries-in-Set.ensures.fault
+    c.requires.attends c.requires.idle c.requires.request set (set_bounded c.commands_are_bounded-in-Set.ensures c.args.words.now c.requires.request set) (rw (same, value) at c.set.ensures.done) (rw (same, value) at c.set.ensures.undone) c.line_of.ensures
 
 pub returns-in-Set-clause-attends : goal.returns-in-Set-clause-attends
-returns-in-Set-clause-attends g c =
-    let set = c.in-Set.ensures.set refl in
-    let off = last_off c.pop-value.new.self c.pop-value.result set.name set.key set.value (sym set.words_are ∙ c.pop-value.ensures) in
-    let left : c.pop-value.new.self ≡ set.name ∷ set.key ∷ [] = off.0 in
-    let same : c.index-as_slice-1-in-Set.result ≡ set.key = search (rules, left) in
-    let value : c.pop-value.result ≡ set.value = off.1 in
-    let turned = turned_set _ _ _ c.args.words.now (answer_of c.set.result) (line_reply c.line_of-line.result) _ c.watches_follow_entries-in-Set.ensures.entry c.watches_follow_entries-in-Set.ensures.fault
-    c.requires.attends c.requires.idle c.requires.request set (set_bounded c.commands_are_bounded-in-Set.ensures c.args.words.now c.requires.request set) (rw (same, value) at c.set.ensures.done) (rw (same, value) at c.set.ensures.undone) c.line_of-line.ensures in
-    attends_turned _ _ _ _ _ turned
+returns-in-Set-clause-attends g c = attends_turned _ _ _ _ _ (returns-in-Set-clause-due g c)
 
 pub returns-in-Ping-clause-due : goal.returns-in-Ping-clause-due
 returns-in-Ping-clause-due g c = turned_ping _ c.args.words.now _ c.requires.attends c.requires.idle c.requires.request (c.in-Ping.ensures.ping refl)
@@ -72,8 +52,6 @@ get-requires-clause-place g c =
 pub set-requires-clause-place : goal.set-requires-clause-place
 set-requires-clause-place g c =
     let set = c.in-Set.ensures.set refl in
-    let off = last_off c.pop-value.new.self c.pop-value.result set.name set.key set.value (sym set.words_are ∙ c.pop-value.ensures) in
-    let left : c.pop-value.new.self ≡ set.name ∷ set.key ∷ [] = off.0 in
-    let same : c.index-as_slice-1-in-Set.result ≡ set.key = search (rules, left) in
-    let value : c.pop-value.result ≡ set.value = off.1 in
+    let same : c.index-as_slice-1-in-Set.result ≡ set.key = search (rules, set.words_are) in
+    let value : c.index-as_slice-2.result ≡ set.value = search (rules, set.words_are) in
     rw (same, value) (set_bounded c.commands_are_bounded-in-Set.ensures c.args.words.now c.requires.request set)

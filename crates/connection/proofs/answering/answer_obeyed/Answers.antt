@@ -12,14 +12,13 @@ pub returns-in-Says-clause-due : goal.returns-in-Says-clause-due
 returns-in-Says-clause-due g c = turned_said _ _ _ _ (attends_before _ _ _ c.requires.attends) c.in-Says.ensures
 
 pub returns-in-Says-clause-attends : goal.returns-in-Says-clause-attends
-returns-in-Says-clause-attends g c = attends_turned _ _ _ _ _ (turned_said _ _ _ _ (attends_before _ _ _ c.requires.attends) c.in-Says.ensures)
+returns-in-Says-clause-attends g c = attends_turned _ _ _ _ _ (returns-in-Says-clause-due g c)
 
 pub returns-in-SaysOutOfMemory-clause-due : goal.returns-in-SaysOutOfMemory-clause-due
 returns-in-SaysOutOfMemory-clause-due g c = turned_want _ _ _ _ (attends_before _ _ _ c.requires.attends) c.in-SaysOutOfMemory.ensures c.line.ensures
 
 pub returns-in-SaysOutOfMemory-clause-attends : goal.returns-in-SaysOutOfMemory-clause-attends
-returns-in-SaysOutOfMemory-clause-attends g c =
-    attends_turned _ _ _ _ _ (turned_want _ _ _ _ (attends_before _ _ _ c.requires.attends) c.in-SaysOutOfMemory.ensures c.line.ensures)
+returns-in-SaysOutOfMemory-clause-attends g c = attends_turned _ _ _ _ _ (returns-in-SaysOutOfMemory-clause-due g c)
 
 pub returns-in-Calls-clause-due : goal.returns-in-Calls-clause-due
 returns-in-Calls-clause-due g c =
@@ -27,11 +26,7 @@ returns-in-Calls-clause-due g c =
     (attends_before _ _ _ c.requires.attends) c.in-Calls.ensures c.submit_with-answer.ensures.done c.submit_with-answer.ensures.undone c.resume.ensures.unread c.resume.ensures.resumes
 
 pub returns-in-Calls-clause-attends : goal.returns-in-Calls-clause-attends
-returns-in-Calls-clause-attends g c =
-    let turned = turned_called _ _ _ c.in-Calls.call c.submit_with-answer.result _ _ _ _ c.watches_follow_entries.ensures.entry
-    c.watches_follow_entries.ensures.fault (attends_before _ _ _ c.requires.attends) c.in-Calls.ensures c.submit_with-answer.ensures.done c.submit_with-answer.ensures.undone
-    c.resume.ensures.unread c.resume.ensures.resumes in
-    attends_turned _ _ _ _ _ turned
+returns-in-Calls-clause-attends g c = attends_turned _ _ _ _ _ (returns-in-Calls-clause-due g c)
 
 pub returns-in-OutOfMemory-clause-turned : goal.returns-in-OutOfMemory-clause-turned
 returns-in-OutOfMemory-clause-turned g c =

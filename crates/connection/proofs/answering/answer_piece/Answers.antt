@@ -11,7 +11,7 @@ returns-clause-answered g c = λ was fed before talk.
       so_far.1 ++ said.0,
       so_far.2,
       Appends-then _ _ _ so_far.1 said.0 so_far.3 said.1,
-      answered_says _ _ _ c.conclude.result _ said.2 (append_assoc before so_far.1 said.0),
+      answered_says _ _ _ _ c.conclude.result _ said.2 (append_assoc before so_far.1 said.0),
     )
 
 pub returns-clause-goes_on : goal.returns-clause-goes_on

@@ -13,7 +13,7 @@ returns-in_default g c = record {
         so_far.1 ++ step.0,
         so_far.2,
         Appends-then _ _ _ so_far.1 step.0 so_far.3 step.1,
-        paused_says _ _ _ c.answer_all.result _ _ step.2 (append_assoc before so_far.1 step.0),
+        paused_says _ _ _ _ c.answer_all.result _ _ step.2 (append_assoc before so_far.1 step.0),
       );
   stands = c.answer_all.ensures.stands;
   told = c.answer_all.ensures.told ∙ ap (paused_told c.answer_all.result) c.loop-paused.invariant.told;

@@ -1,7 +1,7 @@
 use Rattle.std.proofs.Common.{◌≡◌, ◌≤◌, ◌+◌, ℕ, List, [], ◌++◌}
 use Rattle.std.specs.Io.KnownBytes.{Appends, Consumes}
-use Rattle.gates.specs.declared.view.Knowledge.{Knowledge}
-use Rattle.engine.specs.Passes.{knows, Rests}
+use Rattle.engine.specs.Passes.{Known, knows, Rests}
+use Rattle.engine.specs.Calls.{promises_of}
 use Rattle.streams.specs.Streams.{stream_of, told_of, reads_of}
 use Rattle.connection.specs.Served.{Attends, Conversing}
 use Rattle.connection.proofs.answering.answer_waiting.Given as goal
@@ -9,18 +9,18 @@ use Rattle.connection.proofs.answering.answer_waiting.Given as goal
 abbrev pub invariant-loop-paused : goal.invariant-loop-paused
 invariant-loop-paused g l = record {
   talk :
-      (was : Knowledge) (fed before : List ℕ)
-      → Conversing was (knows l.initial.pass) fed l.initial.client (before ++ l.initial.out.items)
+      (was : Known) (fed before : List ℕ)
+      → Conversing (promises_of g.D.Receipt.Shows.is_steady g.D.Receipt.Shows.lends) was (knows g.D.Device.failures l.initial.pass) fed l.initial.client (before ++ l.initial.out.items)
       → (bytes sent : List ℕ) × Consumes (g.R.Read.remaining (stream_of l.initial.reader)) (g.R.Read.remaining (stream_of l.reader)) bytes
       × Appends (g.W.Write.contents (stream_of l.initial.writer)) (g.W.Write.contents (stream_of l.writer)) sent
-      × Conversing was (knows l.pass) (fed ++ bytes) l.client ((before ++ sent) ++ l.out.items);
+      × Conversing (promises_of g.D.Receipt.Shows.is_steady g.D.Receipt.Shows.lends) was (knows g.D.Device.failures l.pass) (fed ++ bytes) l.client ((before ++ sent) ++ l.out.items);
   told : told_of l.writer ≡ told_of l.initial.writer;
   reader_told : told_of l.reader ≡ told_of l.initial.reader;
   reads : reads_of l.reader ≤ reads_of l.initial.reader;
   few : reads_of l.initial.reader + l.room.more ≤ reads_of l.reader + l.initial.room.more;
   room : l.room.items ≡ [];
-  rests : Rests l.initial.engine l.pass;
-  attends : Attends (knows l.pass) l.client;
+  rests : Rests g.D.Receipt.Shows.is_steady l.initial.engine l.pass;
+  attends : Attends (knows g.D.Device.failures l.pass) l.client;
 }
 
 abbrev pub decreases-loop-paused : goal.decreases-loop-paused

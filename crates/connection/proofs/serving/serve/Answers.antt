@@ -13,7 +13,7 @@ returns-in_default-clause-served g c =
 pub returns-clause-served : goal.returns-clause-served
 returns-clause-served g c =
     let served = c.converse-ended.ensures.served in
-    (served.0, served.1, served.2, served.3, served_later _ _ _ _ _ _ served.4 c.forget.ensures.went)
+    (served.0, served.1, served.2, served.3, served_later _ _ _ _ _ _ served.4 c.forget.ensures.went c.forget.ensures.no_failure)
 
 pub converse-ended-requires-clause-begins : goal.converse-ended-requires-clause-begins
 converse-ended-requires-clause-begins g c = search rules

@@ -2,4 +2,4 @@ use Rattle.std.proofs.Common.{refl}
 use Rattle.engine.proofs.short.commit_line.Goals as goal
 
 pub commit-requires-clause-place : goal.commit-requires-clause-place
-commit-requires-clause-place c = (refl, c.requires.place)
+commit-requires-clause-place g c = (refl, c.requires.place)

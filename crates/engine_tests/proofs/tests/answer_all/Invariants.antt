@@ -2,4 +2,4 @@ use Rattle.engine.specs.Passes.{Rests}
 use Rattle.engine_tests.proofs.tests.answer_all.Given as goal
 
 abbrev pub invariant-loop-line : goal.invariant-loop-line
-invariant-loop-line g l = Rests l.client.engine l.client.pass
+invariant-loop-line g l = Rests (Unit {0}) l.client.engine l.client.pass

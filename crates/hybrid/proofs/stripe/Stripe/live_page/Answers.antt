@@ -1,4 +1,4 @@
-use Rattle.std.proofs.Common.{◌≡◌, ◌<◌, ◌∙◌, ap, sym, arith}
+use Rattle.std.proofs.Common.{◌≡◌, ◌<◌, ◌∙◌, ap, sym, arith, inl, inr}
 use Rattle.hybrid.specs.HybridLog.{HybridLog, Kept, page_at}
 use Rattle.frames.specs.Resident.{next_number, page_of}
 use Rattle.hybrid.proofs.Finding.{cold-none, cold-has, page-cold, now-is, some-so, none-so, never-none}
@@ -38,3 +38,14 @@ returns-clause-missing g c =
     let k : Kept = record { identity = g.R.Shows.identity c.in-Some.receipt.now; shown = g.R.Shows.shown c.in-Some.receipt.now } in
     let has = cold-has c.args.self.now c.args.number k c.requires.live c.in-Some.ensures in
     none-so c.page-in-Some.result _ _ (λ unread. record { kept = k; live = c.requires.live; has = has; away = λ there. omega (arith, there.0, high); unread = unread }) c.page-in-Some.ensures.missing
+
+pub returns-then-oldest-number-clause-near : goal.returns-then-oldest-number-clause-near
+returns-then-oldest-number-clause-near g c = λ honest.
+    let first = ap (λ (q : HybridLog). q.resident.oldest) c.self.view_is in
+    some-so c.page.result _ _ (λ page e. inl (omega (arith, c.if-oldest-number.true, c.oldest.ensures.oldest, first), c.requires.below)) c.page.ensures.bytes
+
+pub returns-clause-near : goal.returns-clause-near
+returns-clause-near g c = λ honest.
+    let k : Kept = record { identity = g.R.Shows.identity c.in-Some.receipt.now; shown = g.R.Shows.shown c.in-Some.receipt.now } in
+    let has = cold-has c.args.self.now c.args.number k c.requires.live c.in-Some.ensures in
+    some-so c.page-in-Some.result _ _ (λ page e. inr (k, has, e)) (c.page-in-Some.ensures.near honest)

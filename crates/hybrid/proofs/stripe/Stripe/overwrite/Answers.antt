@@ -1,5 +1,6 @@
 use Rattle.std.proofs.Common.{◌%◌, ◌∙◌, ap, sym, subst, length}
 use Rattle.std.specs.Option.{option_copied}
+use Rattle.records.specs.declared.pages.TheConstants.{PAGE_SIZE}
 use Rattle.records.specs.Records.{value_bytes, HasRoomAt, records_of, IsLaidOut}
 use Rattle.hybrid.proofs.Overwriting.{room-from, overwritten-from, contents-changed}
 use Rattle.hybrid.proofs.Finding.{now-is}
@@ -19,7 +20,7 @@ overwrite-requires-clause-laid_out g c =
 pub overwrite-requires-clause-fits : goal.overwrite-requires-clause-fits
 overwrite-requires-clause-fits g c =
     let at = room-from _ _ c.args.address (length (value_bytes (option_copied c.args.value))) c.self.view_is c.self.invariant.0 c.requires.room in
-    subst (λ q. HasRoomAt (records_of q) (c.args.address % 16384) (length (value_bytes (option_copied c.args.value)))) (sym c.in-Some.ensures.bytes) at.room
+    subst (λ q. HasRoomAt (records_of q) (c.args.address % PAGE_SIZE) (length (value_bytes (option_copied c.args.value)))) (sym c.in-Some.ensures.bytes) at.room
 
 pub invariant_of-self : goal.invariant_of-self
 invariant_of-self g c =

@@ -1,4 +1,5 @@
 use Rattle.std.proofs.Common.{◌≡◌, ◌≤◌, ◌∙◌, ap, sym, refl, arith}
+use Rattle.std.specs.Prelude.{⊤}
 use Rattle.records.specs.Read.{shown}
 use Rattle.frames.specs.Resident.{first_mutable}
 use Rattle.hybrid.specs.Log.{begin_of}
@@ -10,7 +11,7 @@ use Rattle.hybrid.proofs.stripe.Stripe.place.Goals as goal
 
 pub loop-address-init : goal.loop-address-init
 loop-address-init g c =
-    (start-from _ _ c.args.key.now c.args.hash c.head-address.result c.self.view_is c.self.invariant.0 c.requires c.head-address.ensures.head).walk
+    (start-from _ _ c.args.key.now (λ _. ⊤) c.args.hash c.head-address.result c.self.view_is c.self.invariant.0 c.requires c.head-address.ensures.head).walk
 
 pub unreachable-requires : goal.unreachable-requires
 unreachable-requires g c =
@@ -49,8 +50,8 @@ loop-address-preserved g c =
     let low : begin_of (first_mutable c.args.self.now.resident) ≤ c.loop-address.address = omega (arith, c.loop-address-test.true, first) in
     let r = reached c.args.self.now c.args.key.now c.loop-address.address (now-is _ _ c.self.view_is c.self.invariant.0) low c.loop-address.invariant in
     let same : shown c.in-Some.record ≡ r.found.stored = c.in-Some.ensures r.found.stored r.there in
-    let linked = here-link (bucket_of c.args.self.now) (begin_of c.args.self.now.oldest) (log_of c.args.self.now) c.args.key.now c.loop-address.address r.found
-    (λ key. let bad = c.if-has_key.ensures.1 (ap (λ x. x.key) same ∙ key) in absurd cc) in
+    let linked = here-link (bucket_of c.args.self.now) (begin_of c.args.self.now.oldest) (log_of c.args.self.now) c.args.key.now (λ _. ⊤) c.loop-address.address r.found
+    (λ key. let bad = c.if-has_key.ensures.1 (ap (λ x. x.key) same ∙ key) in absurd cc) tt in
     rw (sym (ap (λ x. x.link) same)) at linked
 
 pub returns : goal.returns

@@ -1,6 +1,7 @@
 use Rattle.std.proofs.Common.{◌≡◌, Result, Ok, Err, ap, sym, ◌∙◌, ◌/◌, subst}
 use Rattle.std.specs.Result.{IsOkAnd, result_ok}
 use Rattle.std.specs.Option.{IsSomeAnd}
+use Rattle.records.specs.declared.pages.TheConstants.{PAGE_SIZE}
 use Rattle.records.specs.declared.entries.Record.{Record}
 use Rattle.records.specs.Read.{shown}
 use Rattle.frames.specs.Resident.{page_of, IsResident}
@@ -17,11 +18,11 @@ IsSomeAnd-ok (Err e) P holds = absurd holds
 pub returns-in-Some : goal.returns-in-Some
 returns-in-Some g c = λ r at.
     let t = resident-there c.args.self.now c.args.address r (now-is _ _ c.self.view_is c.self.invariant.0) at in
-    let page = c.in-Some.ensures.bytes ∙ ap (λ (q : HybridLog). page_of q.resident (c.args.address / 16384)) c.self.view_is in
+    let page = c.in-Some.ensures.bytes ∙ ap (λ (q : HybridLog). page_of q.resident (c.args.address / PAGE_SIZE)) c.self.view_is in
     rw c.ok.ensures.value (IsSomeAnd-ok c.record_at.result (λ (x : Record). shown x ≡ r) (c.record_at.ensures.found (rw page t.laid) r (rw page t.listed)))
 
 pub returns-in-None : goal.returns-in-None
 returns-in-None g c = λ r at.
     let t = resident-there c.args.self.now c.args.address r (now-is _ _ c.self.view_is c.self.invariant.0) at in
-    let there : IsResident c.self.inside.frames (c.args.address / 16384) = subst (λ (q : HybridLog). IsResident q.resident (c.args.address / 16384)) (sym c.self.view_is) t.resident in
+    let there : IsResident c.self.inside.frames (c.args.address / PAGE_SIZE) = subst (λ (q : HybridLog). IsResident q.resident (c.args.address / PAGE_SIZE)) (sym c.self.view_is) t.resident in
     absurd (let bad = c.in-None.ensures.resident.1 there in cc)

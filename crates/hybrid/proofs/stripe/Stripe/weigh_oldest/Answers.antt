@@ -1,4 +1,4 @@
-use Rattle.std.proofs.Common.{◌≡◌, ◌∙◌, ℕ, List, ap, refl, sym, arith}
+use Rattle.std.proofs.Common.{◌∙◌, ℕ, List, ap, refl, sym, arith}
 use Rattle.records.specs.Records.{records_of}
 use Rattle.hybrid.specs.HybridLog.{Kept, log_of, shown_page}
 use Rattle.hybrid.specs.Weighing.{live_weight}

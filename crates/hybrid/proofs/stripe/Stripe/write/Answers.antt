@@ -1,5 +1,6 @@
 use Rattle.std.proofs.Common.{◌≡◌, ◌+◌, sym, subst, arith, length}
 use Rattle.std.specs.Option.{option_copied}
+use Rattle.words.specs.declared.limits.TheConstants.{WEIGHT_OF_KEY}
 use Rattle.records.specs.Records.{value_bytes}
 use Rattle.hybrid.specs.HybridLog.{head_of, log_of, tail_bytes}
 use Rattle.hybrid.specs.Lookups.{IsInPlace}
@@ -41,4 +42,4 @@ returns-in-Some-clause-grown g c =
     let k = length c.args.key.now in
     let v = length (value_bytes (option_copied c.args.value)) in
     let bytes : tail_bytes c.overwrite.new.self ≡ tail_bytes c.args.self.now + 0 = omega (arith, c.overwrite.ensures.bytes) in
-    grown-put c.args.self.now c.overwrite.new.self (48 + k + v) 0 (omega arith) bytes c.overwrite.ensures.put
+    grown-put c.args.self.now c.overwrite.new.self (WEIGHT_OF_KEY + k + v) 0 (omega arith) bytes c.overwrite.ensures.put

@@ -1,0 +1,93 @@
+-- Plans that were not made, and what they are answered.
+use Rattle.std.proofs.Common.{◌≡◌, ◌≢◌, ◌∙◌, ◌+◌, ℕ, List, [], ◌∷◌, Option, Some, false, refl, sym, ap}
+use Rattle.words.specs.declared.command.Command.{Command}
+use Rattle.words.specs.declared.command.Command.TheVariants.{Set}
+use Rattle.words.specs.declared.command.When.TheVariants.{Always}
+use Rattle.words.specs.History.{Pair, after}
+use Rattle.words.specs.Session.{Asked, line_reply, operation_of, watched_at_fault}
+use Rattle.words.specs.Store.{Bytes, Store, Write}
+use Rattle.words.specs.declared.history.Operation.TheVariants.{Run}
+use Rattle.words.specs.declared.reply.Line.TheVariants.{Done}
+use Rattle.gates.specs.declared.view.Knowledge.{Knowledge}
+use Rattle.hybrid.specs.HybridLog.{HybridLog}
+use Rattle.transact.specs.declared.call.Call.{Call}
+use Rattle.transact.specs.declared.call.Call.TheVariants.{One, Watch, Exec, Forget}
+use Rattle.transact.specs.Calls.{asked_of}
+use Rattle.transact.specs.Plans.{IsEntry, IsPlan, made}
+use Rattle.transact.specs.Submits.{asked_for}
+use Rattle.plans.specs.declared.stop.Stop.{Stop}
+use Rattle.plans.specs.declared.stop.Stop.TheVariants as stop
+use Rattle.plans.specs.Rooms.{IsFullAt}
+use Rattle.plans.specs.Sizes.{IsPlaced}
+use Rattle.plans.specs.Stops.{IfCold, IfFull, IfNoMemory, faults}
+use Rattle.engine.specs.Calls.{HasItsPlace, IsUndone, Promises}
+use Rattle.engine.specs.Entering.{given}
+use Rattle.engine.specs.Passes.{know}
+use Rattle.engine.specs.Memory.{AsksNoMemory, NeedsNoMemory, set_call}
+use Rattle.engine.specs.Stops.{IsFullOf, fault_of, report_of}
+use Rattle.engine.proofs.Entering.{stopped_by}
+
+-- a call that has its place in the history has it whatever its session watches
+pub is_placed : (call : Call) (watched : List Pair) → HasItsPlace watched (asked_of call) → IsPlaced call
+is_placed (One command) watched place = place
+is_placed (Watch keys) watched place = tt
+is_placed (Exec commands watching) watched place = place
+is_placed (Forget watching) watched place = tt
+
+some_writes : (write : Write) (writes : List Write) → write ∷ writes ≡ [] → ⊥
+some_writes write writes e = absurd (cc e)
+
+module _ {R : Type 0} where
+  -- a stripe that is full is told of
+  pub full_report : (logs : ℕ → Option HybridLog) (s : Stop R) → IfFull s (IsFullAt logs) → IsFullOf logs (report_of s)
+  full_report logs stop.OutOfMemory full = tt
+  full_report logs stop.DeviceFault full = tt
+  full_report logs (stop.StoreFull stripe) full = full
+  full_report logs (stop.Cold receipts) full = tt
+
+  -- what would be written where a stripe is full
+  pub full_writes : (steady : Type 0) {W : ℕ → Type 0} (s : Stop R) (asked : Asked) (start : Knowledge)
+      → (steady → (i : ℕ) → W i → made start.seen (operation_of start.watched asked) ≢ []) → (steady → IfFull s W)
+      → IfFull s (λ stripe. steady → made start.seen (operation_of start.watched asked) ≢ [])
+  full_writes steady stop.OutOfMemory asked start more full = tt
+  full_writes steady stop.DeviceFault asked start more full = tt
+  full_writes steady (stop.StoreFull stripe) asked start more full = λ t. more t stripe (full t)
+  full_writes steady (stop.Cold receipts) asked start more full = tt
+
+  -- a call that needs no memory is not stopped by want of it
+  pub not_wanted : (promises : Promises) (call : Call) (s : Stop R) (store : Store) → (AsksNoMemory (promises.steady × promises.lends) store (asked_for call) → IfNoMemory s ⊥)
+      → IfNoMemory s (¬ AsksNoMemory (promises.steady × promises.lends) store (asked_for call))
+  not_wanted promises call stop.OutOfMemory store never = never
+  not_wanted promises call stop.DeviceFault store never = tt
+  not_wanted promises call (stop.StoreFull stripe) store never = tt
+  not_wanted promises call (stop.Cold receipts) store never = tt
+
+  -- the plan of a call that writes nothing was not made
+  pub stopped_quietly : (promises : Promises) (call : Call) (s : Stop R) (start mid : Knowledge) (f0 f1 : ℕ) → IsEntry call → watched_at_fault mid.watched (asked_for call) ≡ mid.watched → mid ≡ start
+      → IfCold s (λ receipts. ⊥) → IfFull s (λ stripe. ⊥) → f1 ≡ f0 + faults s → IfNoMemory s (¬ AsksNoMemory (promises.steady × promises.lends) (after start.seen) (asked_for call))
+      → IsUndone promises [] (asked_of call) (fault_of s) (know start f0) (know mid f1)
+  stopped_quietly promises call stop.OutOfMemory start mid f0 f1 entry kept same cold full failures memory =
+      stopped_by {R = R} promises call stop.OutOfMemory start mid mid f0 f1 entry (ap (λ (w : List Pair). record mid { watched = w }) (sym kept)) same cold failures memory tt
+  stopped_quietly promises call stop.DeviceFault start mid f0 f1 entry kept same cold full failures memory =
+      stopped_by {R = R} promises call stop.DeviceFault start mid mid f0 f1 entry (ap (λ (w : List Pair). record mid { watched = w }) (sym kept)) same cold failures memory tt
+  stopped_quietly promises call (stop.StoreFull stripe) start mid f0 f1 entry kept same cold full failures memory = absurd full
+  stopped_quietly promises call (stop.Cold receipts) start mid f0 f1 entry kept same cold full failures memory = absurd cold
+
+  -- a stripe for which room was asked is full
+  pub set_full : (stripe : ℕ) (logs : ℕ → Option HybridLog) (s : Stop R) → IfFull s (λ i. (i ≡ stripe) × IsFullAt logs i) → IfFull s (IsFullAt logs)
+  set_full stripe logs stop.OutOfMemory full = tt
+  set_full stripe logs stop.DeviceFault full = tt
+  set_full stripe logs (stop.StoreFull i) full = full.1
+  set_full stripe logs (stop.Cold receipts) full = tt
+
+  -- there was no room for what a SET without an option writes
+  pub set_stopped : (promises : Promises) (key value : Bytes) (s : Stop R) (start mid : Knowledge) (f0 f1 : ℕ) → mid ≡ start → IfCold s (λ receipts. ⊥) → IfNoMemory s ⊥ → f1 ≡ f0 + faults s
+      → IsPlan start.seen (Run (Set key value Always)) (line_reply Done) ((key, Some value) ∷ [])
+      → IsUndone promises [] (asked_of (set_call key value)) (fault_of s) (know start f0) (know (given false (report_of s) mid) f1)
+  set_stopped promises key value stop.OutOfMemory start mid f0 f1 same cold memory failures plan = absurd memory
+  set_stopped promises key value stop.DeviceFault start mid f0 f1 same cold memory failures plan =
+      stopped_by {R = R} promises (set_call key value) stop.DeviceFault start mid mid f0 f1 refl refl same cold failures tt tt
+  set_stopped promises key value (stop.StoreFull stripe) start mid f0 f1 same cold memory failures plan =
+      stopped_by {R = R} promises (set_call key value) (stop.StoreFull stripe) start mid (given false (report_of {R = R} (stop.StoreFull stripe)) mid) f0 f1 refl refl same cold failures tt
+      (λ t none. absurd (some_writes (key, Some value) [] (plan.writes_due ∙ none)))
+  set_stopped promises key value (stop.Cold receipts) start mid f0 f1 same cold memory failures plan = absurd cold

@@ -1,0 +1,17 @@
+pub mod Stores
+pub mod Become
+pub mod Begun
+pub mod Keys
+pub mod Plans
+pub mod Logs
+pub mod Rooms
+pub mod Grown
+pub mod Making
+pub mod Covered
+pub mod Found
+pub mod Unread
+pub mod Sized
+pub mod Hand
+pub mod Few
+pub mod Installed
+pub mod Held

@@ -1,0 +1,17 @@
+use Rattle.std.proofs.Common.{◌≡◌, take}
+use Rattle.words.specs.Commands.{keys_of}
+use Rattle.hybrid.specs.Staging.{AreRight}
+use Rattle.transact.specs.Tables.{joined}
+use Rattle.plans.specs.Shards.{logs_of, shard_meaning}
+use Rattle.plans.specs.Stops.{HasFound, IsNeeded}
+use Rattle.plans.proofs.find.find_command.Given as goal
+
+abbrev pub invariant-loop-place : goal.invariant-loop-place
+invariant-loop-place g l = record {
+  is_open : g.P.Parts.is_open l.parts;
+  keeps : g.P.Parts.keeps l.fn.parts l.parts;
+  same : g.P.Parts.part_of l.parts ≡ g.P.Parts.part_of l.fn.parts;
+  lent : g.R.Shows.lends → l.cold ≡ l.fn.cold;
+  start : l.place ≡ 0 → l.found ≡ l.fn.found;
+  found : HasFound (IsNeeded (g.R.Shows.is_honest × AreRight l.staged) l.stripes (logs_of (g.P.Parts.part_of l.fn.parts)) (keys_of l.command) l.staged) (g.R.Shows.is_honest × AreRight l.staged) (joined (shard_meaning g.R.Shows.is_steady) l.stripes (g.P.Parts.part_of l.fn.parts)) (take l.place (keys_of l.command)) l.fn.cold l.cold l.fn.found l.found;
+}

@@ -1,0 +1,51 @@
+use Rattle.std.proofs.Common.{◌∙◌, refl}
+use Rattle.hybrid.specs.HybridLog.{Kept}
+use Rattle.plans.specs.Receipts.{kept_by}
+use Rattle.plans.proofs.Few.{more_both, more_none, read_both, read_same}
+use Rattle.plans.proofs.Unread.{each_still, read_more, read_none, served_split}
+use Rattle.plans.proofs.reading.read_all.Goals as goal
+
+pub loop-receipt-init : goal.loop-receipt-init
+loop-receipt-init g c = record {
+  same = refl;
+  grows = more_none c.args.staged.now;
+  alone = read_same g.D.Device.serves g.D.Device.releases g.D.Device.writes c.args.device.now;
+  still = λ r is. is;
+  served = λ served. served;
+  right = λ served right. right;
+  read = λ later read. read;
+}
+
+pub loop-receipt-preserved : goal.loop-receipt-preserved
+loop-receipt-preserved g c =
+    let inv = c.loop-receipt.invariant in
+    let k : Kept = kept_by g.R.Shows.identity g.R.Shows.shown c.in-Some.receipt in
+    record {
+      same = c.in_ok-read_one.ensures.no_fault ∙ inv.same;
+      grows = more_both c.args.staged.now c.loop-receipt.staged c.read_one.new.staged inv.grows c.read_one.ensures.grows;
+      alone = read_both g.D.Device.serves g.D.Device.releases g.D.Device.writes c.args.device.now c.loop-receipt.device c.read_one.new.device inv.alone c.read_one.ensures.device;
+      still = λ r is. c.read_one.ensures.still_served r (inv.still r is);
+      served = λ served. each_still g.D.Device.serves g.R.Shows.identity c.loop-receipt.device c.read_one.new.device c.pop.new.self c.read_one.ensures.still_served
+          (served_split g.D.Device.serves g.R.Shows.identity c.loop-receipt.device c.loop-receipt.receipts c.pop.new.self k c.in-Some.ensures.some (inv.served served)).0;
+      right = λ served right. c.read_one.ensures.right
+          ((served_split g.D.Device.serves g.R.Shows.identity c.loop-receipt.device c.loop-receipt.receipts c.pop.new.self k c.in-Some.ensures.some (inv.served served)).1 c.in-Some.receipt refl)
+          (inv.right served right);
+      read = λ later read. inv.read later (read_more c.loop-receipt.receipts c.pop.new.self k c.loop-receipt.staged c.read_one.new.staged later c.in-Some.ensures.some c.in_ok-read_one.ensures.staged read);
+    }
+
+pub returns-in_err-read_one-clause-right : goal.returns-in_err-read_one-clause-right
+returns-in_err-read_one-clause-right g c = λ served right.
+    let inv = c.loop-receipt.invariant in
+    let k : Kept = kept_by g.R.Shows.identity g.R.Shows.shown c.in-Some.receipt in
+    c.read_one.ensures.right
+    ((served_split g.D.Device.serves g.R.Shows.identity c.loop-receipt.device c.loop-receipt.receipts c.pop.new.self k c.in-Some.ensures.some (inv.served served)).1 c.in-Some.receipt refl)
+    (inv.right served right)
+
+pub returns-clause-staged : goal.returns-clause-staged
+returns-clause-staged g c = c.loop-receipt.invariant.read c.loop-receipt.staged (read_none c.loop-receipt.receipts c.loop-receipt.staged c.in_default.ensures.none.0)
+
+pub returns-in_err-read_one-clause-grows : goal.returns-in_err-read_one-clause-grows
+returns-in_err-read_one-clause-grows g c = more_both c.args.staged.now c.loop-receipt.staged c.read_one.new.staged c.loop-receipt.invariant.grows c.read_one.ensures.grows
+
+pub returns-in_err-read_one-clause-device : goal.returns-in_err-read_one-clause-device
+returns-in_err-read_one-clause-device g c = read_both g.D.Device.serves g.D.Device.releases g.D.Device.writes c.args.device.now c.loop-receipt.device c.read_one.new.device c.loop-receipt.invariant.alone c.read_one.ensures.device

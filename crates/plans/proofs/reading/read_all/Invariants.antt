@@ -1,0 +1,19 @@
+use Rattle.std.proofs.Common.{◌≡◌, List, length}
+use Rattle.hybrid.specs.Staging.{AreRight, StagedPage}
+use Rattle.plans.specs.Reading.{AreRead, HasMore, ServesEach}
+use Rattle.plans.specs.Devices.{IsReadAlone}
+use Rattle.plans.proofs.reading.read_all.Given as goal
+
+abbrev pub invariant-loop-receipt : goal.invariant-loop-receipt
+invariant-loop-receipt g l = record {
+  same : g.D.Device.failures l.device ≡ g.D.Device.failures l.fn.device;
+  grows : HasMore l.fn.staged l.staged;
+  alone : IsReadAlone g.D.Device.serves g.D.Device.releases g.D.Device.writes l.fn.device l.device;
+  still : (r : _) → g.D.Device.serves l.fn.device r → g.D.Device.serves l.device r;
+  served : ServesEach g.D.Device.serves g.R.Shows.identity l.fn.device l.fn.receipts → ServesEach g.D.Device.serves g.R.Shows.identity l.device l.receipts;
+  right : ServesEach g.D.Device.serves g.R.Shows.identity l.fn.device l.fn.receipts → AreRight l.fn.staged → AreRight l.staged;
+  read : (later : List StagedPage) → AreRead l.receipts l.staged later → AreRead l.fn.receipts l.fn.staged later;
+}
+
+abbrev pub decreases-loop-receipt : goal.decreases-loop-receipt
+decreases-loop-receipt g l = length l.receipts

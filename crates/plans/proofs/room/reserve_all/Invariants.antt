@@ -1,0 +1,20 @@
+use Rattle.std.proofs.Common.{◌≡◌, ◌<◌, ◌≤◌, [], ℕ}
+use Rattle.transact.specs.Tables.{Became, stays}
+use Rattle.plans.specs.Receipts.{kept_by}
+use Rattle.plans.specs.Rooms.{IsRoomyAt, MakesRoom, ShedFew, share}
+use Rattle.plans.specs.Devices.{StillServes}
+use Rattle.plans.specs.Shards.{logs_of, shard_meaning}
+use Rattle.plans.proofs.room.reserve_all.Given as goal
+
+abbrev pub invariant-loop-stripe : goal.invariant-loop-stripe
+invariant-loop-stripe g l = record {
+  is_open : g.P.Parts.is_open l.parts;
+  keeps : g.P.Parts.keeps l.fn.parts l.parts;
+  became : Became (shard_meaning g.R.Shows.is_steady) l.stripes [] stays (g.P.Parts.part_of l.fn.parts) (g.P.Parts.part_of l.parts);
+  same : g.D.Device.failures l.device ≡ g.D.Device.failures l.fn.device;
+  device : StillServes g.D.Device.serves g.D.Device.releases l.fn.device l.device;
+  ahead : (j : ℕ) → l.stripe ≤ j → logs_of (g.P.Parts.part_of l.parts) j ≡ logs_of (g.P.Parts.part_of l.fn.parts) j;
+  few : ShedFew l.stripes l.writes (logs_of (g.P.Parts.part_of l.fn.parts)) (logs_of (g.P.Parts.part_of l.parts));
+  made : MakesRoom g.D.Device.wrote (kept_by g.R.Shows.identity g.R.Shows.shown) l.stripes l.stripe l.writes (logs_of (g.P.Parts.part_of l.fn.parts)) l.fn.device (logs_of (g.P.Parts.part_of l.parts)) l.device;
+  roomy : (j : ℕ) → j < l.stripe → 0 < share l.stripes j l.writes → IsRoomyAt (logs_of (g.P.Parts.part_of l.parts)) j (share l.stripes j l.writes);
+}

@@ -1,0 +1,86 @@
+//! Why a plan was not made.
+
+ghost use Rattle.std.specs.Prelude.{◌≡◌, [], ◌∷◌, ◌++◌, length, nat_eq, OnOk, OnErr, IfSome, IfNone};
+ghost use Rattle.plans.specs.Receipts.{kept_by};
+
+use device::Shows;
+use std::alloc::Global;
+use std::marker::Model;
+use words::word::OutOfMemory;
+
+/// Why a plan was not made. What keys have and all marks are as they were.
+#[derive(Drop)]
+pub enum Stop<R: Shows> {
+    /// A growth was refused.
+    OutOfMemory,
+    /// A call of the device failed.
+    DeviceFault,
+    /// This stripe, which the call writes, has no place left on the device.
+    StoreFull(usize),
+    /// Pages are wanted that are neither resident nor staged: copies of their receipts, one at least. Nothing has
+    /// changed at all. Where receipts lend their pages, none is wanted.
+    Cold(Receipts<R>),
+}
+
+/// Receipts of pages. Contracts see of each what it has in common with its copies, and the page that it shows.
+#[derive(Drop)]
+pub struct Receipts<R: Shows> {
+    items: Vec<R>,
+}
+
+impl<R: Shows> Model for Receipts<R> {
+    ghost use Rattle.std.specs.Prelude.{List, map};
+    ghost use Rattle.hybrid.specs.HybridLog.{Kept};
+    ghost use Rattle.plans.specs.Receipts.{kept_by};
+
+    ghost Value = { List Kept };
+
+    ghost view = { λ receipts. map (kept_by R.identity R.shown) receipts.items.items };
+}
+
+impl<R: Shows> Receipts<R> {
+    /// No receipt. It takes no memory.
+    pub fn new(alloc: Global) -> Receipts<R>
+        ensures { result ≡ [] }
+    {
+        Receipts {
+            items: Vec::new(alloc),
+        }
+    }
+
+    /// One receipt more.
+    ///
+    /// # Errors
+    ///
+    /// [`OutOfMemory`] where there is no memory for it. The others are then as they were.
+    pub fn push(&mut self, receipt: R) -> Result<(), OutOfMemory>
+        ensures ok { OnOk result (self.new ≡ self.old ++ kept_by R.identity R.shown receipt ∷ []) }
+        ensures err { OnErr result (self.new ≡ self.old) }
+    {
+        self.items.reserve(1)?;
+        self.items.push_reserved(receipt);
+        Ok(())
+    }
+
+    /// Takes the last receipt off.
+    pub fn pop(&mut self) -> Option<R>
+        ensures some { IfSome result (λ receipt. self.old ≡ self.new ++ kept_by R.identity R.shown receipt ∷ []) }
+        ensures none { IfNone result ((self.old ≡ []) × (self.new ≡ self.old)) }
+    {
+        self.items.pop()
+    }
+
+    /// Whether there is none.
+    pub fn is_empty(&self) -> bool
+        ensures { result ≡ nat_eq (length self.now) 0 }
+    {
+        self.items.is_empty()
+    }
+
+    /// How many there are.
+    pub fn len(&self) -> usize
+        ensures { result ≡ length self.now }
+    {
+        self.items.len()
+    }
+}
