@@ -4,3 +4,4 @@ pub mod Called
 pub mod Briefs
 pub mod Opened
 pub mod Known
+pub mod Dealt

@@ -1,6 +1,6 @@
 //! Connections over streams in memory.
 
-ghost use Rattle.std.specs.Prelude.{◌≡◌, ◌+◌, [], IfOk, vec_len};
+ghost use Rattle.std.specs.Prelude.{All, ◌≡◌, ◌+◌, [], IfOk, vec_len};
 ghost use Rattle.engine.specs.Passes.{knows, Rests};
 ghost use Rattle.engine.specs.declared.TheConstants.{BACKGROUND_PASSES};
 
@@ -168,6 +168,20 @@ fn small() -> Limits
     }
 }
 
+/// An empty engine over these openings, and its passes.
+fn new_engine<D: Device>(
+    alloc: Global,
+    limits: &Limits,
+    openings: Vec<D>,
+) -> Result<(Engine<D>, Vec<Pass<D>>), AllocError>
+    requires openings { vec_len openings ≡ limits.now.clients + BACKGROUND_PASSES }
+    ensures count { IfOk result (λ made. vec_len made.1 ≡ limits.now.clients + BACKGROUND_PASSES) }
+    ensures rest { IfOk result (λ made. All (Rests D.Receipt.is_steady made.0) made.1.items) }
+    ensures watch { IfOk result (λ made. All (λ pass. (knows D.failures pass).watched ≡ []) made.1.items) }
+{
+    Engine::new(alloc, limits, openings)
+}
+
 /// An empty engine over these openings, and two of its passes.
 fn engine_over<D: Device>(
     alloc: Global,
@@ -178,7 +192,7 @@ fn engine_over<D: Device>(
     ensures rests { IfOk result (λ made. Rests D.Receipt.is_steady made.0 made.1 × Rests D.Receipt.is_steady made.0 made.2) }
     ensures watches { IfOk result (λ made. ((knows D.failures made.1).watched ≡ []) × ((knows D.failures made.2).watched ≡ [])) }
 {
-    let (engine, mut passes) = Engine::new(alloc, limits, openings)?;
+    let (engine, mut passes) = new_engine(alloc, limits, openings)?;
     let second = passes.swap_remove(1);
     let first = passes.swap_remove(0);
     Ok((engine, first, second))

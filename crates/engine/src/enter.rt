@@ -174,13 +174,7 @@ fn enter<R: Shows, D: Device<Receipt = R>>(
         }
         Err(_) => {
             planned.undo(held, stripes, seat);
-            refuse(
-                held,
-                stripes,
-                call,
-                Fault::CommitsWornOut,
-                Report::Nothing,
-            )
+            refuse(held, stripes, call, Fault::CommitsWornOut, Report::Nothing)
         }
     }
 }

@@ -134,9 +134,7 @@ fn compare(answer: &Answer, due: &str) -> Outcome {
 }
 
 /// An engine over a device in memory, with its passes.
-fn new_engine(
-    alloc: Global,
-) -> Result<(Engine<MemoryDevice>, Vec<Pass<MemoryDevice>>), OutOfMemory>
+fn new_engine(alloc: Global) -> Result<(Engine<MemoryDevice>, Vec<Pass<MemoryDevice>>), OutOfMemory>
     ensures count { IfOk result (λ made. vec_len made.1 ≡ 7) }
     ensures rest { IfOk result (λ made. All (Rests ⊤ made.0) made.1.items) }
     ensures watch { IfOk result (λ made. All (λ pass. (knows (λ device. 0) pass).watched ≡ []) made.1.items) }
@@ -869,7 +867,13 @@ impl Latch for Trail {
 }
 
 /// Whether a key within the limits is read.
-fn gets<R: Wait, L: Latch>(rt: &R, engine: &Engine<MemoryDevice>, pass: &mut Pass<MemoryDevice>, key: &Word, latch: &L) -> bool
+fn gets<R: Wait, L: Latch>(
+    rt: &R,
+    engine: &Engine<MemoryDevice>,
+    pass: &mut Pass<MemoryDevice>,
+    key: &Word,
+    latch: &L,
+) -> bool
     requires { Rests ⊤ engine.now pass.old }
     ensures { Rests ⊤ engine.now pass.new }
 {
@@ -924,7 +928,13 @@ fn list_of(alloc: Global, key: &Word) -> Option<Keys>
 
 /// Watches this key alone, and says whether it does.
 #[tactic(auto, using(crate::proofs::Watching::watches_one))]
-fn watches<R: Wait>(rt: &R, alloc: Global, engine: &Engine<MemoryDevice>, pass: &mut Pass<MemoryDevice>, key: &Word) -> bool
+fn watches<R: Wait>(
+    rt: &R,
+    alloc: Global,
+    engine: &Engine<MemoryDevice>,
+    pass: &mut Pass<MemoryDevice>,
+    key: &Word,
+) -> bool
     requires rests { Rests ⊤ engine.now pass.old }
     requires nothing { (knows (λ device. 0) pass.old).watched ≡ [] }
     ensures rests { Rests ⊤ engine.now pass.new }

@@ -25,16 +25,16 @@ pub shed_none : (weight : ℕ) (p : HybridLog) → ShedsFew weight p p
 shed_none weight p = record {
   count = 0;
   reserved = record {
-      oldest = refl;
-      resident = all_pages p.resident (p.resident.oldest + 0) (omega arith);
-      heads = refl;
-      stripes = refl;
-      places = refl;
-      size = refl;
-      still = λ number k e. e;
-      others = λ number above. refl;
-      counted = refl;
-    };
+    oldest = refl;
+    resident = all_pages p.resident (p.resident.oldest + 0) (omega arith);
+    heads = refl;
+    stripes = refl;
+    places = refl;
+    size = refl;
+    still = λ number k e. e;
+    others = λ number above. refl;
+    counted = refl;
+  };
   few = omega arith;
 }
 

@@ -24,8 +24,8 @@ ghost use Rattle.plans.specs.Sizes.{AllShort, IsPlaced};
 ghost use Rattle.plans.specs.Stops.{IfCold, IfFull, IfNoMemory, faults, keys_looked_up};
 
 use crate::plan::{Planned, plan};
-use crate::short::value_of;
 use crate::shard::Shard;
+use crate::short::value_of;
 use crate::stop::{Receipts, Stop};
 use device::{Device, Shows};
 use gates::Parts;

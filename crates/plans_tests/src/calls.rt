@@ -79,11 +79,27 @@ fn plan_call<D: Device>(
 {
     let count = store.stripes.shards.len();
     let mut staged = Staged::new(alloc);
-    match plan(alloc, &mut store.stripes, count, seat, call, &staged, &mut store.device) {
+    match plan(
+        alloc,
+        &mut store.stripes,
+        count,
+        seat,
+        call,
+        &staged,
+        &mut store.device,
+    ) {
         Err(Stop::Cold(receipts)) => read_all(receipts, &mut staged, &mut store.device)?,
         planned => return planned,
     }
-    plan_reading(alloc, &mut store.stripes, count, seat, call, &mut staged, &mut store.device)
+    plan_reading(
+        alloc,
+        &mut store.stripes,
+        count,
+        seat,
+        call,
+        &mut staged,
+        &mut store.device,
+    )
 }
 
 /// Runs a call. One that cannot be planned is answered as want of memory.
@@ -115,7 +131,15 @@ pub fn submit_once<D: Device>(
         return Err(0);
     }
     let staged = Staged::new(alloc);
-    match plan(alloc, &mut store.stripes, count, seat, call, &staged, &mut store.device) {
+    match plan(
+        alloc,
+        &mut store.stripes,
+        count,
+        seat,
+        call,
+        &staged,
+        &mut store.device,
+    ) {
         Ok(planned) => Ok(planned.install(&mut store.stripes, count, seat, call)),
         Err(Stop::Cold(receipts)) => Err(receipts.len()),
         Err(_) => Err(0),
@@ -129,7 +153,15 @@ pub fn undo<D: Device>(alloc: Global, store: &mut Store<D>, seat: u64, call: &Ca
         return false;
     }
     let staged = Staged::new(alloc);
-    match plan(alloc, &mut store.stripes, count, seat, call, &staged, &mut store.device) {
+    match plan(
+        alloc,
+        &mut store.stripes,
+        count,
+        seat,
+        call,
+        &staged,
+        &mut store.device,
+    ) {
         Ok(planned) => {
             planned.undo(&mut store.stripes, count, seat);
             true

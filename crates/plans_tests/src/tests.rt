@@ -25,7 +25,11 @@ mod stops;
 type Plain = BTreeMap<Word, Word>;
 
 /// The stripes of a store, so many of 12 frames each.
-fn shards_of<D: Device>(alloc: Global, count: usize, places: usize) -> Option<Vec<Shard<D::Receipt>>> {
+fn shards_of<D: Device>(
+    alloc: Global,
+    count: usize,
+    places: usize,
+) -> Option<Vec<Shard<D::Receipt>>> {
     let limits = Limits::new(count, 64, 12, places, 4)?;
     let mut shards = Vec::new(alloc);
     for _ in 0..count {
@@ -105,7 +109,12 @@ fn let_go(call: Call) {
 }
 
 /// What a call is answered. `None` where it was not planned.
-fn answer_to<D: Device>(alloc: Global, store: &mut Store<D>, seat: u64, call: Call) -> Option<Reply> {
+fn answer_to<D: Device>(
+    alloc: Global,
+    store: &mut Store<D>,
+    seat: u64,
+    call: Call,
+) -> Option<Reply> {
     let told = submit(alloc, store, seat, &call);
     let_go(call);
     told.ok()
@@ -152,7 +161,11 @@ fn run_plain(alloc: Global, plain: &mut Plain, command: &Command) -> Option<Comm
 }
 
 /// Runs commands on a plain map, one after the other.
-fn run_all_plain(alloc: Global, plain: &mut Plain, commands: &[Command]) -> Option<Vec<CommandReply>> {
+fn run_all_plain(
+    alloc: Global,
+    plain: &mut Plain,
+    commands: &[Command],
+) -> Option<Vec<CommandReply>> {
     let mut replies = Vec::new(alloc);
     for command in commands {
         let reply = run_plain(alloc, plain, command)?;

@@ -147,6 +147,9 @@ fn options_are_in_range(rt: HostRuntime) {
 fn sizes_are_in_range(rt: HostRuntime) {
     for &(buckets, frames, places, want) in SIZES {
         let same = is_size(buckets, frames, places) == want;
-        assert!(rt; same, "{buckets} buckets, {frames} frames and {places} places");
+        assert!(rt;
+            same,
+            "{buckets} buckets, {frames} frames and {places} places"
+        );
     }
 }

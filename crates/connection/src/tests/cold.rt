@@ -114,7 +114,10 @@ fn run_cold<D: Device>(
     requires openings { vec_len store.1 ≡ store.0.now.clients + BACKGROUND_PASSES }
 {
     let stored = sets(alloc, count)?;
-    let streams = (streams(alloc, &stored, 16_384, false)?, streams(alloc, input, 16_384, false)?);
+    let streams = (
+        streams(alloc, &stored, 16_384, false)?,
+        streams(alloc, input, 16_384, false)?,
+    );
     let (engine, first, second) = engine_over(alloc, store.0, store.1)?;
     let (_second, before) = talk(rt, alloc, streams.0, &engine, second);
     let (_first, after) = talk(rt, alloc, streams.1, &engine, first);
@@ -129,7 +132,12 @@ fn all_keys_of_pages_without_frames_are_read(rt: HostRuntime) -> Result<(), Fail
     let input = gets(alloc, 3_000)?;
     let store = (&wide(), memory(alloc, &wide())?);
     let (before, after) = run_cold(&rt, alloc, store, 3_000, &input)?;
-    check_outcome(&rt, &before, &repeated(alloc, b"+OK\r\n", 3_000, b"")?, Ended::EndOfInput);
+    check_outcome(
+        &rt,
+        &before,
+        &repeated(alloc, b"+OK\r\n", 3_000, b"")?,
+        Ended::EndOfInput,
+    );
     check_outcome(&rt, &after, &values(alloc, 3_000)?, Ended::EndOfInput);
     Ok(())
 }

@@ -37,7 +37,13 @@ fn moving(alloc: Global, number: i64) -> Option<Commands>
 }
 
 /// Moves a number once, and says whether it was done.
-fn moves<R: Wait>(rt: &R, alloc: Global, engine: &Engine<MemoryDevice>, pass: &mut Pass<MemoryDevice>, number: i64) -> bool
+fn moves<R: Wait>(
+    rt: &R,
+    alloc: Global,
+    engine: &Engine<MemoryDevice>,
+    pass: &mut Pass<MemoryDevice>,
+    number: i64,
+) -> bool
     requires rests { Rests ⊤ engine.now pass.old }
     requires nothing { (knows (λ device. 0) pass.old).watched ≡ [] }
     ensures rests { Rests ⊤ engine.now pass.new }
@@ -52,7 +58,13 @@ fn moves<R: Wait>(rt: &R, alloc: Global, engine: &Engine<MemoryDevice>, pass: &m
 }
 
 /// Moves a number over and over, and says how often it was done.
-fn moves_often<R: Wait>(rt: &R, alloc: Global, engine: &Engine<MemoryDevice>, mut pass: Pass<MemoryDevice>, number: i64) -> u64
+fn moves_often<R: Wait>(
+    rt: &R,
+    alloc: Global,
+    engine: &Engine<MemoryDevice>,
+    mut pass: Pass<MemoryDevice>,
+    number: i64,
+) -> u64
     requires rests { Rests ⊤ engine.now pass }
     requires nothing { (knows (λ device. 0) pass).watched ≡ [] }
 {
@@ -89,7 +101,12 @@ fn is_whole(answer: &Answer) -> bool {
 }
 
 /// Whether both keys have the whole together.
-fn sums<R: Wait>(rt: &R, alloc: Global, engine: &Engine<MemoryDevice>, pass: &mut Pass<MemoryDevice>) -> bool
+fn sums<R: Wait>(
+    rt: &R,
+    alloc: Global,
+    engine: &Engine<MemoryDevice>,
+    pass: &mut Pass<MemoryDevice>,
+) -> bool
     requires rests { Rests ⊤ engine.now pass.old }
     ensures rests { Rests ⊤ engine.now pass.new }
 {
@@ -98,7 +115,12 @@ fn sums<R: Wait>(rt: &R, alloc: Global, engine: &Engine<MemoryDevice>, pass: &mu
 }
 
 /// Reads both keys over and over, and says how often they had the whole together.
-fn sums_often<R: Wait>(rt: &R, alloc: Global, engine: &Engine<MemoryDevice>, mut pass: Pass<MemoryDevice>) -> (Pass<MemoryDevice>, u64)
+fn sums_often<R: Wait>(
+    rt: &R,
+    alloc: Global,
+    engine: &Engine<MemoryDevice>,
+    mut pass: Pass<MemoryDevice>,
+) -> (Pass<MemoryDevice>, u64)
     requires rests { Rests ⊤ engine.now pass }
     ensures rests { Rests ⊤ engine.now result.0 }
 {
@@ -138,12 +160,17 @@ fn moves_and_reads<R: Threads + Wait + Sync>(
 }
 
 /// An engine, and three passes of it.
-fn with_three(alloc: Global) -> Result<(
-    Engine<MemoryDevice>,
-    Pass<MemoryDevice>,
-    Pass<MemoryDevice>,
-    Pass<MemoryDevice>,
-), OutOfMemory>
+fn with_three(
+    alloc: Global,
+) -> Result<
+    (
+        Engine<MemoryDevice>,
+        Pass<MemoryDevice>,
+        Pass<MemoryDevice>,
+        Pass<MemoryDevice>,
+    ),
+    OutOfMemory,
+>
     ensures first { IfOk result (λ made. Rests ⊤ made.0 made.1) }
     ensures second { IfOk result (λ made. Rests ⊤ made.0 made.2) }
     ensures third { IfOk result (λ made. Rests ⊤ made.0 made.3) }

@@ -70,7 +70,12 @@ fn let_go(tried: Result<Answer, (usize, Command)>) {
 }
 
 /// Whether a command that is tried is answered as is due.
-fn command_is_answered(engine: &Engine<MemoryDevice>, pass: &mut Pass<MemoryDevice>, command: Command, due: &str) -> bool
+fn command_is_answered(
+    engine: &Engine<MemoryDevice>,
+    pass: &mut Pass<MemoryDevice>,
+    command: Command,
+    due: &str,
+) -> bool
     requires rests { Rests ⊤ engine.now pass.old }
     requires place { IsTrue (touches_keys command) × IsBounded command }
     ensures rests { Rests ⊤ engine.now pass.new }
@@ -82,7 +87,12 @@ fn command_is_answered(engine: &Engine<MemoryDevice>, pass: &mut Pass<MemoryDevi
 }
 
 /// Whether a request that is tried is answered as is due.
-fn is_answered(alloc: Global, engine: &Engine<MemoryDevice>, pass: &mut Pass<MemoryDevice>, exchange: Exchange<'_>) -> bool
+fn is_answered(
+    alloc: Global,
+    engine: &Engine<MemoryDevice>,
+    pass: &mut Pass<MemoryDevice>,
+    exchange: Exchange<'_>,
+) -> bool
     requires rests { Rests ⊤ engine.now pass.old }
     ensures rests { Rests ⊤ engine.now pass.new }
 {
@@ -103,7 +113,13 @@ fn is_back(answer: &Result<Answer, (usize, Command)>, key: &str, stripe: usize) 
 }
 
 /// The same of a GET of this word.
-fn command_is_busy(engine: &Engine<MemoryDevice>, pass: &mut Pass<MemoryDevice>, word: Word, key: &str, stripe: usize) -> bool
+fn command_is_busy(
+    engine: &Engine<MemoryDevice>,
+    pass: &mut Pass<MemoryDevice>,
+    word: Word,
+    key: &str,
+    stripe: usize,
+) -> bool
     requires rests { Rests ⊤ engine.now pass.old }
     ensures rests { Rests ⊤ engine.now pass.new }
 {
@@ -117,7 +133,13 @@ fn command_is_busy(engine: &Engine<MemoryDevice>, pass: &mut Pass<MemoryDevice>,
 }
 
 /// Whether a GET that is tried finds this stripe to be another pass's, and is handed back.
-fn is_busy(alloc: Global, engine: &Engine<MemoryDevice>, pass: &mut Pass<MemoryDevice>, key: &str, stripe: usize) -> bool
+fn is_busy(
+    alloc: Global,
+    engine: &Engine<MemoryDevice>,
+    pass: &mut Pass<MemoryDevice>,
+    key: &str,
+    stripe: usize,
+) -> bool
     requires rests { Rests ⊤ engine.now pass.old }
     ensures rests { Rests ⊤ engine.now pass.new }
 {
@@ -128,7 +150,12 @@ fn is_busy(alloc: Global, engine: &Engine<MemoryDevice>, pass: &mut Pass<MemoryD
 }
 
 /// Whether the line of a request, ` -> ` and what is due is so where the request is tried.
-fn line_is_answered(alloc: Global, engine: &Engine<MemoryDevice>, pass: &mut Pass<MemoryDevice>, line: &str) -> bool
+fn line_is_answered(
+    alloc: Global,
+    engine: &Engine<MemoryDevice>,
+    pass: &mut Pass<MemoryDevice>,
+    line: &str,
+) -> bool
     requires rests { Rests ⊤ engine.now pass.old }
     ensures rests { Rests ⊤ engine.now pass.new }
 {
@@ -139,7 +166,13 @@ fn line_is_answered(alloc: Global, engine: &Engine<MemoryDevice>, pass: &mut Pas
 }
 
 /// Tries the requests of some lines, one after the other.
-fn lines_are_answered<R: Abort>(rt: &R, alloc: Global, engine: &Engine<MemoryDevice>, mut pass: Pass<MemoryDevice>, lines: &str)
+fn lines_are_answered<R: Abort>(
+    rt: &R,
+    alloc: Global,
+    engine: &Engine<MemoryDevice>,
+    mut pass: Pass<MemoryDevice>,
+    lines: &str,
+)
     requires rests { Rests ⊤ engine.now pass }
 {
     for line in lines.split('\n') {

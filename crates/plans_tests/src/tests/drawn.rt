@@ -223,6 +223,6 @@ fn drawn_calls_on_three_stripes_that_are_read(rt: HostRuntime) -> Result<(), Fai
     let alloc = rt.alloc();
     let device = away(alloc).ok_or("no device")?;
     let both = both_of(alloc, 3, 5_000, device).ok_or("no store")?;
-    run_and_compare(&rt, alloc, both, 7, 2000);
+    run_and_compare(&rt, alloc, both, 7, 2800);
     Ok(())
 }

@@ -1,7 +1,8 @@
 //! Plans that stop, and watches.
 
 use super::{
-    Both, answer_to, away, both_of, command_of, commands_of, due_line, let_go, memory, run_both, store_of,
+    Both, answer_to, away, both_of, command_of, commands_of, due_line, let_go, memory, run_both,
+    store_of,
 };
 use crate::calls::{submit, submit_once, undo};
 use crate::held::Store;
@@ -40,7 +41,11 @@ fn fill(alloc: Global, both: &mut Away) -> bool {
 fn filled(alloc: Global) -> Option<Away> {
     let device = away(alloc)?;
     let mut both = both_of(alloc, 1, 1000, device)?;
-    if fill(alloc, &mut both) { Some(both) } else { None }
+    if fill(alloc, &mut both) {
+        Some(both)
+    } else {
+        None
+    }
 }
 
 /// What a call is answered in one round with no page staged, or how many pages it wants.
@@ -58,7 +63,13 @@ fn answer_once<D: Device>(
 /// How many pages a transaction wants.
 fn pages_wanted(alloc: Global, both: &mut Away, lines: &str) -> Option<usize> {
     let commands = commands_of(alloc, lines)?;
-    answer_once(alloc, &mut both.store, 0, Call::Exec(commands, Watching::none(alloc))).err()
+    answer_once(
+        alloc,
+        &mut both.store,
+        0,
+        Call::Exec(commands, Watching::none(alloc)),
+    )
+    .err()
 }
 
 #[test]
@@ -115,7 +126,10 @@ fn answer_watching(alloc: Global, both: &mut Away, lines: &str, key: &str) -> Op
 
 /// Whether such a transaction is answered null.
 fn is_null(alloc: Global, both: &mut Away, lines: &str, key: &str) -> bool {
-    matches!(answer_watching(alloc, both, lines, key), Some(Reply::NullArray))
+    matches!(
+        answer_watching(alloc, both, lines, key),
+        Some(Reply::NullArray)
+    )
 }
 
 /// A session watches a key, which is written then.
@@ -139,7 +153,12 @@ fn a_dirty_transaction_looks_nothing_up(rt: HostRuntime) -> Result<(), Fail> {
 }
 
 /// The mark that a session has of a key.
-fn mark_of<D: Device>(alloc: Global, store: &mut Store<D>, key: &str, seat: u64) -> Option<Option<bool>> {
+fn mark_of<D: Device>(
+    alloc: Global,
+    store: &mut Store<D>,
+    key: &str,
+    seat: u64,
+) -> Option<Option<bool>> {
     let word = Word::from_slice(alloc, key.as_bytes()).ok()?;
     for shard in store.stripes.shards.iter() {
         if let Some(mark) = shard.mark(&word, seat) {
@@ -169,7 +188,11 @@ fn watch_and_undo(alloc: Global, store: &mut Store<MemoryDevice>) -> Option<bool
 fn undone(alloc: Global) -> Option<Store<MemoryDevice>> {
     let device = memory(alloc)?;
     let mut store = store_of(alloc, 3, 64, device)?;
-    if watch_and_undo(alloc, &mut store) == Some(true) { Some(store) } else { None }
+    if watch_and_undo(alloc, &mut store) == Some(true) {
+        Some(store)
+    } else {
+        None
+    }
 }
 
 #[test]

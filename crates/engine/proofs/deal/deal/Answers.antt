@@ -31,4 +31,3 @@ loop-gates-preserved g c =
             (omega (arith, c.in-Some.ensures.cases)) (record { rests = last.1; nothing = last.2 ∙ ap newcomer number; device = refl }) inv.dealt.2),
       );
     }
-

@@ -62,7 +62,7 @@ pub returns-then-not-is_empty-clause-needed : goal.returns-then-not-is_empty-cla
 returns-then-not-is_empty-clause-needed g c =
     let parts = g.P.Parts.part_of c.args.parts.now in
     all_wanted (IsNeeded (g.R.Shows.is_honest × AreRight c.args.staged.now) c.args.stripes (logs_of parts) (keys_of c.args.command.now) c.args.staged.now) (g.R.Shows.is_honest × AreRight c.args.staged.now) (joined (shard_meaning g.R.Shows.is_steady) c.args.stripes parts) (keys_of c.args.command.now)
-          c.new-cold.result c.find_command.new.cold c.new-found.result c.find_command.new.found c.in-Ok.ensures.found c.new-cold.ensures
+    c.new-cold.result c.find_command.new.cold c.new-found.result c.find_command.new.found c.in-Ok.ensures.found c.new-cold.ensures
 
 pub returns-clause-became : goal.returns-clause-became
 returns-clause-became g c =

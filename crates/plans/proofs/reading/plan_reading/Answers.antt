@@ -137,8 +137,8 @@ returns-in_err-read_all-in-Err-Cold-clause-memory g c = λ honest right hand bri
     let cold = rw c.in-Err-Cold.field-0-is at c.in-Err-Cold.ensures.cold in
     let lent = rw c.in-Err-Cold.field-0-is at c.in-Err-Cold.ensures.lent in
     absurd (none_cold g.R.Shows.lends c.args.stripes (logs_of before) keys c.loop-planned.staged c.in-Err-Cold.receipts lent
-          (subst (λ (staged : List StagedPage). AreAtHand g.R.Shows.lends c.args.stripes (logs_of before) keys staged) (sym (inv.first hand))
-          (subst (λ p. AreAtHand g.R.Shows.lends c.args.stripes (logs_of p) keys c.args.staged.now) (sym inv.same) hand)) cold)
+    (subst (λ (staged : List StagedPage). AreAtHand g.R.Shows.lends c.args.stripes (logs_of before) keys staged) (sym (inv.first hand))
+    (subst (λ p. AreAtHand g.R.Shows.lends c.args.stripes (logs_of p) keys c.args.staged.now) (sym inv.same) hand)) cold)
 
 pub returns-in-Err-clause-memory : goal.returns-in-Err-clause-memory
 returns-in-Err-clause-memory g c = λ honest right hand brief.
@@ -147,7 +147,7 @@ returns-in-Err-clause-memory g c = λ honest right hand brief.
     let before = g.P.Parts.part_of c.loop-planned.parts in
     c.in-Err.ensures.memory honest (subst AreRight (sym (inv.first hand)) right)
     (subst (λ (staged : List StagedPage). AreAtHand g.R.Shows.lends c.args.stripes (logs_of before) keys staged) (sym (inv.first hand))
-          (subst (λ p. AreAtHand g.R.Shows.lends c.args.stripes (logs_of p) keys c.args.staged.now) (sym inv.same) hand))
+    (subst (λ p. AreAtHand g.R.Shows.lends c.args.stripes (logs_of p) keys c.args.staged.now) (sym inv.same) hand))
     (subst (λ p. NeedsNoMemoryOn (joined (shard_meaning g.R.Shows.is_steady) c.args.stripes p) c.args.call.now) (sym inv.same) brief)
 
 pub returns-in-Ok-clause-grows : goal.returns-in-Ok-clause-grows
