@@ -3,5 +3,4 @@ mod Arguments
 mod Texts
 mod Numbers
 mod Parsed
-mod Faults
 mod Rows

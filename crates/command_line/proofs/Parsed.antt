@@ -23,9 +23,10 @@ use Rattle.clap.proofs.WalkLemmas.{first_value-rows, one_text-rows}
 use Rattle.words.specs.declared.limits.TheConstants.{BUCKETS_DEFAULT, BUCKETS_MAX, CLIENTS_DEFAULT, CLIENTS_MAX, FRAMES_DEFAULT, FRAMES_MAX, FRAMES_MIN}
 use Rattle.words.specs.declared.limits.TheConstants.{PLACES_DEFAULT, PLACES_MAX, PLACES_MIN, STRIPES_DEFAULT, STRIPES_MAX}
 use Rattle.server.specs.declared.setting.TheConstants.{ACCEPT_MAX}
+use Rattle.server.specs.declared.setting.DeviceKind.{DeviceKind}
 use Rattle.server.specs.declared.setting.Options.{Options}
 use Rattle.command_line.specs.Given.{Gives, GivesOrDefault, HasGiven, IsGivenOrDefault, IsInRange, text_in}
-use Rattle.command_line.specs.CommandLine.{AskFor, accept_option, device_by, device_word, garnetd, option_of, options, port_option, text_of}
+use Rattle.command_line.specs.CommandLine.{AskFor, AsksForDevice, accept_option, device_word, garnetd, option_of, options, port_option, text_of}
 use Rattle.command_line.proofs.Arguments.{is_alone_at, is_plain_rule, only_place, plain_args, rule_at, simple_is_alone}
 use Rattle.command_line.proofs.Numbers.{Writes, signed_writes, unsigned_writes}
 use Rattle.command_line.proofs.Texts.{StandsAlone, accepted, text_of_value}
@@ -250,14 +251,14 @@ rows_are : (old : Command) (m : ArgMatches) (words : List Text) → app_of old �
 rows_are old m words is matches = (matches (ap is_simple is ∙ garnetd_is_simple)).0 ∙ ap (λ (a : App). matches_of a words) is
 
 -- and so is the word for the device
-pub word_is : (old : Command) (m : ArgMatches) (words : List Text) → app_of old ≡ garnetd → HasMatchesOf (app_of old) words m
+word_is : (old : Command) (m : ArgMatches) (words : List Text) → app_of old ≡ garnetd → HasMatchesOf (app_of old) words m
     → first_value (found_of m) (codes "device") ≡ device_word words
 word_is old m words is matches = first_value-rows (found_of m) (codes "device") ∙ ap (first_of (codes "device")) (rows_are old m words is matches)
 
 -- what `given` finds the words ask for
 pub asks_for : (old : Command) (m : ArgMatches) (words : List Text) (o : Options) → app_of old ≡ garnetd → IsParsedFrom old m → HasMatchesOf (app_of old) words m
-    → HasGiven m o → device_by (first_value (found_of m) (codes "device")) ≡ Some o.device → AskFor words o
-asks_for old m words o is p matches gives device =
+    → HasGiven m o → (device : DeviceKind) → AsksForDevice (first_value (found_of m) (codes "device")) device → o.device ≡ device → AskFor words o
+asks_for old m words o is p matches gives device asks has =
     let r = is_read old m is p in
     let rows = rows_are old m words is matches in
     let same : (id : List ℕ) → text_in m id ≡ text_of words id = λ id. one_text-rows (found_of m) id ∙ ap (one_of id) rows in
@@ -274,5 +275,6 @@ asks_for old m words o is p matches gives device =
           (as_text _ _ _ _ _ (omega arith) r.places gives.gives_places);
       workers = subst (λ t. IsGivenOrDefault t CLIENTS_DEFAULT o.workers) (same (codes "workers"))
           (as_text _ _ _ _ _ (omega arith) r.workers gives.gives_workers);
-      device = ap device_by (sym (word_is old m words is matches)) ∙ device;
+      device = subst (λ w. AsksForDevice w o.device) (word_is old m words is matches)
+          (subst (AsksForDevice (first_value (found_of m) (codes "device"))) (sym has) asks);
     }

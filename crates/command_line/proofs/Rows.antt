@@ -1,10 +1,10 @@
 -- What words give by the command line of `garnetd`, and how those that it does not take fail: each worked out by hand.
-use Rattle.std.proofs.Common.{◌≡◌, List, [], ◌∷◌, Some, None, codes, refl, true}
+use Rattle.std.proofs.Common.{◌≡◌, List, [], ◌∷◌, Some, None, codes, inl, inr, refl, true}
 use Rattle.clap.specs.Words.{Text, fault_of, takes}
-use Rattle.clap.specs.declared.error.kind.ErrorKind.TheVariants.{ArgumentConflict, DisplayHelp, DisplayVersion, InvalidValue, MissingRequiredArgument, UnknownArgument, ValueValidation}
+use Rattle.clap.specs.declared.error.kind.ErrorKind.TheVariants.{ArgumentConflict, DisplayHelp, DisplayVersion, MissingRequiredArgument, UnknownArgument, ValueValidation}
 use Rattle.clap.proofs.OnLiterals.{clap_on_literals}
 use Rattle.server.specs.declared.setting.DeviceKind.TheVariants.{Memory}
-use Rattle.command_line.specs.CommandLine.{device_by, device_word, faults, garnetd, text_of}
+use Rattle.command_line.specs.CommandLine.{AsksForDevice, device_word, garnetd, text_of}
 
 -- the words after the program's name
 abbrev line : List Text → List Text
@@ -21,36 +21,31 @@ two = line (codes "--accept=1" ∷ codes "--port=-0" ∷ [])
 abbrev with_word : Text → List Text
 with_word word = line (codes "--port=0" ∷ codes "--accept=1" ∷ word ∷ [])
 
-all_eight_are_taken : (takes garnetd all_eight ≡ true) × (faults all_eight ≡ [])
+all_eight_are_taken : (takes garnetd all_eight ≡ true) × (fault_of garnetd all_eight ≡ [])
 unfolding garnetd clap_on_literals
 all_eight_are_taken = (refl, refl)
 
 all_eight_are_read : (text_of all_eight (codes "port") ≡ Some (codes "65535")) × (text_of all_eight (codes "accept") ≡ Some (codes "1000000"))
     × (text_of all_eight (codes "stripes") ≡ Some (codes "64")) × (text_of all_eight (codes "buckets") ≡ Some (codes "65536"))
     × (text_of all_eight (codes "frames") ≡ Some (codes "12")) × (text_of all_eight (codes "places") ≡ Some (codes "64"))
-    × (text_of all_eight (codes "workers") ≡ Some (codes "1")) × (device_by (device_word all_eight) ≡ Some Memory)
+    × (text_of all_eight (codes "workers") ≡ Some (codes "1")) × AsksForDevice (device_word all_eight) Memory
 unfolding garnetd clap_on_literals
-all_eight_are_read = (refl, refl, refl, refl, refl, refl, refl, refl)
+all_eight_are_read = (refl, refl, refl, refl, refl, refl, refl, inr refl)
 
 -- a minus before a zero is no part of the text
 two_are_enough : (takes garnetd two ≡ true) × (text_of two (codes "port") ≡ Some (codes "0")) × (text_of two (codes "stripes") ≡ None)
-    × (text_of two (codes "frames") ≡ None) × (device_by (device_word two) ≡ Some Memory) × (faults two ≡ [])
+    × (text_of two (codes "frames") ≡ None) × AsksForDevice (device_word two) Memory × (fault_of garnetd two ≡ [])
 unfolding garnetd clap_on_literals
-two_are_enough = (refl, refl, refl, refl, refl, refl)
+two_are_enough = (refl, refl, refl, refl, inl refl, refl)
 
--- the parser takes each word for the device, and only one names a device
-another_device : (takes garnetd (with_word (codes "--device=Memory")) ≡ true) × (faults (with_word (codes "--device=Memory")) ≡ InvalidValue ∷ [])
+-- any word is taken for the device, the empty one too
+a_path : (takes garnetd (with_word (codes "--device=Memory")) ≡ true) × (device_word (with_word (codes "--device=Memory")) ≡ Some (codes "Memory"))
 unfolding garnetd clap_on_literals
-another_device = (refl, refl)
+a_path = (refl, refl)
 
-no_device : (device_word (with_word (codes "--device=")) ≡ Some []) × (faults (with_word (codes "--device=")) ≡ InvalidValue ∷ [])
+no_path : (takes garnetd (with_word (codes "--device=")) ≡ true) × (device_word (with_word (codes "--device=")) ≡ Some [])
 unfolding garnetd clap_on_literals
-no_device = (refl, refl)
-
--- what the parser refuses comes before what it does not know of
-port_and_device : faults (line (codes "--accept=1" ∷ codes "--device=disk" ∷ [])) ≡ MissingRequiredArgument ∷ []
-unfolding garnetd clap_on_literals
-port_and_device = refl
+no_path = (refl, refl)
 
 eleven_frames : fault_of garnetd (with_word (codes "--frames=11")) ≡ ValueValidation ∷ []
 unfolding garnetd clap_on_literals

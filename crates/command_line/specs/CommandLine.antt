@@ -1,18 +1,15 @@
 -- The command line of `garnetd`, and what words ask for by it. Which words a command takes, and what it reads in them, is
 -- clap's: https://docs.rs/clap.
-use Rattle.std.specs.Prelude.{◌≡◌, List, [], ◌∷◌, Option, Some, None, true, codes, fold, if◌then◌else◌, pos}
-use Rattle.std.specs.Str.{bytes_eq}
-use Rattle.clap.specs.Kinds.{or_else}
-use Rattle.clap.specs.Words.{App, Kinds, Rule, Text, fault_of, first_of, matches_of, new_app, new_rule, one_of, takes, with_rule}
+use Rattle.std.specs.Prelude.{◌≡◌, ◌≢◌, ◌⊎◌, List, [], ◌∷◌, Option, Some, None, true, codes, fold, pos, string_bytes}
+use Rattle.clap.specs.Words.{App, Rule, Text, first_of, matches_of, new_app, new_rule, one_of, with_rule}
 use Rattle.clap.specs.declared.builder.action.ArgAction.TheVariants.{Set}
 use Rattle.clap.specs.declared.builder.value_parser.ValueParser.{ValueParser}
 use Rattle.clap.specs.declared.builder.value_parser.ValueParser.TheVariants.{Signed, String, Unsigned}
-use Rattle.clap.specs.declared.error.kind.ErrorKind.TheVariants.{InvalidValue}
 use Rattle.words.specs.declared.limits.TheConstants.{BUCKETS_DEFAULT, BUCKETS_MAX, CLIENTS_DEFAULT, CLIENTS_MAX, FRAMES_DEFAULT, FRAMES_MAX, FRAMES_MIN}
 use Rattle.words.specs.declared.limits.TheConstants.{PLACES_DEFAULT, PLACES_MAX, PLACES_MIN, STRIPES_DEFAULT, STRIPES_MAX}
 use Rattle.server.specs.declared.setting.TheConstants.{ACCEPT_MAX}
 use Rattle.server.specs.declared.setting.DeviceKind.{DeviceKind}
-use Rattle.server.specs.declared.setting.DeviceKind.TheVariants.{Memory}
+use Rattle.server.specs.declared.setting.DeviceKind.TheVariants.{File, Memory}
 use Rattle.server.specs.declared.setting.Options.{Options}
 use Rattle.command_line.specs.Given.{Gives, IsGivenOrDefault}
 
@@ -57,7 +54,7 @@ places_option = option_of (codes "places") (Unsigned PLACES_MIN PLACES_MAX)
 abbrev pub workers_option : Rule
 workers_option = option_of (codes "workers") (Unsigned 1 CLIENTS_MAX)
 
--- Any word, or none. Which words name a device `device_named` says.
+-- Any word, or none. Which device a word asks for `AsksForDevice` says.
 abbrev pub device_option : Rule
 device_option = option_of (codes "device") String
 
@@ -77,14 +74,11 @@ text_of words option = one_of option (matches_of garnetd words)
 abbrev pub device_word : List Text → Option Text
 device_word words = first_of (codes "device") (matches_of garnetd words)
 
--- The device that a word names, or none.
-abbrev pub device_named : Text → Option DeviceKind
-device_named word = if bytes_eq word (codes "memory") then Some Memory else None
-
--- The device of a word that may be left out: memory where there is no word, and none where the word names none.
-abbrev pub device_by : Option Text → Option DeviceKind
-device_by None = Some Memory
-device_by (Some word) = device_named word
+-- The device that a word asks for, which may be left out: memory where there is no word or it is `memory`, and else the file whose path the
+-- word is.
+abbrev pub AsksForDevice : Option Text → DeviceKind → Type 0
+AsksForDevice word Memory = (word ≡ None) ⊎ (word ≡ Some (codes "memory"))
+AsksForDevice word (File path) = (word ≡ Some (string_bytes path)) × (string_bytes path ≢ codes "memory")
 
 -- Words ask for these options.
 pub record AskFor (words : List Text) (options : Options) : Type 0 where
@@ -95,19 +89,4 @@ pub record AskFor (words : List Text) (options : Options) : Type 0 where
   pub frames : IsGivenOrDefault (text_of words (codes "frames")) FRAMES_DEFAULT options.frames
   pub places : IsGivenOrDefault (text_of words (codes "places")) PLACES_DEFAULT options.places
   pub workers : IsGivenOrDefault (text_of words (codes "workers")) CLIENTS_DEFAULT options.workers
-  pub device : device_by (device_word words) ≡ Some options.device
-
--- The parser takes the words, and a word for the device names one.
-pub record IsTaken (words : List Text) : Type 0 where
-  pub taken : takes garnetd words ≡ true
-  pub device : DeviceKind
-  pub known : device_by (device_word words) ≡ Some device
-
--- The kind of error where no device is named.
-abbrev pub device_faults : Option DeviceKind → Kinds
-device_faults None = InvalidValue ∷ []
-device_faults (Some device) = []
-
--- The kinds of error of words: of the first step of the parse that fails, and where none does, of a device that is not known.
-abbrev pub faults : List Text → Kinds
-faults words = or_else (fault_of garnetd words) (device_faults (device_by (device_word words)))
+  pub device : AsksForDevice (device_word words) options.device

@@ -1,11 +1,11 @@
 //! The command line of `garnetd`, in a crate of its own: to prove it takes a fraction of what the program takes.
 #![tactic(auto)]
 
-ghost use Rattle.std.specs.Prelude.{ℕ, ◌≡◌, ◌<◌, ◌^◌, Some, None, IfErr, IfNone, IfOk, IfSome, codes, map};
-ghost use Rattle.clap.specs.Words.{FailsBy, app_of, first_value, found_of, kind_of, rule_of};
+ghost use Rattle.std.specs.Prelude.{ℕ, ◌≡◌, ◌<◌, ◌^◌, Some, IfErr, IfNone, IfOk, IfSome, codes, map, true};
+ghost use Rattle.clap.specs.Words.{FailsBy, app_of, fault_of, first_value, found_of, kind_of, rule_of, takes};
 ghost use Rattle.clap.specs.declared.builder.value_parser.ValueParser.TheVariants.{Unsigned};
 ghost use Rattle.command_line.specs.Given.{Gives, GivesOrDefault, HasGiven, IsInRange, text_in};
-ghost use Rattle.command_line.specs.CommandLine.{AskFor, IsTaken, faults, garnetd, device_by, device_named};
+ghost use Rattle.command_line.specs.CommandLine.{AskFor, AsksForDevice, garnetd};
 ghost use Rattle.command_line.specs.CommandLine.{accept_option, buckets_option, device_option, frames_option, option_of};
 ghost use Rattle.command_line.specs.CommandLine.{places_option, port_option, stripes_option, workers_option};
 
@@ -25,14 +25,14 @@ use words::limits::{
 /// # Errors
 ///
 /// What the parser says of a command line that it refuses, and of one that asks for help or for the
-/// version; and `InvalidValue` where `--device` has a word that names no device.
+/// version.
 pub fn options_of<'a, S: AsStr>(alloc: Global, words: &'a [S]) -> Result<Options, Error>
     ensures ok { IfOk result (AskFor (map S.text words.entry.now)) }
     // Where the command takes the words, an error is for want of memory.
-    ensures taken { IfErr result (λ e. IsTaken (map S.text words.entry.now) → kind_of e ≡ ErrorKind.OutOfMemory) }
-    // Options come only where no step of the parse fails and the device is known, and else the kind of error of the
-    // first that does, or that of want of memory.
-    ensures kinds { FailsBy (faults (map S.text words.entry.now)) result }
+    ensures taken { IfErr result (λ e. takes garnetd (map S.text words.entry.now) ≡ true → kind_of e ≡ ErrorKind.OutOfMemory) }
+    // Options come only where no step of the parse fails, and else the kind of error of the first that does, or that of
+    // want of memory.
+    ensures kinds { FailsBy (fault_of garnetd (map S.text words.entry.now)) result }
 {
     let texts = HelpTexts::new(alloc)?;
     read(alloc, &texts, words)
@@ -41,29 +41,31 @@ pub fn options_of<'a, S: AsStr>(alloc: Global, words: &'a [S]) -> Result<Options
 /// What these words ask for.
 fn read<'a, S: AsStr>(alloc: Global, texts: &'a HelpTexts, words: &'a [S]) -> Result<Options, Error>
     ensures ok { IfOk result (AskFor (map S.text words.entry.now)) }
-    ensures taken { IfErr result (λ e. IsTaken (map S.text words.entry.now) → kind_of e ≡ ErrorKind.OutOfMemory) }
-    ensures kinds { FailsBy (faults (map S.text words.entry.now)) result }
+    ensures taken { IfErr result (λ e. takes garnetd (map S.text words.entry.now) ≡ true → kind_of e ≡ ErrorKind.OutOfMemory) }
+    ensures kinds { FailsBy (fault_of garnetd (map S.text words.entry.now)) result }
 {
     let mut command = command(alloc, texts)?;
-    read_by(&mut command, words)
+    read_by(alloc, &mut command, words)
 }
 
 /// What these words ask for, read by this command.
-fn read_by<'a, S: AsStr>(command: &mut Command<'a>, words: &'a [S]) -> Result<Options, Error>
+fn read_by<'a, S: AsStr>(
+    alloc: Global,
+    command: &mut Command<'a>,
+    words: &'a [S],
+) -> Result<Options, Error>
     ensures ok { app_of command.old ≡ garnetd → IfOk result (AskFor (map S.text words.entry.now)) }
     ensures taken { app_of command.old ≡ garnetd
-        → IfErr result (λ e. IsTaken (map S.text words.entry.now) → kind_of e ≡ ErrorKind.OutOfMemory) }
-    ensures kinds { app_of command.old ≡ garnetd → FailsBy (faults (map S.text words.entry.now)) result }
+        → IfErr result (λ e. takes garnetd (map S.text words.entry.now) ≡ true → kind_of e ≡ ErrorKind.OutOfMemory) }
+    ensures kinds { app_of command.old ≡ garnetd → FailsBy (fault_of garnetd (map S.text words.entry.now)) result }
 {
     let matches = command.try_get_matches_from_mut(words)?;
-    match given(&matches) {
+    let device = given_device(alloc, &matches)?;
+    match given(&matches, device) {
         Some(options) => Ok(options),
-        None => Err(command.error(ErrorKind::InvalidValue, NO_DEVICE)?),
+        None => Err(command.error(ErrorKind::MissingRequiredArgument, "an option has no value")?),
     }
 }
-
-/// What is said of a word that names no device.
-const NO_DEVICE: &str = "invalid value for '--device <DEVICE>'\n  [possible values: memory]";
 
 /// What help says of options whose ranges are limits: what they are, what they cost in memory, their range and
 /// their default.
@@ -239,38 +241,39 @@ fn device<'a>(alloc: Global) -> Arg<'a>
         .action(ArgAction::Set)
         .value_name("DEVICE")
         .value_parser(ValueParser::string())
-        .help("What keeps the pages that have left their frames: memory; default memory")
+        .help(
+            "What keeps the pages that have left their frames: memory, or the file at this path, created or emptied; default memory",
+        )
 }
 
-/// The device that a parsed command line asks for, or `None` where its word names none.
-fn given_device(matches: &ArgMatches<'_>) -> Option<DeviceKind>
-    ensures { result ≡ device_by (first_value (found_of matches.now) (codes "device")) }
+/// The device that a parsed command line asks for. Memory takes none.
+fn given_device(alloc: Global, matches: &ArgMatches<'_>) -> Result<DeviceKind, AllocError>
+    ensures { IfOk result (AsksForDevice (first_value (found_of matches.now) (codes "device"))) }
 {
     match matches.get_str("device") {
-        Some(word) => device_named(word),
-        None => Some(DeviceKind::Memory),
+        Some(word) => device_named(alloc, word),
+        None => Ok(DeviceKind::Memory),
     }
 }
 
-/// The device of this name.
-fn device_named(word: &str) -> Option<DeviceKind>
-    ensures { result ≡ device_named word.now }
+/// The device that a word asks for: memory by its name, and else the file at this path.
+fn device_named(alloc: Global, word: &str) -> Result<DeviceKind, AllocError>
+    ensures { IfOk result (AsksForDevice (Some word.now)) }
 {
     if word == "memory" {
-        Some(DeviceKind::Memory)
+        Ok(DeviceKind::Memory)
     } else {
-        None
+        Ok(DeviceKind::File(String::from_str(alloc, word)?))
     }
 }
 
-/// The options that a parsed command line gives. `None` where a word names no device; and where an option that has no
-/// default is not given, or one is not in its range, which the parser lets no command line do.
-fn given(matches: &ArgMatches<'_>) -> Option<Options>
+/// The options that a parsed command line gives, with this device. `None` where an option that has no default is not
+/// given, or one is not in its range, which the parser lets no command line do.
+fn given(matches: &ArgMatches<'_>, device: DeviceKind) -> Option<Options>
     ensures numbers { IfSome result (HasGiven matches.now) }
-    ensures device { IfSome result (λ options. device_by (first_value (found_of matches.now) (codes "device")) ≡ Some options.device) }
-    ensures none { IfNone result (IsInRange matches.now → device_by (first_value (found_of matches.now) (codes "device")) ≡ None) }
+    ensures device { IfSome result (λ options. options.device ≡ device) }
+    ensures none { IfNone result (IsInRange matches.now → ⊥) }
 {
-    let device = given_device(matches)?;
     let port = given_port(matches)?;
     let accept = given_accept(matches)?;
     let stripes = given_or(matches, "stripes", STRIPES_DEFAULT);
@@ -358,7 +361,33 @@ mod tests {
         Ok(())
     }
 
-    /// Options of which one is not in its range, is no number, names no device, stands twice or is not known.
+    /// Words for the device, each with the path that it is, if it is one.
+    const DEVICES: &[(&str, Option<&str>)] = &[
+        ("--device=memory", None),
+        ("--device=Memory", Some("Memory")),
+        ("--device=./pages/0", Some("./pages/0")),
+        ("--device=", Some("")),
+    ];
+
+    /// The path of a device in a file.
+    fn path_of(device: &DeviceKind) -> Option<&str> {
+        match device {
+            DeviceKind::Memory => None,
+            DeviceKind::File(path) => Some(path.as_str()),
+        }
+    }
+
+    #[test]
+    fn a_device_is_memory_or_a_file(rt: HostRuntime) -> Result<(), Fail> {
+        for &(word, path) in DEVICES {
+            let words = ["garnetd", "--port=0", "--accept=1", word];
+            let options = options_of(rt.alloc(), words.as_slice())?;
+            assert_eq!(rt; path_of(&options.device), path);
+        }
+        Ok(())
+    }
+
+    /// Options of which one is not in its range, is no number, stands twice or is not known.
     const REFUSED: &[&[&str]] = &[
         &["garnetd", "--port=0"],
         &["garnetd", "--accept=1"],
@@ -380,9 +409,14 @@ mod tests {
         &["garnetd", "--port=0", "--accept=1", "--workers=0"],
         &["garnetd", "--port=0", "--accept=1", "--workers=65"],
         &["garnetd", "--port=0", "--accept=1", "--workers=-1"],
-        &["garnetd", "--port=0", "--accept=1", "--device=pages"],
-        &["garnetd", "--port=0", "--accept=1", "--device=Memory"],
-        &["garnetd", "--port=0", "--accept=1", "--device="],
+        &["garnetd", "--port=0", "--accept=1", "--device"],
+        &[
+            "garnetd",
+            "--port=0",
+            "--accept=1",
+            "--device=a",
+            "--device=b",
+        ],
         &["garnetd", "--port=0", "--accept=1", "--colour=red"],
     ];
 
@@ -413,7 +447,7 @@ mod tests {
         "--workers <W>",
         "1 to 64; default 4",
         "--device <DEVICE>",
-        "memory; default memory",
+        "memory, or the file at this path, created or emptied; default memory",
     ];
 
     #[test]

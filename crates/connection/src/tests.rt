@@ -401,6 +401,41 @@ const ROWS: &[(&[u8], &[u8], Ended)] = &[
         b"+OK\r\n+OK\r\n:1\r\n+OK\r\n+OK\r\n+OK\r\n+QUEUED\r\n*1\r\n+OK\r\n",
         Ended::EndOfInput,
     ),
+    (
+        b"*3\r\n$3\r\nSET\r\n$1\r\na\r\n$1\r\n1\r\n*3\r\n$6\r\nRENAME\r\n$1\r\na\r\n$1\r\nb\r\n*3\r\n$4\r\nMGET\r\n$1\r\na\r\n$1\r\nb\r\n*3\r\n$6\r\nRENAME\r\n$1\r\na\r\n$1\r\nb\r\n",
+        b"+OK\r\n+OK\r\n*2\r\n$-1\r\n$1\r\n1\r\n-ERR no such key\r\n",
+        Ended::EndOfInput,
+    ),
+    (
+        b"*4\r\n$3\r\nSET\r\n$1\r\na\r\n$1\r\n1\r\n$3\r\nGET\r\n*4\r\n$3\r\nSET\r\n$1\r\na\r\n$1\r\n2\r\n$3\r\nget\r\n*5\r\n$3\r\nSET\r\n$1\r\na\r\n$1\r\n3\r\n$3\r\nGET\r\n$2\r\nNX\r\n*2\r\n$3\r\nGET\r\n$1\r\na\r\n*5\r\n$3\r\nSET\r\n$1\r\na\r\n$1\r\n4\r\n$3\r\nGET\r\n$3\r\nGET\r\n",
+        b"$-1\r\n$1\r\n1\r\n$1\r\n2\r\n$1\r\n2\r\n-ERR syntax error\r\n",
+        Ended::EndOfInput,
+    ),
+    (
+        b"*3\r\n$3\r\nSET\r\n$1\r\na\r\n$1\r\n1\r\n*2\r\n$5\r\nWATCH\r\n$1\r\na\r\n*3\r\n$6\r\nRENAME\r\n$1\r\na\r\n$1\r\na\r\n*1\r\n$5\r\nMULTI\r\n*3\r\n$6\r\nRENAME\r\n$1\r\nz\r\n$1\r\ny\r\n*1\r\n$4\r\nEXEC\r\n",
+        b"+OK\r\n+OK\r\n+OK\r\n+OK\r\n+QUEUED\r\n*1\r\n-ERR no such key\r\n",
+        Ended::EndOfInput,
+    ),
+    (
+        b"*1\r\n$5\r\nMULTI\r\n*3\r\n$3\r\nSET\r\n$1\r\na\r\n$1\r\n1\r\n*3\r\n$6\r\nRENAME\r\n$1\r\na\r\n$1\r\nb\r\n*5\r\n$3\r\nSET\r\n$1\r\nb\r\n$1\r\n2\r\n$2\r\nXX\r\n$3\r\nGET\r\n*1\r\n$4\r\nEXEC\r\n*3\r\n$4\r\nMGET\r\n$1\r\na\r\n$1\r\nb\r\n",
+        b"+OK\r\n+QUEUED\r\n+QUEUED\r\n+QUEUED\r\n*3\r\n+OK\r\n+OK\r\n$1\r\n1\r\n*2\r\n$-1\r\n$1\r\n2\r\n",
+        Ended::EndOfInput,
+    ),
+    (
+        b"*3\r\n$3\r\nSET\r\n$1\r\na\r\n$1\r\n1\r\n*2\r\n$5\r\nWATCH\r\n$1\r\na\r\n*3\r\n$6\r\nRENAME\r\n$1\r\na\r\n$1\r\nb\r\n*1\r\n$5\r\nMULTI\r\n*1\r\n$4\r\nPING\r\n*1\r\n$4\r\nEXEC\r\n",
+        b"+OK\r\n+OK\r\n+OK\r\n+OK\r\n+QUEUED\r\n*-1\r\n",
+        Ended::EndOfInput,
+    ),
+    (
+        b"*3\r\n$3\r\nSET\r\n$1\r\na\r\n$1\r\n1\r\n*2\r\n$5\r\nWATCH\r\n$1\r\nb\r\n*3\r\n$6\r\nRENAME\r\n$1\r\na\r\n$1\r\nb\r\n*1\r\n$5\r\nMULTI\r\n*1\r\n$4\r\nPING\r\n*1\r\n$4\r\nEXEC\r\n",
+        b"+OK\r\n+OK\r\n+OK\r\n+OK\r\n+QUEUED\r\n*-1\r\n",
+        Ended::EndOfInput,
+    ),
+    (
+        b"*3\r\n$5\r\nWATCH\r\n$1\r\na\r\n$1\r\nb\r\n*3\r\n$6\r\nRENAME\r\n$1\r\na\r\n$1\r\nb\r\n*1\r\n$5\r\nMULTI\r\n*1\r\n$4\r\nPING\r\n*1\r\n$4\r\nEXEC\r\n",
+        b"+OK\r\n-ERR no such key\r\n+OK\r\n+QUEUED\r\n*1\r\n+PONG\r\n",
+        Ended::EndOfInput,
+    ),
 ];
 
 /// Whether a connection wrote this text and kept nothing of it back, and ended so.

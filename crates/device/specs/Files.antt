@@ -2,6 +2,7 @@
 use Rattle.std.specs.Prelude.{ℕ, List}
 use Rattle.device.specs.declared.file.FileReceipt.{FileReceipt}
 use Rattle.device.specs.declared.file.FileDevice.{FileDevice}
+use Rattle.device.specs.declared.places.PlaceNote.{PlaceNote}
 use Rattle.device.specs.Written.{page_of}
 
 -- the page for which a receipt was given
@@ -36,3 +37,7 @@ module _ {R : Type 0} where
   -- how many receipts it has taken back
   abbrev pub releases_of : FileDevice R → ℕ
   releases_of device = device.releases
+
+  -- what it did with the list of places, the newest first
+  abbrev pub notes_of : FileDevice R → List PlaceNote
+  notes_of device = device.notes

@@ -1,6 +1,7 @@
 pub mod Counts
 pub mod Free
 pub mod Places
+pub mod PlaceNotes
 pub mod Written
 pub mod Files
 pub mod OpenFaults

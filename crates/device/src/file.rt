@@ -1,12 +1,12 @@
 // A device that keeps its pages in a file.
 
-ghost use Rattle.std.specs.Prelude.{◌≡◌, ◌<◌, ◌+◌, ◌*◌, ℕ, IfOk, IfSome, IsNone, OnOk, OnErr, All, vec_len, Some};
+ghost use Rattle.std.specs.Prelude.{◌≡◌, ◌<◌, ◌+◌, ◌*◌, ◌∷◌, ℕ, IfOk, IfSome, IfNone, IsNone, OnOk, OnErr, All, vec_len, Some};
 ghost use Rattle.records.specs.Page.{number_of};
 ghost use Rattle.device.specs.Written.{page_of};
 ghost use Rattle.device.specs.declared.places.TheConstants.{MAX_PLACES};
 
 use crate::counts::CallCount;
-use crate::places::{MAX_PLACES, Places};
+use crate::places::{MAX_PLACES, PlaceNotes, Places};
 use crate::{Device, DeviceFault, Shows};
 use epoch::{Drained, Retired};
 use records::{PAGE_SIZE, Page};
@@ -70,7 +70,7 @@ pub(crate) enum Written {
 }
 
 impl Shows for FileReceipt {
-    ghost use Rattle.std.specs.Prelude.{◌∷◌, drop, ◌↔◌, IsTrue};
+    ghost use Rattle.std.specs.Prelude.{drop, ◌↔◌, IsTrue};
     ghost use Rattle.std.proofs.Common.{ap};
     ghost use Rattle.device.specs.Files.{place_of, receipt_number};
 
@@ -128,10 +128,13 @@ pub struct FileDevice<'a, R: Wait> {
     writes: CallCount,
     reads: CallCount,
     releases: CallCount,
+    notes: PlaceNotes,
 }
 
 impl<'a, R: Wait> FileDevice<'a, R> {
-    ghost use Rattle.device.specs.Files.{failures_of, writes_of, reads_of, releases_of};
+    ghost use Rattle.device.specs.declared.places.PlaceNote.TheVariants.{Took};
+    ghost use Rattle.device.specs.PlaceNotes.{TookNone};
+    ghost use Rattle.device.specs.Files.{failures_of, writes_of, reads_of, releases_of, notes_of};
 
     /// Creates the file at a path, or empties it, and gives `n` openings of it, which have not failed.
     ///
@@ -191,6 +194,7 @@ impl<'a, R: Wait> FileDevice<'a, R> {
                 writes: CallCount::new(),
                 reads: CallCount::new(),
                 releases: CallCount::new(),
+                notes: PlaceNotes::new(),
             }),
             Err(_) => Err(OpenFault::CannotOpen),
         }
@@ -202,20 +206,27 @@ impl<'a, R: Wait> FileDevice<'a, R> {
         ensures no_write { writes_of self.new ≡ writes_of self.old }
         ensures no_read { reads_of self.new ≡ reads_of self.old }
         ensures no_release { releases_of self.new ≡ releases_of self.old }
+        ensures no_note { notes_of self.new ≡ notes_of self.old }
     {
         self.failures.note();
         DeviceFault
     }
 
     // Writes a page to a free place.
-    fn put(&self, page: &Page) -> Option<u32>
-        ensures { IfSome result (λ place. place < MAX_PLACES) }
+    fn put(&mut self, page: &Page) -> Option<u32>
+        ensures number { IfSome result (λ place. place < MAX_PLACES) }
+        ensures taken { IfSome result (λ place. notes_of self.new ≡ Took place ∷ notes_of self.old) }
+        ensures none { IfNone result (TookNone (notes_of self.old) (notes_of self.new)) }
+        ensures no_failure { failures_of self.new ≡ failures_of self.old }
+        ensures no_write { writes_of self.new ≡ writes_of self.old }
+        ensures no_read { reads_of self.new ≡ reads_of self.old }
+        ensures no_release { releases_of self.new ≡ releases_of self.old }
     {
-        let place = self.places.lock(self.rt).take()?;
+        let place = self.places.lock(self.rt).take(&mut self.notes)?;
         if self.file.write_all_at(page.bytes(), offset(place)).is_ok() {
             return Some(place);
         }
-        self.places.lock(self.rt).give_back(place);
+        self.places.lock(self.rt).give_back(place, &mut self.notes);
         None
     }
 }
@@ -238,8 +249,10 @@ fn offset(place: u32) -> u64
 }
 
 impl<'a, R: Wait> Device for FileDevice<'a, R> {
-    ghost use Rattle.device.specs.Files.{IsServed, failures_of, writes_of, reads_of, releases_of, page_shown, receipt_number};
-    ghost use Rattle.epoch.specs.Seats.{drained_epoch, drained_of, retired_epoch, retired_of};
+    ghost use Rattle.device.specs.declared.places.PlaceNote.TheVariants.{Took, GaveBack};
+    ghost use Rattle.device.specs.PlaceNotes.{TookNone};
+    ghost use Rattle.device.specs.Files.{IsServed, failures_of, writes_of, reads_of, releases_of, notes_of, page_shown, place_of, receipt_number};
+    ghost use Rattle.epoch.specs.Seats.{drained_epoch, drained_of, retired_epoch, retired_of, retired_value};
 
     type Receipt = FileReceipt;
 
@@ -259,7 +272,17 @@ impl<'a, R: Wait> Device for FileDevice<'a, R> {
 
     ghost steady = { λ s d r. absurd s };
 
-    fn write(&mut self, page: &Page) -> Result<FileReceipt, DeviceFault> {
+    /// Takes the place of its receipt, and keeps none where it fails.
+    fn write(&mut self, page: &Page) -> Result<FileReceipt, DeviceFault>
+        ensures shown { IfOk result (λ r. page_shown r ≡ page.now) }
+        ensures taken { IfOk result (λ r. notes_of self.new ≡ Took (place_of r) ∷ notes_of self.old) }
+        ensures none_kept { OnErr result (TookNone (notes_of self.old) (notes_of self.new)) }
+        ensures failure { OnErr result (failures_of self.new ≡ failures_of self.old + 1) }
+        ensures no_failure { OnOk result (failures_of self.new ≡ failures_of self.old) }
+        ensures counted { writes_of self.new ≡ writes_of self.old + 1 }
+        ensures no_read { reads_of self.new ≡ reads_of self.old }
+        ensures no_release { releases_of self.new ≡ releases_of self.old }
+    {
         self.writes.note();
         match self.put(page) {
             Some(place) => Ok(FileReceipt {
@@ -280,6 +303,7 @@ impl<'a, R: Wait> Device for FileDevice<'a, R> {
         ensures counted { reads_of self.new ≡ reads_of self.old + 1 }
         ensures no_write { writes_of self.new ≡ writes_of self.old }
         ensures no_release { releases_of self.new ≡ releases_of self.old }
+        ensures no_note { notes_of self.new ≡ notes_of self.old }
     {
         self.reads.note();
         let read = self
@@ -299,9 +323,12 @@ impl<'a, R: Wait> Device for FileDevice<'a, R> {
         ensures no_write { writes_of self.new ≡ writes_of self.old }
         ensures no_read { reads_of self.new ≡ reads_of self.old }
         ensures counted { releases_of self.new ≡ releases_of self.old + 1 }
+        ensures given_back { notes_of self.new ≡ GaveBack (place_of (retired_value retired)) ∷ notes_of self.old }
     {
         self.releases.note();
         let receipt = retired.into_value(drained);
-        self.places.lock(self.rt).give_back(receipt.place);
+        self.places
+            .lock(self.rt)
+            .give_back(receipt.place, &mut self.notes);
     }
 }

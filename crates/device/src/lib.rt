@@ -38,7 +38,7 @@ pub use counts::CallCount;
 pub use faulty::{Faulty, FaultyReceipt};
 pub use file::{FileDevice, FileReceipt, OpenFault};
 pub use memory::{MemoryDevice, MemoryReceipt};
-pub use places::MAX_PLACES;
+pub use places::{MAX_PLACES, PlaceNote};
 pub use releasable::Releasable;
 
 /// A call of a device failed, and the opening has counted it.

@@ -1,10 +1,12 @@
 // The places of a file.
 
-ghost use Rattle.std.specs.Prelude.{◌≡◌, ◌≢◌, ◌<◌, ◌≤◌, ◌↔◌, ℕ, [], slice_get, vec_len, vec_capacity, IfOk, IfSome, IfNone, IsTrue};
+ghost use Rattle.std.specs.Prelude.{◌≡◌, ◌≢◌, ◌<◌, ◌≤◌, ◌↔◌, ℕ, [], ◌∷◌, slice_get, vec_len, vec_capacity, IfOk, IfSome, IfNone, IsTrue};
 ghost use Rattle.device.specs.declared.places.TheConstants.{MAX_PLACES};
 ghost use Rattle.device.specs.Free.{times, spare, free_places};
 
 use std::alloc::{AllocError, Global};
+use std::marker::Model;
+use std::snapshot::Snapshot;
 use std::sync::{Arc, Mutex};
 
 /// The most places of a file: as many as a store has at most, 65,536 in each of 64 stripes.
@@ -17,6 +19,61 @@ pub(crate) enum Place {
     Taken,
     /// Nothing.
     Free,
+}
+
+/// What an opening did with the list of places.
+#[derive(Clone, Copy, Drop)]
+pub enum PlaceNote {
+    /// It took this place.
+    Took(u32),
+    /// It gave this place back.
+    GaveBack(u32),
+    /// It found no place.
+    FoundNone,
+}
+
+/// What an opening did with the list of places, the newest first. The list lies under a lock, and no
+/// contract sees it there: these notes are what a contract knows of it. They are made by calls of the list
+/// alone, and are not stored.
+#[derive(Drop)]
+pub(crate) struct PlaceNotes {
+    last: Noted,
+}
+
+// A note and those before it.
+#[derive(Drop)]
+enum Noted {
+    Nothing,
+    After(PlaceNote, Snapshot<Noted>),
+}
+
+impl Model for PlaceNotes {
+    ghost use Rattle.std.specs.Prelude.{List};
+    ghost use Rattle.device.specs.declared.places.PlaceNote.{PlaceNote};
+
+    ghost Value = { List PlaceNote };
+
+    ghost use Rattle.device.specs.PlaceNotes.{notes_in};
+
+    ghost view = { λ n. notes_in n.last };
+}
+
+impl PlaceNotes {
+    /// Nothing was done yet.
+    pub(crate) fn new() -> PlaceNotes
+        ensures { result ≡ [] }
+    {
+        PlaceNotes {
+            last: Noted::Nothing,
+        }
+    }
+
+    fn add(&mut self, note: PlaceNote)
+        ensures { self.new ≡ note ∷ self.old }
+    {
+        let earlier = Snapshot::of(&self.last);
+        self.last = Noted::After(note, earlier);
+    }
 }
 
 /// The places of a file, by number. Those released are used again, the last one first, before the file
@@ -36,6 +93,7 @@ pub(crate) struct Places {
 }
 
 impl Places {
+    ghost use Rattle.device.specs.declared.places.PlaceNote.TheVariants.{Took, GaveBack, FoundNone};
     ghost use Rattle.device.specs.Places.{IsTaken, AreAllTaken, count_of, StaySame};
 
     /// No place is taken.
@@ -57,8 +115,32 @@ impl Places {
         }
     }
 
-    /// Takes a place that is free. One behind all others is taken only where no other is free.
-    pub(crate) fn take(&mut self) -> Option<u32>
+    /// Takes a place that is free, and notes it. One behind all others is taken only where no other is free.
+    pub(crate) fn take(&mut self, notes: &mut PlaceNotes) -> Option<u32>
+        ensures was_free { IfSome result (λ place. ¬ IsTaken self.old place) }
+        ensures taken { IfSome result (λ place. IsTaken self.new place) }
+        ensures others { IfSome result (λ place. StaySame place self.old self.new) }
+        ensures number { IfSome result (λ place. place < MAX_PLACES) }
+        ensures again { IfSome result (λ place. count_of self.old ≤ place → AreAllTaken self.old) }
+        ensures full { IfNone result (count_of self.old ≡ MAX_PLACES) }
+        ensures none_free { IfNone result (AreAllTaken self.old) }
+        ensures noted { IfSome result (λ place. notes.new ≡ Took place ∷ notes.old) }
+        ensures noted_none { IfNone result (notes.new ≡ FoundNone ∷ notes.old) }
+    {
+        match self.take_free() {
+            Some(place) => {
+                notes.add(PlaceNote::Took(place));
+                Some(place)
+            }
+            None => {
+                notes.add(PlaceNote::FoundNone);
+                None
+            }
+        }
+    }
+
+    // Takes a place that is free.
+    fn take_free(&mut self) -> Option<u32>
         ensures was_free { IfSome result (λ place. ¬ IsTaken self.old place) }
         ensures taken { IfSome result (λ place. IsTaken self.new place) }
         ensures others { IfSome result (λ place. StaySame place self.old self.new) }
@@ -99,8 +181,18 @@ impl Places {
         self.places.get(place as usize) == Some(&Place::Taken)
     }
 
-    /// Makes a place free. One that is free stays so.
-    pub(crate) fn give_back(&mut self, place: u32)
+    /// Makes a place free, and notes it. One that is free stays so.
+    pub(crate) fn give_back(&mut self, place: u32, notes: &mut PlaceNotes)
+        ensures free { ¬ IsTaken self.new place }
+        ensures others { StaySame place self.old self.new }
+        ensures noted { notes.new ≡ GaveBack place ∷ notes.old }
+    {
+        self.set_free(place);
+        notes.add(PlaceNote::GaveBack(place));
+    }
+
+    // Makes a place free.
+    fn set_free(&mut self, place: u32)
         ensures free { ¬ IsTaken self.new place }
         ensures others { StaySame place self.old self.new }
     {

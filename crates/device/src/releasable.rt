@@ -1,10 +1,10 @@
 // A receipt with its epoch drained.
 
-ghost use Rattle.std.specs.Prelude.{◌≡◌, ◌≢◌, ◌+◌, IfOk, IfErr, OnErr};
-ghost use Rattle.epoch.specs.Seats.{IsOutside, IsInside, WasBlocked, HasScanned, id_of, known, seat_in, stay_epoch, drained_epoch, drained_of, retired_epoch, retired_of, retired_value};
+ghost use Rattle.std.specs.Prelude.{◌≡◌, ◌≢◌, ◌+◌, ◌<◌, IfOk, IfErr};
+ghost use Rattle.epoch.specs.Seats.{WasBlocked, drained_epoch, drained_of, refusals, retired_epoch, retired_known, retired_of, retired_value};
 
 use crate::{Device, Shows};
-use epoch::{Drained, EpochSeat, Epochs, Inside, Retired};
+use epoch::{Drained, Retired};
 
 /// A retirement with its own epoch drained, by the epochs that retired it: what a device takes back.
 #[derive(Drop)]
@@ -16,52 +16,25 @@ pub struct Releasable<R> {
 }
 
 impl<R> Releasable<R> {
-    ghost use Rattle.device.specs.Releases.{released_value};
+    ghost use Rattle.device.specs.Releases.{released_value, released_epoch, released_of};
 
-    /// Drains the epoch of a retirement, by the epochs that retired it.
+    /// Drains the epoch of a retirement, by the epochs that retired it: it knows them, so no seat is wanted.
     ///
     /// # Errors
     ///
-    /// The retirement, where a word that was read blocks its epoch.
-    pub fn drain(
-        epochs: &Epochs,
-        seat: &mut EpochSeat,
-        retired: Retired<R>,
-    ) -> Result<Releasable<R>, Retired<R>>
-        requires outside { IsOutside epochs.now seat.old }
-        requires of { retired_of retired ≡ id_of epochs.now }
-        ensures outside { IsOutside epochs.now seat.new }
-        ensures told { HasScanned (known seat.old) (known seat.new) }
+    /// The retirement, where a word that was read blocks its epoch. It has the note of that word.
+    pub fn drain(retired: Retired<R>) -> Result<Releasable<R>, Retired<R>>
         ensures value { IfOk result (λ r. released_value r ≡ retired_value retired) }
-        ensures back { IfErr result (λ same. same ≡ retired) }
-        ensures blocked { OnErr result (WasBlocked (retired_epoch retired) (known seat.old) (known seat.new)) }
+        ensures epoch { IfOk result (λ r. released_epoch r ≡ retired_epoch retired) }
+        ensures of { IfOk result (λ r. released_of r ≡ retired_of retired) }
+        ensures back { IfErr result (λ same. retired_value same ≡ retired_value retired) }
+        ensures same_epoch { IfErr result (λ same. retired_epoch same ≡ retired_epoch retired) }
+        ensures same_epochs { IfErr result (λ same. retired_of same ≡ retired_of retired) }
+        ensures blocked { IfErr result (λ same. WasBlocked (retired_epoch retired) (retired_known retired) (retired_known same)) }
+        ensures refused { IfErr result (λ same. refusals retired < refusals same) }
     {
-        match epochs.drained(seat, retired.epoch()) {
-            Some(drained) => Ok(Releasable { retired, drained }),
-            None => Err(retired),
-        }
-    }
-
-    /// As [`Releasable::drain`], inside a stay, which goes on and counts as any other.
-    ///
-    /// # Errors
-    ///
-    /// As [`Releasable::drain`].
-    pub fn drain_inside(
-        epochs: &Epochs,
-        inside: &mut Inside,
-        retired: Retired<R>,
-    ) -> Result<Releasable<R>, Retired<R>>
-        requires inside { IsInside epochs.now inside.old }
-        requires of { retired_of retired ≡ id_of epochs.now }
-        ensures inside { IsInside epochs.now inside.new }
-        ensures stay { stay_epoch inside.new ≡ stay_epoch inside.old }
-        ensures told { HasScanned (known (seat_in inside.old)) (known (seat_in inside.new)) }
-        ensures value { IfOk result (λ r. released_value r ≡ retired_value retired) }
-        ensures back { IfErr result (λ same. same ≡ retired) }
-        ensures blocked { OnErr result (WasBlocked (retired_epoch retired) (known (seat_in inside.old)) (known (seat_in inside.new))) }
-    {
-        match epochs.drained_inside(inside, retired.epoch()) {
+        let mut retired = retired;
+        match retired.drained() {
             Some(drained) => Ok(Releasable { retired, drained }),
             None => Err(retired),
         }

@@ -166,12 +166,12 @@ fn release<D: Device>(
     ensures { IsOutside epochs.now seat.new }
 {
     let retired = epochs.retire(seat, receipt).ok()?;
-    let releasable = Releasable::drain(epochs, seat, retired).ok()?;
+    let releasable = Releasable::drain(retired).ok()?;
     releasable.release(device);
     Some(())
 }
 
-// Whether a receipt that was retired inside a stay is drained inside it, and once the seat stays anew.
+// Whether what was retired inside a stay is drained inside it, and once the seat stays anew.
 fn drained_inside<R: Wait, T>(
     rt: &R,
     epochs: &Epochs,
@@ -187,15 +187,14 @@ where
         let _seat = epochs.leave(inside);
         return None;
     };
-    let early = Releasable::drain_inside(epochs, &mut inside, retired);
-    let seat = epochs.leave(inside);
-    let Err(retired) = early else {
-        return Some((true, true));
+    let early = Releasable::drain(retired);
+    let inside = epochs.enter(rt, epochs.leave(inside));
+    let drained = match early {
+        Ok(_) => (true, true),
+        Err(retired) => (false, Releasable::drain(retired).is_ok()),
     };
-    let mut inside = epochs.enter(rt, seat);
-    let late = Releasable::drain_inside(epochs, &mut inside, retired);
     let _seat = epochs.leave(inside);
-    Some((false, late.is_ok()))
+    Some(drained)
 }
 
 // The same with epochs of its own.

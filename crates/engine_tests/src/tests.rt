@@ -326,6 +326,32 @@ fn one_key_with_each_growth_refused(rt: HostRuntime) -> Result<(), Fail> {
 }
 
 #[test]
+fn old_values_with_each_growth_refused(rt: HostRuntime) -> Result<(), Fail> {
+    let text = "GET key-of-more-than-22-bytes -> null\n\
+        SET key-of-more-than-22-bytes one-of-more-than-22-bytes GET XX -> null -> null\n\
+        SET key-of-more-than-22-bytes one-of-more-than-22-bytes GET -> null -> $one-of-more-than-22-bytes\n\
+        SET key-of-more-than-22-bytes two-of-more-than-22-bytes NX GET -> $one-of-more-than-22-bytes -> $one-of-more-than-22-bytes\n\
+        SET key-of-more-than-22-bytes two-of-more-than-22-bytes get -> $one-of-more-than-22-bytes -> $two-of-more-than-22-bytes\n\
+        SET key-of-more-than-22-bytes 3 GET XX -> $two-of-more-than-22-bytes -> $3";
+    all_answered(&rt, rt.alloc(), text)
+}
+
+#[test]
+fn renamed_keys_with_each_growth_refused(rt: HostRuntime) -> Result<(), Fail> {
+    let text =
+        "MGET key-of-more-than-22-bytes the-second-of-these-keys the-third-of-these-keys -> null null null\n\
+        RENAME key-of-more-than-22-bytes the-second-of-these-keys -> -ERR no such key -> null null null\n\
+        MSET key-of-more-than-22-bytes one-of-more-than-22-bytes the-second-of-these-keys 2 \
+        -> +OK -> $one-of-more-than-22-bytes $2 null\n\
+        RENAME key-of-more-than-22-bytes key-of-more-than-22-bytes -> +OK -> $one-of-more-than-22-bytes $2 null\n\
+        RENAME key-of-more-than-22-bytes the-third-of-these-keys -> +OK -> null $2 $one-of-more-than-22-bytes\n\
+        RENAME the-third-of-these-keys the-second-of-these-keys -> +OK -> null $one-of-more-than-22-bytes null\n\
+        RENAME the-third-of-these-keys the-second-of-these-keys -> -ERR no such key -> null $one-of-more-than-22-bytes null\n\
+        RENAME the-second-of-these-keys key-of-more-than-22-bytes -> +OK -> $one-of-more-than-22-bytes null null";
+    all_answered(&rt, rt.alloc(), text)
+}
+
+#[test]
 fn growing_values_with_each_growth_refused(rt: HostRuntime) -> Result<(), Fail> {
     let text = "GET key-of-more-than-22-bytes -> null\n\
         SETRANGE key-of-more-than-22-bytes 0  -> :0 -> null\n\
@@ -691,8 +717,8 @@ fn count_up<R: Wait>(
     (pass, done)
 }
 
-/// Whether no addition is lost where two threads make these requests, of which there are `count`: the
-/// reading is answered as is due then.
+/// Whether no addition is lost where two threads make these requests, of which there are `count`: by either pass the
+/// reading is answered as is due then, once both have met.
 fn counts_to<R: Threads + Wait + Sync>(
     rt: &R,
     alloc: Global,
@@ -702,7 +728,7 @@ fn counts_to<R: Threads + Wait + Sync>(
 ) -> Result<bool, OutOfMemory> {
     let (engine, one, two) = with_two(alloc)?;
     let shared = &engine;
-    let ((mut first, a), (second, b)) = join(
+    let ((mut first, a), (mut second, b)) = join(
         rt,
         move || -> (Pass<MemoryDevice>, u64)
             requires { Rests ⊤ shared.now one }
@@ -713,8 +739,9 @@ fn counts_to<R: Threads + Wait + Sync>(
             ensures { Rests ⊤ shared.entry.now result.0 }
         { count_up(rt, alloc, shared, two, requests) },
     );
-    drop(second);
-    let is_all = is_due(rt, alloc, &Open, &engine, &mut first, reading);
+    engine.meet(&mut first, &mut second);
+    let is_all = is_due(rt, alloc, &Open, &engine, &mut first, reading)
+        && is_due(rt, alloc, &Open, &engine, &mut second, reading);
     Ok(a == b && a.checked_div(count) == Some(TIMES) && is_all)
 }
 
@@ -1019,6 +1046,44 @@ fn exec_is_null_where_another_pass_wrote_the_watched_key(rt: HostRuntime) {
     let request = "SET k value";
     let due = "+OK";
     assert!(rt; null_of_new(&rt, rt.alloc(), Exchange { request, due }) == Some(true));
+}
+
+/// The same, where the second pass made a call before the watch began.
+fn null_after_two<R: Wait>(
+    rt: &R,
+    alloc: Global,
+    before: Exchange<'_>,
+    exchange: Exchange<'_>,
+) -> Option<bool> {
+    let key = Word::from_slice(alloc, b"k").ok()?;
+    let (engine, mut first, mut second) = with_two(alloc).ok()?;
+    if !is_due(rt, alloc, &Open, &engine, &mut second, before) {
+        return None;
+    }
+    null_after(rt, alloc, &engine, &mut first, &mut second, &key, exchange)
+}
+
+/// What a RENAME by another pass is answered after SET of a key, and whether it writes the key `k`, which is watched
+/// between them.
+const RENAMES: [(&str, &str, &str, bool); 6] = [
+    ("SET k value", "RENAME k j", "+OK", true),
+    ("SET j value", "RENAME j k", "+OK", true),
+    ("SET k value", "RENAME k k", "+OK", false),
+    ("SET j value", "RENAME k j", "-ERR no such key", false),
+    ("SET k value", "RENAME j k", "-ERR no such key", false),
+    ("SET j value", "RENAME j i", "+OK", false),
+];
+
+#[test]
+fn exec_goes_by_what_another_pass_renamed(rt: HostRuntime) {
+    for (set, request, due, is_written) in RENAMES {
+        let before = Exchange {
+            request: set,
+            due: "+OK",
+        };
+        let null = null_after_two(&rt, rt.alloc(), before, Exchange { request, due });
+        assert!(rt; null == Some(is_written), "{set} {request}");
+    }
 }
 
 #[test]

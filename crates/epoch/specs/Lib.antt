@@ -1,4 +1,5 @@
 pub mod Clear
 pub mod Rule
 pub mod Plays
+pub mod Words
 pub mod Seats

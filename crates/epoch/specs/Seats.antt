@@ -1,5 +1,6 @@
 -- Seats, stays, retirements and drained epochs, as contracts name them.
-use Rattle.std.specs.Prelude.{◌≡◌, ℕ, ◌+◌, ◌<◌, ◌≤◌, List, [], ◌∷◌, ◌++◌, true, false, slice_index}
+use Rattle.std.specs.Prelude.{◌≡◌, ℕ, ◌+◌, ◌<◌, ◌≤◌, List, [], ◌∷◌, ◌++◌, true, false, nat_eq, nat_lt, cond, slice_index}
+use Rattle.std.specs.Arc.{arc_value}
 use mathlib.Core.Option.{some}
 use lib.ListN.{get_elem?}
 use Rattle.atomic_table.specs.Table.{State}
@@ -7,6 +8,7 @@ use Rattle.atomic_table.specs.Seated.{TableId}
 use Rattle.epoch.specs.declared.view.View.{View}
 use Rattle.epoch.specs.declared.view.Note.{Note}
 use Rattle.epoch.specs.declared.view.Note.TheVariants.{Epoch, Word, Worn}
+use Rattle.epoch.specs.declared.words.EpochWords.{EpochWords}
 use Rattle.epoch.specs.declared.epochs.Epochs.{Epochs}
 use Rattle.epoch.specs.declared.epochs.EpochsName.{EpochsName}
 use Rattle.epoch.specs.declared.epochs.EpochSeat.{EpochSeat}
@@ -15,10 +17,15 @@ use Rattle.epoch.specs.declared.epochs.Drained.{Drained}
 use Rattle.epoch.specs.declared.epochs.Retired.{Retired}
 use Rattle.epoch.specs.Clear.{Clear}
 use Rattle.epoch.specs.Rule.{Ruled, StayAt, advances_of, epoch_word, total, word_of}
+use Rattle.epoch.specs.Words.{id_in, words_from}
+
+-- the words of epochs
+abbrev pub words_of : Epochs → EpochWords
+words_of epochs = arc_value epochs.words
 
 -- which epochs they are
 abbrev pub id_of : Epochs → TableId
-id_of epochs = epochs.table.shared.table_id
+id_of epochs = id_in (words_of epochs)
 
 -- which epochs a name is of
 abbrev pub named_by : EpochsName → TableId
@@ -26,7 +33,7 @@ named_by name = id_of name.named.value
 
 -- how many seats they have
 abbrev pub seats_of : Epochs → ℕ
-seats_of epochs = epochs.seats
+seats_of epochs = (words_of epochs).seats
 
 -- At each moment between two steps the epoch word is 1 and the advances of all seats.
 abbrev pub CountsAdvances : Epochs → Type 0
@@ -52,7 +59,8 @@ stay_epoch inside = (known inside.seat).own
 -- the seat is one of these epochs
 pub record IsSeatOf (epochs : Epochs) (seat : EpochSeat) : Type 0 where
   pub table : seat.seat.table_id ≡ id_of epochs
-  pub below : seat.number < epochs.seats
+  pub handles : id_in (words_from seat.handles) ≡ id_of epochs
+  pub below : seat.number < seats_of epochs
   pub first : (known seat).first ≡ seat.number
   pub single : (known seat).count ≡ 1
   pub armed : seat.armed ≡ (known seat).armed
@@ -105,6 +113,17 @@ Blocks e (Epoch found) = found ≤ e
 Blocks e (Word number found) = (1 ≤ found) × (found ≤ e)
 Blocks e Worn = ⊥
 
+-- 1 where a note blocks e, else 0
+abbrev pub one_if_blocks : ℕ → Note → ℕ
+one_if_blocks e (Epoch found) = cond (nat_lt e found) 0 1
+one_if_blocks e (Word number found) = cond (nat_eq found 0) 0 (cond (nat_lt e found) 0 1)
+one_if_blocks e Worn = 0
+
+-- how many of these notes block e
+abbrev pub blocks_in : ℕ → List Note → ℕ
+blocks_in e [] = 0
+blocks_in e (note ∷ notes) = one_if_blocks e note + blocks_in e notes
+
 -- the seat scanned, and the last word that it read blocks e
 pub record WasBlocked (e : ℕ) (before later : View) : Type 0 where
   pub advanced : later.advanced ≡ before.advanced
@@ -118,6 +137,10 @@ pub record HasScanned (before later : View) : Type 0 where
   pub advanced : later.advanced ≡ before.advanced
   pub more : List Note
   pub notes : later.notes ≡ more ++ before.notes
+
+-- nothing differs but what the seat has scanned, and was told
+abbrev pub OnlyScanned : (before later : View) → Type 0
+OnlyScanned before later = later ≡ record before { bound = later.bound; passed = later.passed; notes = later.notes }
 
 -- the own word and the stay are the same
 pub record KeepsStay (before later : View) : Type 0 where
@@ -141,10 +164,14 @@ abbrev pub drained_epoch : Drained → ℕ
 drained_epoch drained = drained.epoch
 
 -- The drained epoch is clear at each moment between two steps from the scan's end on: the view behind it stays as it is.
-abbrev pub StaysClear : Epochs → Drained → Type 0
-StaysClear epochs drained =
-    (s : State ℕ View) → Ruled (seats_of epochs) s → get_elem? s.views drained.seat.id ≡ some drained.seat.me.0
+abbrev pub StaysClearIn : EpochWords → Drained → Type 0
+StaysClearIn words drained =
+    (s : State ℕ View) → Ruled words.seats s → get_elem? s.views drained.seat.id ≡ some drained.seat.me.0
     → Clear (slice_index s.words epoch_word) (drained_epoch drained) (StayAt s.views)
+
+-- the same, by the words of epochs
+abbrev pub StaysClear : Epochs → Drained → Type 0
+StaysClear epochs drained = StaysClearIn (words_of epochs) drained
 
 module _ {U : Type 0} where
   -- which epochs a retirement is one of
@@ -159,7 +186,15 @@ module _ {U : Type 0} where
   abbrev pub retired_value : Retired U → U
   retired_value retired = retired.value
 
-  -- The epoch of the stamp is over at each moment between two steps from the retirement on: the view behind it stays as it is.
+  -- what its token knows
+  abbrev pub retired_known : Retired U → View
+  retired_known retired = retired.seat.me.0
+
+  -- how often it has read a word that blocks its epoch
+  abbrev pub refusals : Retired U → ℕ
+  refusals retired = blocks_in (retired_epoch retired) (retired_known retired).notes
+
+  -- The epoch of the stamp is over at each moment between two steps at which the view behind it is as it is here.
   abbrev pub StaysOver : Epochs → Retired U → Type 0
   StaysOver epochs retired =
       (s : State ℕ View) → Ruled (seats_of epochs) s → get_elem? s.views retired.seat.id ≡ some retired.seat.me.0

@@ -2,34 +2,28 @@
 
 ghost use Rattle.std.specs.Prelude.{◌≡◌, ◌+◌, ◌*◌, ◌^◌, ◌<◌, ◌≤◌, ◌∷◌, [], ℕ, true, false, All, IsTrue, IsFalse, IfOk, OnOk, OnErr, IfErr, IfSome, IfNone, vec_len, vec_capacity};
 ghost use Rattle.epoch.specs.Rule.{word_of, newest};
+ghost use Rattle.epoch.specs.Words.{id_in, words_by};
 
+use crate::handle::{Handle, Handles};
 use crate::rule::{
-    Advance, Arm, Begin, ClearOwn, Compare, Deal, Learn, Pass, SafeEpochs, SetOwn, Tell, Validate,
+    Advance, Arm, ClearOwn, Compare, Deal, Learn, SafeEpochs, SetOwn, Tell, Validate,
 };
 use crate::view::View;
-use atomic_table::{Seat, Table};
+use crate::words::{EPOCH, EpochWords, word_index};
+use atomic_table::{Seat, Shared, Table};
 use crossbeam_utils::Backoff;
 use std::alloc::{AllocError, Global};
 use std::snapshot::Snapshot;
-use std::sync::Wait;
-
-/// The table's word that counts epochs.
-const EPOCH: usize = 0;
+use std::sync::{Arc, Wait};
 
 /// The epoch is not advanced where the epoch word is read as this or more.
 const EPOCH_LIMIT: u64 = 1 << 62;
 
-/// The words between the word of one seat and that of the next: they lie on cache lines of their own.
-const STRIDE: usize = 16;
-
-/// The epoch word, which starts at 1, and a word for each seat. Threads share it by reference.
+/// The epoch word, which starts at 1, and a word for each seat. Threads share it by reference. The words
+/// stay as long as these epochs, a seat of theirs or a retirement does.
 #[derive(Drop)]
 pub struct Epochs {
-    pub(crate) table: Table<u8, View, u64, SafeEpochs, Global>,
-    pub(crate) seats: usize,
-    ghost sized: { table.shared.table_id.words ≡ word_of seats },
-    ghost keyed: { table.shared.key ≡ seats },
-    ghost small: { seats < 2 ^ 32 },
+    pub(crate) words: Arc<EpochWords>,
 }
 
 /// The right to enter an epoch, to retire and to drain, for one thread at a time.
@@ -41,6 +35,8 @@ pub struct EpochSeat {
     /// Whether an advance needs no look at the epoch word first.
     pub(crate) armed: bool,
     pub(crate) seat: Seat<u8, View>,
+    /// Makes the handles of what it retires.
+    pub(crate) handles: Handles,
 }
 
 /// Which epochs some are, to a contract: what was retired and is kept beside a name can be known to belong
@@ -56,14 +52,17 @@ pub struct Inside {
 }
 
 /// A value that was taken out of use, stamped with an epoch that is over. It comes out with that epoch
-/// drained, and in no other way.
+/// drained, and in no other way. It knows its epochs, so it can drain its own epoch.
 #[derive(Drop)]
 pub struct Retired<U> {
     pub(crate) value: U,
     pub(crate) epoch: u64,
     pub(crate) seat: Seat<u8, View>,
+    pub(crate) handle: Handle,
     // The epoch was advanced past it.
     ghost stamped: { newest seat.me.0.advanced ≡ epoch },
+    // Its handle is of the words that its token knows.
+    ghost own: { seat.table_id ≡ id_in (words_by handle) },
 }
 
 /// An epoch that is clear for good: the epoch word is past it, and no stay is valid at it or below.
@@ -78,17 +77,34 @@ pub struct Drained {
     ghost stands_for_none: { (seat.me.0.count ≡ 0) × (seat.me.0.armed ≡ false) × (seat.me.0.valid ≡ false) },
 }
 
-/// The table's word of a seat.
-fn word_index(number: usize) -> usize
-    requires { number < 2 ^ 32 }
-    ensures { result ≡ word_of number }
-{
-    STRIDE * (number + 1)
+impl EpochWords {
+    ghost use Rattle.epoch.specs.Seats.{OnlyScanned, HasScanned, WasBlocked, StaysClearIn, drained_of, drained_epoch};
+
+    /// Scans, and makes a token where no word that was read blocks the epoch.
+    fn drain(&self, seat: &mut Seat<u8, View>, e: u64) -> Option<Drained>
+        requires { seat.old.table_id ≡ id_in self.now }
+        ensures table { seat.new.table_id ≡ seat.old.table_id }
+        ensures only { OnlyScanned seat.old.me.0 seat.new.me.0 }
+        ensures told { HasScanned seat.old.me.0 seat.new.me.0 }
+        ensures of { IfSome result (λ drained. drained_of drained ≡ seat.old.table_id) }
+        ensures epoch { IfSome result (λ drained. drained_epoch drained ≡ e) }
+        ensures clear { IfSome result (λ drained. StaysClearIn self.now drained) }
+        ensures none { IfNone result (WasBlocked e seat.old.me.0 seat.new.me.0) }
+    {
+        if !self.scan(seat, e) {
+            return None;
+        }
+        let token = self.table.shared.split_seat::<Tell>(seat);
+        Some(Drained {
+            epoch: e,
+            seat: token,
+        })
+    }
 }
 
 impl Epochs {
     ghost use Rattle.epoch.specs.Plays.{unmet};
-    ghost use Rattle.epoch.specs.Seats.{id_of, named_by, seats_of, CountsAdvances, known, seat_in, stay_epoch, IsSeatOf, IsOutside, IsInside, KnowsNothing, KnowsTheSame, AdvancedPast, WasWorn, WasBlocked, KeepsStay, IsScanning, drained_of, drained_epoch, retired_of, retired_epoch, retired_value, StaysIn, StaysClear, StaysOver, HasScanned};
+    ghost use Rattle.epoch.specs.Seats.{id_of, named_by, seats_of, CountsAdvances, known, seat_in, stay_epoch, IsSeatOf, IsOutside, IsInside, KnowsNothing, KnowsTheSame, AdvancedPast, WasWorn, WasBlocked, KeepsStay, drained_of, drained_epoch, retired_of, retired_epoch, retired_value, StaysIn, StaysClear, StaysOver, HasScanned};
 
     /// Epochs with so many seats, and the seats. The present epoch is 1, and each advance adds 1 to it.
     ///
@@ -107,9 +123,29 @@ impl Epochs {
         words[EPOCH] = 1;
         let dealt = Vec::with_capacity(alloc, seats)?;
         let (table, seat) = Table::of_words(alloc, words.as_slice(), &(seats as u64))?;
-        let epochs = Epochs { table, seats };
-        let dealt = epochs.deal(seat, dealt);
+        let epochs = Epochs::of(alloc, EpochWords { table, seats })?;
+        let dealt = epochs.deal(alloc, seat, dealt)?;
         Ok((epochs, dealt))
+    }
+
+    /// Epochs by these words.
+    fn of(alloc: Global, words: EpochWords) -> Result<Epochs, AllocError>
+        ensures id { IfOk result (λ epochs. id_of epochs ≡ id_in words) }
+        ensures seats { IfOk result (λ epochs. seats_of epochs ≡ words.seats) }
+    {
+        match Arc::new(alloc, words) {
+            Ok(words) => Ok(Epochs { words }),
+            Err(_) => Err(AllocError),
+        }
+    }
+
+    /// The table of the words.
+    fn shared(&self) -> &Shared<u8, View, u64, SafeEpochs>
+        ensures id { result.now.table_id ≡ id_of self.now }
+        ensures wide { result.now.table_id.words ≡ word_of (seats_of self.now) }
+        ensures few { seats_of self.now < 2 ^ 32 }
+    {
+        &self.words.table.shared
     }
 
     /// The name of these epochs.
@@ -122,27 +158,35 @@ impl Epochs {
     }
 
     /// Deals out the seats.
-    fn deal(&self, seat: Seat<u8, View>, mut dealt: Vec<EpochSeat>) -> Vec<EpochSeat>
+    fn deal(
+        &self,
+        alloc: Global,
+        seat: Seat<u8, View>,
+        mut dealt: Vec<EpochSeat>,
+    ) -> Result<Vec<EpochSeat>, AllocError>
         requires table { seat.table_id ≡ id_of self.now }
         requires all { seat.me ≡ (unmet (seats_of self.now), []) }
         requires none { dealt.items ≡ [] }
         requires room { seats_of self.now ≤ vec_capacity dealt }
-        ensures count { vec_len result ≡ seats_of self.now }
-        ensures outside { All (IsOutside self.now) result.items }
-        ensures nothing { All KnowsNothing result.items }
+        ensures count { IfOk result (λ dealt. vec_len dealt ≡ seats_of self.now) }
+        ensures outside { IfOk result (λ dealt. All (IsOutside self.now) dealt.items) }
+        ensures nothing { IfOk result (λ dealt. All KnowsNothing dealt.items) }
     {
+        let seats = self.words.seats;
         let mut others = seat;
-        for number in 0..self.seats {
+        for number in 0..seats {
+            let handles = Handles::of(alloc, &self.words)?;
             let mut seat = others;
-            others = self.table.shared.split_seat::<Deal>(&mut seat);
+            others = self.shared().split_seat::<Deal>(&mut seat);
             dealt.push_reserved(EpochSeat {
                 number,
                 last: 1,
                 armed: false,
                 seat,
+                handles,
             });
         }
-        dealt
+        Ok(dealt)
     }
 
     /// Sets the own word to the epoch last seen, and says whether the epoch word was read as the same.
@@ -152,7 +196,7 @@ impl Epochs {
         ensures valid { IsTrue result → (known seat.new).valid ≡ true }
         ensures same { KnowsTheSame (known seat.old) (known seat.new) }
     {
-        let shared = &self.table.shared;
+        let shared = self.shared();
         shared.store::<SetOwn>(&mut seat.seat, word_index(seat.number), seat.last);
         let found = shared.load::<Validate>(&mut seat.seat, EPOCH);
         if found == seat.last {
@@ -188,9 +232,8 @@ impl Epochs {
         ensures same { KnowsTheSame (known (seat_in inside)) (known result) }
     {
         let Inside { mut seat } = inside;
-        self.table
-            .shared
-            .store::<ClearOwn>(&mut seat.seat, word_index(seat.number), 0);
+        let word = word_index(seat.number);
+        self.shared().store::<ClearOwn>(&mut seat.seat, word, 0);
         seat
     }
 
@@ -205,7 +248,7 @@ impl Epochs {
         if seat.armed {
             return true;
         }
-        if self.table.shared.load::<Arm>(&mut seat.seat, EPOCH) >= EPOCH_LIMIT {
+        if self.shared().load::<Arm>(&mut seat.seat, EPOCH) >= EPOCH_LIMIT {
             return false;
         }
         seat.armed = true;
@@ -223,10 +266,7 @@ impl Epochs {
         if !self.arm(seat) {
             return None;
         }
-        let found = self
-            .table
-            .shared
-            .fetch_add::<Advance>(&mut seat.seat, EPOCH, 1);
+        let found = self.shared().fetch_add::<Advance>(&mut seat.seat, EPOCH, 1);
         seat.armed = found < EPOCH_LIMIT;
         Some(found)
     }
@@ -245,11 +285,12 @@ impl Epochs {
     {
         match self.advance(seat) {
             Some(epoch) => {
-                let token = self.table.shared.split_seat::<Tell>(&mut seat.seat);
+                let token = self.shared().split_seat::<Tell>(&mut seat.seat);
                 Ok(Retired {
                     value,
                     epoch,
                     seat: token,
+                    handle: seat.handles.next(),
                 })
             }
             None => Err(value),
@@ -275,54 +316,7 @@ impl Epochs {
         self.stamp(seat, value)
     }
 
-    /// Reads the epoch word. Where it is not past the epoch, the scan is over.
-    fn begin(&self, seat: &mut EpochSeat, e: u64) -> bool
-        requires { IsSeatOf self.now seat.old }
-        ensures seat { IsSeatOf self.now seat.new }
-        ensures stay { KeepsStay (known seat.old) (known seat.new) }
-        ensures past { IsTrue result → IsScanning e 0 (known seat.old) (known seat.new) }
-        ensures blocked { IsFalse result → WasBlocked e (known seat.old) (known seat.new) }
-    {
-        self.table.shared.load::<Begin>(&mut seat.seat, EPOCH) > e
-    }
-
-    /// Reads the word of the next seat. Where it is set at the epoch or below, the scan is over.
-    fn pass(&self, seat: &mut EpochSeat, number: usize, e: u64) -> bool
-        requires seat { IsSeatOf self.now seat.old }
-        requires next { (known seat.old).passed ≡ number }
-        requires below { number < seats_of self.now }
-        requires above { e < (known seat.old).bound }
-        ensures seat { IsSeatOf self.now seat.new }
-        ensures stay { KeepsStay (known seat.old) (known seat.new) }
-        ensures past { IsTrue result → IsScanning e (number + 1) (known seat.old) (known seat.new) }
-        ensures blocked { IsFalse result → WasBlocked e (known seat.old) (known seat.new) }
-    {
-        let word = word_index(number);
-        let found = self.table.shared.load::<Pass>(&mut seat.seat, word);
-        found == 0 || found > e
-    }
-
-    /// Reads the epoch word, and then each seat's word, as far as all of them are past the epoch.
-    fn scan(&self, seat: &mut EpochSeat, e: u64) -> bool
-        requires { IsSeatOf self.now seat.old }
-        ensures seat { IsSeatOf self.now seat.new }
-        ensures stay { KeepsStay (known seat.old) (known seat.new) }
-        ensures past { IsTrue result → IsScanning e (seats_of self.now) (known seat.old) (known seat.new) }
-        ensures blocked { IsFalse result → WasBlocked e (known seat.old) (known seat.new) }
-    {
-        if !self.begin(seat, e) {
-            return false;
-        }
-        let seats = self.seats;
-        for number in 0..seats {
-            if !self.pass(seat, number, e) {
-                return false;
-            }
-        }
-        true
-    }
-
-    /// Scans, and makes a token where no word that was read blocks the epoch.
+    /// The same by a seat of these epochs.
     fn drain(&self, seat: &mut EpochSeat, e: u64) -> Option<Drained>
         requires { IsSeatOf self.now seat.old }
         ensures seat { IsSeatOf self.now seat.new }
@@ -333,14 +327,7 @@ impl Epochs {
         ensures clear { IfSome result (λ drained. StaysClear self.now drained) }
         ensures none { IfNone result (WasBlocked e (known seat.old) (known seat.new)) }
     {
-        if !self.scan(seat, e) {
-            return None;
-        }
-        let token = self.table.shared.split_seat::<Tell>(&mut seat.seat);
-        Some(Drained {
-            epoch: e,
-            seat: token,
-        })
+        self.words.drain(&mut seat.seat, e)
     }
 
     /// Reads the epoch word and each seat's word, and tells that `e` is clear for good: the epoch is past it,
@@ -402,7 +389,7 @@ impl Epochs {
         ensures stay { stay_epoch inside.new ≡ stay_epoch inside.old }
         ensures apart { drained_epoch drained.new < stay_epoch inside.new }
     {
-        let shared = &self.table.shared;
+        let shared = self.shared();
         let token = shared.split_seat::<Tell>(&mut drained.seat);
         shared.join_seat::<Learn>(&mut inside.seat.seat, token);
         shared.load::<Compare>(&mut inside.seat.seat, EPOCH);
@@ -423,13 +410,31 @@ pub trait Wraps {
 }
 
 impl<U> Retired<U> {
-    ghost use Rattle.epoch.specs.Seats.{retired_epoch, retired_of, retired_value, drained_epoch, drained_of};
+    ghost use Rattle.epoch.specs.declared.epochs.Epochs.{Epochs};
+    ghost use Rattle.epoch.specs.Seats.{retired_epoch, retired_of, retired_value, retired_known, refusals, drained_epoch, drained_of, id_of, HasScanned, StaysClear, StaysOver, WasBlocked};
 
     /// The epoch of the stamp.
     pub fn epoch(&self) -> u64
         ensures { result ≡ retired_epoch self.now }
     {
         self.epoch
+    }
+
+    /// As [`Epochs::drained`] of its own epoch, by the epochs that retired it: what retired it knows them,
+    /// and wants no seat. Where it is refused, the note of the word that was read stays with it.
+    pub fn drained(&mut self) -> Option<Drained>
+        ensures value { retired_value self.new ≡ retired_value self.old }
+        ensures stamp { retired_epoch self.new ≡ retired_epoch self.old }
+        ensures same_epochs { retired_of self.new ≡ retired_of self.old }
+        ensures over { (epochs : Epochs) → StaysOver epochs self.new }
+        ensures told { HasScanned (retired_known self.old) (retired_known self.new) }
+        ensures of { IfSome result (λ drained. drained_of drained ≡ retired_of self.old) }
+        ensures epoch { IfSome result (λ drained. drained_epoch drained ≡ retired_epoch self.old) }
+        ensures clear { (epochs : Epochs) → id_of epochs ≡ retired_of self.old → IfSome result (λ drained. StaysClear epochs drained) }
+        ensures none { IfNone result (WasBlocked (retired_epoch self.old) (retired_known self.old) (retired_known self.new)) }
+        ensures refused { IfNone result (refusals self.old < refusals self.new) }
+    {
+        self.handle.words().drain(&mut self.seat, self.epoch)
     }
 
     /// The value, for use anew, since its epoch is drained, by the epochs that retired it.
@@ -442,6 +447,7 @@ impl<U> Retired<U> {
             value,
             epoch: _,
             seat: _,
+            handle: _,
         } = self;
         value
     }
@@ -449,20 +455,28 @@ impl<U> Retired<U> {
 
 impl<U: Wraps> Retired<U> {
     ghost use Rattle.epoch.specs.declared.epochs.Epochs.{Epochs};
-    ghost use Rattle.epoch.specs.Seats.{retired_epoch, retired_of, retired_value, StaysOver};
+    ghost use Rattle.epoch.specs.Seats.{retired_epoch, retired_of, retired_value, retired_known, StaysOver};
 
     /// Takes the wrapper off the value, which stays retired as it is.
     pub fn into_inner(self) -> Retired<U::Inner>
         ensures value { retired_value result ≡ U.inner (retired_value self) }
         ensures epoch { retired_epoch result ≡ retired_epoch self }
         ensures of { retired_of result ≡ retired_of self }
+        ensures known { retired_known result ≡ retired_known self }
         ensures over { (epochs : Epochs) → StaysOver epochs self → StaysOver epochs result }
     {
-        let Retired { value, epoch, seat } = self;
-        Retired {
-            value: value.into_inner(),
+        let Retired {
+            value,
             epoch,
             seat,
+            handle,
+        } = self;
+        let value = value.into_inner();
+        Retired {
+            value,
+            epoch,
+            seat,
+            handle,
         }
     }
 }

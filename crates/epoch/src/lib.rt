@@ -11,7 +11,9 @@
 #![tactic(auto)]
 
 pub mod epochs;
+mod handle;
 mod rule;
 pub mod view;
+mod words;
 
 pub use epochs::{Drained, EpochSeat, Epochs, EpochsName, Inside, Retired, Wraps};

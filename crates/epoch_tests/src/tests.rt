@@ -109,6 +109,58 @@ fn retire_before_a_stay<R: Wait>(
     })
 }
 
+/// The same as [`retire_beside_a_stay`], where the retirement drains its own epoch.
+fn drain_itself_beside_a_stay<R: Wait>(
+    rt: &R,
+    epochs: &Epochs,
+    reader: EpochSeat,
+    cleaner: &mut EpochSeat,
+) -> Option<Course>
+    requires reader { IsOutside epochs.now reader }
+    requires cleaner { IsOutside epochs.now cleaner.old }
+{
+    let inside = epochs.enter(rt, reader);
+    let Ok(mut retired) = epochs.retire(cleaner, 7) else {
+        let _reader = epochs.leave(inside);
+        return None;
+    };
+    let early = retired.drained().is_some();
+    let _reader = epochs.leave(inside);
+    let late = retired.drained();
+    Some(Course {
+        stamp: retired.epoch(),
+        drained: (early, late.is_some()),
+        value: value_of(retired, late),
+    })
+}
+
+/// The same as [`retire_before_a_stay`], where the retirement drains its own epoch.
+fn drain_itself_before_a_stay<R: Wait>(
+    rt: &R,
+    epochs: &Epochs,
+    reader: EpochSeat,
+    cleaner: &mut EpochSeat,
+) -> Option<Course>
+    requires reader { IsOutside epochs.now reader }
+    requires cleaner { IsOutside epochs.now cleaner.old }
+{
+    let Ok(mut retired) = epochs.retire(cleaner, 8) else {
+        return None;
+    };
+    let mut inside = epochs.enter(rt, reader);
+    let mut drained = retired.drained();
+    if let Some(drained) = &mut drained {
+        epochs.compare(&mut inside, drained);
+    }
+    let again = retired.drained().is_some();
+    let _reader = epochs.leave(inside);
+    Some(Course {
+        stamp: retired.epoch(),
+        drained: (drained.is_some(), again),
+        value: value_of(retired, drained),
+    })
+}
+
 /// A seat retires inside a stay of its own, and enters anew after the first try to drain.
 fn retire_inside_a_stay<R: Wait>(rt: &R, epochs: &Epochs, seat: EpochSeat) -> Option<Course>
     requires { IsOutside epochs.now seat }
@@ -147,6 +199,32 @@ fn a_stay_keeps_its_epoch_until_it_ends(rt: HostRuntime) -> Result<(), Fail> {
 fn a_stay_after_the_advance_keeps_nothing(rt: HostRuntime) -> Result<(), Fail> {
     let (epochs, reader, mut cleaner, _) = opened(rt.alloc())?.ok_or("no seats")?;
     let course = retire_before_a_stay(&rt, &epochs, reader, &mut cleaner);
+    let wanted = Course {
+        stamp: 1,
+        drained: (true, true),
+        value: Some(8),
+    };
+    assert!(rt; course == Some(wanted));
+    Ok(())
+}
+
+#[test]
+fn a_retirement_waits_for_a_stay(rt: HostRuntime) -> Result<(), Fail> {
+    let (epochs, reader, mut cleaner, _) = opened(rt.alloc())?.ok_or("no seats")?;
+    let course = drain_itself_beside_a_stay(&rt, &epochs, reader, &mut cleaner);
+    let wanted = Course {
+        stamp: 1,
+        drained: (false, true),
+        value: Some(7),
+    };
+    assert!(rt; course == Some(wanted));
+    Ok(())
+}
+
+#[test]
+fn a_retirement_waits_for_no_later_stay(rt: HostRuntime) -> Result<(), Fail> {
+    let (epochs, reader, mut cleaner, _) = opened(rt.alloc())?.ok_or("no seats")?;
+    let course = drain_itself_before_a_stay(&rt, &epochs, reader, &mut cleaner);
     let wanted = Course {
         stamp: 1,
         drained: (true, true),
@@ -230,6 +308,31 @@ fn keep_and_come_back(epochs: &Epochs, seat: EpochSeat, value: u64) -> Option<u6
 fn what_is_kept_beside_a_name_comes_back(rt: HostRuntime) -> Result<(), Fail> {
     let (epochs, seat, _, _) = opened(rt.alloc())?.ok_or("no seats")?;
     assert!(rt; keep_and_come_back(&epochs, seat, 7) == Some(7));
+    Ok(())
+}
+
+/// A value in a wrapper, retired by epochs that are gone with their seats.
+fn outlives_its_epochs(alloc: Global, value: u64) -> Result<Option<Retired<Wrapped>>, AllocError> {
+    let Some((epochs, mut seat, _, _)) = opened(alloc)? else {
+        return Ok(None);
+    };
+    Ok(epochs.retire(&mut seat, Wrapped { value }).ok())
+}
+
+/// Takes the wrapper off, and drains its own epoch.
+fn unwrapped_alone(retired: Retired<Wrapped>) -> Option<u64> {
+    let mut retired = retired.into_inner();
+    let drained = retired.drained();
+    value_of(retired, drained)
+}
+
+fn moves_to_a_thread<T: Send>(_value: &T) {}
+
+#[test]
+fn a_retirement_outlives_its_epochs(rt: HostRuntime) -> Result<(), Fail> {
+    let retired = outlives_its_epochs(rt.alloc(), 7)?.ok_or("no seats")?;
+    moves_to_a_thread(&retired);
+    assert!(rt; unwrapped_alone(retired) == Some(7));
     Ok(())
 }
 

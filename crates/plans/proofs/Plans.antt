@@ -4,7 +4,7 @@ use Rattle.std.proofs.Common.{◌≤◌, ◌≡◌, ◌∙◌, ℕ, Bool, true, 
 use Rattle.std.specs.Prelude.{ℤ, ◌+ℤ◌, ◌-ℤ◌}
 use Rattle.words.specs.declared.limits.TheConstants.{WEIGHT_MAX, VALUE_BYTES_MAX}
 use Rattle.words.specs.declared.command.Command.{Command}
-use Rattle.words.specs.declared.command.Command.TheVariants.{Ping, Echo, Get, Set, SetNx, GetSet, GetDel, StrLen, Exists, Del, Append, SetRange, GetRange, Add, Subtract, MGet, MSet, MSetNx, Session, Bad}
+use Rattle.words.specs.declared.command.Command.TheVariants.{Ping, Echo, Get, Set, SetGet, SetNx, GetSet, GetDel, StrLen, Exists, Del, Append, SetRange, GetRange, Add, Subtract, MGet, MSet, MSetNx, Rename, Session, Bad}
 use Rattle.words.specs.declared.reply.CommandReply.{CommandReply}
 use Rattle.words.specs.declared.reply.CommandReply.TheVariants.{One}
 use Rattle.words.specs.declared.reply.Reply.{Reply}
@@ -57,6 +57,7 @@ answer_ran (Ping text) store touches = absurd (cc touches)
 answer_ran (Echo text) store touches = absurd (cc touches)
 answer_ran (Get key) store touches = item_ran (store key)
 answer_ran (Set key value when) store touches = either_ran (allows when (store key)) _ _ refl refl
+answer_ran (SetGet key value when) store touches = item_ran (store key)
 answer_ran (SetNx key value) store touches = either_ran (is_some (store key)) _ _ refl refl
 answer_ran (GetSet key value) store touches = item_ran (store key)
 answer_ran (GetDel key) store touches = item_ran (store key)
@@ -71,6 +72,7 @@ answer_ran (Subtract key n) store touches = changed_ran key (number_at (store ke
 answer_ran (MGet keys) store touches = refl
 answer_ran (MSet settings) store touches = refl
 answer_ran (MSetNx settings) store touches = either_ran (any_there store settings) _ _ refl refl
+answer_ran (Rename key name) store touches = either_ran (is_some (store key)) _ _ refl refl
 answer_ran (Session command) store touches = absurd (cc touches)
 answer_ran (Bad refusal) store touches = absurd (cc touches)
 

@@ -22,6 +22,10 @@ module _ {R : Type 0} where
   abbrev pub shard_log : Shard R → HybridLog
   shard_log shard = shard.log
 
+  -- a shard with another log
+  abbrev pub with_log : Shard R → HybridLog → Shard R
+  with_log shard log = record shard { log = log }
+
   -- the store that a shard stands for: what each key has
   abbrev pub shard_store : Shard R → Store
   shard_store shard = contents (log_of shard.log)

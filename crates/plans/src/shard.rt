@@ -2,6 +2,9 @@
 
 ghost use Rattle.std.specs.Prelude.{◌≡◌, ◌+◌, ◌-◌, ◌<◌, ◌≤◌, ⊤, ℕ, List, None, Some, IfOk, IfErr, OnOk, OnErr, IsSome, option_map, is_none, length};
 ghost use Rattle.std.specs.Map.{update};
+ghost use Rattle.std.specs.Borrow.{sem, Lends};
+ghost use Rattle.hybrid.specs.contracts.stripe.Stripe.{the_row as log_row};
+ghost use Rattle.plans.specs.contracts.shard.Shard.{the_row};
 ghost use Rattle.std.specs.Str.{bytes_eq};
 ghost use Rattle.words.specs.Watches.{touched};
 ghost use Rattle.words.specs.declared.limits.TheConstants.{VALUE_BYTES_MAX, WEIGHT_MAX};
@@ -15,7 +18,7 @@ ghost use Rattle.hybrid.specs.Log.{Fits};
 ghost use Rattle.plans.specs.Devices.{StillServes};
 ghost use Rattle.plans.specs.Receipts.{kept_by};
 ghost use Rattle.plans.specs.Rooms.{LacksRoom, ShedsFew};
-ghost use Rattle.plans.specs.Shards.{shard_log, shard_marks, shard_store, weigh};
+ghost use Rattle.plans.specs.Shards.{shard_log, shard_marks, shard_store, weigh, with_log};
 
 use device::{Device, Shows};
 use gates::Part;
@@ -107,6 +110,21 @@ impl<R: Shows> Shard<R> {
             Lookup::Absent => Lookup::Absent,
             Lookup::Cold(number) => Lookup::Cold(number),
         }
+    }
+
+    /// Its log.
+    pub fn log(&self) -> &Stripe<R>
+        ensures { result.now ≡ shard_log self.now }
+    {
+        &self.log
+    }
+
+    /// Its log, to write to. Its marks stay as they are.
+    pub fn log_mut(&mut self) -> &mut Stripe<R>
+        ensures* writes_back { sem 𝓛 (Lends (the_row R.row R.Shows) (log_row R.row R.Shows) self.entry result (with_log self.old)) }
+        ensures log { result.now ≡ shard_log self.old }
+    {
+        &mut self.log
     }
 
     /// The receipt that is kept of a page.

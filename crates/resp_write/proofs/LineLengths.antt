@@ -2,7 +2,7 @@
 use Rattle.std.proofs.Common.{◌≤◌, length, arith, length-append, lit≤}
 use Rattle.words.specs.declared.reply.Line.{Line}
 use Rattle.words.specs.declared.reply.Line.TheVariants.{Done, Pong, Queued, Refused, Misplaced, Faulty, Malformed}
-use Rattle.words.specs.declared.reply.Refusal.TheVariants.{UnknownCommand, WrongArity, Syntax, NotAnInteger, Overflow, OffsetOutOfRange, StringTooLong, KeyTooLong, WritesTooMuch}
+use Rattle.words.specs.declared.reply.Refusal.TheVariants.{UnknownCommand, WrongArity, Syntax, NotAnInteger, Overflow, OffsetOutOfRange, StringTooLong, KeyTooLong, WritesTooMuch, NoSuchKey}
 use Rattle.words.specs.declared.reply.TransactionError.TheVariants.{NestedMulti, WatchInsideMulti, ExecWithoutMulti, DiscardWithoutMulti, TransactionAborted, TransactionTooLarge, TooManyWatchedKeys}
 use Rattle.words.specs.declared.reply.Fault.TheVariants.{OutOfMemory, DeviceFault, StoreFull, CommitsWornOut}
 use Rattle.words.specs.declared.reply.ProtocolFault.TheVariants.{ExpectedArray, BadCount, ExpectedBulk, BadLength, MissingLineEnd, RequestTooLarge}
@@ -25,6 +25,7 @@ line_text-len (Refused OffsetOutOfRange) = lit≤ tt
 line_text-len (Refused StringTooLong) = lit≤ tt
 line_text-len (Refused KeyTooLong) = lit≤ tt
 line_text-len (Refused WritesTooMuch) = lit≤ tt
+line_text-len (Refused NoSuchKey) = lit≤ tt
 line_text-len (Misplaced NestedMulti) = lit≤ tt
 line_text-len (Misplaced WatchInsideMulti) = lit≤ tt
 line_text-len (Misplaced ExecWithoutMulti) = lit≤ tt

@@ -103,7 +103,7 @@ fn bulk(alloc: Global, text: &[u8]) -> Result<Item, AllocError> {
 }
 
 /// Lines of what is done or refused.
-const ANSWERS: [(Line, &[u8]); 12] = [
+const ANSWERS: [(Line, &[u8]); 13] = [
     (Line::Done, b"+OK\r\n"),
     (Line::Pong, b"+PONG\r\n"),
     (Line::Queued, b"+QUEUED\r\n"),
@@ -140,6 +140,7 @@ const ANSWERS: [(Line, &[u8]); 12] = [
         Line::Refused(Refusal::WritesTooMuch),
         b"-ERR command writes too much\r\n",
     ),
+    (Line::Refused(Refusal::NoSuchKey), b"-ERR no such key\r\n"),
 ];
 
 #[test]

@@ -2,7 +2,7 @@
 use Rattle.std.proofs.Common.{◌≡◌, ℕ, zero, suc, ◌+◌, ◌<◌, ◌≤◌, List, [], ◌∷◌, ◌++◌, length, take, get_or, refl, sym, ap, ◌∙◌, arith, append_assoc, append-nil}
 use Rattle.std.proofs.lemmas.List.{take_more, length-take-le}
 use Rattle.words.specs.Store.{Bytes}
-use Rattle.world.specs.States.{ClientState, State, client, fresh}
+use Rattle.world_model.specs.States.{ClientState, State, client, fresh}
 use Rattle.schedules.specs.Reports.{client_line, client_lines}
 
 lines_push : (first : ℕ) (peers : List ClientState) (peer : ClientState)

@@ -3,7 +3,7 @@ use Rattle.std.specs.Prelude.{ℕ, ◌+◌, List, [], ◌∷◌, ◌++◌, lengt
 use Rattle.std.specs.Fmt.{decimal}
 use Rattle.hex.specs.Hex.{encode_lower}
 use Rattle.words.specs.Store.{Bytes}
-use Rattle.world.specs.States.{ClientState, State}
+use Rattle.world_model.specs.States.{ClientState, State}
 
 -- the line of a client: its number, a colon, all that was written to it in hexadecimal, and a line feed
 abbrev pub client_line : ℕ → Bytes → Bytes

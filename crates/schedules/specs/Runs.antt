@@ -5,9 +5,9 @@ use Rattle.words.specs.Store.{Bytes}
 use Rattle.streams.specs.declared.observed.Told.{Told}
 use Rattle.streams.specs.declared.observed.Told.TheVariants as told
 use Rattle.world_events.specs.declared.event.Event.{Event}
-use Rattle.world.specs.States.{State, start}
-use Rattle.world.specs.Turns.{Turns}
-use Rattle.world.specs.Told.{Headline}
+use Rattle.world_model.specs.States.{State, start}
+use Rattle.world_model.specs.Turns.{Turns}
+use Rattle.world_model.specs.Told.{Headline}
 use Rattle.schedules.specs.declared.fault.ReplayFault.{ReplayFault}
 use Rattle.schedules.specs.declared.fault.ReplayFault.TheVariants.{CannotRead, BadLine, OutOfMemory, CannotWrite}
 use Rattle.schedules.specs.Schedules.{IsSchedule, IsBadLine}
@@ -16,7 +16,7 @@ use Rattle.schedules.specs.Reports.{report_of}
 -- The events, in order, lead a world of these limits from its beginning to a state of which the headline holds, and this is its report.
 pub record IsOutcome (limits : Limits) (events : List Event) (report : Bytes) : Type 0 where
   pub state : State
-  pub turns : Turns (start limits.stripes limits.clients) events state
+  pub turns : Turns (start limits.stripes limits.clients limits.frames limits.places) events state
   pub headline : Headline state
   pub told : report ≡ report_of state
 

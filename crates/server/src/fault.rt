@@ -2,6 +2,7 @@
 
 ghost use Rattle.std.specs.Prelude.{◌≡◌};
 
+use device::OpenFault;
 use std::alloc::AllocError;
 use std::thread::SpawnError;
 use thiserror::Error;
@@ -12,6 +13,9 @@ pub enum ServerFault {
     /// The address can't be listened on, as where another process listens on it.
     #[error("garnetd: cannot listen")]
     CannotListen,
+    /// The file of the device can't be made or emptied, as where its folder does not exist.
+    #[error("garnetd: cannot open device")]
+    CannotOpenDevice,
     /// The system gives no further connection, as where the process has too many files open.
     #[error("garnetd: cannot accept")]
     CannotAccept,
@@ -27,6 +31,19 @@ impl From<AllocError> for ServerFault {
 
     fn from(_error: AllocError) -> ServerFault {
         ServerFault::OutOfMemory
+    }
+}
+
+impl From<OpenFault> for ServerFault {
+    ghost use Rattle.server.specs.Faults.{fault_of};
+
+    ghost from_gives = { λ error fault. fault ≡ fault_of error };
+
+    fn from(error: OpenFault) -> ServerFault {
+        match error {
+            OpenFault::CannotOpen => ServerFault::CannotOpenDevice,
+            OpenFault::OutOfMemory => ServerFault::OutOfMemory,
+        }
     }
 }
 

@@ -11,14 +11,16 @@ use words::limits::Limits;
 pub const ACCEPT_MAX: u32 = 1_000_000;
 
 /// Where a store keeps the pages that have left their frames.
-#[derive(Clone, Copy, Debug, PartialEq, Eq)]
+#[derive(Debug, Drop, PartialEq, Eq)]
 pub enum DeviceKind {
     /// In memory.
     Memory,
+    /// In the file at this path. It is scratch space: it is created or emptied as the server starts.
+    File(String),
 }
 
 /// What a server is started with. Each number is in its range, by the constants of `words::limits`.
-#[derive(Clone, Copy, Debug, PartialEq, Eq)]
+#[derive(Debug, Drop, PartialEq, Eq)]
 pub struct Options {
     /// The port of 127.0.0.1 that is listened on. 0 stands for a free one that the system picks.
     pub port: u16,

@@ -56,7 +56,8 @@ where
     D: Device + Send + Sync,
     D::Receipt: Send + Sync,
     requires openings { vec_len openings ≡ options.now.workers + BACKGROUND_PASSES }
-    ensures { IfErr result (λ fault. fault ≢ ServerFault.CannotListen) }
+    ensures listens { IfErr result (λ fault. fault ≢ ServerFault.CannotListen) }
+    ensures opened { IfErr result (λ fault. fault ≢ ServerFault.CannotOpenDevice) }
 {
     let (engine, passes) = Engine::new(rt.alloc(), &options.limits(), openings)?;
     serve_all(rt, listener, options, latch, endings, &engine, passes)
@@ -79,7 +80,8 @@ where
     D::Receipt: Send + Sync,
     requires rest { All (Rests D.Receipt.is_steady engine.now) passes.items }
     requires watch { All (λ pass. (knows D.failures pass).watched ≡ []) passes.items }
-    ensures { IfErr result (λ fault. fault ≢ ServerFault.CannotListen) }
+    ensures listens { IfErr result (λ fault. fault ≢ ServerFault.CannotListen) }
+    ensures opened { IfErr result (λ fault. fault ≢ ServerFault.CannotOpenDevice) }
 {
     let (to_workers, for_workers) = bounded(rt.alloc(), 0)?;
     let for_workers = &for_workers;
@@ -91,7 +93,8 @@ where
         move |scope| -> Result<(), ServerFault>
             requires rest { All (Rests D.Receipt.is_steady engine.now) passes.items }
             requires watch { All (λ pass. (knows D.failures pass).watched ≡ []) passes.items }
-            ensures { IfErr result (λ fault. fault ≢ ServerFault.CannotListen) }
+            ensures listens { IfErr result (λ fault. fault ≢ ServerFault.CannotListen) }
+            ensures opened { IfErr result (λ fault. fault ≢ ServerFault.CannotOpenDevice) }
         {
             let to_closer = start_closer(rt, scope)?;
             start_workers(

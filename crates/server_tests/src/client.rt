@@ -3,10 +3,11 @@
 ghost use Rattle.std.specs.Prelude.{◌≡◌, ◌+◌, IfOk, vec_len};
 ghost use Rattle.engine.specs.declared.TheConstants.{BACKGROUND_PASSES};
 
-use device::MemoryDevice;
+use device::{Device, FileDevice, MemoryDevice, OpenFault};
 use gates::{Latch, Open};
 use server::{DeviceKind, Endings, Options, listen, opening_count, run_workers};
 use std::alloc::{AllocError, Global};
+use std::fs::{File, Files};
 use std::io::{Read, Write};
 use std::net::{Ipv4Addr, Net, SocketAddrV4, TcpListener, TcpStream};
 use std::rt::Clock;
@@ -66,6 +67,15 @@ fn first_numbers(endings: &Endings) -> [Option<u8>; 4] {
     ]
 }
 
+/// What came of a server that ended so, and these endings.
+fn outcome_of(well: Option<bool>, endings: &Endings) -> Outcome {
+    Outcome {
+        well: well == Some(true),
+        numbers: first_numbers(endings),
+        count: endings.count(),
+    }
+}
+
 /// A server's options with these numbers, and the defaults of the others.
 pub(crate) fn options_with(
     port: u16,
@@ -92,6 +102,19 @@ pub(crate) fn memory(alloc: Global, options: &Options) -> Result<Vec<MemoryDevic
     MemoryDevice::openings(alloc, opening_count(options))
 }
 
+/// So many openings of a device in the file at this path as a server with these options wants.
+fn file<'a, R>(
+    rt: &'a R,
+    path: &str,
+    options: &Options,
+) -> Result<Vec<FileDevice<'a, R>>, OpenFault>
+where
+    R: AllocGlobal + Files<File = File> + Wait,
+    ensures { IfOk result (λ openings. vec_len openings ≡ options.now.workers + BACKGROUND_PASSES) }
+{
+    FileDevice::openings(rt, rt.alloc(), path, opening_count(options))
+}
+
 /// A listener, and its port.
 fn listening<R>(rt: &R, options: &Options) -> Option<(TcpListener, u16)>
 where
@@ -102,9 +125,41 @@ where
     Some((listener, port))
 }
 
-/// Whether a server with these options, which tells this latch where its calls are, ends well, and its clients
-/// tell yes, who talk meanwhile and are given its port. `None` where there are no such options, or no listener.
-fn end_well<R, L: Latch + Sync, F: FnOnce(&R, u16) -> Option<bool>>(
+/// Whether a server with these options over these openings, which tells this latch where its calls are, ends well, and
+/// its clients tell yes, who talk meanwhile and are given its port. `None` where there is no listener.
+fn end_well<R, L: Latch + Sync, D, F: FnOnce(&R, u16) -> Option<bool>>(
+    rt: &R,
+    options: &Options,
+    openings: Vec<D>,
+    latch: &L,
+    endings: &Endings,
+    talk: F,
+) -> Option<bool>
+where
+    R: AllocGlobal
+        + Clock
+        + Net<Listener = TcpListener, Stream = TcpStream>
+        + Threads
+        + Wait
+        + Sync,
+    D: Device + Send + Sync,
+    D::Receipt: Send + Sync,
+    requires talk { F.IsAlwaysCallable talk }
+    requires openings { vec_len openings ≡ options.now.workers + BACKGROUND_PASSES }
+{
+    let (listener, port) = listening(rt, options)?;
+    let (served, told) = thread::join(
+        rt,
+        || -> bool
+            requires openings { vec_len openings ≡ options.now.workers + BACKGROUND_PASSES }
+        { run_workers(rt, listener, options, openings, latch, endings).is_ok() },
+        move || talk(rt, port),
+    );
+    Some(served && told == Some(true))
+}
+
+/// The same over a device in memory. `None` too where there are no such options, or no memory.
+fn end_well_in_memory<R, L: Latch + Sync, F: FnOnce(&R, u16) -> Option<bool>>(
     rt: &R,
     options: Option<Options>,
     latch: &L,
@@ -122,15 +177,30 @@ where
 {
     let options = &options?;
     let openings = memory(rt.alloc(), options).ok()?;
-    let (listener, port) = listening(rt, options)?;
-    let (served, told) = thread::join(
-        rt,
-        || -> bool
-            requires openings { vec_len openings ≡ options.now.workers + BACKGROUND_PASSES }
-        { run_workers(rt, listener, options, openings, latch, endings).is_ok() },
-        move || talk(rt, port),
-    );
-    Some(served && told == Some(true))
+    end_well(rt, options, openings, latch, endings, talk)
+}
+
+/// The same over a device in the file at this path. `None` too where it can't be opened.
+fn end_well_on_file<R, F: FnOnce(&R, u16) -> Option<bool>>(
+    rt: &R,
+    options: Option<Options>,
+    path: &str,
+    endings: &Endings,
+    talk: F,
+) -> Option<bool>
+where
+    R: AllocGlobal
+        + Clock
+        + Files<File = File>
+        + Net<Listener = TcpListener, Stream = TcpStream>
+        + Threads
+        + Wait
+        + Sync,
+    requires { F.IsAlwaysCallable talk }
+{
+    let options = &options?;
+    let openings = file(rt, path, options).ok()?;
+    end_well(rt, options, openings, &Open, endings, talk)
 }
 
 /// A server with so many stripes and workers that accepts so many connections, while its clients talk, who
@@ -192,12 +262,30 @@ where
     requires { F.IsAlwaysCallable talk }
 {
     let endings = Endings::new(rt.alloc())?;
-    let well = end_well(rt, options, latch, &endings, talk);
-    Ok(Outcome {
-        well: well == Some(true),
-        numbers: first_numbers(&endings),
-        count: endings.count(),
-    })
+    let well = end_well_in_memory(rt, options, latch, &endings, talk);
+    Ok(outcome_of(well, &endings))
+}
+
+/// A server with these options whose device lies in the file at this path.
+pub(crate) fn with_file<R, F: FnOnce(&R, u16) -> Option<bool>>(
+    rt: &R,
+    options: Option<Options>,
+    path: &str,
+    talk: F,
+) -> Result<Outcome, Fail>
+where
+    R: AllocGlobal
+        + Clock
+        + Files<File = File>
+        + Net<Listener = TcpListener, Stream = TcpStream>
+        + Threads
+        + Wait
+        + Sync,
+    requires { F.IsAlwaysCallable talk }
+{
+    let endings = Endings::new(rt.alloc())?;
+    let well = end_well_on_file(rt, options, path, &endings, talk);
+    Ok(outcome_of(well, &endings))
 }
 
 /// A client of the server at this port.
@@ -254,6 +342,14 @@ pub(crate) fn reads(stream: &TcpStream, bytes: &[u8]) -> bool {
     true
 }
 
+/// Whether these bytes come next. They are read at once.
+pub(crate) fn reads_at_once(alloc: Global, mut stream: &TcpStream, bytes: &[u8]) -> bool {
+    let Ok(mut got) = vec![in alloc; 0u8; bytes.len()] else {
+        return false;
+    };
+    stream.read_exact(got.as_mut_slice()).is_ok() && got.as_slice() == bytes
+}
+
 /// Whether the server sends no more.
 pub(crate) fn is_at_end(mut stream: &TcpStream) -> bool {
     matches!(stream.read(&mut [0; 1]), Ok(0))
@@ -271,13 +367,24 @@ fn read_line(stream: &TcpStream, line: &mut Vec<u8>) -> Option<()> {
     Some(())
 }
 
-/// The number that comes next as a bulk string.
+/// The number that comes next as a bulk string. The null bulk string is read as 0.
 pub(crate) fn number(alloc: Global, stream: &TcpStream) -> Option<u64> {
     let mut text = Vec::new(alloc);
     read_line(stream, &mut text)?;
+    if text.as_slice() == b"$-1".as_slice() {
+        return Some(0);
+    }
     text.clear();
     read_line(stream, &mut text)?;
     str::from_utf8(text.as_slice()).ok()?.parse().ok()
+}
+
+/// The number that comes next as an integer.
+pub(crate) fn integer(alloc: Global, stream: &TcpStream) -> Option<u64> {
+    let mut text = Vec::new(alloc);
+    read_line(stream, &mut text)?;
+    let digits = text.as_slice().strip_prefix(b":".as_slice())?;
+    str::from_utf8(digits).ok()?.parse().ok()
 }
 
 /// Spells a request.

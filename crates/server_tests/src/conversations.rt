@@ -156,6 +156,32 @@ fn a_client_that_goes_away_ends_its_own_connection_alone(rt: HostRuntime) -> Res
     Ok(())
 }
 
+/// A new client quits.
+fn quits(rt: &HostRuntime, port: u16) -> Option<bool> {
+    Some(answers(&connect(rt, port)?, QUIT, OK))
+}
+
+/// A new client closes with a part of a reply unread, so that its connection is reset.
+fn is_reset(rt: &HostRuntime, port: u16) -> Option<bool> {
+    let client = connect(rt, port)?;
+    Some(sends(&client, PING) && reads(&client, &PONG[..1]))
+}
+
+/// One that quits and one whose connection is reset, each with another after it.
+fn one_comes_after_each(rt: &HostRuntime, port: u16) -> Option<bool> {
+    let told = quits(rt, port)? && is_served(rt, port)?;
+    let told = is_reset(rt, port)? && told;
+    Some(is_served(rt, port)? && told)
+}
+
+/// The one worker serves the next client after a connection that ended by a QUIT, or by a read that failed.
+#[test]
+fn the_worker_serves_the_next_after_each_ending(rt: HostRuntime) -> Result<(), Fail> {
+    let outcome = with_server(&rt, 4, 16, 1, one_comes_after_each)?;
+    assert!(rt; outcome.ended([Some(2), Some(1), Some(4), Some(1)]));
+    Ok(())
+}
+
 /// Sends what is no request, and far more than the sockets hold, before it reads.
 fn sends_on(client: &TcpStream) -> bool {
     if !sends(client, BAD_LENGTH) {

@@ -34,7 +34,7 @@ fn is_done(mut stream: &TcpStream) -> Option<bool> {
 }
 
 /// What `n` is.
-fn number_now(alloc: Global, stream: &TcpStream) -> Option<u64> {
+pub(crate) fn number_now(alloc: Global, stream: &TcpStream) -> Option<u64> {
     if !sends(stream, GET) {
         return None;
     }
@@ -63,7 +63,7 @@ fn adds_one(alloc: Global, stream: &TcpStream) -> Option<bool> {
 }
 
 /// How often this client added 1.
-fn additions(alloc: Global, stream: &TcpStream) -> Option<u64> {
+pub(crate) fn additions(alloc: Global, stream: &TcpStream) -> Option<u64> {
     let mut done = 0u64;
     for _ in 0..TIMES {
         if adds_one(alloc, stream)? {
@@ -155,7 +155,7 @@ fn moves_to_and_fro(stream: &TcpStream) -> bool {
 }
 
 /// The sum of both counters.
-fn sum(alloc: Global, stream: &TcpStream) -> Option<u64> {
+pub(crate) fn sum(alloc: Global, stream: &TcpStream) -> Option<u64> {
     if !answers(stream, BOTH, b"*2\r\n") {
         return None;
     }

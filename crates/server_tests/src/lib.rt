@@ -11,6 +11,8 @@ mod counters;
 #[cfg(test)]
 mod crowds;
 #[cfg(test)]
+mod files;
+#[cfg(test)]
 mod holding;
 #[cfg(test)]
 mod pages;
@@ -18,5 +20,7 @@ mod pages;
 mod pipelines;
 #[cfg(test)]
 mod refusals;
+#[cfg(test)]
+mod sharing;
 #[cfg(test)]
 mod starting;

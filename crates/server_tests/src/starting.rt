@@ -85,6 +85,7 @@ fn a_listener_that_gives_no_connection_stops_the_server(rt: HostRuntime) -> Resu
 /// Each fault with its text.
 const FAULTS: &[(ServerFault, &str)] = &[
     (ServerFault::CannotListen, "garnetd: cannot listen"),
+    (ServerFault::CannotOpenDevice, "garnetd: cannot open device"),
     (ServerFault::CannotAccept, "garnetd: cannot accept"),
     (ServerFault::OutOfMemory, "garnetd: out of memory"),
 ];

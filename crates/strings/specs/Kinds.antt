@@ -1,6 +1,6 @@
 -- Commands that only read, and commands that may write.
 use Rattle.words.specs.declared.command.Command.{Command}
-use Rattle.words.specs.declared.command.Command.TheVariants.{Ping, Echo, Get, Set, SetNx, GetSet, GetDel, StrLen, Exists, Del, Append, SetRange, GetRange, Add, Subtract, MGet, MSet, MSetNx, Session, Bad}
+use Rattle.words.specs.declared.command.Command.TheVariants.{Ping, Echo, Get, Set, SetGet, SetNx, GetSet, GetDel, StrLen, Exists, Del, Append, SetRange, GetRange, Add, Subtract, MGet, MSet, MSetNx, Rename, Session, Bad}
 
 -- the command writes no key, whatever the store
 abbrev pub OnlyReads : Command → Type 0
@@ -18,6 +18,7 @@ OnlyReads _ = ⊥
 -- the command may write a key
 abbrev pub MayWrite : Command → Type 0
 MayWrite (Set key value when) = Unit {0}
+MayWrite (SetGet key value when) = Unit {0}
 MayWrite (SetNx key value) = Unit {0}
 MayWrite (GetSet key value) = Unit {0}
 MayWrite (GetDel key) = Unit {0}
@@ -28,4 +29,5 @@ MayWrite (Add key n) = Unit {0}
 MayWrite (Subtract key n) = Unit {0}
 MayWrite (MSet settings) = Unit {0}
 MayWrite (MSetNx settings) = Unit {0}
+MayWrite (Rename key name) = Unit {0}
 MayWrite _ = ⊥

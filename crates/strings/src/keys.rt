@@ -14,6 +14,7 @@ pub fn key_count(command: &Command) -> usize
         Command::Ping(_) | Command::Echo(_) | Command::Session(_) | Command::Bad(_) => 0,
         Command::Exists(keys) | Command::Del(keys) | Command::MGet(keys) => keys.as_slice().len(),
         Command::MSet(settings) | Command::MSetNx(settings) => settings.as_slice().len(),
+        Command::Rename(_, _) => 2,
         _ => 1,
     }
 }
@@ -26,6 +27,7 @@ pub fn key_at(command: &Command, place: usize) -> &Word
     match command {
         Command::Get(key)
         | Command::Set(key, _, _)
+        | Command::SetGet(key, _, _)
         | Command::SetNx(key, _)
         | Command::GetSet(key, _)
         | Command::GetDel(key)
@@ -35,6 +37,7 @@ pub fn key_at(command: &Command, place: usize) -> &Word
         | Command::GetRange(key, _, _)
         | Command::Add(key, _)
         | Command::Subtract(key, _) => key,
+        Command::Rename(key, name) => { if place == 0 { key } else { name } }
         Command::Exists(keys) | Command::Del(keys) | Command::MGet(keys) => {
             &keys.as_slice()[place]
         }

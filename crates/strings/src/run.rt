@@ -10,10 +10,10 @@ use crate::growing::{append, refused, set_range};
 use crate::overlay::Overlay;
 use crate::reading::{echo, exists, get, get_all, get_range, length};
 use crate::writing::{
-    delete, get_and_delete, get_and_set, set, set_all, set_all_if_missing, set_if_missing,
+    delete, get_and_delete, get_and_set, rename, set, set_all, set_all_if_missing, set_if_missing,
 };
 use std::alloc::Global;
-use words::command::Command;
+use words::command::{Command, When};
 use words::reply::{CommandReply, Line};
 use words::word::OutOfMemory;
 
@@ -46,6 +46,7 @@ pub fn run(
         | Command::Session(_)
         | Command::Bad(_) => read(alloc, command, overlay),
         Command::Set(_, _, _)
+        | Command::SetGet(_, _, _)
         | Command::SetNx(_, _)
         | Command::GetSet(_, _)
         | Command::GetDel(_)
@@ -55,7 +56,8 @@ pub fn run(
         | Command::Add(_, _)
         | Command::Subtract(_, _)
         | Command::MSet(_)
-        | Command::MSetNx(_) => change(alloc, command, overlay),
+        | Command::MSetNx(_)
+        | Command::Rename(_, _) => change(alloc, command, overlay),
     }
 }
 
@@ -99,7 +101,8 @@ fn change(
     match command {
         Command::Set(key, value, when) => set(alloc, overlay, key, value, *when),
         Command::SetNx(key, value) => set_if_missing(alloc, overlay, key, value),
-        Command::GetSet(key, value) => get_and_set(alloc, overlay, key, value),
+        Command::SetGet(key, value, when) => get_and_set(alloc, overlay, key, value, *when),
+        Command::GetSet(key, value) => get_and_set(alloc, overlay, key, value, When::Always),
         Command::GetDel(key) => get_and_delete(alloc, overlay, key),
         Command::Del(keys) => delete(alloc, overlay, keys.as_slice()),
         Command::Append(key, value) => append(alloc, overlay, key, value),
@@ -108,6 +111,7 @@ fn change(
         Command::Subtract(key, number) => subtract(alloc, overlay, key, *number),
         Command::MSet(settings) => set_all(alloc, overlay, settings.as_slice()),
         Command::MSetNx(settings) => set_all_if_missing(alloc, overlay, settings.as_slice()),
+        Command::Rename(key, name) => rename(alloc, overlay, key, name),
         _ => unreachable!(),
     }
 }

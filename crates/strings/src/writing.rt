@@ -3,15 +3,16 @@
 ghost use Rattle.std.specs.Prelude.{◌≡◌, ◌-◌, ◌≤◌, [], ◌∷◌, ◌++◌, length, IfOk, OnOk, IsOk, option_copied, Some, None, if◌then◌else◌};
 ghost use Rattle.words.specs.Commands.{IsInline};
 ghost use Rattle.words.specs.Answers as answers;
-ghost use Rattle.words.specs.Answers.{answer, value_of, deletions, writes_set};
+ghost use Rattle.words.specs.Answers.{answer, deletions, writes_set};
 ghost use Rattle.strings.specs.Overlays.{shown, HasRoom, AreInline, NeedsNoMemory};
 ghost use Rattle.strings.specs.declared.writes.TheConstants.{WRITES_INLINE};
 
+use crate::growing::refused;
 use crate::overlay::Overlay;
 use crate::reading::{copy, value_copy};
 use std::alloc::Global;
 use words::command::{Command, When};
-use words::reply::{CommandReply, Line};
+use words::reply::{CommandReply, Line, Refusal};
 use words::word::{OutOfMemory, Word};
 
 /// Writes a copy of a value to a key.
@@ -78,20 +79,23 @@ pub(crate) fn set_if_missing(
     Ok(CommandReply::integer(1))
 }
 
-/// `GETSET`
+/// `SET` with GET, and `GETSET`, which is always done
 pub(crate) fn get_and_set(
     alloc: Global,
     overlay: &mut Overlay<'_>,
     key: &Word,
     value: &Word,
+    when: When,
 ) -> Result<CommandReply, OutOfMemory>
     ensures reply { IfOk result (λ reply. reply ≡ answers.bulk (shown overlay.old key.now)) }
-    ensures writes { OnOk result (overlay.new.writes ≡ overlay.old.writes ++ (key.now, Some value.now) ∷ []) }
+    ensures writes { OnOk result (overlay.new.writes ≡ overlay.old.writes ++ (answer (shown overlay.old) (Command.SetGet key.now value.now when)).1) }
     ensures found { overlay.new.found ≡ overlay.old.found }
-    ensures memory { HasRoom overlay.old → IsInline key.now → IsInline value.now → IsInline (value_of (shown overlay.old key.now)) → IsOk result }
+    ensures memory { NeedsNoMemory overlay.old (Command.SetGet key.now value.now when) → IsOk result }
 {
     let old = value_copy(alloc, overlay, key)?;
-    write_copy(alloc, overlay, key, value)?;
+    if allows(when, overlay.value(key.as_slice())) {
+        write_copy(alloc, overlay, key, value)?;
+    }
     Ok(CommandReply::bulk(old))
 }
 
@@ -132,6 +136,43 @@ pub(crate) fn delete(
         }
     }
     Ok(CommandReply::integer(count as i64))
+}
+
+/// Moves the value of a key to another name.
+fn move_value(
+    alloc: Global,
+    overlay: &mut Overlay<'_>,
+    key: &Word,
+    name: &Word,
+) -> Result<(), OutOfMemory>
+    ensures writes { OnOk result (overlay.new.writes ≡ overlay.old.writes ++ (key.now, None) ∷ (name.now, shown overlay.old key.now) ∷ []) }
+    ensures found { overlay.new.found ≡ overlay.old.found }
+{
+    let value = value_copy(alloc, overlay, key)?;
+    overlay.write(alloc, key, None)?;
+    overlay.write(alloc, name, value)
+}
+
+/// `RENAME`
+pub(crate) fn rename(
+    alloc: Global,
+    overlay: &mut Overlay<'_>,
+    key: &Word,
+    name: &Word,
+) -> Result<CommandReply, OutOfMemory>
+    ensures reply { IfOk result (λ reply. reply ≡ (answer (shown overlay.old) (Command.Rename key.now name.now)).0) }
+    ensures writes { OnOk result (overlay.new.writes ≡ overlay.old.writes ++ (answer (shown overlay.old) (Command.Rename key.now name.now)).1) }
+    ensures found { overlay.new.found ≡ overlay.old.found }
+    ensures memory { NeedsNoMemory overlay.old (Command.Rename key.now name.now) → IsOk result }
+{
+    if !overlay.has(key.as_slice()) {
+        return Ok(refused(Refusal::NoSuchKey));
+    }
+    if key.as_slice() == name.as_slice() {
+        return Ok(CommandReply::line(Line::Done));
+    }
+    move_value(alloc, overlay, key, name)?;
+    Ok(CommandReply::line(Line::Done))
 }
 
 /// Writes settings.

@@ -192,6 +192,23 @@ fn repeated_keys(rt: HostRuntime) -> Result<(), Fail> {
     run_anew(&rt, rt.alloc(), lines)
 }
 
+#[test]
+fn renamed_keys(rt: HostRuntime) -> Result<(), Fail> {
+    let lines =
+        "SET a 1 -> +OK\nRENAME a b -> +OK\nMGET a b -> null$1\nRENAME a b -> -ERR no such key\nRENAME a a -> -ERR no such key\n\
+        RENAME b b -> +OK\nGET b -> $1\nSET c 2 -> +OK\nRENAME c b -> +OK\nMGET b c -> $2null\nSET d  -> +OK\n\
+        RENAME d e -> +OK\nMGET d e -> null$";
+    run_anew(&rt, rt.alloc(), lines)
+}
+
+#[test]
+fn set_and_old_values(rt: HostRuntime) -> Result<(), Fail> {
+    let lines =
+        "SET a 1 GET -> null\nSET a 2 get -> $1\nSET a 3 GET NX -> $2\nGET a -> $2\nSET a 4 GET GET -> -ERR syntax error\n\
+        SET m v XX GET -> null\nGET m -> null\nSET m v nx gEt -> null\nSET m w GET xX -> $v\nGET m -> $w";
+    run_anew(&rt, rt.alloc(), lines)
+}
+
 /// Runs requests to the heaviest writes that there may be, and one more.
 fn run_to_the_limit(rt: &impl Abort, alloc: Global, overlay: &mut Overlay<'_>) -> Result<(), Fail> {
     let lines =
@@ -222,6 +239,19 @@ fn run_two_found(
     run_lines(rt, alloc, overlay, lines)
 }
 
+/// Runs a RENAME where a value of its key was found, and that its new name is missing.
+fn run_found_renamed(
+    rt: &impl Abort,
+    alloc: Global,
+    overlay: &mut Overlay<'static>,
+) -> Result<(), Fail> {
+    overlay.found.push(b"a", Some(b"old"))?;
+    overlay.found.push(b"b", None)?;
+    let lines =
+        "RENAME a a -> +OK\nRENAME b a -> -ERR no such key\nRENAME a b -> +OK\nMGET a b -> null$old";
+    run_lines(rt, alloc, overlay, lines)
+}
+
 /// How many writes there are.
 fn count_of_writes(overlay: Overlay<'_>) -> usize {
     let Overlay { found: _, writes } = overlay;
@@ -232,6 +262,17 @@ fn count_of_writes(overlay: Overlay<'_>) -> usize {
 fn found_values(rt: HostRuntime) -> Result<(), Fail> {
     let mut overlay = Overlay::new(rt.alloc());
     let ran = run_two_found(&rt, rt.alloc(), &mut overlay);
+    let count = count_of_writes(overlay);
+    ran?;
+    assert!(rt; count == 2);
+    Ok(())
+}
+
+/// A RENAME that is done writes both keys, and none else does.
+#[test]
+fn found_values_renamed(rt: HostRuntime) -> Result<(), Fail> {
+    let mut overlay = Overlay::new(rt.alloc());
+    let ran = run_found_renamed(&rt, rt.alloc(), &mut overlay);
     let count = count_of_writes(overlay);
     ran?;
     assert!(rt; count == 2);

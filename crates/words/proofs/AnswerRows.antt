@@ -43,6 +43,20 @@ get_set_and_get_del : said ("GETSET k v" ∷ "GETSET k w" ∷ "GETDEL k" ∷ "GE
 unfolding encodings encoding command_reply_encoding item_encoding bulk_string header digits
 get_set_and_get_del = refl
 
+-- SET with GET: the old value is answered, whether the new one is set or not.
+
+set_and_get :
+    said ("SET a 1 GET" ∷ "SET a 2 get" ∷ "SET a 3 GET NX" ∷ "GET a" ∷ "SET a 4 GET GET" ∷ [])
+    ≡ codes "$-1\r\n$1\r\n1\r\n$1\r\n2\r\n$1\r\n2\r\n-ERR syntax error\r\n"
+unfolding encodings encoding command_reply_encoding item_encoding bulk_string header digits
+set_and_get = refl
+
+set_and_get_at_a_missing_key :
+    said ("SET m v XX GET" ∷ "GET m" ∷ "SET m v GET nx" ∷ "GET m" ∷ "SET m w gEt xX" ∷ "GET m" ∷ [])
+    ≡ codes "$-1\r\n$-1\r\n$-1\r\n$1\r\nv\r\n$1\r\nv\r\n$1\r\nw\r\n"
+unfolding encodings encoding command_reply_encoding item_encoding bulk_string header digits
+set_and_get_at_a_missing_key = refl
+
 -- EXISTS, DEL: a key that is named twice
 
 repeated_keys : said ("SET a 1" ∷ "DEL a a" ∷ "SET b 1" ∷ "EXISTS b b" ∷ []) ≡ codes "+OK\r\n:1\r\n+OK\r\n:2\r\n"
@@ -212,6 +226,27 @@ m_set_nx_repeated : said ("MSETNX a 1 b 2 a 3" ∷ "MGET a b a" ∷ "MSETNX y 1 
 unfolding encodings encoding command_reply_encoding item_encoding bulk_string header digits
 m_set_nx_repeated = refl
 
+-- RENAME
+
+rename :
+    said ("SET a 1" ∷ "RENAME a b" ∷ "MGET a b" ∷ "RENAME a b" ∷ [])
+    ≡ codes "+OK\r\n+OK\r\n*2\r\n$-1\r\n$1\r\n1\r\n-ERR no such key\r\n"
+unfolding encodings encoding command_reply_encoding item_encoding bulk_string header digits
+rename = refl
+
+-- the new name's old value is lost, and a missing key leaves it
+rename_over_another :
+    said ("MSET a 1 b 2" ∷ "RENAME c b" ∷ "GET b" ∷ "RENAME a b" ∷ "MGET a b" ∷ "EXISTS a b" ∷ [])
+    ≡ codes "+OK\r\n-ERR no such key\r\n$1\r\n2\r\n+OK\r\n*2\r\n$-1\r\n$1\r\n1\r\n:1\r\n"
+unfolding encodings encoding command_reply_encoding item_encoding bulk_string header digits
+rename_over_another = refl
+
+rename_to_itself :
+    said ("RENAME a a" ∷ "SET a 1" ∷ "RENAME a a" ∷ "GET a" ∷ "SET e " ∷ "RENAME e a" ∷ "GET a" ∷ [])
+    ≡ codes "-ERR no such key\r\n+OK\r\n+OK\r\n$1\r\n1\r\n+OK\r\n+OK\r\n$0\r\n\r\n"
+unfolding encodings encoding command_reply_encoding item_encoding bulk_string header digits
+rename_to_itself = refl
+
 -- What is refused by its words, and a queued UNWATCH.
 
 refused_by_words : said ("FOO" ∷ "GET" ∷ "SET k v EX" ∷ "INCRBY k x" ∷ "SETRANGE k -1 x" ∷ "UNWATCH" ∷ "EXISTS k" ∷ [])
@@ -246,14 +281,21 @@ nothing_written :
     (commands
     ("GET k" ∷ "STRLEN k" ∷ "EXISTS k" ∷ "GETRANGE k 0 1" ∷ "MGET k m" ∷ "SET k v NX" ∷ "SET m v XX" ∷ "SETNX k v" ∷ "GETDEL m" ∷ "DEL m"
     ∷ "MSETNX m 1 k 2" ∷ "SETRANGE k 3 " ∷ "SETRANGE k 8192 x" ∷ "INCRBY k 9223372036854775807" ∷ "INCRBY k x" ∷ "PING" ∷ "ECHO k" ∷ "FOO"
-    ∷ "SET k v EX" ∷ "UNWATCH" ∷ []))
-    ≡ replicate 20 []
+    ∷ "SET k v EX" ∷ "UNWATCH" ∷ "SET k v NX GET" ∷ "SET m v GET XX" ∷ "RENAME m k" ∷ "RENAME m m" ∷ "RENAME k k" ∷ []))
+    ≡ replicate 25 []
 unfolding digits
 nothing_written = refl
 
 -- each key that is there is deleted once
 deletions_written : writes_each (commands ("DEL m k k" ∷ "GETDEL k" ∷ [])) ≡ replicate 2 ((codes "k", None) ∷ [])
 deletions_written = refl
+
+-- a renamed key is deleted, and its new name written
+renamed_written : writes_each (commands ("RENAME k m" ∷ [])) ≡ ((codes "k", None) ∷ (codes "m", Some (codes "5")) ∷ []) ∷ []
+renamed_written = refl
+
+set_and_get_written : writes_each (commands ("SET k v GET" ∷ "SET k v XX GET" ∷ [])) ≡ replicate 2 ((codes "k", Some (codes "v")) ∷ [])
+set_and_get_written = refl
 
 -- settings are written in order
 settings_written :

@@ -10,7 +10,7 @@ use Rattle.std.proofs.lemmas.Fmt.{length_signed_le}
 use Rattle.std.proofs.lemmas.Bool.{ltb-true, ltb-false}
 use Rattle.words.specs.declared.limits.TheConstants.{KEY_BYTES_MAX, VALUE_BYTES_MAX}
 use Rattle.words.specs.declared.command.Command.{Command}
-use Rattle.words.specs.declared.command.Command.TheVariants.{Ping, Echo, Get, Set, SetNx, GetSet, GetDel, StrLen, Exists, Del, Append, SetRange, GetRange, Add, Subtract, MGet, MSet, MSetNx, Session, Bad}
+use Rattle.words.specs.declared.command.Command.TheVariants.{Ping, Echo, Get, Set, SetGet, SetNx, GetSet, GetDel, StrLen, Exists, Del, Append, SetRange, GetRange, Add, Subtract, MGet, MSet, MSetNx, Rename, Session, Bad}
 use Rattle.words.specs.declared.command.SessionCommand.{SessionCommand}
 use Rattle.words.specs.declared.command.SessionCommand.TheVariants as session
 use Rattle.words.specs.declared.command.When.{When}
@@ -18,14 +18,14 @@ use Rattle.words.specs.declared.reply.CommandReply.TheVariants.{One}
 use Rattle.words.specs.declared.reply.Item.TheVariants as item
 use Rattle.words.specs.declared.reply.Line.TheVariants.{Done}
 use Rattle.words.specs.declared.reply.Refusal.{Refusal}
-use Rattle.words.specs.declared.reply.Refusal.TheVariants.{KeyTooLong, StringTooLong, Overflow}
+use Rattle.words.specs.declared.reply.Refusal.TheVariants.{KeyTooLong, StringTooLong, Overflow, NoSuchKey}
 use Rattle.words.specs.declared.history.Operation.{Operation}
 use Rattle.words.specs.declared.history.Operation.TheVariants.{Run, Watch, Exec}
 use Rattle.words.specs.declared.history.Entry.{Entry}
 use Rattle.words.specs.Store.{Bytes, Store, Write, written}
 use Rattle.words.specs.Numbers.{in_range, number_of}
 use Rattle.words.specs.Spelling.{AreShort}
-use Rattle.words.specs.Commands.{Row, is_name, is_long, any_long, of_key, of_keys, with_number, alone, optional_text, one_text, one_key, key_and_value, when_of, set_when, key_value_options, key_and_number, set_range, key_offset_value, key_start_end, some_keys, watched_keys, in_pairs, keys_set, of_settings, some_settings, by_one, table, command_in, command_of}
+use Rattle.words.specs.Commands.{Row, is_name, is_long, any_long, of_key, of_keys, with_number, alone, optional_text, one_text, one_key, key_and_value, options_of, set_with, key_value_options, key_and_number, set_range, key_offset_value, key_start_end, two_keys, some_keys, watched_keys, in_pairs, keys_set, of_settings, some_settings, by_one, table, command_in, command_of}
 use Rattle.words.specs.Bounds.{AreKeysBounded, AreValuesBounded, values_set, IsBounded, AreBounded, IsStoreBounded, AreWritesBounded}
 use Rattle.words.specs.Answers.{Answer, answer, answers, line, bulk, refused, number, is_some, any_there, deletions, writes_set, grown, set_range_answer, overlaid, changed, number_at, value_of, allows}
 use Rattle.words.specs.History.{History, Legal, HasPlace, outcome, was_not_done, writes_of, after}
@@ -96,15 +96,21 @@ key_and_value_fine make fine (key ∷ []) short = tt
 key_and_value_fine make fine (key ∷ value ∷ []) short = of_key_fine key (make key value) (λ bounded. fine key value bounded short.1.0)
 key_and_value_fine make fine (key ∷ value ∷ word ∷ words) short = tt
 
-set_when_fine : (key value : Bytes) (when : Option When) → length key ≤ KEY_BYTES_MAX → length value ≤ VALUE_BYTES_MAX → IsBounded (set_when key value when)
-set_when_fine key value None one two = record { keys = tt; values = tt }
-set_when_fine key value (Some when) one two = record { keys = (one, tt); values = (two, tt) }
+set_or_get_fine : (key value : Bytes) (when : When) (answers_old : Bool) → length key ≤ KEY_BYTES_MAX → length value ≤ VALUE_BYTES_MAX
+    → IsBounded (if answers_old then SetGet key value when else Set key value when)
+set_or_get_fine key value when true one two = record { keys = (one, tt); values = (two, tt) }
+set_or_get_fine key value when false one two = record { keys = (one, tt); values = (two, tt) }
+
+set_with_fine : (key value : Bytes) (options : Option (When × Bool)) → length key ≤ KEY_BYTES_MAX → length value ≤ VALUE_BYTES_MAX
+    → IsBounded (set_with key value options)
+set_with_fine key value None one two = record { keys = tt; values = tt }
+set_with_fine key value (Some options) one two = set_or_get_fine key value options.0 options.1 one two
 
 key_value_options_fine : IsFine key_value_options
 key_value_options_fine [] short = tt
 key_value_options_fine (key ∷ []) short = tt
 key_value_options_fine (key ∷ value ∷ options) short =
-    of_key_fine key (set_when key value (when_of options)) (λ bounded. set_when_fine key value (when_of options) bounded short.1.0)
+    of_key_fine key (set_with key value (options_of options)) (λ bounded. set_with_fine key value (options_of options) bounded short.1.0)
 
 key_and_number_fine : (make : Bytes → ℤ → Command) → ((key : Bytes) (n : ℤ) → length key ≤ KEY_BYTES_MAX → IsBounded (make key n)) → IsFine (key_and_number make)
 key_and_number_fine make fine [] short = tt
@@ -135,6 +141,13 @@ key_start_end_fine (key ∷ start ∷ end ∷ []) short =
     (λ bounded. with_number_fine (number_of start) (λ from. with_number (number_of end) (λ to. GetRange key from to))
     (λ from. with_number_fine (number_of end) (λ to. GetRange key from to) (λ to. record { keys = (bounded, tt); values = tt })))
 key_start_end_fine (key ∷ start ∷ end ∷ word ∷ words) short = tt
+
+two_keys_fine : (make : Bytes → Bytes → Command) → ((key name : Bytes) → AreKeysBounded (key ∷ name ∷ []) → IsBounded (make key name))
+    → IsFine (two_keys make)
+two_keys_fine make fine [] short = tt
+two_keys_fine make fine (key ∷ []) short = tt
+two_keys_fine make fine (key ∷ name ∷ []) short = of_keys_fine (key ∷ name ∷ []) (make key name) (fine key name)
+two_keys_fine make fine (key ∷ name ∷ word ∷ words) short = tt
 
 some_keys_fine : (make : List Bytes → Command) → ((keys : List Bytes) → AreKeysBounded keys → IsBounded (make keys)) → IsFine (some_keys make)
 some_keys_fine make fine [] short = tt
@@ -220,22 +233,25 @@ table_fine = (
                                   (
                                     some_settings_fine MSetNx (λ settings keys values. record { keys = keys; values = values }),
                                     (
-                                      optional_text_fine,
+                                      two_keys_fine Rename (λ key name bounded. record { keys = bounded; values = tt }),
                                       (
-                                        one_text_fine,
+                                        optional_text_fine,
                                         (
-                                          alone_fine session.Multi,
+                                          one_text_fine,
                                           (
-                                            alone_fine session.Exec,
+                                            alone_fine session.Multi,
                                             (
-                                              alone_fine session.Discard,
+                                              alone_fine session.Exec,
                                               (
-                                                watched_keys_fine,
+                                                alone_fine session.Discard,
                                                 (
-                                                  alone_fine session.Unwatch,
+                                                  watched_keys_fine,
                                                   (
-                                                    alone_fine session.Quit,
-                                                    tt,
+                                                    alone_fine session.Unwatch,
+                                                    (
+                                                      alone_fine session.Quit,
+                                                      tt,
+                                                    ),
                                                   ),
                                                 ),
                                               ),
@@ -347,6 +363,14 @@ value_short : (found : Option Bytes) → ((value : Bytes) → found ≡ Some val
 value_short None short = omega arith
 value_short (Some value) short = short value refl
 
+moved_bounded : (key name : Bytes) (value : Option Bytes) → length (value_of value) ≤ VALUE_BYTES_MAX → AreKeysBounded (key ∷ name ∷ [])
+    → AreWritesBounded (if bytes_eq key name then [] else (key, None) ∷ (name, value) ∷ [])
+moved_bounded key name value short are =
+    elim (bytes_eq key name) as (λ test. AreWritesBounded (if test then [] else (key, None) ∷ (name, value) ∷ [])) [
+      | true ↦ tt
+      | false ↦ (are.0, omega arith, (are.1.0, short, tt))
+    ]
+
 answer_bounded : (command : Command) (store : Store) → IsStoreBounded store → IsBounded command → AreWritesBounded (answer store command).1
 answer_bounded (Ping None) store values is = tt
 answer_bounded (Ping (Some text)) store values is = tt
@@ -354,6 +378,11 @@ answer_bounded (Echo text) store values is = tt
 answer_bounded (Get key) store values is = tt
 answer_bounded (Set key value when) store values is =
     either_bounded (allows when (store key)) (line Done, (key, Some value) ∷ []) (bulk None, []) (is.keys.0, is.values.0, tt) tt
+answer_bounded (SetGet key value when) store values is =
+    elim (allows when (store key)) as (λ test. AreWritesBounded (if test then (key, Some value) ∷ [] else [])) [
+      | true ↦ (is.keys.0, is.values.0, tt)
+      | false ↦ tt
+    ]
 answer_bounded (SetNx key value) store values is =
     either_bounded (is_some (store key)) (number 0, []) (number 1, (key, Some value) ∷ []) tt (is.keys.0, is.values.0, tt)
 answer_bounded (GetSet key value) store values is = (is.keys.0, is.values.0, tt)
@@ -375,6 +404,9 @@ answer_bounded (MGet keys) store values is = tt
 answer_bounded (MSet settings) store values is = settings_bounded settings is.keys is.values
 answer_bounded (MSetNx settings) store values is =
     either_bounded (any_there store settings) (number 0, []) (number 1, writes_set settings) tt (settings_bounded settings is.keys is.values)
+answer_bounded (Rename key name) store values is =
+    either_bounded (is_some (store key)) (line Done, if bytes_eq key name then [] else (key, None) ∷ (name, store key) ∷ []) (refused NoSuchKey)
+    (moved_bounded key name (store key) (value_short (store key) (values key)) is.keys) tt
 answer_bounded (Session command) store values is = tt
 answer_bounded (Bad refusal) store values is = tt
 

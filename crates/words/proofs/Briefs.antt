@@ -65,6 +65,7 @@ ping_by true name names is =
             not_named (codes "MGET") refl,
             not_named (codes "MSET") refl,
             not_named (codes "MSETNX") refl,
+            not_named (codes "RENAME") refl,
             names,
           )
           refl;

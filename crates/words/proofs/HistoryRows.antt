@@ -4,13 +4,14 @@ use Rattle.std.specs.Fmt.{digits}
 use Rattle.words.specs.declared.command.Command.{Command}
 use Rattle.words.specs.declared.command.Command.TheVariants.{MSet, Del, Exists, Session}
 use Rattle.words.specs.declared.command.SessionCommand.TheVariants as session
+use Rattle.words.specs.declared.reply.Refusal.TheVariants.{NoSuchKey}
 use Rattle.words.specs.declared.reply.Line.TheVariants.{Done, Pong}
 use Rattle.words.specs.declared.reply.Reply.TheVariants.{Single, NullArray, Array}
 use Rattle.words.specs.declared.history.Operation.TheVariants.{Run, Exec}
 use Rattle.words.specs.Store.{Bytes}
 use Rattle.words.specs.Answers.{line, number}
 use Rattle.words.specs.History.{History, Pair, after, due, is_dirty, HasPlace, AreWatches, Extends, Legal, subhistory, too_much}
-use Rattle.words.proofs.Rows.{commands, text, null, ran, watched, transaction, ok, stands}
+use Rattle.words.proofs.Rows.{commands, text, null, error, ran, watched, transaction, ok, stands}
 use Rattle.words.proofs.PlaceTests.{place_by}
 
 -- session 0 sets `a`, session 1 reads it, and session 0 runs a transaction of a SET and a GET
@@ -112,6 +113,13 @@ write_of_an_equal_value = refl
 write_of_another_key : is_dirty (ran 1 "SET j v" (line Done) ∷ watched 0 "k" ∷ []) k_watched ≡ false
 write_of_another_key = refl
 
+-- a RENAME writes both its keys
+renamed_from_it : is_dirty (ran 1 "RENAME k j" (line Done) ∷ watched 0 "k" ∷ ran 1 "SET k v" (line Done) ∷ []) ((codes "k", 1) ∷ []) ≡ true
+renamed_from_it = refl
+
+renamed_to_it : is_dirty (ran 1 "RENAME j k" (line Done) ∷ watched 0 "k" ∷ ran 1 "SET j v" (line Done) ∷ []) ((codes "k", 1) ∷ []) ≡ true
+renamed_to_it = refl
+
 -- one of several watched keys is enough, and nothing watched is never dirty
 one_of_two : is_dirty (ran 1 "SET j v" (line Done) ∷ watched 0 "k j" ∷ []) ((codes "j", 0) ∷ (codes "k", 0) ∷ []) ≡ true
 one_of_two = refl
@@ -134,6 +142,17 @@ read_or_not_done :
     ≡ false
 unfolding digits
 read_or_not_done = refl
+
+set_and_get_not_done : is_dirty (ran 1 "SET k v GET XX" null ∷ watched 0 "k" ∷ []) k_watched ≡ false
+set_and_get_not_done = refl
+
+missing_key_renamed :
+    is_dirty (ran 1 "RENAME j k" (error NoSuchKey) ∷ ran 1 "RENAME k j" (error NoSuchKey) ∷ ran 1 "RENAME k k" (error NoSuchKey) ∷ watched 0 "k" ∷ []) k_watched
+    ≡ false
+missing_key_renamed = refl
+
+renamed_to_itself : is_dirty (ran 1 "RENAME k k" (line Done) ∷ watched 0 "k" ∷ ran 1 "SET k v" (line Done) ∷ []) ((codes "k", 1) ∷ []) ≡ false
+renamed_to_itself = refl
 
 null_transaction :
     is_dirty

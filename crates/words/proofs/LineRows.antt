@@ -1,7 +1,7 @@
 -- The text of each line that the server writes.
 use Rattle.std.specs.Prelude.{◌≡◌, List, [], ◌∷◌, refl, codes}
 use Prim.Native.String.{String}
-use Rattle.words.specs.declared.reply.Refusal.TheVariants.{UnknownCommand, WrongArity, Syntax, NotAnInteger, Overflow, OffsetOutOfRange, StringTooLong, KeyTooLong, WritesTooMuch}
+use Rattle.words.specs.declared.reply.Refusal.TheVariants.{UnknownCommand, WrongArity, Syntax, NotAnInteger, Overflow, OffsetOutOfRange, StringTooLong, KeyTooLong, WritesTooMuch, NoSuchKey}
 use Rattle.words.specs.declared.reply.TransactionError.TheVariants.{NestedMulti, WatchInsideMulti, ExecWithoutMulti, DiscardWithoutMulti, TransactionAborted, TransactionTooLarge, TooManyWatchedKeys}
 use Rattle.words.specs.declared.reply.Fault.TheVariants.{OutOfMemory, DeviceFault, StoreFull, CommitsWornOut}
 use Rattle.words.specs.declared.reply.ProtocolFault.TheVariants.{ExpectedArray, BadCount, ExpectedBulk, BadLength, MissingLineEnd, RequestTooLarge}
@@ -24,11 +24,11 @@ simple_strings = refl
 refusals :
     texts_of
     (Refused UnknownCommand ∷ Refused WrongArity ∷ Refused Syntax ∷ Refused NotAnInteger ∷ Refused Overflow ∷ Refused OffsetOutOfRange
-    ∷ Refused StringTooLong ∷ Refused KeyTooLong ∷ Refused WritesTooMuch ∷ [])
+    ∷ Refused StringTooLong ∷ Refused KeyTooLong ∷ Refused WritesTooMuch ∷ Refused NoSuchKey ∷ [])
     ≡ texts
     ("-ERR unknown command" ∷ "-ERR wrong number of arguments" ∷ "-ERR syntax error" ∷ "-ERR value is not an integer or out of range"
     ∷ "-ERR increment or decrement would overflow" ∷ "-ERR offset is out of range" ∷ "-ERR string is too long" ∷ "-ERR key is too long"
-    ∷ "-ERR command writes too much" ∷ [])
+    ∷ "-ERR command writes too much" ∷ "-ERR no such key" ∷ [])
 refusals = refl
 
 transaction_errors :

@@ -8,11 +8,11 @@ use Rattle.std.proofs.lemmas.Bool.Decides.{Decides-eqb}
 use Rattle.std.proofs.lemmas.Slice.Eq.{bytes_eq-Decides}
 use Rattle.words.specs.declared.limits.TheConstants.{WEIGHT_MAX, VALUE_BYTES_MAX}
 use Rattle.words.specs.declared.command.Command.{Command}
-use Rattle.words.specs.declared.command.Command.TheVariants.{Ping, Echo, Get, Set, SetNx, GetSet, GetDel, StrLen, Exists, Del, Append, SetRange, GetRange, Add, Subtract, MGet, MSet, MSetNx, Session, Bad}
+use Rattle.words.specs.declared.command.Command.TheVariants.{Ping, Echo, Get, Set, SetGet, SetNx, GetSet, GetDel, StrLen, Exists, Del, Append, SetRange, GetRange, Add, Subtract, MGet, MSet, MSetNx, Rename, Session, Bad}
 use Rattle.words.specs.declared.reply.CommandReply.TheVariants.{One, Array}
 use Rattle.words.specs.declared.reply.Item.TheVariants as item
 use Rattle.words.specs.declared.reply.Line.TheVariants.{Done}
-use Rattle.words.specs.declared.reply.Refusal.TheVariants.{StringTooLong, Overflow}
+use Rattle.words.specs.declared.reply.Refusal.TheVariants.{StringTooLong, Overflow, NoSuchKey}
 use Rattle.std.specs.Fmt.{signed_decimal}
 use Rattle.words.specs.declared.reply.Reply.TheVariants as reply
 use Rattle.words.specs.declared.history.Operation.{Operation}
@@ -21,7 +21,7 @@ use Rattle.words.specs.declared.history.Entry.{Entry}
 use Rattle.words.specs.Store.{Bytes, Store, Write, written, writes_key, weight}
 use Rattle.words.specs.Commands.{keys_of, keys_of_all, keys_set}
 use Rattle.words.specs.Numbers.{in_range}
-use Rattle.words.specs.Answers.{Answer, answer, answers, line, bulk, refused, number, is_some, any_there, count_there, deletions, items_of, item_of, writes_set, grown, set_range_answer, overlaid, changed, number_at, value_of, allows}
+use Rattle.words.specs.Answers.{Answer, answer, answers, line, bulk, refused, number, is_some, any_there, count_there, deletions, items_of, item_of, writes_set, grown, set_range_answer, overlaid, changed, number_at, value_of, allows, renamed}
 use Rattle.words.specs.History.{History, Pair, outcome, was_not_done, writes_of, after, due, too_much, keys_named, keys_of_pairs, pairs_of, is_written, is_dirty, is_watch, begins_watch, AreWatches, Extends}
 use Rattle.words.specs.Stripes.{stripe_of, IsPart, AreElsewhere, LeavesStripe}
 use Rattle.words.specs.Locality.{AreSameAt, IsNoneOf, NoEntryNames, NamesNone}
@@ -98,6 +98,7 @@ answer_same (Ping (Some text)) one other same = refl
 answer_same (Echo text) one other same = refl
 answer_same (Get key) one other same = ap (λ value. answer (λ k. value) (Get key)) same.0
 answer_same (Set key value when) one other same = ap (λ found. answer (λ k. found) (Set key value when)) same.0
+answer_same (SetGet key value when) one other same = ap (λ found. answer (λ k. found) (SetGet key value when)) same.0
 answer_same (SetNx key value) one other same = ap (λ found. answer (λ k. found) (SetNx key value)) same.0
 answer_same (GetSet key value) one other same = ap (λ found. answer (λ k. found) (GetSet key value)) same.0
 answer_same (GetDel key) one other same = ap (λ found. answer (λ k. found) (GetDel key)) same.0
@@ -113,6 +114,7 @@ answer_same (MGet keys) one other same = ap (λ items. (Array items, [])) (items
 answer_same (MSet settings) one other same = refl
 answer_same (MSetNx settings) one other same =
     ap (λ there. if there then (number 0, []) else (number 1, writes_set settings)) (any_same settings one other same)
+answer_same (Rename key name) one other same = ap (λ found. renamed key name found) same.0
 answer_same (Session command) one other same = refl
 answer_same (Bad refusal) one other same = refl
 
@@ -207,6 +209,14 @@ changed_writes own (Some n) change key none =
     either_none (in_range (change n)) (One (item.Integer (change n)), (own, Some (signed_decimal (change n))) ∷ []) (refused Overflow) key
     (write_none own key (Some (signed_decimal (change n))) none) refl
 
+moved_writes : (own name : Bytes) (value : Option Bytes) (key : Bytes) → IsNoneOf (own ∷ name ∷ []) key
+    → writes_key (if bytes_eq own name then [] else (own, None) ∷ (name, value) ∷ []) key ≡ false
+moved_writes own name value key none =
+    elim (bytes_eq own name) as (λ test. writes_key (if test then [] else (own, None) ∷ (name, value) ∷ []) key ≡ false) [
+      | true ↦ refl
+      | false ↦ ap (λ test. test || (bytes_eq name key || false)) (apart own key none.0) ∙ write_none name key value none.1
+    ]
+
 answer_writes : (command : Command) (found : Store) (key : Bytes) → IsNoneOf (keys_of command) key → writes_key (answer found command).1 key ≡ false
 answer_writes (Ping None) found key none = refl
 answer_writes (Ping (Some text)) found key none = refl
@@ -214,6 +224,11 @@ answer_writes (Echo text) found key none = refl
 answer_writes (Get own) found key none = refl
 answer_writes (Set own value when) found key none =
     either_none (allows when (found own)) (line Done, (own, Some value) ∷ []) (bulk None, []) key (write_none own key (Some value) none) refl
+answer_writes (SetGet own value when) found key none =
+    elim (allows when (found own)) as (λ test. writes_key (if test then (own, Some value) ∷ [] else []) key ≡ false) [
+      | true ↦ write_none own key (Some value) none
+      | false ↦ refl
+    ]
 answer_writes (SetNx own value) found key none =
     either_none (is_some (found own)) (number 0, []) (number 1, (own, Some value) ∷ []) key refl (write_none own key (Some value) none)
 answer_writes (GetSet own value) found key none = write_none own key (Some value) none
@@ -234,6 +249,9 @@ answer_writes (MGet keys) found key none = refl
 answer_writes (MSet settings) found key none = set_writes settings key none
 answer_writes (MSetNx settings) found key none =
     either_none (any_there found settings) (number 0, []) (number 1, writes_set settings) key refl (set_writes settings key none)
+answer_writes (Rename own name) found key none =
+    either_none (is_some (found own)) (line Done, if bytes_eq own name then [] else (own, None) ∷ (name, found own) ∷ []) (refused NoSuchKey) key
+    (moved_writes own name (found own) key none) refl
 answer_writes (Session command) found key none = refl
 answer_writes (Bad refusal) found key none = refl
 

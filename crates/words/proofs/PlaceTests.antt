@@ -4,7 +4,7 @@ use Rattle.std.specs.Prelude.{Bool, true, false, List, [], ◌∷◌, length, na
 use Rattle.std.proofs.lemmas.Bool.{ltb-false}
 use Rattle.words.specs.declared.limits.TheConstants.{VALUE_BYTES_MAX}
 use Rattle.words.specs.declared.command.Command.{Command}
-use Rattle.words.specs.declared.command.Command.TheVariants.{Ping, Echo, Get, Set, SetNx, GetSet, GetDel, StrLen, Exists, Del, Append, SetRange, GetRange, Add, Subtract, MGet, MSet, MSetNx, Session, Bad}
+use Rattle.words.specs.declared.command.Command.TheVariants.{Ping, Echo, Get, Set, SetGet, SetNx, GetSet, GetDel, StrLen, Exists, Del, Append, SetRange, GetRange, Add, Subtract, MGet, MSet, MSetNx, Rename, Session, Bad}
 use Rattle.words.specs.declared.command.SessionCommand.TheVariants as session
 use Rattle.words.specs.declared.command.SessionCommand.TheVariants.{Multi, Discard, Unwatch, Quit}
 use Rattle.words.specs.declared.history.Operation.{Operation}
@@ -71,6 +71,7 @@ queued_place (Ping text) e = tt
 queued_place (Echo text) e = tt
 queued_place (Get key) e = tt
 queued_place (Set key value when) e = tt
+queued_place (SetGet key value when) e = tt
 queued_place (SetNx key value) e = tt
 queued_place (GetSet key value) e = tt
 queued_place (GetDel key) e = tt
@@ -85,6 +86,7 @@ queued_place (Subtract key n) e = tt
 queued_place (MGet keys) e = tt
 queued_place (MSet settings) e = tt
 queued_place (MSetNx settings) e = tt
+queued_place (Rename key name) e = tt
 queued_place (Bad refusal) e = tt
 
 queued_places : (commands : List Command) → may_all_be commands ≡ true → MayAllBeQueued commands × AreBounded commands

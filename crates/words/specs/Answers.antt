@@ -5,11 +5,11 @@ use Rattle.std.specs.Map.{update}
 use Rattle.std.specs.Str.{bytes_eq}
 use Rattle.words.specs.declared.limits.TheConstants.{VALUE_BYTES_MAX}
 use Rattle.words.specs.declared.command.Command.{Command}
-use Rattle.words.specs.declared.command.Command.TheVariants.{Ping, Echo, Get, Set, SetNx, GetSet, GetDel, StrLen, Exists, Del, Append, SetRange, GetRange, Add, Subtract, MGet, MSet, MSetNx, Session, Bad}
+use Rattle.words.specs.declared.command.Command.TheVariants.{Ping, Echo, Get, Set, SetGet, SetNx, GetSet, GetDel, StrLen, Exists, Del, Append, SetRange, GetRange, Add, Subtract, MGet, MSet, MSetNx, Rename, Session, Bad}
 use Rattle.words.specs.declared.command.When.{When}
 use Rattle.words.specs.declared.command.When.TheVariants.{Always, IfMissing, IfPresent}
 use Rattle.words.specs.declared.reply.Refusal.{Refusal}
-use Rattle.words.specs.declared.reply.Refusal.TheVariants.{NotAnInteger, Overflow, StringTooLong}
+use Rattle.words.specs.declared.reply.Refusal.TheVariants.{NotAnInteger, Overflow, StringTooLong, NoSuchKey}
 use Rattle.words.specs.declared.reply.Line.{Line}
 use Rattle.words.specs.declared.reply.Line.TheVariants.{Done, Pong, Refused}
 use Rattle.words.specs.declared.reply.Item.{Item}
@@ -132,6 +132,12 @@ abbrev pub changed : Bytes → Option ℤ → (ℤ → ℤ) → Answer
 changed key None change = refused NotAnInteger
 changed key (Some n) change = counted key (change n)
 
+-- RENAME of a key that has this value: the value moves to the new name, whose old value is lost. A missing key is refused; a key that has the
+-- new name already stays as it is.
+abbrev pub renamed : (key name : Bytes) → Option Bytes → Answer
+renamed key name value =
+    if is_some value then (line Done, if bytes_eq key name then [] else (key, None) ∷ (name, value) ∷ []) else refused NoSuchKey
+
 -- What a command answers on a store, and what it writes. A queued UNWATCH is done; the other commands of the session are not run.
 abbrev pub answer : Store → Command → Answer
 answer store (Ping None) = (line Pong, [])
@@ -139,6 +145,7 @@ answer store (Ping (Some text)) = (One (item.Bulk text), [])
 answer store (Echo text) = (One (item.Bulk text), [])
 answer store (Get key) = (bulk (store key), [])
 answer store (Set key value when) = if allows when (store key) then (line Done, (key, Some value) ∷ []) else (bulk None, [])
+answer store (SetGet key value when) = (bulk (store key), if allows when (store key) then (key, Some value) ∷ [] else [])
 answer store (SetNx key value) = if is_some (store key) then (number 0, []) else (number 1, (key, Some value) ∷ [])
 answer store (GetSet key value) = (bulk (store key), (key, Some value) ∷ [])
 answer store (GetDel key) = (bulk (store key), if is_some (store key) then (key, None) ∷ [] else [])
@@ -153,6 +160,7 @@ answer store (Subtract key n) = changed key (number_at (store key)) (λ old. old
 answer store (MGet keys) = (Array (items_of store keys), [])
 answer store (MSet settings) = (line Done, writes_set settings)
 answer store (MSetNx settings) = if any_there store settings then (number 0, []) else (number 1, writes_set settings)
+answer store (Rename key name) = renamed key name (store key)
 answer store (Session command) = (line Done, [])
 answer store (Bad refusal) = refused refusal
 

@@ -2,7 +2,7 @@
 use Rattle.std.specs.Prelude.{◌≡◌, ◌≤◌, List, [], ◌∷◌, length, Some, unwrap_or}
 use Rattle.words.specs.declared.limits.TheConstants.{KEY_BYTES_MAX, VALUE_BYTES_MAX}
 use Rattle.words.specs.declared.command.Command.{Command}
-use Rattle.words.specs.declared.command.Command.TheVariants.{Set, SetNx, GetSet, MSet, MSetNx}
+use Rattle.words.specs.declared.command.Command.TheVariants.{Set, SetGet, SetNx, GetSet, MSet, MSetNx}
 use Rattle.words.specs.Store.{Bytes, Store, Write}
 use Rattle.words.specs.Commands.{keys_of}
 
@@ -24,6 +24,7 @@ values_set (setting ∷ settings) = setting.1 ∷ values_set settings
 -- The values that a command stores as its words have them. What APPEND and SETRANGE make of a value is refused where it is too long.
 abbrev pub values_of : Command → List Bytes
 values_of (Set key value when) = value ∷ []
+values_of (SetGet key value when) = value ∷ []
 values_of (SetNx key value) = value ∷ []
 values_of (GetSet key value) = value ∷ []
 values_of (MSet settings) = values_set settings

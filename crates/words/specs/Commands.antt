@@ -4,7 +4,7 @@ use Rattle.std.specs.Str.{str_eq_ignore_ascii_case}
 use Rattle.words.specs.declared.limits.TheConstants.{KEY_BYTES_MAX}
 use Rattle.words.specs.declared.word.TheConstants.{WORD_INLINE}
 use Rattle.words.specs.declared.command.Command.{Command}
-use Rattle.words.specs.declared.command.Command.TheVariants.{Ping, Echo, Get, Set, SetNx, GetSet, GetDel, StrLen, Exists, Del, Append, SetRange, GetRange, Add, Subtract, MGet, MSet, MSetNx, Session, Bad}
+use Rattle.words.specs.declared.command.Command.TheVariants.{Ping, Echo, Get, Set, SetGet, SetNx, GetSet, GetDel, StrLen, Exists, Del, Append, SetRange, GetRange, Add, Subtract, MGet, MSet, MSetNx, Rename, Session, Bad}
 use Rattle.words.specs.declared.command.When.{When}
 use Rattle.words.specs.declared.command.When.TheVariants.{Always, IfMissing, IfPresent}
 use Rattle.words.specs.declared.command.SessionCommand.{SessionCommand}
@@ -73,21 +73,41 @@ key_and_value make (key ∷ []) = Err WrongArity
 key_and_value make (key ∷ value ∷ []) = of_key key (make key value)
 key_and_value make (key ∷ value ∷ word ∷ words) = Err WrongArity
 
--- when a SET with these option words is done: none, or exactly one that is NX or XX
-abbrev pub when_of : List Bytes → Option When
-when_of [] = Some Always
-when_of (option ∷ []) = if is_name (codes "NX") option then Some IfMissing else (if is_name (codes "XX") option then Some IfPresent else None)
-when_of (option ∷ word ∷ words) = None
+-- when a SET is done that one of NX and XX says, where no other word says it
+abbrev pub once : When → When → Option When
+once when Always = Some when
+once when IfMissing = None
+once when IfPresent = None
 
-abbrev pub set_when : Bytes → Bytes → Option When → Command
-set_when key value None = Bad Syntax
-set_when key value (Some when) = Set key value when
+-- one option word more: GET, where the old value is not asked for yet, and NX or XX, where neither stands among the others
+abbrev pub with_option : Bytes → When × Bool → Option (When × Bool)
+with_option option others =
+    if is_name (codes "GET") option then (if others.1 then None else Some (others.0, true))
+    else (
+    if is_name (codes "NX") option then option_map (λ when. (when, others.1)) (once IfMissing others.0)
+    else (if is_name (codes "XX") option then option_map (λ when. (when, others.1)) (once IfPresent others.0) else None)
+    )
+
+abbrev pub with_first : Bytes → Option (When × Bool) → Option (When × Bool)
+with_first option None = None
+with_first option (Some others) = with_option option others
+
+-- What the option words of a SET ask for: when it is done, and whether it answers the old value. They are GET and at most one of NX and XX,
+-- in any order, and none of them stands twice.
+abbrev pub options_of : List Bytes → Option (When × Bool)
+options_of [] = Some (Always, false)
+options_of (option ∷ options) = with_first option (options_of options)
+
+-- a SET with these options, if they are ones that it takes
+abbrev pub set_with : Bytes → Bytes → Option (When × Bool) → Command
+set_with key value None = Bad Syntax
+set_with key value (Some options) = if options.1 then SetGet key value options.0 else Set key value options.0
 
 -- key value [option ..]
 abbrev pub key_value_options : List Bytes → Result Command Refusal
 key_value_options [] = Err WrongArity
 key_value_options (key ∷ []) = Err WrongArity
-key_value_options (key ∷ value ∷ options) = of_key key (set_when key value (when_of options))
+key_value_options (key ∷ value ∷ options) = of_key key (set_with key value (options_of options))
 
 -- key number
 abbrev pub key_and_number : (Bytes → ℤ → Command) → List Bytes → Result Command Refusal
@@ -117,6 +137,13 @@ key_start_end (key ∷ start ∷ []) = Err WrongArity
 key_start_end (key ∷ start ∷ end ∷ []) =
     of_key key (with_number (number_of start) (λ from. with_number (number_of end) (λ to. GetRange key from to)))
 key_start_end (key ∷ start ∷ end ∷ word ∷ words) = Err WrongArity
+
+-- key newkey
+abbrev pub two_keys : (Bytes → Bytes → Command) → List Bytes → Result Command Refusal
+two_keys make [] = Err WrongArity
+two_keys make (key ∷ []) = Err WrongArity
+two_keys make (key ∷ name ∷ []) = of_keys (key ∷ name ∷ []) (make key name)
+two_keys make (key ∷ name ∷ word ∷ words) = Err WrongArity
 
 -- key [key ..]
 abbrev pub some_keys : (List Bytes → Command) → List Bytes → Result Command Refusal
@@ -173,7 +200,7 @@ abbrev pub counters : List Row
 counters =
     (codes "INCR", one_key (by_one Add)) ∷ (codes "DECR", one_key (by_one Subtract)) ∷ (codes "INCRBY", key_and_number Add)
     ∷ (codes "DECRBY", key_and_number Subtract) ∷ (codes "MGET", some_keys MGet) ∷ (codes "MSET", some_settings MSet)
-    ∷ (codes "MSETNX", some_settings MSetNx) ∷ session_commands
+    ∷ (codes "MSETNX", some_settings MSetNx) ∷ (codes "RENAME", two_keys Rename) ∷ session_commands
 
 abbrev pub table : List Row
 table = readers counters
@@ -208,6 +235,7 @@ keys_of (Ping text) = []
 keys_of (Echo text) = []
 keys_of (Get key) = key ∷ []
 keys_of (Set key value when) = key ∷ []
+keys_of (SetGet key value when) = key ∷ []
 keys_of (SetNx key value) = key ∷ []
 keys_of (GetSet key value) = key ∷ []
 keys_of (GetDel key) = key ∷ []
@@ -222,6 +250,7 @@ keys_of (Subtract key n) = key ∷ []
 keys_of (MGet keys) = keys
 keys_of (MSet settings) = keys_set settings
 keys_of (MSetNx settings) = keys_set settings
+keys_of (Rename key name) = key ∷ name ∷ []
 keys_of (Session command) = []
 keys_of (Bad refusal) = []
 
@@ -249,6 +278,7 @@ AsksNoMemory (Ok (Ping (Some text))) = IsInline text
 AsksNoMemory (Ok (Echo text)) = IsInline text
 AsksNoMemory (Ok (Get key)) = IsInline key
 AsksNoMemory (Ok (Set key value when)) = IsInline key × IsInline value
+AsksNoMemory (Ok (SetGet key value when)) = IsInline key × IsInline value
 AsksNoMemory (Ok (SetNx key value)) = IsInline key × IsInline value
 AsksNoMemory (Ok (GetSet key value)) = IsInline key × IsInline value
 AsksNoMemory (Ok (GetDel key)) = IsInline key
@@ -263,6 +293,7 @@ AsksNoMemory (Ok (Subtract key n)) = IsInline key
 AsksNoMemory (Ok (MGet keys)) = ⊥
 AsksNoMemory (Ok (MSet settings)) = ⊥
 AsksNoMemory (Ok (MSetNx settings)) = ⊥
+AsksNoMemory (Ok (Rename key name)) = IsInline key × IsInline name
 AsksNoMemory (Ok (Session (Watch keys))) = ⊥
 AsksNoMemory (Ok (Session _)) = Unit {0}
 AsksNoMemory (Ok (Bad refusal)) = Unit {0}

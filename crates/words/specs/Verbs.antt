@@ -3,7 +3,7 @@ use Rattle.std.specs.Prelude.{ℤ, ◌≡◌, Bool, List, ◌++◌, Option, None
 use Rattle.words.specs.declared.command.SessionCommand.{SessionCommand}
 use Rattle.words.specs.declared.command.SessionCommand.TheVariants.{Multi, Exec, Discard, Unwatch, Quit}
 use Rattle.words.specs.declared.command.Command.{Command}
-use Rattle.words.specs.declared.command.Command.TheVariants.{Ping, Echo, Get, SetNx, GetSet, GetDel, StrLen, Exists, Del, Append, Add, Subtract, MGet, MSet, MSetNx}
+use Rattle.words.specs.declared.command.Command.TheVariants.{Ping, Echo, Get, SetNx, GetSet, GetDel, StrLen, Exists, Del, Append, Add, Subtract, MGet, MSet, MSetNx, Rename}
 use Rattle.words.specs.declared.shapes.KeyVerb.{KeyVerb}
 use Rattle.words.specs.declared.shapes.KeyVerb.TheVariants as key
 use Rattle.words.specs.declared.shapes.ValueVerb.{ValueVerb}
@@ -21,7 +21,7 @@ use Rattle.words.specs.declared.shapes.Shape.TheVariants as shape
 use Rattle.words.specs.declared.reply.Refusal.{Refusal}
 use Rattle.words.specs.declared.reply.Refusal.TheVariants.{UnknownCommand}
 use Rattle.words.specs.Store.{Bytes}
-use Rattle.words.specs.Commands.{one_key, key_and_value, key_value_options, key_and_number, key_offset_value, key_start_end, some_keys, some_settings, optional_text, one_text, watched_keys, alone, by_one, any_long, keys_set}
+use Rattle.words.specs.Commands.{one_key, key_and_value, key_value_options, key_and_number, key_offset_value, key_start_end, two_keys, some_keys, some_settings, optional_text, one_text, watched_keys, alone, by_one, any_long, keys_set}
 
 abbrev pub of_key_verb : KeyVerb → Bytes → Command
 of_key_verb key.Get = Get
@@ -63,6 +63,7 @@ shaped shape.KeyValueOptions = key_value_options
 shaped (shape.KeyAndNumber verb) = key_and_number (of_number_verb verb)
 shaped shape.KeyOffsetValue = key_offset_value
 shaped shape.KeyStartEnd = key_start_end
+shaped shape.TwoKeys = two_keys Rename
 shaped (shape.SomeKeys verb) = some_keys (of_keys_verb verb)
 shaped (shape.SomeSettings verb) = some_settings (of_settings_verb verb)
 shaped shape.OptionalText = optional_text Ping

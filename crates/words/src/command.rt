@@ -65,6 +65,8 @@ pub enum Command {
     Get(Word),
     /// `SET key value [NX | XX]`
     Set(Word, Word, When),
+    /// `SET key value GET [NX | XX]`, its option words in any order
+    SetGet(Word, Word, When),
     /// `SETNX key value`
     SetNx(Word, Word),
     /// `GETSET key value`
@@ -93,6 +95,8 @@ pub enum Command {
     MSet(Settings),
     /// `MSETNX key value [key value ..]`
     MSetNx(Settings),
+    /// `RENAME key newkey`
+    Rename(Word, Word),
     /// A command of the session itself.
     Session(SessionCommand),
     /// A command that its words show to be refused when it runs.
@@ -157,6 +161,7 @@ fn name_of(command: &Command) -> &'static str {
         Command::Echo(_) => "Echo",
         Command::Get(_) => "Get",
         Command::Set(..) => "Set",
+        Command::SetGet(..) => "SetGet",
         Command::SetNx(..) => "SetNx",
         Command::GetSet(..) => "GetSet",
         Command::GetDel(_) => "GetDel",
@@ -171,6 +176,7 @@ fn name_of(command: &Command) -> &'static str {
         Command::MGet(_) => "MGet",
         Command::MSet(_) => "MSet",
         Command::MSetNx(_) => "MSetNx",
+        Command::Rename(..) => "Rename",
         Command::Session(_) => "Session",
         Command::Bad(_) => "Bad",
     }
@@ -201,6 +207,7 @@ impl Command {
     {
         match self {
             Command::Set(key, value, _)
+            | Command::SetGet(key, value, _)
             | Command::SetNx(key, value)
             | Command::GetSet(key, value) => is_setting_bounded(key, value),
             Command::MSet(settings) | Command::MSetNx(settings) => {
@@ -217,6 +224,7 @@ impl Command {
             Command::Exists(keys) | Command::Del(keys) | Command::MGet(keys) => {
                 are_keys_bounded(keys.as_slice())
             }
+            Command::Rename(key, name) => !is_long(key) && !is_long(name),
             Command::Ping(_) | Command::Echo(_) | Command::Session(_) | Command::Bad(_) => true,
         }
     }
@@ -300,6 +308,8 @@ fn counting_shape(name: &[u8]) -> Shape
         Shape::SomeSettings(SettingsVerb::MSet)
     } else if is_named(name, b"MSETNX") {
         Shape::SomeSettings(SettingsVerb::MSetNx)
+    } else if is_named(name, b"RENAME") {
+        Shape::TwoKeys
     } else {
         keyless_shape(name)
     }

@@ -7,7 +7,7 @@
 
 ghost use Rattle.std.specs.Prelude.{◌≡◌, ◌++◌, List, ℕ, Some, Ok, Err, IfOk, IsOk, OnOk, length};
 ghost use Rattle.words.specs.Commands as commands;
-ghost use Rattle.words.specs.Commands.{AsksNoMemory, IsInline, when_of, in_pairs};
+ghost use Rattle.words.specs.Commands.{AsksNoMemory, IsInline, in_pairs};
 ghost use Rattle.words.specs.Verbs.{any_long_set, Adds, shaped};
 ghost use Rattle.words.specs.Verbs.{of_key_verb, of_value_verb, of_number_verb, of_keys_verb, of_settings_verb, of_lone_verb};
 
@@ -84,6 +84,8 @@ pub(crate) enum Shape {
     KeyOffsetValue,
     /// `key start end`
     KeyStartEnd,
+    /// `key newkey`
+    TwoKeys,
     /// `key [key ..]`
     SomeKeys(KeysVerb),
     /// `key value [key value ..]`
@@ -137,6 +139,7 @@ impl Shape {
             Shape::KeyAndNumber(verb) => key_and_number(alloc, verb, arguments),
             Shape::KeyOffsetValue => key_offset_value(alloc, arguments),
             Shape::KeyStartEnd => key_start_end(alloc, arguments),
+            Shape::TwoKeys => two_keys(alloc, arguments),
             Shape::SomeKeys(verb) => some_keys(alloc, verb, arguments),
             Shape::SomeSettings(verb) => some_settings(alloc, verb, arguments),
             Shape::OptionalText => optional_text(alloc, arguments),
@@ -355,15 +358,49 @@ fn key_and_value(
     }
 }
 
-/// When a SET with these option words is done, if they are ones that it takes.
-fn when_of_options(options: &[Word]) -> Option<When>
-    ensures { result ≡ when_of options.now }
+/// When a SET is done for which a word NX or XX stands before others that ask for this, if none of
+/// them is such a word too.
+fn once(when: When, others: When) -> Option<When>
+    ensures { result ≡ commands.once when others }
+{
+    match others {
+        When::Always => Some(when),
+        _ => None,
+    }
+}
+
+/// What the option words of a SET ask for, where the first is this one, and the others ask for that:
+/// when it is done, and whether it answers the old value.
+fn with_option(option: &Word, when: When, answers_old: bool) -> Option<(When, bool)>
+    ensures { result ≡ commands.with_option option.now (when, answers_old) }
+{
+    let option = option.as_slice();
+    if b"GET".eq_ignore_ascii_case(option) {
+        if answers_old {
+            return None;
+        }
+        return Some((when, true));
+    }
+    if b"NX".eq_ignore_ascii_case(option) {
+        return Some((once(When::IfMissing, when)?, answers_old));
+    }
+    if b"XX".eq_ignore_ascii_case(option) {
+        return Some((once(When::IfPresent, when)?, answers_old));
+    }
+    None
+}
+
+/// What the option words of a SET ask for, if they are ones that it takes: when it is done, and whether
+/// it answers the old value.
+fn options_of(options: &[Word]) -> Option<(When, bool)>
+    ensures { result ≡ commands.options_of options.now }
 {
     match options {
-        [] => Some(When::Always),
-        [option] if b"NX".eq_ignore_ascii_case(option.as_slice()) => Some(When::IfMissing),
-        [option] if b"XX".eq_ignore_ascii_case(option.as_slice()) => Some(When::IfPresent),
-        _ => None,
+        [] => Some((When::Always, false)),
+        [option, others @ ..] => {
+            let (when, answers_old) = options_of(others)?;
+            with_option(option, when, answers_old)
+        }
     }
 }
 
@@ -381,7 +418,7 @@ fn key_value_options(
     if is_long(key) {
         return bad(Refusal::KeyTooLong);
     }
-    let Some(when) = when_of_options(options) else {
+    let Some((when, answers_old)) = options_of(options) else {
         return bad(Refusal::Syntax);
     };
     let Ok(key) = copy(alloc, key) else {
@@ -390,6 +427,9 @@ fn key_value_options(
     let Ok(value) = copy(alloc, value) else {
         return Err(AllocError);
     };
+    if answers_old {
+        return Ok(Ok(Command::SetGet(key, value, when)));
+    }
     Ok(Ok(Command::Set(key, value, when)))
 }
 
@@ -473,6 +513,18 @@ fn copies(alloc: Global, words: &[Word]) -> Result<Keys, OutOfMemory>
         copies.push(copy(alloc, word)?)?;
     }
     Ok(Sequence::from_vec(copies))
+}
+
+/// `key newkey`
+fn two_keys(alloc: Global, arguments: &[Word]) -> Result<Result<Command, Refusal>, OutOfMemory>
+    ensures exact { IfOk result (λ command. command ≡ commands.two_keys Command.Rename arguments.now) }
+    ensures memory { AsksNoMemory (commands.two_keys Command.Rename arguments.now) → IsOk result }
+{
+    match arguments {
+        [_, _] if any_long(arguments) => Ok(Ok(Command::Bad(Refusal::KeyTooLong))),
+        [key, name] => Ok(Ok(Command::Rename(copy(alloc, key)?, copy(alloc, name)?))),
+        _ => Ok(Err(Refusal::WrongArity)),
+    }
 }
 
 /// `key [key ..]`

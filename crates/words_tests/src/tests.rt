@@ -104,6 +104,14 @@ fn is_set(read: &Read) -> bool {
     matches!(read, Ok(Command::Set(key, value, When::IfPresent)) if is(key, b"k") && is(value, b"v"))
 }
 
+fn is_set_get(read: &Read) -> bool {
+    matches!(read, Ok(Command::SetGet(key, value, When::IfMissing)) if is(key, b"k") && is(value, b"v"))
+}
+
+fn is_rename(read: &Read) -> bool {
+    matches!(read, Ok(Command::Rename(key, name)) if is(key, b"k") && is(name, b"n"))
+}
+
 fn is_get_del(read: &Read) -> bool {
     matches!(read, Ok(Command::GetDel(key)) if is(key, b"k"))
 }
@@ -227,6 +235,7 @@ fn one_key(rt: HostRuntime) -> Result<(), Fail> {
 #[test]
 fn values(rt: HostRuntime) -> Result<(), Fail> {
     assert!(rt; reads(rt.alloc(), &[b"sEt", b"k", b"v", b"xX"], is_set)?);
+    assert!(rt; reads(rt.alloc(), &[b"SET", b"k", b"v", b"gEt", b"nX"], is_set_get)?);
     assert!(rt; reads(rt.alloc(), &[b"SETNX", b"k", b"v"], is_set_nx)?);
     assert!(rt; reads(rt.alloc(), &[b"GETSET", b"k", b"v"], is_get_set)?);
     assert!(rt; reads(rt.alloc(), &[b"APPEND", b"k", b"v"], is_append)?);
@@ -255,6 +264,7 @@ fn several_keys(rt: HostRuntime) -> Result<(), Fail> {
     assert!(rt; reads(rt.alloc(), &[b"DEL", b"a"], is_del)?);
     assert!(rt; reads(rt.alloc(), &[b"MGET", b"a", b"z"], is_m_get)?);
     assert!(rt; reads(rt.alloc(), &[b"WATCH", b"a", b"b"], is_watch)?);
+    assert!(rt; reads(rt.alloc(), &[b"rename", b"k", b"n"], is_rename)?);
     Ok(())
 }
 
@@ -293,6 +303,93 @@ fn refusals(rt: HostRuntime) -> Result<(), Fail> {
     assert!(rt; reads(rt.alloc(), &[b"FLUSHALL"], is_unknown_name)?);
     assert!(rt; reads(rt.alloc(), &[b"GET"], is_too_few_words)?);
     assert!(rt; reads(rt.alloc(), &[b"SET", b"k", b"v", b"EX"], is_no_option)?);
+    Ok(())
+}
+
+/// How many words of each kind stand among the option words of a SET.
+#[derive(Clone, Copy)]
+struct Counts {
+    get: u32,
+    nx: u32,
+    xx: u32,
+    other: u32,
+}
+
+impl Counts {
+    /// One word more.
+    fn add(&mut self, option: &[u8]) {
+        if option == b"GET".as_slice() || option == b"gEt".as_slice() {
+            self.get = self.get.saturating_add(1);
+        } else if option == b"NX".as_slice() || option == b"nX".as_slice() {
+            self.nx = self.nx.saturating_add(1);
+        } else if option == b"XX".as_slice() || option == b"xx".as_slice() {
+            self.xx = self.xx.saturating_add(1);
+        } else {
+            self.other = self.other.saturating_add(1);
+        }
+    }
+
+    /// Whether what a SET with these words is goes by how many there are of each kind.
+    fn fit(self, read: &Read) -> bool {
+        let when = match (self.nx, self.xx) {
+            (0, 0) => When::Always,
+            (1, 0) => When::IfMissing,
+            (0, 1) => When::IfPresent,
+            _ => return is_no_option(read),
+        };
+        match (self.get, self.other, read) {
+            (0, 0, Ok(Command::Set(key, value, done))) => {
+                *done == when && is(key, b"k") && is(value, b"v")
+            }
+            (1, 0, Ok(Command::SetGet(key, value, done))) => {
+                *done == when && is(key, b"k") && is(value, b"v")
+            }
+            (0 | 1, 0, _) => false,
+            _ => is_no_option(read),
+        }
+    }
+}
+
+/// Words that may stand among the options of a SET.
+const OPTIONS: [&[u8]; 8] = [b"GET", b"gEt", b"NX", b"nX", b"XX", b"xx", b"EX", b""];
+
+/// Whether a SET with so many option words, those that the digits of a number to base 8 name, is what it is to be.
+fn takes_options(alloc: Global, number: usize, count: usize) -> Result<bool, Fail> {
+    let mut words = request(alloc, &[b"SET", b"k", b"v"])?;
+    let mut counts = Counts {
+        get: 0,
+        nx: 0,
+        xx: 0,
+        other: 0,
+    };
+    let mut rest = number;
+    for _ in 0..count {
+        let option = OPTIONS[rest % 8];
+        rest /= 8;
+        counts.add(option);
+        if words.as_slice().len() < WORDS_MAX {
+            words.push(Word::from_slice(alloc, option)?)?;
+        }
+    }
+    let read = Command::of(alloc, &words)?;
+    let is_fit = counts.fit(&read);
+    if let Ok(command) = read {
+        drop(command);
+    }
+    Ok(is_fit)
+}
+
+/// Each list of up to four option words, of 4,681.
+#[test]
+fn option_words_of_set(rt: HostRuntime) -> Result<(), Fail> {
+    for (count, lists) in [(0, 1), (1, 8), (2, 64), (3, 512), (4, 4_096)] {
+        for number in 0..lists {
+            assert!(rt;
+                takes_options(rt.alloc(), number, count)?,
+                "{number} {count}"
+            );
+        }
+    }
     Ok(())
 }
 

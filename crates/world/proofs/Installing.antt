@@ -1,30 +1,56 @@
 -- A call that was planned and installed in the stripes that its client holds.
-use Rattle.std.proofs.Common.{◌≡◌, ◌≢◌, ◌∙◌, ◌||◌, ℕ, ◌<◌, Bool, true, false, cond, List, [], ◌∷◌, ◌++◌, length, get_or, Option, Some, None, IsSome, refl, sym, ap, subst, nat_eq, if◌then◌else◌, arith, bytes_eq, zero, suc, nat_lt, ⊎_elim}
-use Rattle.std.specs.Prelude.{slice_get}
+use Rattle.std.proofs.Common.{◌≡◌, ◌≢◌, ◌∙◌, ◌||◌, ℕ, ◌<◌, Bool, true, false, cond, List, [], ◌∷◌, ◌++◌, length, get_or, Option, Some, None, IsSome, refl, sym, ap, ap₂, subst, nat_eq, if◌then◌else◌, arith, bytes_eq, zero, suc, nat_lt, ⊎_elim}
+use Rattle.std.specs.Prelude.{slice_get, option_map}
 use Rattle.std.specs.Bool.{Decides}
 use Rattle.std.specs.Map.{update}
 use Rattle.std.proofs.lemmas.Bool.{cases_lt, false≢true}
 use Rattle.std.proofs.lemmas.Bool.Decides.{Decides-eqb}
 use Rattle.std.proofs.lemmas.List.{get_or_past}
 use Rattle.std.proofs.lemmas.Slice.Eq.{bytes_eq-Decides}
-use Rattle.words.specs.Store.{Bytes, Store, Write, written, writes_key}
+use Rattle.words.specs.Store.{Bytes, Store, Write, empty, written, writes_key}
 use Rattle.words.specs.History.{is_among}
-use Rattle.words.specs.Watches.{touched, begun}
+use Rattle.words.specs.Watches.{Marks, touched, begun}
 use Rattle.words.specs.Commands.{keys_of_all}
 use Rattle.words.specs.Stripes.{stripe_of}
 use Rattle.transact.specs.declared.call.Call.{Call}
 use Rattle.transact.specs.declared.call.Call.TheVariants.{One, Watch, Exec, Forget}
-use Rattle.transact.specs.declared.shard.Shard.{Shard}
 use Rattle.transact.specs.Calls.{call_keys}
-use Rattle.gates.specs.Rule.{Meaning}
-use Rattle.gates.specs.Plays.{AreEmpty}
 use Rattle.gates.specs.Sets.{inserted}
 use Rattle.transact.specs.Plans.{keys_begun, keys_ended, stripes_with}
-use Rattle.transact.specs.Shards.{shard_store, shard_marks, shard_meaning}
-use Rattle.transact.specs.Tables.{AreReady, AreThere, Became, PartBecame, begins, clears, touches, touches_and_clears}
-use Rattle.world.specs.Turns.{first_missing, holds, is_number, marks_changed}
-use Rattle.world.specs.Stripes.{HasInstalled, IsEven, KeepsOthers, lent, marks_in, marks_of, store_in, stores_of}
-use Rattle.world.specs.declared.stripes.Stripes.{Stripes}
+use Rattle.transact.specs.Tables.{AreThere, Became, PartBecame, begins, clears, stays, touches, touches_and_clears}
+use Rattle.hybrid.specs.HybridLog.{HybridLog}
+use Rattle.plans.specs.declared.shard.Shard.{Shard}
+use Rattle.plans.specs.Rooms.{AreRoomy}
+use Rattle.plans.specs.Shards.{logs_of, shard_log, shard_store, shard_marks, shard_meaning}
+use Rattle.world_log.specs.Places.{Receipt}
+use Rattle.world_log.specs.declared.lanes.Lane.{Lane}
+use Rattle.world_log.specs.declared.stripes.Stripes.{Stripes}
+use Rattle.world_log.specs.Stripes.{IsEven, KeepsOthers, acts_for, lent, part_in, marks_of, stores_of}
+use Rattle.world_log.specs.Stripes as lanes
+use Rattle.world_model.specs.Enabled.{first_missing, holds, is_number}
+use Rattle.world_model.specs.Commits.{marks_changed}
+use Rattle.world.specs.Stripes.{HasInstalled}
+use Rattle.world.proofs.Shares.{or_none, share_some}
+
+-- the part of a stripe, what a part that may be missing stores, and its marks
+abbrev part_at : Stripes → ℕ → Option (Shard Receipt)
+part_at stripes i = part_in (slice_get stripes.lanes.items i)
+
+abbrev store_in : Option (Shard Receipt) → Store
+store_in None = empty
+store_in (Some part) = shard_store part
+
+abbrev marks_in : Option (Shard Receipt) → Marks
+marks_in None key session = None
+marks_in (Some part) key session = shard_marks part key session
+
+store_same : (o : Option Lane) (key : Bytes) → lanes.store_in o key ≡ store_in (part_in o) key
+store_same None key = refl
+store_same (Some lane) key = refl
+
+marks_same : (o : Option Lane) (key : Bytes) (session : ℕ) → lanes.marks_in o key session ≡ marks_in (part_in o) key session
+marks_same None key session = refl
+marks_same (Some lane) key session = refl
 
 -- writes leave two stores the same at a key at which they were
 written_same : (writes : List Write) (one other : Store) (key : Bytes) → one key ≡ other key → written one writes key ≡ written other writes key
@@ -32,10 +58,6 @@ written_same [] one other key same = same
 written_same (write ∷ writes) one other key same =
     written_same writes (update bytes_eq one write.0 write.1) (update bytes_eq other write.0 write.1) key
     (ap (λ value. cond (bytes_eq write.0 key) write.1 value) same)
-
-or_none : (a b : Bool) → (a || b) ≡ false → (a ≡ false) × (b ≡ false)
-or_none true b is = cc
-or_none false b is = (refl, is)
 
 -- and leave it as it was where none is to it
 written_leaves : (writes : List Write) (store : Store) (key : Bytes) → writes_key writes key ≡ false → written store writes key ≡ store key
@@ -72,12 +94,18 @@ not_among n parts [] key there away = refl
 not_among n parts (first ∷ keys) key there away =
     ap (λ (t : Bool). t || is_among keys key) (apart_from n parts first key there.0 away) ∙ not_among n parts keys key there.1 away
 
-not_written : (n : ℕ) (parts : ℕ → Option Shard) (writes : List Write) (key : Bytes) → AreReady n parts writes → parts (stripe_of n key) ≡ None
-    → writes_key writes key ≡ false
-not_written n parts [] key ready away = refl
-not_written n parts (write ∷ writes) key ready away =
-    ap (λ (t : Bool). t || writes_key writes key) (apart_from n parts write.0 key (subst IsSome (sym ready.0.1) refl) away)
-    ∙ not_written n parts writes key ready.1 away
+none_kept : {T : Type 0} (f : T → HybridLog) (o : Option T) → o ≡ None → option_map f o ≡ None
+none_kept f o is = ap (option_map f) is
+
+not_written : (n : ℕ) (parts : ℕ → Option (Shard Receipt)) (writes : List Write) (key : Bytes) → AreRoomy n (logs_of parts) writes
+    → parts (stripe_of n key) ≡ None → writes_key writes key ≡ false
+not_written n parts writes key roomy away =
+    elim (writes_key writes key) as (λ t. writes_key writes key ≡ t → t ≡ false) [
+      | true ↦ λ is.
+          let room = roomy (stripe_of n key) (share_some n writes key is) in
+          absurd (cc (sym (none_kept shard_log (parts (stripe_of n key)) away) ∙ room.there))
+      | false ↦ λ is. refl
+    ] refl
 
 there_second : {T : Type 0} (n : ℕ) (parts : ℕ → Option T) (keys more : List Bytes) → AreThere n parts (keys ++ more) → AreThere n parts more
 there_second n parts [] more there = there
@@ -102,7 +130,7 @@ there_after n before later [] still there = tt
 there_after n before later (key ∷ keys) still there = (still (stripe_of n key) there.0, there_after n before later keys still there.1)
 
 -- a change leaves the marks of a key that it does not name
-begins_none : (c : ℕ) (keys : List Bytes) (key : Bytes) (session : ℕ) (mark : Option Bool) → is_among keys key ≡ false → begins c keys key session mark ≡ mark
+pub begins_none : (c : ℕ) (keys : List Bytes) (key : Bytes) (session : ℕ) (mark : Option Bool) → is_among keys key ≡ false → begins c keys key session mark ≡ mark
 begins_none c keys key session mark none =
     ap (λ (t : Bool). if nat_eq c session then (if t then begun mark else mark) else mark) none ∙ same (nat_eq c session) mark
   where
@@ -110,7 +138,7 @@ begins_none c keys key session mark none =
     same true m = refl
     same false m = refl
 
-clears_none : (c : ℕ) (keys : List Bytes) (key : Bytes) (session : ℕ) (mark : Option Bool) → is_among keys key ≡ false → clears c keys key session mark ≡ mark
+pub clears_none : (c : ℕ) (keys : List Bytes) (key : Bytes) (session : ℕ) (mark : Option Bool) → is_among keys key ≡ false → clears c keys key session mark ≡ mark
 clears_none c keys key session mark none =
     ap (λ (t : Bool). if nat_eq c session then (if t then None else mark) else mark) none ∙ same (nat_eq c session) mark
   where
@@ -119,8 +147,8 @@ clears_none c keys key session mark none =
     same false m = refl
 
 -- a call leaves the marks of a key whose stripe its client does not hold
-marks_away : (n c : ℕ) (parts later : ℕ → Option Shard) (call : Call) (writes : List Write) (key : Bytes) (session : ℕ) (mark : Option Bool)
-    → AreThere n parts (call_keys call) → AreReady n later writes → parts (stripe_of n key) ≡ None → later (stripe_of n key) ≡ None
+marks_away : (n c : ℕ) (parts later : ℕ → Option (Shard Receipt)) (call : Call) (writes : List Write) (key : Bytes) (session : ℕ) (mark : Option Bool)
+    → AreThere n parts (call_keys call) → AreRoomy n (logs_of later) writes → parts (stripe_of n key) ≡ None → later (stripe_of n key) ≡ None
     → marks_changed c call writes key session mark ≡ mark
 marks_away n c parts later call writes key session mark there ready away still =
     ap (λ (m : Option Bool). clears c (keys_ended call) key session (touches writes key session m))
@@ -131,23 +159,23 @@ marks_away n c parts later call writes key session mark there ready away still =
 
 -- the stripes of a client that acts
 abbrev pub acts : Stripes → ℕ → Stripes
-acts stripes c = record stripes { acting = c }
+acts stripes c = acts_for stripes c
 
 pub even_acts : (stripes : Stripes) (c : ℕ) → IsEven stripes → IsEven (acts stripes c)
-even_acts stripes c even = record { parts = even.parts; some = even.some; most = even.most }
+even_acts stripes c even = record { lanes = even.lanes; some = even.some; most = even.most }
 
 -- a stripe that is held is lent to the client that acts, and another is not
-pub lent_held : (stripes : Stripes) (i : ℕ) → holds stripes.holders.items stripes.acting i ≡ true → lent stripes i ≡ slice_get stripes.parts.items i
-lent_held stripes i is = ap (λ (t : Bool). if t then slice_get stripes.parts.items i else None) is
+pub lent_held : (stripes : Stripes) (i : ℕ) → holds stripes.holders.items stripes.acting i ≡ true → lent stripes i ≡ part_at stripes i
+lent_held stripes i is = ap (λ (t : Bool). if t then part_at stripes i else None) is
 
 pub lent_away : (stripes : Stripes) (i : ℕ) → holds stripes.holders.items stripes.acting i ≡ false → lent stripes i ≡ None
-lent_away stripes i is = ap (λ (t : Bool). if t then slice_get stripes.parts.items i else None) is
+lent_away stripes i is = ap (λ (t : Bool). if t then part_at stripes i else None) is
 
 -- there is a part for a stripe that is held
-there_within : {A : Type 0} (items : List A) (i : ℕ) → i < length items → IsSome (slice_get items i)
-there_within [] i below = absurd (omega arith)
-there_within (first ∷ items) zero below = refl
-there_within (first ∷ items) (suc i) below = there_within items i (omega arith)
+part_within : (lanes : List Lane) (i : ℕ) → i < length lanes → IsSome (part_in (slice_get lanes i))
+part_within [] i below = absurd (omega arith)
+part_within (first ∷ lanes) zero below = refl
+part_within (first ∷ lanes) (suc i) below = part_within lanes i (omega arith)
 
 number_none : (c : ℕ) (o : Option ℕ) → o ≡ None → is_number c o ≡ true → ⊥
 number_none c None is test = cc
@@ -157,8 +185,8 @@ pub held_within : (holders : List (Option ℕ)) (c i : ℕ) → holds holders c 
 held_within holders c i is =
     ⊎_elim (λ below. below) (λ past. absurd (number_none c (get_or holders i None) (get_or_past holders i None past) is)) (cases_lt i (length holders))
 
-held_some : (stripes : Stripes) → IsEven stripes → (i : ℕ) → holds stripes.holders.items stripes.acting i ≡ true → IsSome (slice_get stripes.parts.items i)
-held_some stripes even i is = there_within stripes.parts.items i (rw even.parts (held_within stripes.holders.items stripes.acting i is))
+held_some : (stripes : Stripes) → IsEven stripes → (i : ℕ) → holds stripes.holders.items stripes.acting i ≡ true → IsSome (part_at stripes i)
+held_some stripes even i is = part_within stripes.lanes.items i (rw even.lanes (held_within stripes.holders.items stripes.acting i is))
 
 -- where no stripe is missing, each is held
 cons_held : (holders : List (Option ℕ)) (c first : ℕ) (stripes : List ℕ) → first_missing holders c (first ∷ stripes) ≡ None
@@ -221,22 +249,22 @@ calls_there stripes keys even none =
     held_there stripes keys even (with_held stripes.holders.items stripes.acting (length stripes.holders.items) [] keys none).1
 
 -- what became of a stripe that the client holds
-record StripeBecame (n i c : ℕ) (call : Call) (writes : List Write) (old new : Option Shard) : Type 0 where
+record StripeBecame (n i c : ℕ) (call : Call) (writes : List Write) (old new : Option (Shard Receipt)) : Type 0 where
   here : (key : Bytes) → stripe_of n key ≡ i → store_in new key ≡ written (store_in old) writes key
   away : (key : Bytes) → stripe_of n key ≢ i → store_in new key ≡ store_in old key
   marks : (key : Bytes) (session : ℕ) → stripe_of n key ≡ i
       → marks_in new key session ≡ marks_changed c call writes key session (marks_in old key session)
 
-held_became : (n c i : ℕ) (call : Call) (writes : List Write) (a b d : ℕ → Option Shard)
-    → Became shard_meaning n [] (begins c (keys_begun call)) a b
-    → Became shard_meaning n writes (touches_and_clears writes c (keys_ended call)) b d
+held_became : (n c i : ℕ) (call : Call) (writes : List Write) (a b d : ℕ → Option (Shard Receipt))
+    → Became (shard_meaning ⊥) n [] (begins c (keys_begun call)) a b
+    → Became (shard_meaning ⊥) n writes (touches_and_clears writes c (keys_ended call)) b d
     → IsSome (a i) → StripeBecame n i c call writes (a i) (d i)
 held_became n c i call writes a b d planned installed some =
     let q = some_of (d i) (installed.there i (planned.there i some)) in
     let r = installed.was i q.0 q.1 in
     let p = planned.was i r.0 r.1 in
-    let two : PartBecame shard_meaning n i writes (touches_and_clears writes c (keys_ended call)) r.0 q.0 = r.2 in
-    let one : PartBecame shard_meaning n i [] (begins c (keys_begun call)) p.0 r.0 = p.2 in
+    let two : PartBecame (shard_meaning ⊥) n i writes (touches_and_clears writes c (keys_ended call)) r.0 q.0 = r.2 in
+    let one : PartBecame (shard_meaning ⊥) n i [] (begins c (keys_begun call)) p.0 r.0 = p.2 in
     rw (q.1, p.1) (record {
       here = λ key at. two.here key at ∙ written_same writes (shard_store r.0) (shard_store p.0) key (one.here key at);
       away = λ key apart. two.away key apart ∙ one.away key apart;
@@ -247,9 +275,9 @@ held_became n c i call writes a b d planned installed some =
 pub has_installed : (before mid later : Stripes) (c : ℕ) (call : Call) (writes : List Write)
     → let n : ℕ = length before.holders.items in
     IsEven before → KeepsOthers before mid → KeepsOthers mid later
-    → Became shard_meaning n [] (begins c (keys_begun call)) (lent before) (lent mid)
-    → Became shard_meaning n writes (touches_and_clears writes c (keys_ended call)) (lent mid) (lent later)
-    → AreThere n (lent before) (call_keys call) → AreReady n (lent mid) writes
+    → Became (shard_meaning ⊥) n [] (begins c (keys_begun call)) (lent before) (lent mid)
+    → Became (shard_meaning ⊥) n writes (touches_and_clears writes c (keys_ended call)) (lent mid) (lent later)
+    → AreThere n (lent before) (call_keys call) → AreRoomy n (logs_of (lent mid)) writes
     → HasInstalled before writes (marks_changed c call writes) later
 has_installed before mid later c call writes even one two planned installed there ready =
     let n : ℕ = length before.holders.items in
@@ -259,17 +287,17 @@ has_installed before mid later c call writes even one two planned installed ther
       marks = λ key session. rw (two.holders ∙ one.holders) (marks key session);
     }
   where
-    held_later : (i : ℕ) → holds before.holders.items before.acting i ≡ true → lent later i ≡ slice_get later.parts.items i
+    held_later : (i : ℕ) → holds before.holders.items before.acting i ≡ true → lent later i ≡ part_at later i
     held_later i is = lent_held later i (rw (two.holders ∙ one.holders, two.acting ∙ one.acting) is)
 
-    same_later : (i : ℕ) → holds before.holders.items before.acting i ≡ false → slice_get later.parts.items i ≡ slice_get before.parts.items i
-    same_later i is = two.others i (rw (one.holders, one.acting) is) ∙ one.others i is
+    same_later : (i : ℕ) → holds before.holders.items before.acting i ≡ false → part_at later i ≡ part_at before i
+    same_later i is = ap part_in (two.others i (rw (one.holders, one.acting) is) ∙ one.others i is)
 
     away_mid : (i : ℕ) → holds before.holders.items before.acting i ≡ false → lent mid i ≡ None
     away_mid i is = lent_away mid i (rw (one.holders, one.acting) is)
 
-    became : (i : ℕ) → holds before.holders.items before.acting i ≡ true → IsSome (slice_get before.parts.items i)
-        → StripeBecame (length before.holders.items) i c call writes (slice_get before.parts.items i) (slice_get later.parts.items i)
+    became : (i : ℕ) → holds before.holders.items before.acting i ≡ true → IsSome (part_at before i)
+        → StripeBecame (length before.holders.items) i c call writes (part_at before i) (part_at later i)
     became i is some =
         rw (lent_held before i is, held_later i is) at
         (held_became (length before.holders.items) c i call writes (lent before) (lent mid) (lent later) planned installed (rw (lent_held before i is) some))
@@ -280,45 +308,51 @@ has_installed before mid later c call writes even one two planned installed ther
 
     store_at : (i : ℕ) (key : Bytes) (t : Bool) → Decides t (stripe_of (length before.holders.items) key ≡ i) → (h : Bool)
         → holds before.holders.items before.acting i ≡ h
-        → stores_of later i key ≡ (if t then written (stores_of before i) writes key else stores_of before i key)
+        → store_in (part_at later i) key ≡ (if t then written (store_in (part_at before i)) writes key else store_in (part_at before i) key)
     store_at i key true at true is = (became i is (held_some before even i is)).here key (at.0 refl)
     store_at i key false at true is = (became i is (held_some before even i is)).away key (λ same. false≢true (at.1 same))
     store_at i key true at false is =
-        ap (λ (o : Option Shard). store_in o key) (same_later i is)
-        ∙ sym (written_leaves writes (stores_of before i) key (none_is i is key (at.0 refl)))
-    store_at i key false at false is = ap (λ (o : Option Shard). store_in o key) (same_later i is)
+        ap (λ (o : Option (Shard Receipt)). store_in o key) (same_later i is)
+        ∙ sym (written_leaves writes (store_in (part_at before i)) key (none_is i is key (at.0 refl)))
+    store_at i key false at false is = ap (λ (o : Option (Shard Receipt)). store_in o key) (same_later i is)
 
     stores : (i : ℕ) (key : Bytes)
         → stores_of later i key
         ≡ (if nat_eq (stripe_of (length before.holders.items) key) i then written (stores_of before i) writes key else stores_of before i key)
     stores i key =
         let stripe : ℕ = stripe_of (length before.holders.items) key in
-        store_at i key (nat_eq stripe i) (Decides-eqb stripe i) (holds before.holders.items before.acting i) refl
+        store_same (slice_get later.lanes.items i) key
+        ∙ store_at i key (nat_eq stripe i) (Decides-eqb stripe i) (holds before.holders.items before.acting i) refl
+        ∙ sym (ap₂ (λ (w u : Option Bytes). if nat_eq stripe i then w else u)
+        (written_same writes (stores_of before i) (store_in (part_at before i)) key (store_same (slice_get before.lanes.items i) key))
+        (store_same (slice_get before.lanes.items i) key))
 
     mark_at : (key : Bytes) (session : ℕ) (i : ℕ) → stripe_of (length before.holders.items) key ≡ i → (h : Bool)
         → holds before.holders.items before.acting i ≡ h
-        → marks_in (slice_get later.parts.items i) key session ≡ marks_changed c call writes key session (marks_in (slice_get before.parts.items i) key session)
+        → marks_in (part_at later i) key session ≡ marks_changed c call writes key session (marks_in (part_at before i) key session)
     mark_at key session i at true is = (became i is (held_some before even i is)).marks key session at
     mark_at key session i at false is =
-        ap (λ (o : Option Shard). marks_in o key session) (same_later i is)
-        ∙ sym (marks_away (length before.holders.items) c (lent before) (lent mid) call writes key session (marks_in (slice_get before.parts.items i) key session)
+        ap (λ (o : Option (Shard Receipt)). marks_in o key session) (same_later i is)
+        ∙ sym (marks_away (length before.holders.items) c (lent before) (lent mid) call writes key session (marks_in (part_at before i) key session)
         there ready (rw at (lent_away before i is)) (rw at (away_mid i is)))
 
     marks : (key : Bytes) (session : ℕ)
-        → marks_in (slice_get later.parts.items (stripe_of (length before.holders.items) key)) key session
+        → lanes.marks_in (slice_get later.lanes.items (stripe_of (length before.holders.items) key)) key session
         ≡ marks_changed c call writes key session (marks_of before key session)
     marks key session =
         let stripe : ℕ = stripe_of (length before.holders.items) key in
-        mark_at key session stripe refl (holds before.holders.items before.acting stripe) refl
+        marks_same (slice_get later.lanes.items stripe) key session
+        ∙ mark_at key session stripe refl (holds before.holders.items before.acting stripe) refl
+        ∙ sym (ap (marks_changed c call writes key session) (marks_same (slice_get before.lanes.items stripe) key session))
 
-keeps_same : (stripes : Stripes) → KeepsOthers stripes stripes
-keeps_same stripes = record { holders = refl; acting = refl; count = refl; others = λ i away. refl }
+pub keeps_same : (stripes : Stripes) → KeepsOthers stripes stripes
+keeps_same stripes = record { holders = refl; acting = refl; count = refl; queues = λ i. refl; others = λ i away. refl }
 
 -- the same of watches that end
 pub has_forgotten : (before later : Stripes) (c : ℕ) (keys : List Bytes)
     → let n : ℕ = length before.holders.items in
     (watching : Call) → watching ≡ Forget keys → IsEven before → KeepsOthers before later
-    → Became shard_meaning n [] (clears c keys) (lent before) (lent later) → AreThere n (lent before) keys
+    → Became (shard_meaning ⊥) n [] (clears c keys) (lent before) (lent later) → AreThere n (lent before) keys
     → HasInstalled before [] (marks_changed c watching []) later
 has_forgotten before later c keys watching is even keeps became there =
     rw is (has_installed before before later c (Forget keys) [] even (keeps_same before) keeps
@@ -342,7 +376,7 @@ has_forgotten before later c keys watching is even keeps became there =
             },
           );
     })
-    there tt)
+    there (λ i some. absurd (omega (arith, some))))
 
 -- of a call that forgets, only the named marks are cleared
 pub only_clears : (before later : Stripes) (c : ℕ) (keys : List Bytes) → HasInstalled before [] (marks_changed c (Forget keys) []) later
@@ -367,21 +401,3 @@ clears_only before later c keys one = record {
       ∙ ap (λ (m : Option Bool). clears c keys key session m)
       (sym (touched_false _ ∙ begins_none c [] key session (marks_of before key session) refl));
 }
-
--- one empty part more
-pub empty_more : {T : Type 0} (contents : Meaning T) (parts : List T) (part : T) → AreEmpty contents parts
-    → ((key : Bytes) → contents.store part key ≡ None) → ((key : Bytes) (session : ℕ) → contents.marks part key session ≡ None)
-    → AreEmpty contents (parts ++ part ∷ [])
-empty_more contents [] part all empty unmarked = (empty, unmarked, tt)
-empty_more contents (x ∷ xs) part all empty unmarked = (all.0, all.1, empty_more contents xs part all.2 empty unmarked)
-
--- an empty part at each place
-pub empty_stores : (parts : List Shard) (i : ℕ) (key : Bytes) → AreEmpty shard_meaning parts → store_in (slice_get parts i) key ≡ None
-empty_stores [] i key all = refl
-empty_stores (part ∷ parts) zero key all = all.0 key
-empty_stores (part ∷ parts) (suc i) key all = empty_stores parts i key all.2
-
-pub empty_marks : (parts : List Shard) (i : ℕ) (key : Bytes) (session : ℕ) → AreEmpty shard_meaning parts → marks_in (slice_get parts i) key session ≡ None
-empty_marks [] i key session all = refl
-empty_marks (part ∷ parts) zero key session all = all.1 key session
-empty_marks (part ∷ parts) (suc i) key session all = empty_marks parts i key session all.2

@@ -1,150 +1,71 @@
--- A sound world, but that one client may still have to advance; and the world once it has.
-use Rattle.std.proofs.Common.{◌≡◌, ◌≢◌, ℕ, ◌<◌, Bool, true, false, ◌&&◌, List, [], ◌∷◌, ◌++◌, length, get_or, set, reverse, Option, None, refl, sym, ap, ◌∙◌, inl, inr, nat_eq, if◌then◌else◌, length-set, eq-eqb, Decides}
-use Rattle.std.proofs.lemmas.Bool.Decides.{Decides-eqb}
-use Rattle.std.proofs.lemmas.List.{reverse-append, get_or-set_same, get_or-set_other}
-use Rattle.words.specs.declared.reply.Reply.{Reply}
-use Rattle.words.specs.declared.history.Operation.{Operation}
-use Rattle.words.specs.declared.history.Entry.{Entry}
+-- Receipts that are to be read, each with the stripe that keeps it.
+use Rattle.std.proofs.Common.{◌≡◌, ◌∙◌, ℕ, ◌+◌, ◌<◌, Bool, true, false, List, [], ◌∷◌, ◌++◌, length, Option, Some, refl, sym, ap, subst, arith}
 use Rattle.words.specs.Store.{Bytes}
-use Rattle.words.specs.History.{History, Legal, Pair, Placed, after, subhistory}
-use Rattle.words.specs.Watches.{mark_at}
-use Rattle.words.specs.Stripes.{IsPart}
-use Rattle.world.specs.States.{Phase, Serving, Calling, Leaving, Left, Ended, ClientState, State, fresh, client, stripe_count}
-use Rattle.world.specs.Turns.{is_number, holds_none, is_idle, with_client, Goes}
-use Rattle.world.specs.Told.{mine}
-use Rattle.world.specs.Soundness.{HasAdvanced, IsSoundClient, IsSound}
-use Rattle.world.specs.Laws.{TalkLaws}
-use Rattle.world.proofs.Talking.{TalksOf, talks_advanced}
-use Rattle.world.proofs.Holding.{when_cases, apart_eqb, holds_none_set}
+use Rattle.hybrid.specs.HybridLog.{Kept}
+use Rattle.plans.specs.Stops as plans
+use Rattle.world_log.specs.Places.{Receipt, flag, view}
+use Rattle.world_log.specs.Given.{IsGiven}
+use Rattle.world_log.specs.PlanLaws.{IsColdIn}
+use Rattle.world_log.specs.Stripes.{IsKeeper}
+use Rattle.world_log.specs.declared.logs.WorldLog.{WorldLog}
+use Rattle.world_model.specs.Places.{Each}
+use Rattle.world.specs.Planning.{IsReadFor}
 
--- A sound world, but that a client may still have to advance.
-pub record IsKept (c : ℕ) (state : State) : Type 0 where
-  pub legal : Legal state.history
-  pub parts : (i : ℕ) → IsPart (stripe_count state) i (state.stores i) (after state.history)
-  pub clients : (d : ℕ) → d < length state.clients → IsSoundClient d state (client state d)
-  pub rest : (d : ℕ) → d < length state.clients → d ≢ c → HasAdvanced (client state d).phase (holds_none d state.holders)
+-- the last of these receipts, and the others
+pub last_off : (P : Kept → Type 0) (first : List Kept) (last : Kept) → plans.Each P (first ++ last ∷ []) → plans.Each P first × P last
+last_off P [] last all = (tt, all.0)
+last_off P (one ∷ others) last all = let more = last_off P others last all.1 in ((all.0, more.0), more.1)
 
--- P of each client, from one and the others
-by_client : (P : ℕ → Type 0) (c : ℕ) → P c → ((d : ℕ) → d ≢ c → P d) → (d : ℕ) → P d
-by_client P c one others d =
-    elim (nat_eq d c) as (λ t. Decides t (d ≡ c) → P d) [
-      | true ↦ λ test. rw (test.0 refl) one
-      | false ↦ λ test. others d (λ same. cc (test.1 same))
-    ] (Decides-eqb d c)
+pub last_off_of : (P : Kept → Type 0) (all first : List Kept) (last : Kept) → all ≡ first ++ last ∷ [] → plans.Each P all → plans.Each P first × P last
+last_off_of P all first last is each = last_off P first last (subst (plans.Each P) is each)
 
--- P of each client, where one is set
-pub set_clients : (P : ℕ → ClientState → Type 0) (clients : List ClientState) (c : ℕ) (peer : ClientState) → c < length clients → P c peer
-    → ((d : ℕ) → d < length clients → d ≢ c → P d (get_or clients d fresh))
-    → (d : ℕ) → d < length (set clients c peer) → P d (get_or (set clients c peer) d fresh)
-set_clients P clients c peer below one others =
-    by_client (λ d. d < length (set clients c peer) → P d (get_or (set clients c peer) d fresh)) c
-    (λ _. rw (get_or-set_same clients c peer fresh below) one)
-    (λ d differ lt. rw (get_or-set_other clients c d peer fresh differ) (others d (rw (length-set clients c peer) at lt) differ))
+-- one more
+pub each_more : {A : Type 0} (P : A → Type 0) (all : List A) (one : A) → Each P all → P one → Each P (all ++ one ∷ [])
+each_more P [] one each is = (is, tt)
+each_more P (first ∷ others) one each is = (each.0, each_more P others one each.1 is)
 
--- a client is sound still, where the history and its own marks are the same
-pub client_as : (d : ℕ) (old new : State) (peer : ClientState) → old.history ≡ new.history
-    → ((key : Bytes) → new.marks key d ≡ old.marks key d) → IsSoundClient d old peer → IsSoundClient d new peer
-client_as d old new peer same marks one = record {
-  talks = rw same at one.talks;
-  watches = rw same at one.watches;
-  once = one.once;
-  marks = λ key. marks key ∙ one.marks key ∙ ap (λ (history : History). mark_at history peer.watches key) same;
+pub each_none : {A : Type 0} (P : A → Type 0) (all : List A) → all ≡ [] → Each P all
+each_none P all is = subst (Each P) (sym is) tt
+
+pub length_more : {A : Type 0} (all : List A) (one : A) → length (all ++ one ∷ []) ≡ length all + 1
+length_more [] one = refl
+length_more (first ∷ others) one = let more = length_more others one in omega (arith, more)
+
+flag_same : (a b : Bool) → flag a ≡ flag b → a ≡ b
+flag_same true true is = refl
+flag_same true false is = cc is
+flag_same false true is = cc is
+flag_same false false is = refl
+
+cons_same : {A : Type 0} {a b : A} {more others : List A} → (a ∷ more) ≡ (b ∷ others) → (a ≡ b) × (more ≡ others)
+cons_same is = (cc is, cc is)
+
+-- what logs see of a receipt is all of it
+view_same : (one other : Receipt) → view one ≡ view other → one ≡ other
+view_same one other is =
+    let first = cons_same (ap (λ (k : Kept). k.identity) is) in
+    let second = cons_same first.1 in
+    let released = flag_same one.released other.released second.0 in
+    λ j. let receipt : Receipt = record { place = first.0 j; page = second.1 j; released = released j } in receipt
+
+-- a receipt that a plan names, and the stripe that was found for it
+pub read_for : (log acting : WorldLog) (c place stripe : ℕ) (kept : Kept) (receipt : Receipt) → IsColdIn acting kept → acting.device ≡ log.device → kept ≡ view receipt
+    → place ≡ receipt.place → IsKeeper log.stripes c place stripe → IsReadFor log c (stripe, receipt)
+read_for log acting c place stripe kept receipt cold device is at keeper = record {
+  held = keeper.held;
+  number = keeper.number;
+  away = keeper.away;
+  place = keeper.kept ∙ ap (λ (p : ℕ). Option.Some p) at;
+  given =
+      subst (λ (r : Receipt). IsGiven log.device r) (view_same cold.receipt receipt (sym cold.is ∙ is))
+      (rw device at cold.given);
 }
 
--- HISTORIES WITH ONE ENTRY MORE
+-- the last one off
+pub each_last : {A : Type 0} (P : A → Type 0) (first : List A) (last : A) → Each P (first ++ last ∷ []) → Each P first × P last
+each_last P [] last each = (tt, each.0)
+each_last P (one ∷ others) last each = let more = each_last P others last each.1 in ((each.0, more.0), more.1)
 
-pub mine_own : (c : ℕ) (history : History) (operation : Operation) (reply : Reply)
-    → mine (record { session = c; operation = operation; reply = reply } ∷ history) c
-    ≡ mine history c ++ (length history, record { session = c; operation = operation; reply = reply }) ∷ []
-mine_own c history operation reply =
-    let entry : Entry = record { session = c; operation = operation; reply = reply } in
-    let placed : Placed = (length history, entry) in
-    ap (λ (t : Bool). reverse (if t then placed ∷ subhistory history c else subhistory history c)) (eq-eqb c c refl)
-    ∙ reverse-append (placed ∷ []) (subhistory history c)
-
-pub mine_other : (c d : ℕ) (history : History) (operation : Operation) (reply : Reply) → d ≢ c
-    → mine (record { session = c; operation = operation; reply = reply } ∷ history) d ≡ mine history d
-mine_other c d history operation reply differ =
-    let entry : Entry = record { session = c; operation = operation; reply = reply } in
-    let placed : Placed = (length history, entry) in
-    ap (λ (t : Bool). reverse (if t then placed ∷ subhistory history d else subhistory history d)) (apart_eqb c d (λ e. differ (sym e)))
-
--- A CLIENT OR A HOLDER IS SET
-
--- a client is set that watches what it watched, and whose talk is as due
-pub peer_sound : (c : ℕ) (state : State) (old new : ClientState) (clients : List ClientState) → IsSoundClient c state old
-    → TalksOf c (mine state.history c) new → new.watches ≡ old.watches → IsSoundClient c (record state { clients = clients }) new
-peer_sound c state old new clients one talk same = record {
-  talks = talk;
-  watches = rw same one.watches;
-  once = rw same one.once;
-  marks = λ key. one.marks key ∙ ap (λ (pairs : List Pair). mark_at state.history pairs key) (sym same);
-}
-
-pub set_kept : (c : ℕ) (before : State) (peer : ClientState) → c < length before.clients → IsSound before
-    → TalksOf c (mine before.history c) peer → peer.watches ≡ (client before c).watches → IsKept c (with_client before c peer)
-set_kept c before peer below sound talk same =
-    let new : State = with_client before c peer in
-    record {
-      legal = sound.legal;
-      parts = sound.parts;
-      clients = set_clients (λ d p. IsSoundClient d new p) before.clients c peer below
-          (peer_sound c before (client before c) peer (set before.clients c peer) (sound.clients c below) talk same)
-          (λ d lt differ. client_as d before new (client before d) refl (λ key. refl) (sound.clients d lt));
-      rest = set_clients (λ d p. d ≢ c → HasAdvanced p.phase (holds_none d before.holders)) before.clients c peer below
-          (λ differ. absurd (differ refl)) (λ d lt differ _. sound.rest d lt);
-    }
-
--- a holder is set, and no other client held that stripe or holds it
-pub hold_kept : (c i : ℕ) (holder : Option ℕ) (before : State) → IsSound before
-    → ((d : ℕ) → d ≢ c → is_number d (get_or before.holders i None) ≡ false) → ((d : ℕ) → d ≢ c → is_number d holder ≡ false)
-    → IsKept c (record before { holders = set before.holders i holder })
-hold_kept c i holder before sound was is =
-    let new : State = record before { holders = set before.holders i holder } in
-    record {
-      legal = sound.legal;
-      parts = rw (length-set before.holders i holder) sound.parts;
-      clients = λ d lt. client_as d before new (client before d) refl (λ key. refl) (sound.clients d lt);
-      rest = λ d lt differ. rw (holds_none_set d before.holders i holder (was d differ) (is d differ)) (sound.rest d lt);
-    }
-
--- THE CLIENT ADVANCES
-
--- one that may not has nothing to show
-at_rest : (phase : Phase) (none : Bool) → (is_idle phase && none) ≡ false → HasAdvanced phase none
-at_rest (Serving here) true is = cc
-at_rest (Serving here) false is = tt
-at_rest Left true is = cc
-at_rest Left false is = tt
-at_rest (Calling here call) none is = tt
-at_rest (Leaving keys) none is = tt
-at_rest Ended none is = tt
-
-pub goes_sound : TalkLaws → (c : ℕ) (mid new : State) → c < length mid.clients → IsKept c mid → Goes mid c new → IsSound new
-goes_sound talks c mid new below kept goes =
-    elim (when_cases (is_idle (client mid c).phase && holds_none c mid.holders) _ _ goes) as (λ _. IsSound new) [
-      | inl held ↦
-          let went = held.1 in
-          let peer : ClientState = went.0 in
-          let one = kept.clients c below in
-          let done = talks_advanced talks c (mine mid.history c) (holds_none c mid.holders) (client mid c)
-          (client mid c).phase peer went.1 refl one.talks in
-          let later : State = with_client mid c peer in
-          rw went.2 (record {
-            legal = kept.legal;
-            parts = kept.parts;
-            clients = set_clients (λ d p. IsSoundClient d later p) mid.clients c peer below
-                (peer_sound c mid (client mid c) peer (set mid.clients c peer) one done.talks done.watches)
-                (λ d lt differ. client_as d mid later (client mid d) refl (λ key. refl) (kept.clients d lt));
-            rest = set_clients (λ d p. HasAdvanced p.phase (holds_none d mid.holders)) mid.clients c peer below done.rests
-                (λ d lt differ. kept.rest d lt differ);
-          })
-      | inr fails ↦ rw fails.1 (record {
-        legal = kept.legal;
-        parts = kept.parts;
-        clients = kept.clients;
-        rest = by_client (λ d. d < length mid.clients → HasAdvanced (client mid d).phase (holds_none d mid.holders)) c
-            (λ _. at_rest (client mid c).phase (holds_none c mid.holders) fails.0)
-            (λ d differ lt. kept.rest d lt differ);
-      })
-    ]
+pub each_turned : {A : Type 0} (P Q : A → Type 0) (all : List A) → ((one : A) → P one → Q one) → Each P all → Each Q all
+each_turned P Q [] turn each = tt
+each_turned P Q (one ∷ others) turn each = (turn one each.0, each_turned P Q others turn each.1)

@@ -9,7 +9,9 @@ use Rattle.words.specs.Store.{Bytes}
 use Rattle.words.specs.Encoding.{encoding}
 use Rattle.words.specs.History.{Pair, keys_of_pairs}
 use Rattle.words.specs.Watches.{watched_after}
-use Rattle.words.specs.Session.{Asked, operation_of, line_reply}
+use Rattle.words.specs.declared.reply.Fault.{Fault}
+use Rattle.words.specs.declared.reply.Fault.TheVariants.{StoreFull}
+use Rattle.words.specs.Session.{Asked, operation_of, watched_at_fault, line_reply}
 use Rattle.transact.specs.declared.call.Call.{Call}
 use Rattle.transact.specs.declared.call.Answer.{Answer}
 use Rattle.transact.specs.declared.call.Answer.TheVariants as answer
@@ -18,9 +20,9 @@ use Rattle.connection.specs.declared.client.Next.TheVariants as next
 use Rattle.connection.specs.Clients.{Progress, Stage, Gives, Resumes, watched_of}
 use Rattle.connection.specs.Conversations.{Answers}
 use Rattle.connection.specs.Served.{fault_line}
-use Rattle.world.specs.States.{Phase, Serving, Calling, ClientState}
-use Rattle.world.specs.Turns.{Advances, Pauses, Waits, Finishes, Quits, Fails, Opens, Here, Says, leaving, leave_for}
-use Rattle.world.specs.Peers.{Attends, Comes, HasAnswered, HasOperated, IsForgetting, IsServing, IsSteady, Replies, Takes, progress_of}
+use Rattle.world_model.specs.States.{Phase, Serving, Calling, ClientState}
+use Rattle.world_model.specs.Advancing.{Advances, Pauses, Waits, Finishes, Quits, Fails, Opens, Here, Says, leaving, leave_for}
+use Rattle.world.specs.Peers.{Attends, Comes, HasAnswered, HasBeenRefused, HasGivenUp, HasOperated, IsForgetting, IsServing, IsSteady, Replies, Takes, progress_of}
 use Rattle.world.proofs.Peering.{fewer_unread, says_given}
 
 -- what follows where a call succeeded
@@ -41,6 +43,13 @@ DoneLaw =
     → new.unread ≡ called.unread → Resumes called.stage (answer.Reply given) reply new.stage
     → Answers session ((position, record { session = session; operation = operation_of pairs asked; reply = given }) ∷ [])
     pairs (watched_after pairs (operation_of pairs asked) position) old new reply
+
+abbrev pub UndoneLaw : Type 0
+UndoneLaw =
+    (session : ℕ) (pairs : List Pair) (old called new : Progress) (call : Call) (asked : Asked) (fault : Fault) (reply : Reply)
+    → watched_of old.stage ≡ keys_of_pairs pairs → Gives old (next.Calls call) called → asked_of call ≡ Some asked
+    → new.unread ≡ called.unread → Resumes called.stage (answer.Fault fault) reply new.stage
+    → Answers session [] pairs (watched_at_fault pairs asked) old new reply
 
 abbrev pub ForgotLaw : Type 0
 ForgotLaw =
@@ -205,3 +214,37 @@ steady_forgotten old mid none new given call said law steady asks takes none_is 
     let forgets : asked_of call ≡ None = subst (λ (p : Phase). IsForgetting p) takes.stands asks in
     let one = law 0 old.watches from.0 takes.at (record takes.at { stage = takes.stage }) call given said from.1 from.2 forgets refl takes.resumes in
     subst (λ (n : ClientState). Attends n.watches n.phase) (sym (forgot old mid none new given call said takes none_is is)) (one.ready, one.watches)
+
+-- WHERE ITS CALL MET A FULL STRIPE
+
+-- a client that took the line of it, let its call go and said the line
+refused_is : (old mid left new : ClientState) (call : Call) (said : Reply) → (takes : Takes old (answer.Fault StoreFull) call said mid)
+    → (gave : HasGivenUp mid call left) → new ≡ record left { output = left.output ++ encoding said }
+    → new ≡ record old { phase = Serving (record takes.at { stage = takes.stage }); watches = watched_at_fault old.watches gave.asked; output = old.output ++ encoding said }
+refused_is old mid left new call said takes gave is =
+    is
+    ∙ ap (λ (n : ClientState). record n { output = n.output ++ encoding said }) gave.else_same
+    ∙ ap (λ (n : ClientState). record n { watches = watched_at_fault n.watches gave.asked; output = n.output ++ encoding said }) takes.else_same
+
+pub has_been_refused : (old mid left new : ClientState) (call : Call) (said : Reply) → Takes old (answer.Fault StoreFull) call said mid
+    → HasGivenUp mid call left → new ≡ record left { output = left.output ++ encoding said } → HasBeenRefused old old.phase new
+has_been_refused old mid left new call said takes gave is =
+    subst (λ (p : Phase). HasBeenRefused old p new) (sym takes.stands) (
+      gave.asked,
+      gave.asks,
+      record { said = said; stage = takes.stage; resumes = takes.resumes; else_same = refused_is old mid left new call said takes gave is },
+    )
+
+pub steady_refused : (old mid left new : ClientState) (call : Call) (said : Reply) → UndoneLaw → IsSteady old
+    → Takes old (answer.Fault StoreFull) call said mid
+    → HasGivenUp mid call left → new ≡ record left { output = left.output ++ encoding said } → IsSteady new
+steady_refused old mid left new call said law steady takes gave is =
+    let from = attends old (Calling takes.at call) takes.stands steady in
+    let one =
+    law 0 old.watches from.0 takes.at (record takes.at { stage = takes.stage }) call gave.asked StoreFull said from.1 from.2 gave.asks refl takes.resumes in
+    subst (λ (n : ClientState). Attends n.watches n.phase) (sym (refused_is old mid left new call said takes gave is)) (one.ready, one.watches)
+
+-- the same of two things
+pub on_both : {A E P Q R : Type 0} (result : Result A E) → (P → Q → R) → OnOk result P → OnOk result Q → OnOk result R
+on_both (Ok value) follows one other = follows one other
+on_both (Err error) follows one other = tt

@@ -1,8 +1,7 @@
-pub mod States
-pub mod Turns
-pub mod Told
-pub mod Soundness
 pub mod Laws
 pub mod Peers
+pub mod Desks
 pub mod Stripes
+pub mod Planning
+pub mod Members
 pub mod Tables

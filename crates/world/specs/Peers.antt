@@ -5,7 +5,7 @@ use Rattle.words.specs.declared.history.Operation.{Operation}
 use Rattle.words.specs.Encoding.{encoding}
 use Rattle.words.specs.History.{Pair, keys_of_pairs}
 use Rattle.words.specs.Watches.{watched_after}
-use Rattle.words.specs.Session.{Asked, operation_of}
+use Rattle.words.specs.Session.{Asked, operation_of, watched_at_fault}
 use Rattle.transact.specs.declared.call.Call.{Call}
 use Rattle.transact.specs.declared.call.Answer.{Answer}
 use Rattle.transact.specs.declared.call.Answer.TheVariants as answer
@@ -13,8 +13,9 @@ use Rattle.transact.specs.Calls.{asked_of}
 use Rattle.connection.specs.declared.client.Next.{Next}
 use Rattle.connection.specs.declared.client.Next.TheVariants as next
 use Rattle.connection.specs.Clients.{Progress, Stage, beginning, Gives, IsReady, IsCalled, Resumes, watched_of}
-use Rattle.world.specs.States.{Phase, Serving, Calling, Leaving, Left, Ended, ClientState}
-use Rattle.world.specs.Turns.{Pauses, Resumed}
+use Rattle.words.specs.declared.reply.Fault.TheVariants.{StoreFull}
+use Rattle.world_model.specs.States.{Phase, Serving, Calling, Leaving, Left, Ended, ClientState}
+use Rattle.world_model.specs.Advancing.{Pauses}
 use Rattle.world.specs.declared.peer.Phase as peers
 use Rattle.world.specs.declared.peer.Phase.TheVariants as peer
 use Rattle.world.specs.declared.peer.Open.{Open}
@@ -31,6 +32,7 @@ phase_of (peer.Leaving watching) = Leaving watching
 phase_of peer.Left = Left
 phase_of peer.Ended = Ended
 
+-- a client by its session alone: nothing is to be read for it, and it is in no stay
 abbrev pub seen : Inside → ClientState
 seen one = record {
   input = one.input.items;
@@ -38,6 +40,10 @@ seen one = record {
   phase = phase_of one.phase;
   watches = one.watches.items;
   output = one.output.items;
+  due = [];
+  fetched = 0;
+  full = false;
+  stay = None;
 }
 
 -- how far its session has come, where it is not over
@@ -151,14 +157,33 @@ pub record HasOperated (old : ClientState) (call : Call) (position : ℕ) (opera
   pub operation_is : operation ≡ operation_of old.watches asked
   pub else_same : new ≡ record old { watches = watched_after old.watches operation position }
 
+-- a client's session took this answer to its call, and this was written to it; it watches these keys then
+pub record Took (old : ClientState) (at : Progress) (given : Answer) (watches : List Pair) (new : ClientState) : Type 0 where
+  pub said : Reply
+  pub stage : Stage
+  pub resumes : Resumes at.stage given said stage
+  pub else_same : new ≡ record old { phase = Serving (record at { stage = stage }); watches = watches; output = old.output ++ encoding said }
+
 -- a client whose call was committed at this position took the reply, and what was done is this
 abbrev pub HasAnswered : ClientState → Phase → Reply → (position : ℕ) → Operation × Reply → ClientState → Type 0
 HasAnswered old (Calling at call) reply position done new =
     (asked : Asked) × (asked_of call ≡ Some asked) × (done.0 ≡ operation_of old.watches asked) × (done.1 ≡ reply)
-    × Resumed old at (answer.Reply reply) (watched_after old.watches (operation_of old.watches asked) position) new
+    × Took old at (answer.Reply reply) (watched_after old.watches (operation_of old.watches asked) position) new
 HasAnswered old _ reply position done new = ⊥
+
+-- a client whose call met a full stripe took that answer; a transaction's watches end
+abbrev pub HasBeenRefused : ClientState → Phase → ClientState → Type 0
+HasBeenRefused old (Calling at call) new =
+    (asked : Asked) × (asked_of call ≡ Some asked) × Took old at (answer.Fault StoreFull) (watched_at_fault old.watches asked) new
+HasBeenRefused old _ new = ⊥
+
+-- a client watches what is left where its call was not done
+pub record HasGivenUp (old : ClientState) (call : Call) (new : ClientState) : Type 0 where
+  pub asked : Asked
+  pub asks : asked_of call ≡ Some asked
+  pub else_same : new ≡ record old { watches = watched_at_fault old.watches asked }
 
 -- a client whose call was committed that only forgets took an answer
 abbrev pub HasForgotten : ClientState → Phase → ClientState → Type 0
-HasForgotten old (Calling at call) new = (given : Answer) × Resumed old at given [] new
+HasForgotten old (Calling at call) new = (given : Answer) × Took old at given [] new
 HasForgotten old _ new = ⊥

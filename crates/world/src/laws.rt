@@ -1,28 +1,39 @@
 //! The laws of the crates below that the proofs of the world rest on.
 
-ghost use Rattle.world.specs.Laws.{TalkLaws, WatchLaws};
+ghost use Rattle.world.specs.Laws.{HistoryLaws, PlanLaws, TurnLaws};
 
-use connection::conversation::{begins, concludes, goes_on, is_done, is_fed, is_forgotten, says};
-use gates::watch_laws::{
-    marks_after_entry, own_marks_after_entry, own_watches_after_entry, watches_each_once,
+use hybrid::laws::growth_adds_up;
+use words::bounds::values_are_bounded;
+use words::locality::writes_named_keys;
+use world_log::laws::{
+    cold_receipts_are_kept, given_receipts_are_served, pages_are_opened, reads_change_no_place,
+    room_is_made, values_stay,
 };
-use words::locality::stays_watched;
+use world_model::theorems::{
+    events_keep_the_world_sound, plans_stay_right, sound_worlds_tell_the_truth,
+};
 
-/// All of them. The call does nothing when it runs.
+/// Of events and plans in the plain world. The call does nothing when it runs.
 pub(crate) fn laws()
-    ensures talks { TalkLaws }
-    ensures watches { WatchLaws }
+    ensures turns { TurnLaws }
 {
-    begins();
-    is_fed();
-    says();
-    is_done();
-    is_forgotten();
-    goes_on();
-    concludes();
-    marks_after_entry();
-    own_marks_after_entry();
-    own_watches_after_entry();
-    watches_each_once();
-    stays_watched();
+    events_keep_the_world_sound();
+    plans_stay_right();
+    sound_worlds_tell_the_truth();
+}
+
+/// Of plans over stripes, reads and rooms. The call does nothing when it runs.
+pub(crate) fn plan_laws()
+    ensures plans { PlanLaws }
+    ensures history { HistoryLaws }
+{
+    values_are_bounded();
+    growth_adds_up();
+    writes_named_keys();
+    room_is_made();
+    pages_are_opened();
+    values_stay();
+    reads_change_no_place();
+    given_receipts_are_served();
+    cold_receipts_are_kept();
 }

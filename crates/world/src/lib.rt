@@ -1,12 +1,13 @@
-//! The simulated world: clients, stripes and a history, driven by events in any order.
+//! The simulated world: clients, stripes on logs, a device and a history, driven by events in any order.
 #![tactic(auto)]
 
+mod desk;
 mod laws;
+mod member;
 mod peer;
-mod stopped;
-mod stripes;
+mod planning;
 mod watched;
 mod world;
 
-pub use stopped::Stopped;
 pub use world::World;
+pub use world_log::Stopped;

@@ -1,18 +1,19 @@
-//! A client of the world: its session, what it was fed, and what it was written.
+//! The session of a client of the world: what it was fed, and what it was written.
 
 ghost use Rattle.std.specs.Prelude.{◌≡◌, ◌++◌, [], true, false, not, ◌&&◌, IfOk, OnOk, IsSome, is_some};
 ghost use Rattle.words.specs.Encoding.{encoding};
 ghost use Rattle.transact.specs.Calls.{asked_of};
 ghost use Rattle.connection.specs.Clients.{IsReady, IsCalled};
-ghost use Rattle.world.specs.States.{fresh, open_call};
-ghost use Rattle.world.specs.States as phases;
-ghost use Rattle.world.specs.Turns.{Advances, fed, has_ended, heard, is_idle, leaving};
-ghost use Rattle.world.specs.Peers.{Comes, HasAnswered, HasForgotten, HasOperated, IsKind, IsKindOf, IsAsking, IsCalling, IsEndable, IsForgetting, IsLeaving, IsServing, IsSteady, OnCall, StepsOn, Takes, phase_of, progress_of};
+ghost use Rattle.world_model.specs.States.{fresh, open_call};
+ghost use Rattle.world_model.specs.States as phases;
+ghost use Rattle.world_model.specs.Enabled.{has_ended, hears};
+ghost use Rattle.world_model.specs.Advancing.{Advances, is_idle, leaving};
+ghost use Rattle.world_model.specs.Effects.{fed, heard};
+ghost use Rattle.world.specs.Peers.{Comes, HasAnswered, HasBeenRefused, HasForgotten, HasGivenUp, HasOperated, IsKind, IsKindOf, IsAsking, IsCalling, IsEndable, IsForgetting, IsLeaving, IsServing, IsSteady, OnCall, StepsOn, Takes, phase_of, progress_of};
 
-use crate::stopped::Stopped;
 use crate::watched::watch_keys;
 use bytes::Bytes;
-use connection::conversation::{is_done, is_forgotten, says};
+use connection::conversation::{is_done, is_forgotten, is_undone, says};
 use connection::{Client, Next};
 use resp_write::encode;
 use std::alloc::Global;
@@ -20,8 +21,9 @@ use std::marker::Model;
 use std::mem;
 use transact::call::{Answer, Call, Watching};
 use words::history::{Operation, Pairs};
-use words::reply::{Line, Reply};
+use words::reply::{Fault, Line, Reply};
 use words::word::Word;
+use world_log::Stopped;
 
 /// How far a client has come.
 pub(crate) enum Phase {
@@ -51,7 +53,7 @@ impl Phase {
     }
 }
 
-/// A client. It cannot be dropped: [`end`](Peer::end) ends it.
+/// A client's session. It cannot be dropped: [`end`](Peer::end) ends it.
 pub(crate) struct Peer {
     alloc: Global,
     input: Vec<u8>,
@@ -62,7 +64,7 @@ pub(crate) struct Peer {
 }
 
 impl Model for Peer {
-    ghost use Rattle.world.specs.States.{ClientState};
+    ghost use Rattle.world_model.specs.States.{ClientState};
     ghost use Rattle.world.specs.Peers.{seen};
 
     ghost Value = { ClientState };
@@ -121,7 +123,7 @@ impl Peer {
 
     /// Whether it takes input.
     pub(crate) fn hears(&self) -> bool
-        ensures { result ≡ (not self.now.closed && not (has_ended self.now.phase)) }
+        ensures { result ≡ hears self.now }
     {
         !self.closed && !matches!(self.phase, Phase::Ended)
     }
@@ -337,7 +339,7 @@ impl Peer {
         ensures phase { self.new.phase ≡ self.old.phase }
     {
         if let Err(stopped) = self.say(reply) {
-            end_call(call);
+            call.spend();
             return Err(stopped);
         }
         self.operation(call, position)
@@ -365,6 +367,37 @@ impl Peer {
         }
     }
 
+    /// Its call met a full stripe, and what its session then says is written. The watches of a transaction end.
+    pub(crate) fn refuse(&mut self) -> Result<(), Stopped>
+        requires asking { IsAsking self.old.phase }
+        requires steady { IsSteady self.old }
+        ensures refused { OnOk result (HasBeenRefused self.old self.old.phase self.new) }
+        ensures steady { OnOk result (IsSteady self.new) }
+        ensures endable { IsEndable self.new.phase }
+    {
+        is_undone();
+        let (call, reply) = self.resume(Answer::Fault(Fault::StoreFull));
+        self.give_up(call);
+        self.tell(reply)
+    }
+
+    /// Lets a call go that was not done. Where it is a transaction, nothing is watched any more.
+    fn give_up(&mut self, call: Call)
+        requires asks { IsSome (asked_of call) }
+        ensures { HasGivenUp self.old call self.new }
+    {
+        match call {
+            Call::One(command) => drop(command),
+            Call::Watch(keys) => drop(keys),
+            Call::Exec(commands, watching) => {
+                drop(commands);
+                drop(watching.into_keys());
+                drop(self.take_watches());
+            }
+            Call::Forget(_watching) => unreachable!(),
+        }
+    }
+
     /// Its call was committed that only forgets, and what its session then says is written.
     pub(crate) fn forget(&mut self) -> Result<(), Stopped>
         requires forgetting { IsForgetting self.old.phase }
@@ -375,7 +408,7 @@ impl Peer {
     {
         is_forgotten();
         let (call, reply) = self.resume(Answer::Reply(Reply::line(Line::Done)));
-        end_call(call);
+        call.spend();
         drop(self.take_watches());
         self.tell(reply)
     }
@@ -499,7 +532,7 @@ fn end_client(client: Client)
     requires { IsReady client.stage }
 {
     if let Some(call) = client.close() {
-        end_call(call);
+        call.spend();
     }
 }
 
@@ -507,20 +540,7 @@ fn end_client(client: Client)
 fn end_called(mut client: Client, call: Call)
     requires { IsCalled client.stage }
 {
-    end_call(call);
+    call.spend();
     drop(client.resume(Answer::Reply(Reply::line(Line::Done))));
     end_client(client);
-}
-
-/// Ends a call that is not made any more.
-fn end_call(call: Call) {
-    match call {
-        Call::One(command) => drop(command),
-        Call::Watch(keys) => drop(keys),
-        Call::Exec(commands, watching) => {
-            drop(commands);
-            drop(watching.into_keys());
-        }
-        Call::Forget(watching) => drop(watching.into_keys()),
-    }
 }

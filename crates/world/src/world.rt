@@ -1,55 +1,65 @@
-//! The simulated world: clients, stripes and a history, and what events make of them.
+//! The world: clients, stripes on logs, a device and a history.
 
-ghost use Rattle.std.specs.Prelude.{◌≡◌, ◌<◌, ◌∷◌, ◌++◌, [], true, false, IfOk, OnOk, IfSome, None, Some, reverse, replicate, length, vec_len};
-ghost use Rattle.words.specs.declared.history.Entry.{Entry};
-ghost use Rattle.world.specs.States.{client as client_at, fresh, open_call, start};
+ghost use Rattle.std.specs.Prelude.{◌≡◌, ◌<◌, ◌++◌, ◌∷◌, ◌&&◌, [], true, is_none, IfOk, OnOk, IfSome, None, Some, length, reverse, vec_len};
 ghost use Rattle.world_events.specs.Actors.{actor};
-ghost use Rattle.world.specs.Turns.{Commits, Goes, Turn, Turns, next_stripe};
-ghost use Rattle.world.specs.Told.{Headline};
-ghost use Rattle.world.specs.Peers.{AreEndable, IsAsking, IsForgetting, IsLeaving};
-ghost use Rattle.world.specs.Stripes.{IsEven};
-ghost use Rattle.world.specs.Tables.{Handles, IsReadyFor, IsWorld, state_of};
+ghost use Rattle.world_events.specs.declared.event.Event.TheVariants.{Piece, Close, Take, Commit, Fetch, Give};
+ghost use Rattle.world_events.specs.declared.event.Event.TheVariants as event;
+ghost use Rattle.world_model.specs.States.{open_call, start};
+ghost use Rattle.world_model.specs.States as states;
+ghost use Rattle.world_model.specs.Advancing.{Goes, is_idle};
+ghost use Rattle.world_model.specs.Enabled.{holds_none, is_enabled_for, next_stripe};
+ghost use Rattle.world_model.specs.Places.{NoneReleased};
+ghost use Rattle.world_model.specs.Told.{Headline};
+ghost use Rattle.world_model.specs.Turns.{Turn, Turns};
+ghost use Rattle.world_log.specs.Stripes.{holders_of};
+ghost use Rattle.world_log.specs.WorldLogs.{IsWorldLog, stays_of};
+ghost use Rattle.world.specs.declared.desk.Stage.TheVariants as stage;
+ghost use Rattle.world.specs.Peers.{IsAsking, IsEndable, IsForgetting, IsLeaving};
+ghost use Rattle.world.specs.Tables.{AreEndable, AreNew, Handled, Handles, HasAnsweredAt, HasComeTo, HasCommitted, HasGoneOn, HasHeld, HasWorked, IsAskingAt, IsReadyFor, IsStageAt, IsTaken, IsWorld, rest_of, state_of};
 
-use crate::laws::laws;
+use crate::desk::{Desk, Plan, Stage};
+use crate::laws::{laws, plan_laws};
+use crate::member::Member;
 use crate::peer::{Kind, Open, Peer};
-use crate::stopped::Stopped;
-use crate::stripes::Stripes;
+use crate::planning::{end_watches, forget_watched, install, run};
 use bytes::Bytes;
 use std::alloc::{AllocError, Global};
 use words::history::Entry;
 use words::limits::Limits;
+use words::reply::Reply;
 use words::word::OutOfMemory;
 use world_events::Event;
+use world_log::{Stopped, WorldLog};
 
 /// Clients, stripes and a history, driven by events. It cannot be dropped, since what its clients watch
 /// cannot: [`end`](World::end) ends it.
 pub struct World {
     alloc: Global,
-    peers: Vec<Peer>,
-    stripes: Stripes,
+    members: Vec<Member>,
+    log: WorldLog,
     history: Vec<Entry>,
 }
 
 #[tactic(auto, unfolding(crate::specs::Tables::state_of))]
 impl World {
-    /// A world with so many clients and stripes, where nothing was done.
+    /// A world with so many clients, and stripes of so many frames and places, where nothing was done.
     ///
     /// # Errors
     ///
     /// [`OutOfMemory`] where there is no memory for the clients or the stripes.
     pub fn new(alloc: Global, limits: &Limits) -> Result<World, OutOfMemory>
-        ensures start { IfOk result (λ world. state_of world ≡ start limits.now.stripes limits.now.clients) }
+        ensures start { IfOk result (λ world. state_of world ≡ start limits.now.stripes limits.now.clients limits.now.frames limits.now.places) }
         ensures world { IfOk result IsWorld }
     {
         laws();
-        let Ok(stripes) = Stripes::new(alloc, limits.stripes) else {
+        let Ok(log) = WorldLog::new(alloc, limits) else {
             return Err(AllocError);
         };
-        let peers = new_peers(alloc, limits.clients)?;
+        let members = new_members(alloc, limits.clients)?;
         Ok(World {
             alloc,
-            peers,
-            stripes,
+            members,
+            log,
             history: Vec::new(alloc),
         })
     }
@@ -63,6 +73,7 @@ impl World {
         requires world { IsWorld self }
         ensures turns { IfOk result (λ world. Turns (state_of self) events.now (state_of world)) }
         ensures headline { IfOk result (λ world. Headline (state_of world)) }
+        ensures places { IfOk result (λ world. NoneReleased (state_of world)) }
         ensures world { IfOk result IsWorld }
     {
         let mut world = self;
@@ -72,7 +83,7 @@ impl World {
                 Ok(world)
             }
             Err(stopped) => {
-                end_peers(world.into_peers());
+                end_members(world.into_members());
                 Err(stopped)
             }
         }
@@ -81,16 +92,16 @@ impl World {
     /// What was written to a client, by its number.
     pub fn output(&self, client: usize) -> &[u8]
         requires { client < length (state_of self.now).clients }
-        ensures { result.now ≡ (client_at (state_of self.now) client).output }
+        ensures { result.now ≡ (states.client (state_of self.now) client).output }
     {
-        self.peers[client].output()
+        self.members[client].peer.output()
     }
 
     /// How many clients there are.
     pub fn clients(&self) -> usize
         ensures { result ≡ length (state_of self.now).clients }
     {
-        self.peers.len()
+        self.members.len()
     }
 
     /// The history, the oldest entry first.
@@ -105,7 +116,7 @@ impl World {
         requires { IsWorld self }
     {
         self.rests();
-        end_peers(self.into_peers());
+        end_members(self.into_members());
     }
 
     /// Does what the events do, in order.
@@ -113,7 +124,7 @@ impl World {
         requires world { IsWorld self.old }
         ensures turns { OnOk result (Turns (state_of self.old) events.now (state_of self.new)) }
         ensures world { OnOk result (IsWorld self.new) }
-        ensures endable { AreEndable self.new.peers.items }
+        ensures endable { AreEndable self.new.members.items }
     {
         let mut left = events;
         while let Some((event, others)) = left.split_first() {
@@ -129,158 +140,390 @@ impl World {
         requires world { IsWorld self.old }
         ensures turn { OnOk result (Turn (state_of self.old) event.now (state_of self.new)) }
         ensures world { OnOk result (IsWorld self.new) }
-        ensures endable { AreEndable self.new.peers.items }
+        ensures endable { AreEndable self.new.members.items }
+    {
+        match event.actor() {
+            Some(client) => self.act(client, event),
+            None => self.work(event),
+        }
+    }
+
+    /// Does what an event of a client does.
+    fn act(&mut self, client: usize, event: &Event) -> Result<(), Stopped>
+        requires world { IsWorld self.old }
+        requires actor { actor event.now ≡ Some client }
+        ensures turn { OnOk result (Turn (state_of self.old) event.now (state_of self.new)) }
+        ensures world { OnOk result (IsWorld self.new) }
+        ensures endable { AreEndable self.new.members.items }
     {
         self.rests();
         laws();
-        let Some(client) = event.actor() else {
+        if client >= self.members.len() {
             return Ok(());
-        };
-        if client < self.peers.len() && self.handle(client, event)? {
-            self.go_on(client)?;
         }
-        Ok(())
+        if !self.handle(client, event)? {
+            return Ok(());
+        }
+        self.go_on(client)
+    }
+
+    /// Does what an event of a stripe does.
+    fn work(&mut self, event: &Event) -> Result<(), Stopped>
+        requires world { IsWorld self.old }
+        requires actor { actor event.now ≡ None }
+        ensures turn { OnOk result (Turn (state_of self.old) event.now (state_of self.new)) }
+        ensures world { OnOk result (IsWorld self.new) }
+        ensures endable { AreEndable self.new.members.items }
+    {
+        self.rests();
+        laws();
+        match event {
+            Event::Copy(i) => self.log.copy(self.alloc, *i),
+            Event::Write(i) => self.log.write(*i),
+            Event::Install(i) => self.log.install(*i),
+            Event::Drop(i) => {
+                self.log.evict(*i);
+                Ok(())
+            }
+            Event::Unlink(i) => self.log.unlink(self.alloc, *i),
+            Event::Retire(i) => self.log.retire(*i),
+            Event::Drain(i) => self.drain(*i),
+            Event::Release(i, page) => self.log.release(self.alloc, *i, page),
+            _ => unreachable!(),
+        }
+    }
+
+    /// The oldest retired place of a stripe is drained.
+    fn drain(&mut self, i: usize) -> Result<(), Stopped>
+        requires log { IsWorldLog self.old.log }
+        ensures worked { OnOk result (HasWorked (event.Drain i) self.old self.new) }
+        ensures same { self.new ≡ record self.old { log = self.new.log } }
+    {
+        let stays = self.stays()?;
+        self.log.drain(i, stays.as_slice())
+    }
+
+    /// The stays of all clients.
+    fn stays(&self) -> Result<Vec<Option<u64>>, Stopped>
+        ensures { IfOk result (λ stays. stays.items ≡ stays_of (rest_of self.now)) }
+    {
+        let mut stays = Vec::new(self.alloc);
+        for member in &self.members {
+            let Ok(()) = stays.push(member.desk.stay) else {
+                return Err(Stopped);
+            };
+        }
+        Ok(stays)
+    }
+
+    /// Whether an event of a client is enabled.
+    fn may(&self, client: usize, event: &Event) -> bool
+        requires log { IsWorldLog self.now.log }
+        requires within { client < vec_len self.now.members }
+        requires actor { actor event.now ≡ Some client }
+        ensures { result ≡ is_enabled_for (state_of self.now) client (states.client (state_of self.now) client) event.now }
+    {
+        match event {
+            Event::Piece(_, _) | Event::Close(_) => self.members[client].peer.hears(),
+            Event::Take(_, stripe) => self.may_take(client, *stripe),
+            Event::Fetch(_) => self.may_fetch(client),
+            Event::Commit(_) => self.may_commit(client),
+            Event::Give(_, stripe) => self.may_give(client, *stripe),
+            _ => unreachable!(),
+        }
+    }
+
+    /// Whether a client takes this stripe next, and may.
+    fn may_take(&self, client: usize, stripe: usize) -> bool
+        requires log { IsWorldLog self.now.log }
+        requires within { client < vec_len self.now.members }
+        ensures { result ≡ is_enabled_for (state_of self.now) client (states.client (state_of self.now) client) (Take client stripe) }
+    {
+        self.next_stripe(client) == Some(stripe)
+            && self.log.stripes.is_free(stripe)
+            && self.members[client].desk.due.is_empty()
+    }
+
+    /// Whether a client may read the pages that its call lacks.
+    fn may_fetch(&self, client: usize) -> bool
+        requires within { client < vec_len self.now.members }
+        ensures { result ≡ is_enabled_for (state_of self.now) client (states.client (state_of self.now) client) (Fetch client) }
+    {
+        !self.members[client].desk.due.is_empty() && self.log.stripes.has_none_of(client)
+    }
+
+    /// Whether a client's open call may be committed.
+    fn may_commit(&self, client: usize) -> bool
+        requires log { IsWorldLog self.now.log }
+        requires within { client < vec_len self.now.members }
+        ensures { result ≡ is_enabled_for (state_of self.now) client (states.client (state_of self.now) client) (Commit client) }
+    {
+        self.members[client].peer.has_call()
+            && self.next_stripe(client).is_none()
+            && self.members[client].desk.due.is_empty()
+    }
+
+    /// Whether a client may give this stripe back.
+    fn may_give(&self, client: usize, stripe: usize) -> bool
+        requires within { client < vec_len self.now.members }
+        ensures { result ≡ is_enabled_for (state_of self.now) client (states.client (state_of self.now) client) (Give client stripe) }
+    {
+        let member = &self.members[client];
+        self.log.stripes.is_held_by(client, stripe)
+            && (!member.peer.has_call() || !member.desk.due.is_empty())
     }
 
     /// Does an event of a client, if it is enabled, and says whether it was.
     fn handle(&mut self, client: usize, event: &Event) -> Result<bool, Stopped>
         requires world { IsWorld self.old }
-        requires within { client < vec_len self.old.peers }
+        requires within { client < vec_len self.old.members }
         requires actor { actor event.now ≡ Some client }
-        ensures handles { IfOk result (λ done. Handles done (state_of self.old) client event.now (state_of self.new)) }
-        ensures ready { OnOk result (IsReadyFor client self.new) }
-        ensures endable { AreEndable self.new.peers.items }
-    {
-        match event {
-            Event::Piece(_, bytes) => self.piece(client, bytes),
-            Event::Close(_) => Ok(self.close(client)),
-            Event::Take(_, stripe) => Ok(self.take(client, *stripe)),
-            Event::Commit(_) => self.commit(client),
-            Event::Give(_, stripe) => Ok(self.give(client, *stripe)),
-            Event::Fetch(_) => {
-                // A plain stripe has no pages to read.
-                self.rests();
-                Ok(false)
-            }
-            _ => Ok(false),
-        }
-    }
-
-    /// A client is fed a piece.
-    fn piece(&mut self, client: usize, bytes: &Bytes) -> Result<bool, Stopped>
-        requires world { IsWorld self.old }
-        requires within { client < vec_len self.old.peers }
-        ensures handles { IfOk result (λ done. Handles done (state_of self.old) client (Event.Piece client bytes.now) (state_of self.new)) }
-        ensures ready { OnOk result (IsReadyFor client self.new) }
-        ensures endable { AreEndable self.new.peers.items }
+        ensures handles { IfOk result (λ done. Handles done self.old client event.now self.new) }
+        ensures endable { AreEndable self.new.members.items }
     {
         self.rests();
-        if !self.peers[client].hears() {
+        if !self.may(client, event) {
             return Ok(false);
         }
-        self.peers[client].hear(bytes)?;
+        match event {
+            Event::Piece(_, bytes) => self.piece(client, bytes)?,
+            Event::Close(_) => self.close(client),
+            Event::Take(_, stripe) => self.take(client, *stripe)?,
+            Event::Fetch(_) => self.fetch(client)?,
+            Event::Commit(_) => self.commit(client)?,
+            Event::Give(_, stripe) => self.give(client, *stripe),
+            _ => unreachable!(),
+        }
         Ok(true)
     }
 
-    /// The input of a client is at its end.
-    fn close(&mut self, client: usize) -> bool
+    /// A client is fed a piece.
+    fn piece(&mut self, client: usize, bytes: &Bytes) -> Result<(), Stopped>
         requires world { IsWorld self.old }
-        requires within { client < vec_len self.old.peers }
-        ensures handles { Handles result (state_of self.old) client (Event.Close client) (state_of self.new) }
-        ensures ready { IsReadyFor client self.new }
-        ensures endable { AreEndable self.new.peers.items }
+        requires within { client < vec_len self.old.members }
+        requires enabled { is_enabled_for (state_of self.old) client (states.client (state_of self.old) client) (Piece client bytes.now) ≡ true }
+        ensures handled { OnOk result (Handled self.old client (Piece client bytes.now) self.new) }
+        ensures endable { AreEndable self.new.members.items }
     {
         self.rests();
-        if !self.peers[client].hears() {
-            return false;
-        }
-        self.peers[client].close();
-        true
+        self.members[client].peer.hear(bytes)
+    }
+
+    /// The input of a client is at its end.
+    fn close(&mut self, client: usize)
+        requires world { IsWorld self.old }
+        requires within { client < vec_len self.old.members }
+        requires enabled { is_enabled_for (state_of self.old) client (states.client (state_of self.old) client) (Close client) ≡ true }
+        ensures handled { Handled self.old client (Close client) self.new }
+        ensures endable { AreEndable self.new.members.items }
+    {
+        self.rests();
+        self.members[client].peer.close();
     }
 
     /// The stripe that a client's open call takes next.
     fn next_stripe(&self, client: usize) -> Option<usize>
-        requires even { IsEven self.now.stripes }
-        requires within { client < vec_len self.now.peers }
-        ensures next { result ≡ next_stripe (state_of self.now) client (open_call (client_at (state_of self.now) client).phase) }
-        ensures within { IfSome result (λ stripe. stripe < length (state_of self.now).holders) }
+        requires log { IsWorldLog self.now.log }
+        requires within { client < vec_len self.now.members }
+        ensures next { result ≡ next_stripe (state_of self.now) client (open_call (states.client (state_of self.now) client).phase) }
+        ensures within { IfSome result (λ stripe. stripe < length (holders_of self.now.log.stripes)) }
     {
-        match self.peers[client].open() {
+        match self.members[client].peer.open() {
             Open::Nothing => None,
-            Open::Call(call) => self.stripes.next_for(client, call),
-            Open::Forget(watching) => self.stripes.next_to_forget(client, watching),
+            Open::Call(call) => self.log.stripes.next_for(client, call),
+            Open::Forget(watching) => self.log.stripes.next_to_forget(client, watching),
         }
     }
 
-    /// A client takes a stripe.
-    fn take(&mut self, client: usize, stripe: usize) -> bool
+    /// A client takes a stripe, and its call is planned where that was the last.
+    fn take(&mut self, client: usize, stripe: usize) -> Result<(), Stopped>
         requires world { IsWorld self.old }
-        requires within { client < vec_len self.old.peers }
-        ensures handles { Handles result (state_of self.old) client (Event.Take client stripe) (state_of self.new) }
-        ensures ready { IsReadyFor client self.new }
-        ensures endable { AreEndable self.new.peers.items }
+        requires within { client < vec_len self.old.members }
+        requires enabled { is_enabled_for (state_of self.old) client (states.client (state_of self.old) client) (Take client stripe) ≡ true }
+        ensures handled { OnOk result (Handled self.old client (Take client stripe) self.new) }
+        ensures endable { AreEndable self.new.members.items }
     {
         self.rests();
-        if self.next_stripe(client) != Some(stripe) || !self.stripes.is_free(stripe) {
-            return false;
+        let _next = self.next_stripe(client);
+        self.hold(client, stripe);
+        if self.next_stripe(client).is_some() {
+            return Ok(());
         }
-        self.stripes.set_holder(stripe, Some(client));
-        true
+        self.plan(client)
     }
 
-    /// A client gives a stripe back.
-    fn give(&mut self, client: usize, stripe: usize) -> bool
+    /// A client holds a stripe, and its stay begins where it is in none.
+    fn hold(&mut self, client: usize, stripe: usize)
+        requires log { IsWorldLog self.old.log }
+        requires within { client < vec_len self.old.members }
+        requires below { stripe < length (holders_of self.old.log.stripes) }
+        ensures held { HasHeld self.old client stripe self.new }
+    {
+        self.log.stripes.take(stripe, client);
+        let epoch = self.log.epoch();
+        self.members[client].desk.begin_stay(epoch);
+    }
+
+    /// Plans a client's open call, whose stripes it holds all.
+    fn plan(&mut self, client: usize) -> Result<(), Stopped>
+        requires taken { IsTaken client self.old }
+        requires within { client < vec_len self.old.members }
+        requires all { next_stripe (state_of self.old) client (open_call (states.client (state_of self.old) client).phase) ≡ None }
+        ensures planned { OnOk result (HasComeTo self.old client self.new) }
+        ensures endable { AreEndable self.old.members.items → AreEndable self.new.members.items }
+    {
+        laws();
+        plan_laws();
+        let _ = &self.members;
+        self.members[client].plan(self.alloc, &mut self.log, client)
+    }
+
+    /// A client reads the pages that its call lacks.
+    fn fetch(&mut self, client: usize) -> Result<(), Stopped>
         requires world { IsWorld self.old }
-        requires within { client < vec_len self.old.peers }
-        ensures handles { Handles result (state_of self.old) client (Event.Give client stripe) (state_of self.new) }
-        ensures ready { IsReadyFor client self.new }
-        ensures endable { AreEndable self.new.peers.items }
+        requires within { client < vec_len self.old.members }
+        requires enabled { is_enabled_for (state_of self.old) client (states.client (state_of self.old) client) (Fetch client) ≡ true }
+        ensures handled { OnOk result (Handled self.old client (Fetch client) self.new) }
+        ensures endable { AreEndable self.new.members.items }
     {
         self.rests();
-        if self.peers[client].has_call() || !self.stripes.is_held_by(client, stripe) {
-            return false;
+        laws();
+        self.members[client].desk.fetch(self.alloc, &mut self.log)
+    }
+
+    /// A client gives a stripe back. After the last one of a call that was committed, its stay ends.
+    fn give(&mut self, client: usize, stripe: usize)
+        requires world { IsWorld self.old }
+        requires within { client < vec_len self.old.members }
+        requires enabled { is_enabled_for (state_of self.old) client (states.client (state_of self.old) client) (Give client stripe) ≡ true }
+        ensures handled { Handled self.old client (Give client stripe) self.new }
+        ensures endable { AreEndable self.new.members.items }
+    {
+        self.rests();
+        self.log.stripes.give(stripe);
+        if self.is_done(client) {
+            self.members[client].desk.end_stay();
         }
-        self.stripes.set_holder(stripe, None);
-        true
+    }
+
+    /// Whether a client has no open call, and holds no stripe.
+    fn is_done(&self, client: usize) -> bool
+        requires within { client < vec_len self.now.members }
+        ensures { result ≡ (is_none (open_call (states.client (state_of self.now) client).phase) && holds_none client (holders_of self.now.log.stripes)) }
+    {
+        !self.members[client].peer.has_call() && self.log.stripes.has_none_of(client)
     }
 
     /// Commits a client's open call.
-    fn commit(&mut self, client: usize) -> Result<bool, Stopped>
+    fn commit(&mut self, client: usize) -> Result<(), Stopped>
         requires world { IsWorld self.old }
-        requires within { client < vec_len self.old.peers }
-        ensures handles { IfOk result (λ done. Handles done (state_of self.old) client (Event.Commit client) (state_of self.new)) }
-        ensures ready { OnOk result (IsReadyFor client self.new) }
-        ensures endable { AreEndable self.new.peers.items }
+        requires within { client < vec_len self.old.members }
+        requires enabled { is_enabled_for (state_of self.old) client (states.client (state_of self.old) client) (Commit client) ≡ true }
+        ensures handled { OnOk result (Handled self.old client (Commit client) self.new) }
+        ensures endable { AreEndable self.new.members.items }
     {
         self.rests();
-        if !self.peers[client].has_call() || self.next_stripe(client).is_some() {
-            return Ok(false);
+        match self.members[client].peer.kind() {
+            Kind::Asks => self.settle(client),
+            Kind::Forgets => self.forget(client),
+            Kind::Leaves => {
+                self.let_go(client);
+                Ok(())
+            }
         }
-        match self.peers[client].kind() {
-            Kind::Asks => self.settle(client)?,
-            Kind::Forgets => self.forget(client)?,
-            Kind::Leaves => self.let_go(client),
-        }
-        Ok(true)
     }
 
     /// Commits a call that asks for something, all of whose stripes its client holds.
     fn settle(&mut self, client: usize) -> Result<(), Stopped>
         requires world { IsWorld self.old }
-        requires within { client < vec_len self.old.peers }
-        requires asking { IsAsking (client_at (state_of self.old) client).phase }
-        requires all { next_stripe (state_of self.old) client (open_call (client_at (state_of self.old) client).phase) ≡ None }
-        ensures commits { OnOk result (Commits (state_of self.old) client (client_at (state_of self.old) client) (client_at (state_of self.old) client).phase (state_of self.new)) }
-        ensures ready { OnOk result (IsReadyFor client self.new) }
-        ensures endable { AreEndable self.new.peers.items }
+        requires within { client < vec_len self.old.members }
+        requires asking { IsAsking (states.client (state_of self.old) client).phase }
+        requires enabled { is_enabled_for (state_of self.old) client (states.client (state_of self.old) client) (Commit client) ≡ true }
+        ensures commits { OnOk result (HasCommitted self.old client self.new) }
+        ensures endable { AreEndable self.new.members.items }
+    {
+        match self.members[client].desk.stage() {
+            Stage::Made => self.install(client),
+            Stage::Full => self.refuse(client),
+            Stage::Nothing => self.run_now(client),
+        }
+    }
+
+    /// Commits a call that is planned.
+    fn install(&mut self, client: usize) -> Result<(), Stopped>
+        requires world { IsWorld self.old }
+        requires within { client < vec_len self.old.members }
+        requires asking { IsAsking (states.client (state_of self.old) client).phase }
+        requires made { IsStageAt stage.Made self.old client }
+        requires enabled { is_enabled_for (state_of self.old) client (states.client (state_of self.old) client) (Commit client) ≡ true }
+        ensures commits { OnOk result (HasCommitted self.old client self.new) }
+        ensures endable { AreEndable self.new.members.items }
     {
         self.rests();
-        let Open::Call(call) = self.peers[client].open() else {
+        plan_laws();
+        let member = &mut self.members[client];
+        let Plan::Made(planned) = member.desk.end_call() else {
             unreachable!()
         };
-        let reply = self.stripes.run(self.alloc, client, call)?;
+        let Open::Call(call) = member.peer.open() else {
+            unreachable!()
+        };
+        let reply = install(&mut self.log, client, call, planned);
+        self.answer(client, reply)
+    }
+
+    /// Commits a call whose plan met a full stripe.
+    fn refuse(&mut self, client: usize) -> Result<(), Stopped>
+        requires world { IsWorld self.old }
+        requires within { client < vec_len self.old.members }
+        requires asking { IsAsking (states.client (state_of self.old) client).phase }
+        requires enabled { is_enabled_for (state_of self.old) client (states.client (state_of self.old) client) (Commit client) ≡ true }
+        requires full { IsStageAt stage.Full self.old client }
+        ensures commits { OnOk result (HasCommitted self.old client self.new) }
+        ensures endable { AreEndable self.new.members.items }
+    {
+        self.rests();
+        plan_laws();
+        let member = &mut self.members[client];
+        let Open::Call(call) = member.peer.open() else {
+            unreachable!()
+        };
+        end_watches(&mut self.log, client, call);
+        let _plan = member.desk.end_call();
+        member.peer.refuse()
+    }
+
+    /// Plans a call that looks no key up, and commits it.
+    fn run_now(&mut self, client: usize) -> Result<(), Stopped>
+        requires world { IsWorld self.old }
+        requires within { client < vec_len self.old.members }
+        requires asking { IsAsking (states.client (state_of self.old) client).phase }
+        requires enabled { is_enabled_for (state_of self.old) client (states.client (state_of self.old) client) (Commit client) ≡ true }
+        requires nothing { IsStageAt stage.Nothing self.old client }
+        ensures commits { OnOk result (HasCommitted self.old client self.new) }
+        ensures endable { AreEndable self.new.members.items }
+    {
+        self.rests();
+        plan_laws();
+        let member = &mut self.members[client];
+        let Open::Call(call) = member.peer.open() else {
+            unreachable!()
+        };
+        let reply = run(self.alloc, &mut self.log, client, call)?;
+        let _plan = member.desk.end_call();
+        self.answer(client, reply)
+    }
+
+    /// A client's call was done and has this reply, which is said, and becomes an entry.
+    fn answer(&mut self, client: usize, reply: Reply) -> Result<(), Stopped>
+        requires within { client < vec_len self.old.members }
+        requires asking { IsAskingAt self.old client }
+        requires endable { AreEndable self.old.members.items }
+        ensures answered { OnOk result (HasAnsweredAt self.old client reply self.new) }
+        ensures endable { AreEndable self.new.members.items }
+    {
         let position = self.history.len() as u64;
-        let (operation, reply) = self.peers[client].answer(reply, position)?;
+        let (operation, reply) = self.members[client].peer.answer(reply, position)?;
         let entry = Entry {
             session: client as u64,
             operation,
@@ -292,109 +535,133 @@ impl World {
     /// Commits a call that only forgets, all of whose stripes its client holds.
     fn forget(&mut self, client: usize) -> Result<(), Stopped>
         requires world { IsWorld self.old }
-        requires within { client < vec_len self.old.peers }
-        requires forgetting { IsForgetting (client_at (state_of self.old) client).phase }
-        requires all { next_stripe (state_of self.old) client (open_call (client_at (state_of self.old) client).phase) ≡ None }
-        ensures commits { OnOk result (Commits (state_of self.old) client (client_at (state_of self.old) client) (client_at (state_of self.old) client).phase (state_of self.new)) }
-        ensures ready { OnOk result (IsReadyFor client self.new) }
-        ensures endable { AreEndable self.new.peers.items }
+        requires within { client < vec_len self.old.members }
+        requires forgetting { IsForgetting (states.client (state_of self.old) client).phase }
+        requires enabled { is_enabled_for (state_of self.old) client (states.client (state_of self.old) client) (Commit client) ≡ true }
+        ensures commits { OnOk result (HasCommitted self.old client self.new) }
+        ensures endable { AreEndable self.new.members.items }
     {
         self.rests();
-        let Open::Call(call) = self.peers[client].open() else {
+        plan_laws();
+        let member = &mut self.members[client];
+        let Open::Call(call) = member.peer.open() else {
             unreachable!()
         };
-        self.stripes.forget_for(client, call);
-        self.peers[client].forget()
+        end_watches(&mut self.log, client, call);
+        let _plan = member.desk.end_call();
+        member.peer.forget()
     }
 
     /// Commits the call of a client whose session is over, which forgets what it watched; it holds all stripes.
     fn let_go(&mut self, client: usize)
         requires world { IsWorld self.old }
-        requires within { client < vec_len self.old.peers }
-        requires leaving { IsLeaving (client_at (state_of self.old) client).phase }
-        requires all { next_stripe (state_of self.old) client (open_call (client_at (state_of self.old) client).phase) ≡ None }
-        ensures commits { Commits (state_of self.old) client (client_at (state_of self.old) client) (client_at (state_of self.old) client).phase (state_of self.new) }
-        ensures ready { IsReadyFor client self.new }
-        ensures endable { AreEndable self.new.peers.items }
+        requires within { client < vec_len self.old.members }
+        requires leaving { IsLeaving (states.client (state_of self.old) client).phase }
+        requires enabled { is_enabled_for (state_of self.old) client (states.client (state_of self.old) client) (Commit client) ≡ true }
+        ensures commits { HasCommitted self.old client self.new }
+        ensures endable { AreEndable self.new.members.items }
     {
         self.rests();
-        let Open::Forget(watching) = self.peers[client].open() else {
+        plan_laws();
+        let member = &mut self.members[client];
+        let Open::Forget(watching) = member.peer.open() else {
             unreachable!()
         };
-        self.stripes.forget(client, watching);
-        self.peers[client].left();
+        forget_watched(&mut self.log, client, watching);
+        member.peer.left();
     }
 
     /// Lets a client advance, where it may.
     fn go_on(&mut self, client: usize) -> Result<(), Stopped>
-        requires within { client < vec_len self.old.peers }
-        requires ready { IsReadyFor client self.old }
-        requires endable { AreEndable self.old.peers.items }
+        requires within { client < vec_len self.old.members }
+        requires steady { IsReadyFor client self.old }
+        requires endable { AreEndable self.old.members.items }
         ensures goes { OnOk result (Goes (state_of self.old) client (state_of self.new)) }
-        ensures even { IsEven self.old.stripes → IsEven self.new.stripes }
-        ensures endable { AreEndable self.new.peers.items }
+        ensures same { OnOk result (HasGoneOn self.old self.new) }
+        ensures endable { AreEndable self.new.members.items }
     {
-        if self.peers[client].is_idle() && self.stripes.has_none_of(client) {
-            self.peers[client].advance()?;
+        if !self.is_ready(client) {
+            return Ok(());
         }
-        Ok(())
+        self.members[client].peer.advance()
+    }
+
+    /// Whether a client may advance: it has no open call, has not ended, and holds no stripe.
+    fn is_ready(&self, client: usize) -> bool
+        requires within { client < vec_len self.now.members }
+        ensures { result ≡ (is_idle (states.client (state_of self.now) client).phase && holds_none client (holders_of self.now.log.stripes)) }
+    {
+        self.members[client].peer.is_idle() && self.log.stripes.has_none_of(client)
     }
 
     /// Each of its clients can be ended.
     fn rests(&self)
         requires { IsWorld self.now }
-        ensures endable { AreEndable self.now.peers.items }
+        ensures endable { AreEndable self.now.members.items }
     {
-        let _ = &self.peers;
+        let _ = &self.members;
     }
 
-    /// It has the headline.
+    /// It has the headline, and no receipt that is read again is of a released place.
     fn tells(&self)
         requires { IsWorld self.now }
-        ensures { Headline (state_of self.now) }
+        ensures headline { Headline (state_of self.now) }
+        ensures places { NoneReleased (state_of self.now) }
     {
         laws();
-        let _ = &self.peers;
+        let _ = &self.members;
     }
 
     /// Its clients.
-    fn into_peers(self) -> Vec<Peer>
-        ensures { result ≡ self.peers }
+    fn into_members(self) -> Vec<Member>
+        ensures { result ≡ self.members }
     {
         let World {
             alloc: _,
-            peers,
-            stripes: _,
+            members,
+            log: _,
             history: _,
         } = self;
-        peers
+        members
     }
 }
 
 /// So many clients that were fed nothing.
-fn new_peers(alloc: Global, count: usize) -> Result<Vec<Peer>, OutOfMemory>
-    ensures { IfOk result (λ peers. peers.items ≡ replicate count fresh) }
+fn new_members(alloc: Global, count: usize) -> Result<Vec<Member>, OutOfMemory>
+    ensures { IfOk result (λ members. AreNew count members.items) }
 {
-    let mut peers = Vec::new(alloc);
+    let mut members = Vec::new(alloc);
     for _ in 0..count {
-        if let Err(refused) = peers.push(Peer::new(alloc)) {
-            refused.value.end();
-            end_peers(peers);
+        let member = Member {
+            peer: Peer::new(alloc),
+            desk: Desk::new(alloc),
+        };
+        if let Err(refused) = members.push(member) {
+            end_member(refused.value);
+            end_members(members);
             return Err(AllocError);
         }
     }
-    Ok(peers)
+    Ok(members)
 }
 
 /// Ends clients.
-fn end_peers(peers: Vec<Peer>)
-    requires { AreEndable peers.items }
+fn end_members(members: Vec<Member>)
+    requires { AreEndable members.items }
 {
-    let mut left = peers;
-    while let Some(peer) = left.pop() {
-        peer.end();
+    let mut left = members;
+    while let Some(member) = left.pop() {
+        end_member(member);
     }
     left.destroy_empty();
+}
+
+/// Ends a client.
+fn end_member(member: Member)
+    requires { IsEndable member.peer.phase }
+{
+    let Member { peer, desk: _ } = member;
+    peer.end();
 }
 
 /// Adds an entry to a history.

@@ -22,6 +22,16 @@ pub fn events_keep_the_world_sound()
     laws();
 }
 
+/// A world at the beginning is sound. Of a sound world the headline holds; and each receipt that a log keeps, or
+/// that is to be read for a client, is of a place that is not released.
+pub fn sound_worlds_tell_the_truth()
+    ensures start { (stripes clients frames limit : ℕ) → IsSound (start stripes clients frames limit) }
+    ensures headline { (state : State) → IsSound state → Headline state }
+    ensures places { (state : State) → IsSound state → NoneReleased state }
+{
+    laws();
+}
+
 /// However events follow each other from the start, the headline holds after them; and each receipt that a
 /// log keeps, or that is to be read for a client, is of a place that is not released, so a read by it gives
 /// the page that was written.

@@ -3,4 +3,6 @@
 #![tactic(auto)]
 
 #[cfg(test)]
+mod pages;
+#[cfg(test)]
 mod tests;

@@ -25,7 +25,7 @@ use world::World;
 use world_events::{Event, ShownPage};
 
 /// Adds bytes to a text. `None` where there was no memory.
-fn add(text: &mut Vec<u8>, bytes: &[u8]) -> Option<()> {
+pub(crate) fn add(text: &mut Vec<u8>, bytes: &[u8]) -> Option<()> {
     match text.extend_from_slice(bytes) {
         Ok(()) => Some(()),
         Err(_) => None,
@@ -211,7 +211,7 @@ fn after(alloc: Global, world: World, line: &str) -> Option<World>
 }
 
 /// The world after the lines of a text, each of which holds.
-fn follow<R: Abort>(rt: &R, alloc: Global, world: World, text: &str) -> World
+pub(crate) fn follow<R: Abort>(rt: &R, alloc: Global, world: World, text: &str) -> World
     requires { IsWorld world }
     ensures { IsWorld result }
 {
@@ -337,6 +337,29 @@ fn watches_and_writes(rt: HostRuntime) {
         "ask 0 WATCH a; turn 0 12; ask 1 WATCH a; turn 1 12; ask 0 SET a 1; turn 0 12; \
             ask 0 QUIT; turn 0 12; ask 1 MULTI; ask 1 EXEC; turn 1 12; told 1 +OK|+OK|*-1|; \
             entries 0 1 0 1",
+    ];
+    for text in texts {
+        schedule(&rt, rt.alloc(), text);
+    }
+}
+
+/// RENAME takes the stripes of both keys, and writes both, or none.
+#[test]
+fn a_rename_of_two_stripes(rt: HostRuntime) {
+    let texts = [
+        "ask 0 SET a 1; turn 0 12; ask 0 RENAME a b; take 0 12; commit 0; told 0 +OK|; take 0 5; \
+            ask 1 GET b; take 1 5; take 0 12; commit 0; told 0 +OK|+OK|; give 0 5; turn 1 5; told 1 $1|1|; \
+            give 0 12; ask 1 GET a; turn 1 12; told 1 $1|1|$-1|; entries 0 0 1 1",
+        // The key that is watched is renamed, and then the other one is given its name.
+        "ask 1 SET a 1; turn 1 12; ask 0 WATCH a; turn 0 12; ask 1 RENAME a b; take 1 5; turn 1 12; give 1 5; \
+            told 1 +OK|+OK|; ask 0 MULTI; ask 0 EXEC; turn 0 12; told 0 +OK|+OK|*-1|; \
+            ask 0 WATCH a; turn 0 12; ask 1 RENAME b a; take 1 5; turn 1 12; give 1 5; told 1 +OK|+OK|+OK|; \
+            ask 0 MULTI; ask 0 EXEC; turn 0 12; told 0 +OK|+OK|*-1|+OK|+OK|*-1|; entries 1 0 1 0 0 1 0",
+        // A key that is missing, and a key that has the name already, write nothing.
+        "ask 1 SET a 1; turn 1 12; ask 0 WATCH a; turn 0 12; ask 1 RENAME b a; take 1 5; turn 1 12; give 1 5; \
+            ask 1 RENAME a a; turn 1 12; told 1 +OK|-ERR no such key|+OK|; \
+            ask 0 MULTI; ask 0 RENAME a b; ask 0 SET b 2 GET; ask 0 EXEC; take 0 5; turn 0 12; give 0 5; \
+            told 0 +OK|+OK|+QUEUED|+QUEUED|*2|+OK|$1|1|; entries 1 0 1 1 0",
     ];
     for text in texts {
         schedule(&rt, rt.alloc(), text);

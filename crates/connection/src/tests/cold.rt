@@ -182,6 +182,22 @@ fn a_set_whose_read_fails(rt: HostRuntime) -> Result<(), Fail> {
     check_failing(&rt, rt.alloc(), set, DEVICE_FAULT, b"+OK\r\n")
 }
 
+/// RENAME of a key whose read fails, and once more over another cold key: the value is found at the new name alone.
+#[test]
+fn a_rename_whose_read_fails(rt: HostRuntime) -> Result<(), Fail> {
+    let alloc = rt.alloc();
+    let rename = b"*3\r\n$6\r\nRENAME\r\n$4\r\n0000\r\n$4\r\n0700\r\n";
+    let get = b"*2\r\n$3\r\nGET\r\n$4\r\n0700\r\n";
+    let mut input = repeated(alloc, rename, 2, get)?;
+    input.extend_from_slice(GET_FIRST)?;
+    let outcome = run_failing(&rt, alloc, &input)?;
+    let mut text = repeated(alloc, DEVICE_FAULT, 1, b"+OK\r\n")?;
+    text.extend_from_slice(&values(alloc, 1)?)?;
+    text.extend_from_slice(b"$-1\r\n")?;
+    check_outcome(&rt, &outcome, &text, Ended::EndOfInput);
+    Ok(())
+}
+
 /// A transaction that is not run, and leaves its session in none.
 #[test]
 fn a_transaction_whose_read_fails(rt: HostRuntime) -> Result<(), Fail> {

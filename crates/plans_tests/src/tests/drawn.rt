@@ -42,7 +42,7 @@ struct Texts {
 }
 
 /// The lines. A key that begins with `n` has a number.
-const LINES: [&str; 20] = [
+const LINES: [&str; 25] = [
     "GET @",
     "GET &",
     "DEL @ & @",
@@ -63,6 +63,11 @@ const LINES: [&str; 20] = [
     "SET @ $",
     "SET & $",
     "SET @ # NX",
+    "SET @ $ GET",
+    "SET & # get XX",
+    "RENAME @ &",
+    "RENAME n@ n&",
+    "RENAME @ @",
 ];
 
 /// A key of forty.
@@ -123,7 +128,7 @@ fn fill(line: &mut String, form: &str, texts: &Texts) -> Option<()> {
 /// One more line.
 fn draw_line(alloc: Global, draw: &mut Draw, lines: &mut String) -> Option<()> {
     let texts = draw_texts(alloc, draw)?;
-    let form = LINES[draw.below(20) as usize];
+    let form = LINES[draw.below(25) as usize];
     fill(lines, form, &texts)
 }
 

@@ -86,6 +86,30 @@ fn a_plan_names_all_pages_that_it_wants(rt: HostRuntime) -> Result<(), Fail> {
     Ok(())
 }
 
+/// RENAME of a key over another, neither of which is resident; of one that is missing; and of one to its own name.
+#[test]
+fn keys_without_frames_are_renamed(rt: HostRuntime) -> Result<(), Fail> {
+    let alloc = rt.alloc();
+    let lines = "RENAME f0 f9\nGET f59";
+    let mut both = filled(alloc).ok_or("not filled")?;
+    let wanted = pages_wanted(alloc, &mut both, lines);
+    assert!(rt; wanted == Some(2));
+    for lines in [
+        lines,
+        "RENAME f0 f9",
+        "RENAME f11 f11",
+        "RENAME f13 f59",
+        "RENAME f59 f0",
+        "SET f15 v NX GET",
+        "SET f15 v GET",
+        "MGET f0 f9 f11 f13 f15 f59",
+    ] {
+        let is_same = run_both(alloc, &mut both, lines);
+        assert!(rt; is_same, "{lines}");
+    }
+    Ok(())
+}
+
 /// A session watches a key.
 fn watch<D: Device>(alloc: Global, store: &mut Store<D>, seat: u64, keys: Vec<Word>) -> Option<()> {
     drop(answer_to(alloc, store, seat, Call::Watch(Keys::from_vec(keys)))?);

@@ -118,9 +118,9 @@ returns-in-Err-clause-err g c =
 pub returns-in-Err-clause-full : goal.returns-in-Err-clause-full
 returns-in-Err-clause-full g c =
     let inv = c.loop-planned.invariant in
-    full_read g.D.Device.wrote (kept_by g.R.Shows.identity g.R.Shows.shown) c.args.stripes c.in-Err.stop (λ read. (r : _) → g.D.Device.serves c.args.device.now r → g.D.Device.serves read r) _ _
+    full_read g.D.Device.wrote (kept_by g.R.Shows.identity g.R.Shows.shown) c.args.stripes c.in-Err.stop (λ read. IsReadAlone g.D.Device.serves g.D.Device.releases g.D.Device.writes c.args.device.now read) _ _
     (logs_of (g.P.Parts.part_of c.args.parts.now)) (logs_of (g.P.Parts.part_of c.loop-planned.parts)) (logs_of (g.P.Parts.part_of c.plan.new.parts)) c.loop-planned.device c.plan.new.device
-    inv.still (logs_same (g.P.Parts.part_of c.args.parts.now) (g.P.Parts.part_of c.loop-planned.parts) inv.same)
+    inv.alone (logs_same (g.P.Parts.part_of c.args.parts.now) (g.P.Parts.part_of c.loop-planned.parts) inv.same)
     (λ ws light due honest right served short asked seen watched asks stand ends once.
     due honest (inv.right right served) (subst (λ p. AllShort (joined (shard_meaning g.R.Shows.is_steady) c.args.stripes p)) (sym inv.same) short)
     asked seen watched asks (subst (λ p. Stand (shard_meaning g.R.Shows.is_steady) c.args.stripes p seen c.args.seat watched) (sym inv.same) stand) ends once)

@@ -1,5 +1,5 @@
 use Rattle.std.proofs.Common.{◌≡◌, ◌-◌, ◌≤◌, [], All, vec_len, vec_capacity}
-use Rattle.epoch.specs.Seats.{id_of, IsOutside, KnowsNothing}
+use Rattle.epoch.specs.Seats.{id_of, seats_of, IsOutside, KnowsNothing}
 use Rattle.epoch.specs.Plays.{standing}
 use Rattle.epoch.proofs.epochs.Epochs.deal.Given as goal
 
@@ -7,8 +7,8 @@ use Rattle.epoch.proofs.epochs.Epochs.deal.Given as goal
 abbrev pub invariant-loop-number : goal.invariant-loop-number
 invariant-loop-number l =
     (l.others.table_id ≡ id_of l.self)
-    × (l.others.me ≡ (standing l.number (l.self.seats - l.number), []))
+    × (l.others.me ≡ (standing l.number (seats_of l.self - l.number), []))
     × (vec_len l.dealt ≡ l.number)
-    × (l.self.seats ≤ vec_capacity l.dealt)
+    × (seats_of l.self ≤ vec_capacity l.dealt)
     × All (IsOutside l.self) l.dealt.items
     × All KnowsNothing l.dealt.items

@@ -1,25 +1,32 @@
-use Rattle.std.proofs.Common.{rules, arith, ap, refl, ◌∷◌}
-use Rattle.epoch.proofs.Steps.{tells_any}
-use Rattle.epoch.proofs.Moments.{clear}
-use Rattle.epoch.specs.Seats.{known}
+use Rattle.std.proofs.Common.{◌∙◌, IfSome, ap, sym, subst}
+use Rattle.epoch.specs.declared.words.EpochWords.{EpochWords}
+use Rattle.epoch.specs.declared.view.View.{View}
+use Rattle.epoch.specs.Words.{id_in}
+use Rattle.epoch.specs.Seats.{StaysClearIn}
 use Rattle.epoch.proofs.epochs.Epochs.drain.Goals as goal
 
-pub split_seat-token-requires : goal.split_seat-token-requires
-split_seat-token-requires c =
-    let sized = c.args.self.now.sized in
-    let shared = c.args.self.now.table.shared in
-    (c.scan.ensures.seat.table, omega arith, tells_any shared.key c.scan.new.seat.seat.id c.scan.new.seat.seat.me.0)
+pub drain-requires : goal.drain-requires
+drain-requires c = c.requires.table ∙ sym (ap id_in c.deref.ensures)
 
-pub returns-then-not-scan-clause-told : goal.returns-then-not-scan-clause-told
-returns-then-not-scan-clause-told c =
-    let b = c.if-not-scan.ensures.blocked refl in record { advanced = b.advanced; more = b.note ∷ b.more; notes = b.notes }
+pub returns-clause-seat : goal.returns-clause-seat
+returns-clause-seat c =
+    let h = c.requires in
+    let only = c.drain.ensures.only in
+    record {
+      table = c.drain.ensures.table ∙ h.table;
+      handles = h.handles;
+      below = h.below;
+      first = ap (λ (v : View). v.first) only ∙ h.first;
+      single = ap (λ (v : View). v.count) only ∙ h.single;
+      armed = h.armed ∙ sym (ap (λ (v : View). v.armed) only);
+      last = h.last;
+    }
+
+pub returns-clause-stay : goal.returns-clause-stay
+returns-clause-stay c =
+    let only = c.drain.ensures.only in
+    record { own = ap (λ (v : View). v.own) only; valid = ap (λ (v : View). v.valid) only }
 
 pub returns-clause-clear : goal.returns-clause-clear
-returns-clause-clear c = λ s ruled at.
-    let token = c.split_seat-token in
-    let past = c.if-not-scan.ensures.past refl in
-    clear c.args.self.now.seats s ruled token.result.id token.result.me.0 at (known c.scan.new.seat) c.args.e
-    (ap (λ m. m.0) token.ensures.4) past.passed past.above
-
-pub returns-then-not-scan-clause-none : goal.returns-then-not-scan-clause-none
-returns-then-not-scan-clause-none c = search rules
+returns-clause-clear c =
+    subst (λ (w : EpochWords). IfSome c.drain.result (λ drained. StaysClearIn w drained)) c.deref.ensures c.drain.ensures.clear

@@ -1,18 +1,20 @@
-use Rattle.std.proofs.Common.{arith, ap, ◌∙◌}
+use Rattle.std.proofs.Common.{arith, ap, sym, ◌∙◌}
 use Rattle.epoch.proofs.Steps.{tells_any}
 use Rattle.epoch.proofs.Moments.{over}
-use Rattle.epoch.specs.Seats.{known}
+use Rattle.epoch.specs.Seats.{known, seats_of}
 use Rattle.epoch.proofs.epochs.Epochs.stamp.Goals as goal
 
 pub split_seat-token-requires : goal.split_seat-token-requires
 split_seat-token-requires g c =
-    let sized = c.args.self.now.sized in
-    let shared = c.args.self.now.table.shared in
-    (c.advance.ensures.seat.table, omega arith, tells_any shared.key c.advance.new.seat.seat.id c.advance.new.seat.seat.me.0)
+    let shared = c.shared.result.now in (
+      c.advance.ensures.seat.table ∙ sym c.shared.ensures.id,
+      omega (arith, c.shared.ensures.wide),
+      tells_any shared.key c.advance.new.seat.seat.id c.advance.new.seat.seat.me.0,
+    )
 
 pub returns-in-Some-clause-over : goal.returns-in-Some-clause-over
 returns-in-Some-clause-over g c = λ s ruled at.
     let token = c.split_seat-token in
     let past = c.in-Some.ensures.some in
-    over c.args.self.now.seats s ruled token.result.id token.result.me.0 at c.in-Some.epoch (known c.args.seat.now).advanced
+    over (seats_of c.args.self.now) s ruled token.result.id token.result.me.0 at c.in-Some.epoch (known c.args.seat.now).advanced
     (ap (λ m. m.0.advanced) token.ensures.4 ∙ past.advanced)

@@ -1,6 +1,6 @@
 use Rattle.std.proofs.Common.{length}
-use Rattle.world.specs.States.{ClientState}
-use Rattle.world.specs.Turns.{Advances}
+use Rattle.world_model.specs.States.{ClientState}
+use Rattle.world_model.specs.Advancing.{Advances}
 use Rattle.world.specs.Peers.{IsServing, IsSteady, progress_of}
 use Rattle.world.proofs.peer.Peer.advance.Given as goal
 

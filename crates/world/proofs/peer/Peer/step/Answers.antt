@@ -1,5 +1,5 @@
 use Rattle.std.proofs.Common.{rules, sym, ap, ◌∙◌}
-use Rattle.world.specs.States.{ClientState}
+use Rattle.world_model.specs.States.{ClientState}
 use Rattle.world.proofs.PeerSteps.{waits, finishes, quits, fails, opens, steady_said}
 use Rattle.world.proofs.peer.Peer.step.Goals as goal
 

@@ -1,6 +1,6 @@
 use Rattle.std.proofs.Common.{List, length}
-use Rattle.world.specs.States.{State}
-use Rattle.world.specs.Turns.{Turns}
+use Rattle.world_model.specs.States.{State}
+use Rattle.world_model.specs.Turns.{Turns}
 use Rattle.world.specs.Tables.{IsWorld, state_of}
 use Rattle.world.proofs.world.World.do_all.Given as goal
 

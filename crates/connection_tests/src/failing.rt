@@ -1,0 +1,300 @@
+//! Stores larger than their frames over devices that fail, are full, or lie in a file that is changed.
+
+ghost use Rattle.std.specs.Prelude.{◌≡◌, ◌+◌, [], IfOk, vec_len};
+ghost use Rattle.engine.specs.Passes.{knows, Rests};
+ghost use Rattle.engine.specs.declared.TheConstants.{BACKGROUND_PASSES};
+
+use crate::keys::{add_get, add_set, get, gets, repeated, sets, value, values};
+use crate::talks::{Outcome, Source, engine_over, memory, narrow, talk, wide};
+use connection::Ended;
+use device::{Device, Faulty, FileDevice, MemoryDevice, OpenFault};
+use engine::{BACKGROUND_PASSES, Engine, Pass};
+use std::alloc::{AllocError, Global};
+use std::fs::{File, Files, OpenFile};
+use std::process::Abort;
+use std::sync::Wait;
+use std::test::Fail;
+use std::{fs, io};
+use words::limits::Limits;
+
+const OK: &[u8] = b"+OK\r\n";
+
+const DEVICE_FAULT: &[u8] = b"-IOERR device fault\r\n";
+
+const STORE_FULL: &[u8] = b"-FULL store is full\r\n";
+
+/// How many keys are stored, and how many of their pages have no frame.
+#[derive(Clone, Copy)]
+struct Stored {
+    keys: u32,
+    written: u64,
+}
+
+/// Keys of 40 pages.
+const SOME: Stored = Stored {
+    keys: 600,
+    written: 28,
+};
+
+/// Keys of 200 pages.
+const MANY: Stored = Stored {
+    keys: 3_000,
+    written: 188,
+};
+
+/// Openings of a device in memory, each of which fails the call with this number.
+fn failing(
+    alloc: Global,
+    limits: &Limits,
+    call: u64,
+) -> Result<Vec<Faulty<MemoryDevice>>, AllocError>
+    ensures { IfOk result (λ openings. vec_len openings ≡ limits.now.clients + BACKGROUND_PASSES) }
+{
+    let mut below = memory(alloc, limits)?;
+    let mut openings = Vec::new(alloc);
+    while let Some(opening) = below.pop() {
+        openings.push(Faulty::new(opening, [call].to_vec(alloc)?))?;
+    }
+    Ok(openings)
+}
+
+/// Which reply is a fault of the device.
+#[derive(Clone, Copy, Debug, PartialEq, Eq)]
+enum Failed {
+    /// None.
+    Nothing,
+    /// That of the SET of the key with this number.
+    Set(u32),
+    /// That of the GET.
+    Get,
+}
+
+/// Which of so many SETs is answered by a fault of the device, and what comes after their replies. `None` where another
+/// reply comes, or a second fault.
+fn failed_set(text: &[u8], count: u32) -> Option<(Failed, &[u8])> {
+    let mut rest = text;
+    let mut failed = Failed::Nothing;
+    for number in 0..count {
+        if let Some(after) = rest.strip_prefix(OK) {
+            rest = after;
+        } else {
+            rest = rest.strip_prefix(DEVICE_FAULT)?;
+            if failed != Failed::Nothing {
+                return None;
+            }
+            failed = Failed::Set(number);
+        }
+    }
+    Some((failed, rest))
+}
+
+/// Which of the SETs and the GET after them is answered by a fault of the device, where each other one is answered as
+/// is due.
+fn failed_of(text: &[u8], count: u32, value: &[u8]) -> Option<Failed> {
+    let (failed, rest) = failed_set(text, count)?;
+    if rest == value {
+        return Some(failed);
+    }
+    if rest == DEVICE_FAULT && failed == Failed::Nothing {
+        return Some(Failed::Get);
+    }
+    None
+}
+
+/// Whether a connection after it is answered as is due: a key whose SET failed is missing, and a GET that failed finds its
+/// value.
+fn is_right_after<D: Device>(
+    rt: &impl Wait,
+    alloc: Global,
+    engine: &Engine<D>,
+    pass: Pass<D>,
+    failed: Failed,
+) -> io::Result<bool>
+    requires rests { Rests D.Receipt.is_steady engine.now pass }
+    requires watches { (knows D.failures pass).watched ≡ [] }
+{
+    let (number, due) = match failed {
+        // The call that fails is yet to come.
+        Failed::Nothing => return Ok(true),
+        Failed::Set(number) => (number, b"$-1\r\n".to_vec(alloc)?),
+        Failed::Get => (0, value(alloc, 0)?),
+    };
+    let input = get(alloc, number)?;
+    let (_pass, outcome) = talk(rt, alloc, Source::new(&input), engine, pass);
+    Ok(outcome.is(&due, Ended::EndOfInput))
+}
+
+/// Which request fails where the call of the device with this number does, of SETs of so many keys and a GET of the
+/// first. `None` where an answer is not as is due.
+fn failed_at(rt: &impl Wait, alloc: Global, count: u32, call: u64) -> io::Result<Option<Failed>> {
+    let limits = wide();
+    let input = sets_and_get(alloc, count)?;
+    let openings = failing(alloc, &limits, call)?;
+    let (engine, pass, _other) = engine_over(alloc, &limits, openings)?;
+    let (pass, outcome) = talk(rt, alloc, Source::new(&input), &engine, pass);
+    let due = value(alloc, 0)?;
+    let Some(failed) = failed_of(&outcome.text, count, &due) else {
+        return Ok(None);
+    };
+    let is_right = is_right_after(rt, alloc, &engine, pass, failed)?;
+    Ok(Some(failed).filter(|_| is_right))
+}
+
+/// SETs of so many keys, and a GET of the first.
+fn sets_and_get(alloc: Global, count: u32) -> io::Result<Vec<u8>> {
+    let mut input = sets(alloc, count)?;
+    add_get(&mut input, 0)?;
+    Ok(input)
+}
+
+impl Stored {
+    /// Whether this request may fail where this call of the device does: a SET where a page is written, the GET where one
+    /// is read, and none where there is no such call.
+    fn may_fail(self, call: u64, failed: Failed) -> bool {
+        match failed {
+            Failed::Set(_) => call < self.written,
+            Failed::Get => call >= self.written,
+            Failed::Nothing => call > self.written,
+        }
+    }
+}
+
+/// Which request fails where this call of the device does. Asserts that it may, and that all else is as is due.
+fn check_failing<R: Abort + Wait>(
+    rt: &R,
+    alloc: Global,
+    stored: Stored,
+    call: u64,
+) -> Result<Failed, Fail> {
+    let failed = failed_at(rt, alloc, stored.keys, call)?.ok_or("another answer")?;
+    assert!(rt; stored.may_fail(call, failed), "{call}: {failed:?}");
+    Ok(failed)
+}
+
+/// 28 of 40 pages are written, and some are read to find the first key. Each of these calls fails in turn, until there
+/// is no further one: one request is answered by the fault of the device, and each other one as is due.
+#[test]
+fn each_call_of_the_device_fails_in_turn(rt: HostRuntime) -> Result<(), Fail> {
+    for call in 0..100 {
+        if check_failing(&rt, rt.alloc(), SOME, call)? == Failed::Nothing {
+            return Ok(());
+        }
+    }
+    Err(Fail::from("more calls"))
+}
+
+/// The same of some calls where 188 of 200 pages are written.
+#[test]
+fn calls_of_the_device_fail_where_pages_are_many(rt: HostRuntime) -> Result<(), Fail> {
+    for call in [0, 1, 94, 187, 188, 300] {
+        check_failing(&rt, rt.alloc(), MANY, call)?;
+    }
+    Ok(())
+}
+
+/// So many openings of a device in the file at this path as an engine of these limits has passes.
+fn file<'a, R: Wait + Files<File = File>>(
+    rt: &'a R,
+    alloc: Global,
+    path: &str,
+    limits: &Limits,
+) -> Result<Vec<FileDevice<'a, R>>, OpenFault>
+    ensures { IfOk result (λ openings. vec_len openings ≡ limits.now.clients + BACKGROUND_PASSES) }
+{
+    FileDevice::openings(rt, alloc, path, limits.clients + BACKGROUND_PASSES)
+}
+
+/// Cuts a file to so many bytes.
+fn cut<R: Files<File = File>>(rt: &R, path: &str, length: u64) -> io::Result<()> {
+    let mut options = fs::OpenOptions::new();
+    options.write(true).open(rt, path)?.set_len(length)
+}
+
+/// Asserts what is said where a file is cut to 100 bytes between two connections: the value before, and the fault of
+/// the device after it, each time.
+fn check_cut<D: Device, R: Abort + Wait + Files<File = File>>(
+    rt: &R,
+    alloc: Global,
+    engine: &Engine<D>,
+    pass: Pass<D>,
+    path: &str,
+) -> Result<(), Fail>
+    requires rests { Rests D.Receipt.is_steady engine.now pass }
+    requires watches { (knows D.failures pass).watched ≡ [] }
+{
+    let (input, again) = (sets_and_get(alloc, MANY.keys)?, gets_of_first(alloc)?);
+    let due = repeated(alloc, OK, MANY.keys, &value(alloc, 0)?)?;
+    let (pass, before) = talk(rt, alloc, Source::new(&input), engine, pass);
+    cut(rt, path, 100)?;
+    let (_pass, after) = talk(rt, alloc, Source::new(&again), engine, pass);
+    before.check(rt, &due, Ended::EndOfInput);
+    let faults = repeated(alloc, DEVICE_FAULT, 2, b"+PONG\r\n")?;
+    after.check(rt, &faults, Ended::EndOfInput);
+    Ok(())
+}
+
+/// Two GETs of the first key, and a PING.
+fn gets_of_first(alloc: Global) -> io::Result<Vec<u8>> {
+    repeated(alloc, &get(alloc, 0)?, 2, b"*1\r\n$4\r\nPING\r\n")
+}
+
+/// The same over a new file at this path.
+fn check_cut_file<R: Abort + Wait + Files<File = File>>(
+    rt: &R,
+    alloc: Global,
+    path: &str,
+) -> Result<(), Fail> {
+    let limits = wide();
+    let openings = file(rt, alloc, path, &limits)?;
+    let (engine, pass, _other) = engine_over(alloc, &limits, openings)?;
+    check_cut(rt, alloc, &engine, pass, path)
+}
+
+#[test]
+fn a_file_cut_short_is_a_fault_of_the_device(rt: HostRuntime) -> Result<(), Fail> {
+    let path = "cut.pages";
+    check_cut_file(&rt, rt.alloc(), path)?;
+    assert!(rt; fs::remove_file(&rt, path).is_ok());
+    Ok(())
+}
+
+/// SETs of more keys than 76 pages hold, the last of them once more, and GETs of all that are stored.
+fn too_many(alloc: Global) -> io::Result<Vec<u8>> {
+    let mut input = sets(alloc, 1_160)?;
+    add_set(&mut input, 1_159)?;
+    input.extend_from_slice(&gets(alloc, 1_140)?)?;
+    Ok(input)
+}
+
+/// What that is answered: 1,140 keys are stored, no further one is, and each that is stored has its value.
+fn too_many_answered(alloc: Global) -> io::Result<Vec<u8>> {
+    let found = values(alloc, 1_140)?;
+    let refused = repeated(alloc, STORE_FULL, 21, &found)?;
+    repeated(alloc, OK, 1_140, &refused)
+}
+
+/// What is said over a file with places for 64 pages.
+fn run_full<R: Wait + Files<File = File>>(
+    rt: &R,
+    alloc: Global,
+    path: &str,
+    input: &[u8],
+) -> Result<Outcome, Fail> {
+    let limits = narrow();
+    let openings = file(rt, alloc, path, &limits)?;
+    let (engine, pass, _other) = engine_over(alloc, &limits, openings)?;
+    let (_pass, outcome) = talk(rt, alloc, Source::new(input), &engine, pass);
+    Ok(outcome)
+}
+
+/// 12 frames and 64 places hold 1,140 keys.
+#[test]
+fn a_file_with_no_place_left_is_a_full_store(rt: HostRuntime) -> Result<(), Fail> {
+    let alloc = rt.alloc();
+    let path = "full.pages";
+    let input = too_many(alloc)?;
+    let outcome = run_full(&rt, alloc, path, &input)?;
+    outcome.check(&rt, &too_many_answered(alloc)?, Ended::EndOfInput);
+    assert!(rt; fs::remove_file(&rt, path).is_ok());
+    Ok(())
+}

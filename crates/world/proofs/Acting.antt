@@ -1,0 +1,196 @@
+-- An event leaves a world as it is to be: sound, with all that is kept beside the plain state right.
+use Rattle.std.proofs.Common.{◌≡◌, ◌≢◌, ◌∙◌, ℕ, ◌<◌, ◌≤◌, Bool, true, false, ◌&&◌, List, [], ◌∷◌, length, get_or, map, Option, Some, None, refl, sym, ap, ap₂, subst, nat_lt, nat_eq, if◌then◌else◌}
+use Rattle.std.specs.Prelude.{slice_get, OnOk, Result, Ok, Err}
+use Rattle.std.proofs.lemmas.Bool.{le-ltb}
+use Rattle.std.proofs.lemmas.Bool.Decides.{Decides-eqb}
+use Rattle.std.proofs.lemmas.List.{length-map}
+use Rattle.hybrid.specs.HybridLog.{HybridLog, HasRoom}
+use Rattle.plans.specs.Shards.{logs_of}
+use Rattle.world_events.specs.Actors.{actor}
+use Rattle.world_events.specs.declared.event.Event.{Event}
+use Rattle.world_events.specs.declared.event.Event.TheVariants as event
+use Rattle.world_log.specs.Given.{StaysGiven}
+use Rattle.world_log.specs.Stripes.{acts_for, lane_log, lent}
+use Rattle.world_log.specs.WorldLogs.{IsWorldLog, KeepsHeld, NoneReleasedAt, Took, stays_of}
+use Rattle.world_log.specs.declared.lanes.Lane.{Lane}
+use Rattle.world_log.specs.declared.stripes.Stripes.{Stripes}
+use Rattle.world_log.specs.declared.logs.WorldLog.{WorldLog}
+use Rattle.world_model.specs.Advancing.{Goes, When}
+use Rattle.world_model.specs.States.{ClientState, State, client, stripe_count}
+use Rattle.world_model.specs.Enabled.{holds, is_enabled, is_enabled_for, is_enabled_of, is_number}
+use Rattle.world_model.specs.Planned.{IsNoCommitOf}
+use Rattle.world_model.specs.Soundness.{IsSound}
+use Rattle.world_model.specs.Turns.{DoesAndGoes, Turn, Turns}
+use Rattle.world.specs.Desks.{IsRight, client_of}
+use Rattle.world.specs.Laws.{TurnLaws}
+use Rattle.world.specs.Tables.{Handled, HasGoneOn, HasWorked, IsKept, IsWorld, PlanStays, Same, New, StaysRoomy, rest_of, state_of}
+use Rattle.world.specs.declared.desk.Plan.{Plan}
+use Rattle.world.specs.declared.member.Member.{Member}
+use Rattle.world.specs.declared.world.World.{World}
+use Rattle.world.proofs.Coming.{logs_in, some_held}
+use Rattle.world.proofs.Moving.{right_kept}
+use Rattle.world.proofs.Turning.{kept_goes, kept_still, not_turned, turned}
+
+-- EVENTS OF CLIENTS
+
+pub acted_turn : (old mid new : World) (c : ℕ) (e : Event) → actor e ≡ Some c → c < length old.members.items → Handled old c e mid
+    → Goes (state_of mid) c (state_of new) → Turn (state_of old) e (state_of new)
+unfolding state_of
+acted_turn old mid new c e is below handled goes =
+    turned (state_of old) (state_of mid) (state_of new) c e is (rw (length-map old.members.items client_of) below) handled.enabled handled.does goes
+
+some_number : {a b : ℕ} → Option.Some a ≡ Some b → a ≡ b
+some_number e = cc e
+
+-- what is kept of a plan is right after it
+plan_after : TurnLaws → (old mid new : World) (c d : ℕ) (e : Event) (was one : Member) → actor e ≡ Some c → IsWorld old → Turn (state_of old) e (state_of new)
+    → Goes (state_of mid) c (state_of new) → mid.log ≡ new.log → one.desk.plan ≡ was.desk.plan → PlanStays old mid e d was
+    → IsKept (state_of new) new.log.stripes d one.desk.plan
+unfolding state_of
+plan_after laws old mid new c d e was one is world turn goes log plan (Same before at same none rooms) =
+    subst (IsKept (state_of new) new.log.stripes d) (sym (plan ∙ same))
+    (subst (λ l. IsKept (state_of new) l.stripes d before.desk.plan) log
+    (kept_still laws.planned (state_of old) e (state_of new) d old.log.stripes mid.log.stripes before.desk.plan turn none world.sound rooms
+    (ap (λ l. length l.stripes.holders.items) (sym log) ∙ rooms.count) (world.plans d before at)))
+plan_after laws old mid new c d e was one is world turn goes log plan (New own kept) =
+    let same : c ≡ d = some_number (sym is ∙ own) in
+    subst (IsKept (state_of new) new.log.stripes d) (sym plan)
+    (subst (λ l. IsKept (state_of new) l.stripes d was.desk.plan) log
+    (kept_goes (state_of mid) (state_of new) d mid.log.stripes was.desk.plan (subst (λ (n : ℕ). Goes (state_of mid) n (state_of new)) same goes) kept))
+
+pub acted_world : TurnLaws → (old mid new : World) (c : ℕ) (e : Event) → actor e ≡ Some c → c < length old.members.items → IsWorld old → Handled old c e mid
+    → Goes (state_of mid) c (state_of new) → HasGoneOn mid new → IsWorld new
+acted_world laws old mid new c e is below world handled goes gone =
+    let turn = acted_turn old mid new c e is below handled goes in
+    let log : mid.log ≡ new.log = sym (ap (λ (w : World). w.log) gone.else_same) in
+    record {
+      sound = laws.sound (state_of old) (e ∷ []) (state_of new) (state_of new, turn, refl) world.sound;
+      log = subst IsWorldLog log handled.tended.log;
+      desks = λ d one at.
+          let was = gone.desks d one at in
+          subst (λ k. IsRight new.log.device k) (sym was.2) (subst (λ l. IsRight l.device was.0.desk) log (handled.tended.desks d was.0 was.1));
+      plans = λ d one at.
+          let was = gone.desks d one at in
+          plan_after laws old mid new c d e was.0 one is world turn goes log (ap (λ k. k.plan) was.2) (handled.tended.plans d was.0 was.1);
+    }
+
+-- where an event is not enabled
+pub not_acted : (old : World) (c : ℕ) (e : Event) → actor e ≡ Some c → is_enabled_for (state_of old) c (client (state_of old) c) e ≡ false
+    → Turn (state_of old) e (state_of old)
+not_acted old c e is not_allowed = not_turned (state_of old) c e is not_allowed
+
+-- or is of no client
+pub nobody_acted : (old : World) (c : ℕ) (e : Event) → actor e ≡ Some c → length old.members.items ≤ c → Turn (state_of old) e (state_of old)
+unfolding state_of
+nobody_acted old c e is past =
+    let enabled : is_enabled (state_of old) e ≡ false =
+    ap (is_enabled_of (state_of old) e) is
+    ∙ ap (λ (b : Bool). b && is_enabled_for (state_of old) c (client (state_of old) c) e)
+    (le-ltb c (length (state_of old).clients) (rw (length-map old.members.items client_of) past)) in
+    rw enabled refl
+
+-- EVENTS OF STRIPES
+
+no_commit : (d : ℕ) (e : Event) → actor e ≡ None → IsNoCommitOf d e
+no_commit d (event.Piece c bytes) is = tt
+no_commit d (event.Close c) is = tt
+no_commit d (event.Take c i) is = tt
+no_commit d (event.Commit c) is = absurd (cc is)
+no_commit d (event.Fetch c) is = tt
+no_commit d (event.Give c i) is = tt
+no_commit d (event.Copy i) is = tt
+no_commit d (event.Write i) is = tt
+no_commit d (event.Install i) is = tt
+no_commit d (event.Drop i) is = tt
+no_commit d (event.Unlink i) is = tt
+no_commit d (event.Retire i) is = tt
+no_commit d (event.Drain i) is = tt
+no_commit d (event.Release i page) is = tt
+
+-- a stripe that is held keeps its rooms
+holder_is : (d : ℕ) (o : Option ℕ) → is_number d o ≡ true → o ≡ Some d
+holder_is d None is = cc is
+holder_is d (Some m) is = ap (λ (n : ℕ). Option.Some n) ((Decides-eqb m d).0 is)
+
+lane_of : (t : Bool) (o : Option Lane) (log : HybridLog) → logs_in t o ≡ Some log → (lane : Lane) × (o ≡ Some lane) × (lane_log lane ≡ log)
+lane_of true (Some lane) log is = (lane, refl, cc is)
+lane_of true None log is = absurd (cc is)
+lane_of false o log is = absurd (cc is)
+
+pub held_roomy : (old new : Stripes) (d : ℕ) → KeepsHeld old new → StaysRoomy d old new
+held_roomy old new d keeps = record {
+  count = ap (λ v. length v.items) keeps.holders;
+  rooms = λ i log there.
+      let held : holds old.holders.items d i ≡ true = some_held (holds old.holders.items d i) (slice_get old.lanes.items i) log there in
+      let lane = lane_of (holds old.holders.items d i) (slice_get old.lanes.items i) log there in
+      let later = keeps.rooms i d lane.0 (holder_is d (get_or old.holders.items i None) held) lane.1 in (
+        lane_log later.0,
+        ap₂ (λ (t : Bool) (o : Option Lane). logs_in t o) (ap (λ v. holds v.items d i) keeps.holders ∙ held) later.1,
+        λ weight room. later.2 weight (subst (λ (l : HybridLog). HasRoom l weight) (sym lane.2) room),
+      );
+}
+
+pub worked_turn : (old new : World) (e : Event) → actor e ≡ None → new ≡ (let w : World = record old { log = new.log } in w) → HasWorked e old new
+    → Turn (state_of old) e (state_of new)
+unfolding state_of
+worked_turn old new e is same worked =
+    let s : State = state_of old in
+    subst (λ (w : World). Turn (state_of old) e (state_of w)) (sym same)
+    (subst (λ (a : Option ℕ). When (is_enabled_of s e a) (DoesAndGoes s e a (state_of (record old { log = new.log }))) (state_of (record old { log = new.log }) ≡ s)) (sym is) worked.took)
+
+pub worked_world : TurnLaws → (old new : World) (e : Event) → actor e ≡ None → new ≡ (let w : World = record old { log = new.log } in w) → HasWorked e old new → IsWorld old
+    → IsWorld new
+unfolding state_of
+worked_world laws old new e is same worked world =
+    let turn = worked_turn old new e is same worked in
+    let members : new.members ≡ old.members = ap (λ (w : World). w.members) same in
+    record {
+      sound = laws.sound (state_of old) (e ∷ []) (state_of new) (state_of new, turn, refl) world.sound;
+      log = worked.log;
+      desks = λ d one at.
+          right_kept old.log.device new.log.device one.desk worked.given
+          (world.desks d one (subst (λ v. slice_get v.items d ≡ Some one) members at));
+      plans = λ d one at.
+          kept_still laws.planned (state_of old) e (state_of new) d old.log.stripes new.log.stripes one.desk.plan turn (no_commit d e is) world.sound
+          (held_roomy old.log.stripes new.log.stripes d worked.held)
+          (ap (λ v. length v.items) worked.held.holders)
+          (world.plans d one (subst (λ v. slice_get v.items d ≡ Some one) members at));
+    }
+
+-- no receipt that a stripe keeps is of a released place
+pub none_released_at : TurnLaws → (world : World) (i : ℕ) → IsWorld world → NoneReleasedAt world.log i
+unfolding state_of
+none_released_at laws world i is number place at = (laws.places (state_of world) is.sound).kept i number place at
+
+-- IN THE WORDS OF THE CODE
+
+-- the world with another log
+abbrev pub with_world_log : World → WorldLog → World
+with_world_log old log = record old { log = log }
+
+pub worked_by : (old : World) (log : WorldLog) (e : Event) → Took (rest_of old) e old.log log → IsWorldLog log → StaysGiven old.log.device log.device
+    → KeepsHeld old.log.stripes log.stripes → HasWorked e old (with_world_log old log)
+worked_by old log e took right given held = record { took = took; log = right; given = given; held = held }
+
+-- what an event of a stripe did, where it found memory
+pub ok_worked : {A E : Type 0} (r : Result A E) (old : World) (log : WorldLog) (e : Event)
+    → OnOk r ((rest : State) → Took rest e old.log log) → OnOk r (IsWorldLog log) → OnOk r (StaysGiven old.log.device log.device)
+    → OnOk r (KeepsHeld old.log.stripes log.stripes) → OnOk r (HasWorked e old (with_world_log old log))
+ok_worked (Ok x) old log e took right given held = worked_by old log e (took (rest_of old)) right given held
+ok_worked (Err x) old log e took right given held = tt
+
+pub ok_drained : {A E : Type 0} (r : Result A E) (old : World) (log : WorldLog) (i : ℕ) (stays : List (Option ℕ)) → stays ≡ stays_of (rest_of old)
+    → OnOk r ((rest : State) → stays_of rest ≡ stays → Took rest (event.Drain i) old.log log) → OnOk r (IsWorldLog log)
+    → OnOk r (StaysGiven old.log.device log.device) → OnOk r (KeepsHeld old.log.stripes log.stripes)
+    → OnOk r (HasWorked (event.Drain i) old (with_world_log old log))
+ok_drained (Ok x) old log i stays are took right given held = worked_by old log (event.Drain i) (took (rest_of old) (sym are)) right given held
+ok_drained (Err x) old log i stays are took right given held = tt
+
+pub turn_of : (old : World) (log : WorldLog) (e given : Event) → given ≡ e → actor e ≡ None → HasWorked e old (with_world_log old log)
+    → Turn (state_of old) given (state_of (with_world_log old log))
+turn_of old log e given is none worked =
+    subst (λ (x : Event). Turn (state_of old) x (state_of (with_world_log old log))) (sym is) (worked_turn old (with_world_log old log) e none refl worked)
+
+pub world_of : TurnLaws → (old : World) (log : WorldLog) (e : Event) → actor e ≡ None → HasWorked e old (with_world_log old log) → IsWorld old
+    → IsWorld (with_world_log old log)
+world_of laws old log e none worked world = worked_world laws old (with_world_log old log) e none refl worked world

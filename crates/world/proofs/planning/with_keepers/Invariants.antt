@@ -1,0 +1,16 @@
+use Rattle.std.proofs.Common.{◌≡◌, ◌+◌, length}
+use Rattle.plans.specs.Stops as plans
+use Rattle.world_log.specs.PlanLaws.{IsColdIn}
+use Rattle.world_model.specs.Places.{Each}
+use Rattle.world.specs.Planning.{IsReadFor}
+use Rattle.world.proofs.planning.with_keepers.Given as goal
+
+abbrev pub invariant-loop-receipt : goal.invariant-loop-receipt
+invariant-loop-receipt l = record {
+  cold : plans.Each (IsColdIn l.log) l.receipts;
+  kept : Each (IsReadFor l.log l.client) l.due.items;
+  count : length l.due.items + length l.receipts ≡ length l.fn.receipts;
+}
+
+abbrev pub decreases-loop-receipt : goal.decreases-loop-receipt
+decreases-loop-receipt l = length l.receipts

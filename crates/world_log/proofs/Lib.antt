@@ -1,0 +1,15 @@
+pub mod Agreeing
+pub mod Shedding
+pub mod CleanSteps
+pub mod GivenSteps
+pub mod AllGiven
+pub mod LaneSteps
+pub mod RoomSteps
+pub mod LaneRight
+pub mod Values
+pub mod Planning
+pub mod Opening
+pub mod Beginning
+pub mod Lending
+pub mod Held
+pub mod Setting

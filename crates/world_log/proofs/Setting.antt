@@ -1,0 +1,42 @@
+-- A key of a stripe that is given a value: what the tests do.
+use Rattle.std.proofs.Common.{◌≡◌, ℕ, ◌∙◌, Some, sym, subst}
+use Rattle.std.specs.Prelude.{slice_get}
+use Rattle.hybrid.specs.HybridLog.{HybridLog, IsGrown}
+use Rattle.hybrid.specs.Shedding.{HasShed}
+use Rattle.world_log.specs.Beside.{Agrees}
+use Rattle.world_log.specs.Given.{AreAllGiven}
+use Rattle.world_log.specs.Places.{Receipt, Shelves, Wrote, view}
+use Rattle.world_log.specs.Stripes.{lane_log}
+use Rattle.world_log.specs.WorldLogs.{IsLane, IsWorldLog}
+use Rattle.world_log.specs.declared.lanes.Lane.{Lane}
+use Rattle.world_log.specs.declared.logs.WorldLog.{WorldLog}
+use Rattle.world_log.proofs.AllGiven.{all_stays, room_kept, room_stays}
+use Rattle.world_log.proofs.LaneSteps.{store_device, store_with, with_both}
+use Rattle.world_log.proofs.Opening.{grown_right}
+use Rattle.world_log.proofs.Planning.{IsRight, faithful_all}
+use Rattle.world_log.proofs.Shedding.{room_right}
+
+pub set_right : (store : WorldLog) (i : ℕ) (lane new : Lane) (mid : HybridLog) (device : Shelves) (weight : ℕ) → IsWorldLog store
+    → slice_get store.stripes.lanes.items i ≡ Some lane → HasShed {D = Shelves} {R = Receipt} Wrote view (lane_log lane) store.device mid device
+    → IsGrown mid (lane_log new) weight → new.queues ≡ lane.queues → IsWorldLog (with_both store i new device)
+set_right store i lane new mid device weight is there shed grown same =
+    let one : IsLane store.device store.frames store.limit lane = is.lanes i lane there in
+    let room = room_right (lane_log lane) mid lane.queues store.device device one.numbered (one.agrees).counted shed in
+    let stays = room_stays (lane_log lane) mid store.device device shed in
+    let was : AreAllGiven device (lane_log lane) lane.queues = all_stays store.device device (lane_log lane) lane.queues stays one.given in
+    let made : IsRight (record store { device = device }) device lane mid = record {
+      numbered = room.0;
+      counted = room.1;
+      faithful = faithful_all shed.count (lane_log lane) mid store.device device lane.queues.flushing shed.all (one.agrees).faithful;
+      frames = room.2 ∙ one.frames;
+      places = room.3 ∙ one.places;
+      kept = room_kept (lane_log lane) mid store.device device shed (one.given).kept;
+    } in
+    let right : IsRight (record store { device = device }) device lane (lane_log new) =
+    grown_right (record store { device = device }) lane mid (lane_log new) weight grown made in
+    store_with (record store { device = device }) i lane new (store_device store device stays is) there
+    (record { frames = right.frames ∙ sym one.frames; places = right.places ∙ sym one.places })
+    (subst (Agrees (lane_log new)) (sym same) (record { counted = right.counted; faithful = right.faithful }))
+    right.numbered
+    (subst (AreAllGiven device (lane_log new)) (sym same)
+    (record { kept = right.kept; flushing = was.flushing; unlinked = was.unlinked; retired = was.retired; drained = was.drained }))

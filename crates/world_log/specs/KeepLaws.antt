@@ -1,0 +1,16 @@
+-- What two steps on parts keep.
+use Rattle.std.proofs.Common.{◌∙◌, refl}
+use Rattle.world_log.specs.Stripes.{KeepsOthers}
+use Rattle.world_log.specs.declared.stripes.Stripes.{Stripes}
+
+pub keeps_itself : (stripes : Stripes) → KeepsOthers stripes stripes
+keeps_itself stripes = record { holders = refl; acting = refl; count = refl; queues = λ i. refl; others = λ i away. refl }
+
+pub keeps_both : (one two three : Stripes) → KeepsOthers one two → KeepsOthers two three → KeepsOthers one three
+keeps_both one two three first second = record {
+  holders = second.holders ∙ first.holders;
+  acting = second.acting ∙ first.acting;
+  count = second.count ∙ first.count;
+  queues = λ i. second.queues i ∙ first.queues i;
+  others = λ i away. second.others i (rw (first.holders, first.acting) away) ∙ first.others i away;
+}

@@ -1,0 +1,11 @@
+pub mod Places
+pub mod PlaceLaws
+pub mod Beside
+pub mod MakingRoom
+pub mod Cleaning
+pub mod Given
+pub mod Stripes
+pub mod KeepLaws
+pub mod WorldLogs
+pub mod Lanes
+pub mod PlanLaws

@@ -1,0 +1,144 @@
+//! One stripe of the world: its part of the store, on its log, and what stands beside that.
+
+ghost use Rattle.std.specs.Prelude.{◌≡◌, ◌<◌, IfOk, OnOk, IsTrue, Some, length};
+ghost use Rattle.std.specs.Arc.{arc_value};
+ghost use Rattle.world_log.specs.Beside.{Agrees, AreGiven, DoesCopy, DoesDrop, DoesInstall, DoesRelease};
+ghost use Rattle.world_log.specs.Cleaning.{AreServed, DoesUnlink};
+ghost use Rattle.world_log.specs.Given.{AreAllGiven, KeepsGiven, StaysGiven};
+ghost use Rattle.world_log.specs.Lanes.{IsNewLane, IsOfPlace, StaysRight};
+ghost use Rattle.world_log.specs.Stripes.{KeepsAway, lane_log};
+
+use crate::cleaning::unlink_oldest;
+use crate::queues::{Flushing, Queues};
+use crate::shelves::{WorldDevice, WorldReceipt};
+use crate::stopped::Stopped;
+use crate::works::{copy, evict, install, release};
+use hybrid::Stripe;
+use plans::shard::Shard;
+use records::Page;
+use std::alloc::Global;
+use std::collections::VecDeque;
+use std::sync::Arc;
+use words::limits::Limits;
+
+/// A stripe's part of the store, with what stands beside its log.
+#[derive(Drop)]
+pub struct Lane {
+    pub(crate) shard: Shard<WorldReceipt>,
+    pub(crate) queues: Queues,
+}
+
+impl Lane {
+    /// A stripe that stores nothing.
+    pub(crate) fn new(alloc: Global, limits: &Limits) -> Result<Lane, Stopped>
+        ensures { IfOk result (λ lane. IsNewLane limits.now.frames limits.now.places lane) }
+    {
+        let Ok(shard) = Shard::new(alloc, limits) else {
+            return Err(Stopped);
+        };
+        let _oldest = shard.log().oldest();
+        // It has no record.
+        let _page = Page::new(0);
+        Ok(Lane {
+            shard,
+            queues: Queues {
+                flushing: Flushing::Nothing,
+                unlinked: VecDeque::new(alloc),
+                retired: VecDeque::new(alloc),
+                drained: VecDeque::new(alloc),
+            },
+        })
+    }
+
+    /// Whether a receipt of this place is kept of a page that is not resident.
+    pub(crate) fn keeps_away(&self, place: u64) -> bool
+        ensures { IsTrue result → KeepsAway self.now place }
+    {
+        let log = self.shard.log();
+        let mut number = log.oldest();
+        while log.page(number).is_none() {
+            if keeps(log, number, place) {
+                return true;
+            }
+            number += 1;
+        }
+        false
+    }
+
+    /// The flusher copies the oldest page that waits for it, where one does.
+    pub(crate) fn copy(&mut self, alloc: Global) -> Result<bool, Stopped>
+        requires agrees { Agrees (lane_log self.old) self.old.queues }
+        ensures does { IfOk result (λ done. DoesCopy done (lane_log self.old) self.old.queues (lane_log self.new) self.new.queues) }
+        ensures given { OnOk result (KeepsGiven (lane_log self.old) self.old.queues (lane_log self.new) self.new.queues) }
+        ensures right { OnOk result (StaysRight self.old self.new) }
+    {
+        let done = copy(alloc, self.shard.log_mut(), &mut self.queues)?;
+        let _oldest = self.shard.log().oldest();
+        Ok(done)
+    }
+
+    /// The flusher comes back with its receipt.
+    pub(crate) fn install(&mut self) -> Result<bool, Stopped>
+        requires agrees { Agrees (lane_log self.old) self.old.queues }
+        ensures does { IfOk result (λ done. DoesInstall done (lane_log self.old) self.old.queues (lane_log self.new) self.new.queues) }
+        ensures given { OnOk result (KeepsGiven (lane_log self.old) self.old.queues (lane_log self.new) self.new.queues) }
+        ensures right { OnOk result (StaysRight self.old self.new) }
+    {
+        let done = install(self.shard.log_mut(), &mut self.queues)?;
+        let _oldest = self.shard.log().oldest();
+        Ok(done)
+    }
+
+    /// The evictor drops the oldest resident page, whose receipt is kept.
+    pub(crate) fn evict(&mut self) -> bool
+        requires agrees { Agrees (lane_log self.old) self.old.queues }
+        ensures does { DoesDrop result (lane_log self.old) self.old.queues (lane_log self.new) self.new.queues }
+        ensures given { KeepsGiven (lane_log self.old) self.old.queues (lane_log self.new) self.new.queues }
+        ensures right { StaysRight self.old self.new }
+    {
+        let done = evict(self.shard.log_mut(), &mut self.queues);
+        let _oldest = self.shard.log().oldest();
+        done
+    }
+
+    /// The cleaner unlinks the oldest page, which is not resident, where it finds room for what lives there.
+    pub(crate) fn unlink(
+        &mut self,
+        alloc: Global,
+        device: &mut WorldDevice,
+    ) -> Result<bool, Stopped>
+        requires agrees { Agrees (lane_log self.old) self.old.queues }
+        requires served { AreServed (lane_log self.old) device.old }
+        requires cold { (lane_log self.old).oldest < (lane_log self.old).resident.oldest }
+        ensures does { IfOk result (λ done. DoesUnlink done (lane_log self.old) self.old.queues device.old (lane_log self.new) self.new.queues device.new) }
+        ensures given { OnOk result (AreAllGiven device.old (lane_log self.old) self.old.queues → AreAllGiven device.new (lane_log self.new) self.new.queues) }
+        ensures stays { OnOk result (StaysGiven device.old device.new) }
+        ensures right { OnOk result (StaysRight self.old self.new) }
+    {
+        let done = unlink_oldest(alloc, self.shard.log_mut(), &mut self.queues, device)?;
+        let _oldest = self.shard.log().oldest();
+        Ok(done)
+    }
+
+    /// The oldest drained place is released: from now on a read of it gives this page.
+    pub(crate) fn release(&mut self, device: &mut WorldDevice, page: Arc<Page>) -> bool
+        requires agrees { Agrees (lane_log self.old) self.old.queues }
+        requires given { AreGiven self.old.queues.drained.items device.old }
+        ensures does { DoesRelease result (arc_value page) (lane_log self.old) self.old.queues device.old (lane_log self.new) self.new.queues device.new }
+        ensures right { StaysRight self.old self.new }
+    {
+        let done = release(self.shard.log_mut(), &mut self.queues, device, page);
+        let _oldest = self.shard.log().oldest();
+        done
+    }
+}
+
+/// Whether the receipt that is kept of a page is of this place.
+fn keeps(log: &Stripe<WorldReceipt>, number: u64, place: u64) -> bool
+    ensures { IsTrue result → IsOfPlace log.now number place }
+{
+    match log.receipt(number) {
+        Some(receipt) => receipt.place() == place,
+        None => false,
+    }
+}

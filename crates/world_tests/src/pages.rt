@@ -1,0 +1,227 @@
+//! Logs with pages. One stripe of 12 frames, in which client 0 has set the keys k0000 to k0149, each to 1,000
+//! times the letter v: 15 records a page, so that its log has the pages 0 to 9. The last 4 are mutable, and the
+//! pages 0 to 5 wait for the flusher. What client 1 asks for then is in page 0.
+
+ghost use Rattle.std.specs.Prelude.{IfSome, ◌<◌};
+ghost use Rattle.world.specs.Tables.{IsWorld};
+
+use crate::tests::{add, follow};
+use bytes::Bytes;
+use std::alloc::Global;
+use std::process::Abort;
+use words::limits::Limits;
+use world::World;
+use world_events::Event;
+
+/// How many keys are set.
+const KEYS: usize = 150;
+
+/// How many bytes each value has.
+const VALUE_BYTES: usize = 1_000;
+
+/// Adds the value, and CR LF.
+fn add_value(text: &mut Vec<u8>) -> Option<()> {
+    for _ in 0..VALUE_BYTES {
+        add(text, b"v")?;
+    }
+    add(text, b"\r\n")
+}
+
+/// The last digit of a number.
+fn digit(number: usize) -> u8 {
+    b'0' + (number % 10) as u8
+}
+
+/// The request that sets the key of a number below 10,000.
+fn set_of(alloc: Global, number: usize) -> Option<Bytes> {
+    let mut text = Vec::new(alloc);
+    add(&mut text, b"*3\r\n$3\r\nSET\r\n$5\r\nk")?;
+    add(
+        &mut text,
+        &[
+            digit(number / 1_000),
+            digit(number / 100),
+            digit(number / 10),
+            digit(number),
+        ],
+    )?;
+    add(&mut text, b"\r\n$1000\r\n")?;
+    add_value(&mut text)?;
+    Bytes::from_vec(text).ok()
+}
+
+/// Adds an event. `None` where there was no memory.
+fn push(events: &mut Vec<Event>, event: Event) -> Option<()> {
+    match events.push(event) {
+        Ok(()) => Some(()),
+        Err(_) => None,
+    }
+}
+
+/// The events by which client 0 sets all keys.
+fn sets(alloc: Global) -> Option<Vec<Event>> {
+    let mut events = Vec::new(alloc);
+    for number in 0..KEYS {
+        push(&mut events, Event::Piece(0, set_of(alloc, number)?))?;
+        push(&mut events, Event::Take(0, 0))?;
+        push(&mut events, Event::Commit(0))?;
+        push(&mut events, Event::Give(0, 0))?;
+    }
+    Some(events)
+}
+
+/// A world of one stripe of so many places and two clients, in which all keys are set.
+fn filled_world(alloc: Global, places: usize) -> Option<World>
+    ensures { IfSome result IsWorld }
+{
+    let events = sets(alloc)?;
+    let limits = Limits::new(1, 4_096, 12, places, 2)?;
+    let world = World::new(alloc, &limits).ok()?;
+    world.run(events.as_slice()).ok()
+}
+
+/// Whether this is the value, as a client is told it.
+fn is_value(alloc: Global, told: &[u8]) -> bool {
+    let mut due = Vec::new(alloc);
+    add(&mut due, b"$1000\r\n").is_some()
+        && add_value(&mut due).is_some()
+        && told == due.as_slice()
+}
+
+/// Follows a text in a filled world. Client 1 has the value then, or nothing; and there are so many entries.
+fn row<R: Abort>(rt: &R, alloc: Global, text: &str, value: bool, entries: usize) {
+    let Some(world) = filled_world(alloc, 4_096) else {
+        panic!(rt; "no world")
+    };
+    let world = follow(rt, alloc, world, text);
+    if world.clients() != 2 {
+        panic!(rt; "{text}: two clients")
+    }
+    let told = world.output(1);
+    let right = if value {
+        is_value(alloc, told)
+    } else {
+        told.is_empty()
+    };
+    if !right {
+        panic!(rt; "{text}: told otherwise")
+    }
+    if world.history().len() != entries {
+        panic!(rt; "{text}: entries")
+    }
+    world.end();
+}
+
+/// A page that left its frame is read outside the stripe, and the call is planned anew.
+#[test]
+fn a_cold_page_is_fetched(rt: HostRuntime) {
+    let text = "copy 0; write 0; install 0; drop 0; ask 1 GET k0000; take 1 0; silent 1; give 1 0; \
+        fetch 1; take 1 0; commit 1; give 1 0";
+    row(&rt, rt.alloc(), text, true, 151);
+}
+
+/// Without the read nothing is committed.
+#[test]
+fn a_cold_call_waits_for_its_page(rt: HostRuntime) {
+    let text = "copy 0; write 0; install 0; drop 0; ask 1 GET k0000; take 1 0; commit 1; give 1 0; \
+        take 1 0; commit 1; give 1 0";
+    row(&rt, rt.alloc(), text, false, 150);
+}
+
+/// A page without a receipt stays.
+#[test]
+fn a_page_without_a_receipt_is_not_dropped(rt: HostRuntime) {
+    let text = "drop 0; ask 1 GET k0000; take 1 0; commit 1; give 1 0";
+    row(&rt, rt.alloc(), text, true, 151);
+    let text = "copy 0; drop 0; write 0; drop 0; ask 1 GET k0000; take 1 0; commit 1; give 1 0";
+    row(&rt, rt.alloc(), text, true, 151);
+}
+
+/// The cleaner copies what counts of the oldest page to the tail, and its place is released.
+#[test]
+fn a_place_is_released_and_shows_another_page(rt: HostRuntime) {
+    let text = "copy 0; write 0; install 0; drop 0; unlink 0; retire 0; drain 0; release 0 255; \
+        ask 1 GET k0000; take 1 0; commit 1; give 1 0";
+    row(&rt, rt.alloc(), text, true, 151);
+}
+
+/// A place that a client may read is not drained before its stay ends.
+#[test]
+fn a_stay_keeps_a_place(rt: HostRuntime) {
+    let text = "copy 0; write 0; install 0; drop 0; ask 1 GET k0000; take 1 0; give 1 0; \
+        unlink 0; retire 0; drain 0; release 0 255; \
+        fetch 1; take 1 0; commit 1; give 1 0; drain 0; release 0 255";
+    row(&rt, rt.alloc(), text, true, 151);
+}
+
+/// The same where the page is fetched only after others have tried to release its place, three times; then the
+/// plan reads it itself.
+#[test]
+fn a_plan_reads_after_three_rounds(rt: HostRuntime) {
+    let text = "copy 0; write 0; install 0; drop 0; copy 0; write 0; install 0; drop 0; \
+        ask 1 MULTI; ask 1 GET k0000; ask 1 EXEC; take 1 0; give 1 0; fetch 1; take 1 0; commit 1; give 1 0";
+    let Some(world) = filled_world(rt.alloc(), 4_096) else {
+        panic!(rt; "no world")
+    };
+    let world = follow(&rt, rt.alloc(), world, text);
+    if world.history().len() != 151 {
+        panic!(rt; "entries")
+    }
+    world.end();
+}
+
+/// Events of stripes that are not enabled: nothing is sealed in a stripe that is held, there is no copy and no receipt,
+/// the oldest page is resident, and no place was unlinked, retired or drained.
+#[test]
+fn events_of_a_stripe_that_are_not_enabled(rt: HostRuntime) {
+    let text = "write 0; install 0; unlink 0; retire 0; drain 0; release 0 255; drop 0; \
+        ask 1 GET k0000; take 1 0; copy 0; write 0; install 0; drop 0; unlink 0; commit 1; give 1 0";
+    row(&rt, rt.alloc(), text, true, 151);
+    let text = "copy 0; install 0; drop 0; unlink 0; retire 0; drain 0; release 0 255; \
+        ask 1 GET k0000; take 1 0; write 0; install 0; drop 0; commit 1; give 1 0";
+    row(&rt, rt.alloc(), text, true, 151);
+}
+
+/// Events of a client that are not enabled while pages are to be fetched for it, and before.
+#[test]
+fn events_of_a_client_that_are_not_enabled(rt: HostRuntime) {
+    let text = "copy 0; write 0; install 0; drop 0; fetch 1; ask 1 GET k0000; fetch 1; commit 1; give 1 0; \
+        take 1 0; fetch 1; commit 1; give 1 0; commit 1; take 1 0; fetch 1; fetch 1; \
+        take 1 0; give 1 0; fetch 1; commit 1; give 1 0";
+    row(&rt, rt.alloc(), text, true, 151);
+}
+
+/// Where no place is left, calls are refused, and the history has no entry of them.
+#[test]
+fn a_full_stripe_refuses_calls(rt: HostRuntime) {
+    let alloc = rt.alloc();
+    let Some(world) = filled_world(alloc, 64) else {
+        panic!(rt; "no world")
+    };
+    let Some(world) = filled_again(alloc, world, 7) else {
+        panic!(rt; "stopped")
+    };
+    if world.clients() != 2 || !world.output(0).ends_with(b"-FULL store is full\r\n") {
+        panic!(rt; "not full")
+    }
+    if world.history().len() >= 8 * KEYS {
+        panic!(rt; "entries")
+    }
+    world.end();
+}
+
+/// A world in which all keys were set so many times more.
+fn filled_again(alloc: Global, world: World, times: usize) -> Option<World>
+    requires { IsWorld world }
+    ensures { IfSome result IsWorld }
+{
+    if times == 0 {
+        return Some(world);
+    }
+    let Some(events) = sets(alloc) else {
+        world.end();
+        return None;
+    };
+    let world = world.run(events.as_slice()).ok()?;
+    filled_again(alloc, world, times - 1)
+}
