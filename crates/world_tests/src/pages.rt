@@ -83,9 +83,7 @@ fn filled_world(alloc: Global, places: usize) -> Option<World>
 /// Whether this is the value, as a client is told it.
 fn is_value(alloc: Global, told: &[u8]) -> bool {
     let mut due = Vec::new(alloc);
-    add(&mut due, b"$1000\r\n").is_some()
-        && add_value(&mut due).is_some()
-        && told == due.as_slice()
+    add(&mut due, b"$1000\r\n").is_some() && add_value(&mut due).is_some() && told == due.as_slice()
 }
 
 /// Follows a text in a filled world. Client 1 has the value then, or nothing; and there are so many entries.
@@ -185,7 +183,8 @@ fn events_of_a_stripe_that_are_not_enabled(rt: HostRuntime) {
 /// Events of a client that are not enabled while pages are to be fetched for it, and before.
 #[test]
 fn events_of_a_client_that_are_not_enabled(rt: HostRuntime) {
-    let text = "copy 0; write 0; install 0; drop 0; fetch 1; ask 1 GET k0000; fetch 1; commit 1; give 1 0; \
+    let text =
+        "copy 0; write 0; install 0; drop 0; fetch 1; ask 1 GET k0000; fetch 1; commit 1; give 1 0; \
         take 1 0; fetch 1; commit 1; give 1 0; commit 1; take 1 0; fetch 1; fetch 1; \
         take 1 0; give 1 0; fetch 1; commit 1; give 1 0";
     row(&rt, rt.alloc(), text, true, 151);
