@@ -22,9 +22,9 @@ use Rattle.clap.proofs.SimpleLemmas.{HasPlainFields, plain_fields}
 use Rattle.clap.proofs.WalkLemmas.{first_value-rows, one_text-rows}
 use Rattle.words.specs.declared.limits.TheConstants.{BUCKETS_DEFAULT, BUCKETS_MAX, CLIENTS_DEFAULT, CLIENTS_MAX, FRAMES_DEFAULT, FRAMES_MAX, FRAMES_MIN}
 use Rattle.words.specs.declared.limits.TheConstants.{PLACES_DEFAULT, PLACES_MAX, PLACES_MIN, STRIPES_DEFAULT, STRIPES_MAX}
-use Rattle.server.specs.declared.setting.TheConstants.{ACCEPT_MAX}
-use Rattle.server.specs.declared.setting.DeviceKind.{DeviceKind}
-use Rattle.server.specs.declared.setting.Options.{Options}
+use Rattle.options.specs.declared.TheConstants.{ACCEPT_MAX}
+use Rattle.options.specs.declared.DeviceKind.{DeviceKind}
+use Rattle.options.specs.declared.Options.{Options}
 use Rattle.command_line.specs.Given.{Gives, GivesOrDefault, HasGiven, IsGivenOrDefault, IsInRange, text_in}
 use Rattle.command_line.specs.CommandLine.{AskFor, AsksForDevice, accept_option, device_word, garnetd, option_of, options, port_option, text_of}
 use Rattle.command_line.proofs.Arguments.{is_alone_at, is_plain_rule, only_place, plain_args, rule_at, simple_is_alone}

@@ -3,7 +3,7 @@ use Rattle.std.proofs.Common.{◌≡◌, List, [], ◌∷◌, Some, None, codes,
 use Rattle.clap.specs.Words.{Text, fault_of, takes}
 use Rattle.clap.specs.declared.error.kind.ErrorKind.TheVariants.{ArgumentConflict, DisplayHelp, DisplayVersion, MissingRequiredArgument, UnknownArgument, ValueValidation}
 use Rattle.clap.proofs.OnLiterals.{clap_on_literals}
-use Rattle.server.specs.declared.setting.DeviceKind.TheVariants.{Memory}
+use Rattle.options.specs.declared.DeviceKind.TheVariants.{Memory}
 use Rattle.command_line.specs.CommandLine.{AsksForDevice, device_word, garnetd, text_of}
 
 -- the words after the program's name

@@ -5,9 +5,9 @@ use Rattle.std.proofs.lemmas.Option.{same_Some}
 use Rattle.std.proofs.lemmas.Bool.{false≢true}
 use Rattle.clap.specs.declared.parser.matches.ArgMatches.{ArgMatches}
 use Rattle.words.specs.declared.limits.TheConstants.{BUCKETS_DEFAULT, CLIENTS_DEFAULT, FRAMES_DEFAULT, PLACES_DEFAULT, STRIPES_DEFAULT}
-use Rattle.server.specs.Settings.{AreInRange, HasSettings}
-use Rattle.server.specs.declared.setting.DeviceKind.{DeviceKind}
-use Rattle.server.specs.declared.setting.Options.{Options}
+use Rattle.options.specs.Settings.{AreInRange, HasSettings}
+use Rattle.options.specs.declared.DeviceKind.{DeviceKind}
+use Rattle.options.specs.declared.Options.{Options}
 use Rattle.command_line.specs.Given.{Gives, GivesNumbers, GivesOrDefault, HasGiven, IsInRange, text_in}
 
 pub one_number : (given : Option (List ℕ)) (n k : ℕ) → Gives given n → Gives given k → n ≡ k

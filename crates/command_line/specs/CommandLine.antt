@@ -7,10 +7,10 @@ use Rattle.clap.specs.declared.builder.value_parser.ValueParser.{ValueParser}
 use Rattle.clap.specs.declared.builder.value_parser.ValueParser.TheVariants.{Signed, String, Unsigned}
 use Rattle.words.specs.declared.limits.TheConstants.{BUCKETS_DEFAULT, BUCKETS_MAX, CLIENTS_DEFAULT, CLIENTS_MAX, FRAMES_DEFAULT, FRAMES_MAX, FRAMES_MIN}
 use Rattle.words.specs.declared.limits.TheConstants.{PLACES_DEFAULT, PLACES_MAX, PLACES_MIN, STRIPES_DEFAULT, STRIPES_MAX}
-use Rattle.server.specs.declared.setting.TheConstants.{ACCEPT_MAX}
-use Rattle.server.specs.declared.setting.DeviceKind.{DeviceKind}
-use Rattle.server.specs.declared.setting.DeviceKind.TheVariants.{File, Memory}
-use Rattle.server.specs.declared.setting.Options.{Options}
+use Rattle.options.specs.declared.TheConstants.{ACCEPT_MAX}
+use Rattle.options.specs.declared.DeviceKind.{DeviceKind}
+use Rattle.options.specs.declared.DeviceKind.TheVariants.{File, Memory}
+use Rattle.options.specs.declared.Options.{Options}
 use Rattle.command_line.specs.Given.{Gives, IsGivenOrDefault}
 
 -- A command with this name that tells its version, and takes nothing more.

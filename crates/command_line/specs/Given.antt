@@ -4,8 +4,8 @@ use Rattle.std.specs.Str.Parse.{IsNumeral, digits_value, without_leading_plus}
 use Rattle.clap.specs.Words.{found_of, one_text}
 use Rattle.clap.specs.declared.parser.matches.ArgMatches.{ArgMatches}
 use Rattle.words.specs.declared.limits.TheConstants.{BUCKETS_DEFAULT, CLIENTS_DEFAULT, FRAMES_DEFAULT, PLACES_DEFAULT, STRIPES_DEFAULT}
-use Rattle.server.specs.Settings.{AreInRange}
-use Rattle.server.specs.declared.setting.Options.{Options}
+use Rattle.options.specs.Settings.{AreInRange}
+use Rattle.options.specs.declared.Options.{Options}
 
 -- The text that a parsed command line has for an option, or none.
 abbrev pub text_in : ArgMatches → List ℕ → Option (List ℕ)

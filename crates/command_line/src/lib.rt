@@ -12,7 +12,7 @@ ghost use Rattle.command_line.specs.CommandLine.{places_option, port_option, str
 use clap::builder::ValueParser;
 use clap::error::ErrorKind;
 use clap::{Arg, ArgAction, ArgMatches, Command, Error, value_parser};
-use server::{ACCEPT_MAX, DeviceKind, Options};
+use options::{ACCEPT_MAX, DeviceKind, Options};
 use std::alloc::{AllocError, Global};
 use std::convert::AsStr;
 use words::limits::{

@@ -4,4 +4,3 @@ pub mod Called
 pub mod Briefs
 pub mod Opened
 pub mod Known
-pub mod Dealt

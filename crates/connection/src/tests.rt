@@ -189,12 +189,18 @@ fn engine_over<D: Device>(
     openings: Vec<D>,
 ) -> Result<(Engine<D>, Pass<D>, Pass<D>), AllocError>
     requires openings { vec_len openings ≡ limits.now.clients + BACKGROUND_PASSES }
-    ensures rests { IfOk result (λ made. Rests D.Receipt.is_steady made.0 made.1 × Rests D.Receipt.is_steady made.0 made.2) }
-    ensures watches { IfOk result (λ made. ((knows D.failures made.1).watched ≡ []) × ((knows D.failures made.2).watched ≡ [])) }
+    ensures first { IfOk result (λ made. Rests D.Receipt.is_steady made.0 made.1) }
+    ensures second { IfOk result (λ made. Rests D.Receipt.is_steady made.0 made.2) }
+    ensures first_nothing { IfOk result (λ made. (knows D.failures made.1).watched ≡ []) }
+    ensures second_nothing { IfOk result (λ made. (knows D.failures made.2).watched ≡ []) }
 {
     let (engine, mut passes) = new_engine(alloc, limits, openings)?;
-    let second = passes.swap_remove(1);
-    let first = passes.swap_remove(0);
+    let Some(second) = passes.pop() else {
+        return Err(AllocError);
+    };
+    let Some(first) = passes.pop() else {
+        return Err(AllocError);
+    };
     Ok((engine, first, second))
 }
 

@@ -136,8 +136,12 @@ pub(crate) fn engine_over<D: Device>(
     ensures second_nothing { IfOk result (λ made. (knows D.failures made.2).watched ≡ []) }
 {
     let (engine, mut passes) = new_engine(alloc, limits, openings)?;
-    let second = passes.swap_remove(1);
-    let first = passes.swap_remove(0);
+    let Some(second) = passes.pop() else {
+        return Err(AllocError);
+    };
+    let Some(first) = passes.pop() else {
+        return Err(AllocError);
+    };
     Ok((engine, first, second))
 }
 

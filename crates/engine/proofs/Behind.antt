@@ -1,5 +1,5 @@
 -- What calls come to, from where their stripes are taken and from before that.
-use Rattle.std.proofs.Common.{◌≡◌, ◌≢◌, subst, ◌∙◌, ℕ, List, [], ◌∷◌, ◌++◌, length, append_assoc, Option, Some, None, refl, sym, ap, arith}
+use Rattle.std.proofs.Common.{◌≡◌, ◌≢◌, subst, ◌∙◌, ◌+◌, ℕ, List, [], ◌∷◌, ◌++◌, length, append_assoc, Option, Some, None, refl, sym, ap, arith}
 use Rattle.words.specs.declared.history.Entry.{Entry}
 use Rattle.words.specs.declared.reply.Reply.{Reply}
 use Rattle.words.specs.declared.reply.Fault.{Fault}
@@ -15,27 +15,52 @@ use Rattle.gates.specs.Passes.{AreBusy, Learned, ToldBusy}
 use Rattle.transact.specs.declared.call.Answer.{Answer}
 use Rattle.transact.specs.declared.call.Answer.TheVariants as answer
 use Rattle.transact.specs.Submits.{IfReply, IfFault}
-use Rattle.engine.specs.Calls.{IsDone, IsUndone, Did, DidNot, Forgot, Promises, entry_of}
+use Rattle.engine.specs.Calls.{IsCause, IsDone, IsUndone, Did, DidNot, Forgot, Promises, entry_of}
 use Rattle.engine.specs.Passes.{Known, know}
 
--- a pass that was told of busy stripes among none was told nothing
-none_busy : (told : List Note) → AreBusy [] told → told ≡ []
-none_busy [] busy = refl
-none_busy (Busy stripe ∷ told) busy = absurd (omega (arith, busy.0))
-none_busy (Worn ∷ told) busy = absurd busy
-none_busy (Full stripe ∷ told) busy = absurd busy
-none_busy (Idle stripe work ∷ told) busy = absurd busy
-none_busy (Done stripe work ∷ told) busy = absurd busy
+-- notes of busy stripes among none are among any
+any_busy : (stripes : List ℕ) (told : List Note) → AreBusy [] told → AreBusy stripes told
+any_busy stripes [] busy = tt
+any_busy stripes (Busy stripe ∷ told) busy = absurd (omega (arith, busy.0))
+any_busy stripes (Worn ∷ told) busy = absurd busy
+any_busy stripes (Full stripe ∷ told) busy = absurd busy
+any_busy stripes (Idle stripe work ∷ told) busy = absurd busy
+any_busy stripes (Done stripe work ∷ told) busy = absurd busy
+
+-- notes of busy stripes, behind others
+pub busy_both : (stripes : List ℕ) (one two : List Note) → AreBusy stripes one → AreBusy stripes two → AreBusy stripes (one ++ two)
+busy_both stripes [] two first second = second
+busy_both stripes (Busy stripe ∷ one) two first second = (first.0, busy_both stripes one two first.1 second)
+busy_both stripes (Worn ∷ one) two first second = absurd first
+busy_both stripes (Full stripe ∷ one) two first second = absurd first
+busy_both stripes (Idle stripe work ∷ one) two first second = absurd first
+busy_both stripes (Done stripe work ∷ one) two first second = absurd first
+
+-- what a call came to that was told of no stripe that it was busy
+module _ (stripes : List ℕ) where
+  any_cause : (promises : Promises) (fault : Fault) (asked : Asked) (was now : Known) (told : List Note) → IsCause promises fault [] asked was now told → IsCause promises fault stripes asked was now told
+  any_cause promises fault.OutOfMemory asked was now told cause = (cause.0, cause.1, any_busy stripes told cause.2)
+  any_cause promises fault.DeviceFault asked was now told cause = (cause.0, any_busy stripes told cause.1)
+  any_cause promises fault.StoreFull asked was now told cause = record { stripe = cause.stripe; earlier = cause.earlier; full = cause.full; busy = any_busy stripes cause.earlier cause.busy; writes = cause.writes; failures = cause.failures }
+  any_cause promises fault.CommitsWornOut asked was now told cause = (cause.0, cause.1, cause.2, any_busy stripes cause.0 cause.3)
+
+  any_done : (asked : Option Asked) (reply : Reply) (was now : Known) → IsDone [] asked reply was now → IsDone stripes asked reply was now
+  any_done None reply was now done = record { others = done.others; number = done.number; seen = done.seen; mine = done.mine; watched = done.watched; told = done.told; notes = done.notes; busy = any_busy stripes done.told done.busy; failures = done.failures }
+  any_done (Some asked) reply was now done = record { others = done.others; number = done.number; seen = done.seen; mine = done.mine; watched = done.watched; told = done.told; notes = done.notes; busy = any_busy stripes done.told done.busy; failures = done.failures }
+
+  any_undone : (promises : Promises) (asked : Option Asked) (fault : Fault) (was now : Known) → IsUndone promises [] asked fault was now → IsUndone promises stripes asked fault was now
+  any_undone promises None fault was now undone = absurd undone
+  any_undone promises (Some asked) fault was now undone = record { others = undone.others; number = undone.number; seen = undone.seen; mine = undone.mine; watched = undone.watched; told = undone.told; notes = undone.notes; cause = any_cause promises fault asked was now undone.told undone.cause }
 
 module _ (stripes : List ℕ) (was mid : Knowledge) (f : ℕ) (now : Known) (learned : Learned was mid) (heard : ToldBusy stripes was mid) where
   -- what is seen after, behind what was seen before
   seen_behind : (others : History) → others ++ mid.seen ≡ (others ++ learned.seen.0) ++ was.seen
   seen_behind others = ap (λ (h : History). others ++ h) learned.seen.1 ∙ sym (append_assoc others learned.seen.0 was.seen)
 
-  notes_behind : (told : List Note) → AreBusy [] told → now.notes ≡ told ++ mid.notes → now.notes ≡ heard.0 ++ was.notes
-  notes_behind told busy notes = notes ∙ ap (λ (l : List Note). l ++ mid.notes) (none_busy told busy) ∙ heard.1
+  notes_behind : (told : List Note) → now.notes ≡ told ++ mid.notes → now.notes ≡ (told ++ heard.0) ++ was.notes
+  notes_behind told notes = notes ∙ ap (λ (l : List Note). told ++ l) heard.1 ∙ sym (append_assoc told heard.0 was.notes)
 
-  did_behind : (asked : Asked) (reply : Reply) → Did [] asked reply (know mid f) now → Did stripes asked reply (know was f) now
+  did_behind : (asked : Asked) (reply : Reply) → Did stripes asked reply (know mid f) now → Did stripes asked reply (know was f) now
   did_behind asked reply did =
       let entry : ℕ → List Pair → Entry = λ (s : ℕ) (w : List Pair). record { session = s; operation = operation_of w asked; reply = reply } in
       let same : entry_of (know mid f) asked reply ≡ entry_of (know was f) asked reply = ap (λ (s : ℕ). entry s mid.watched) learned.number ∙ ap (λ (w : List Pair). entry was.number w) learned.watched in
@@ -49,88 +74,77 @@ module _ (stripes : List ℕ) (was mid : Knowledge) (f : ℕ) (now : Known) (lea
             ∙ ap (λ m. (length ((did.others ++ learned.seen.0) ++ was.seen), entry_of (know was f) asked reply) ∷ m) learned.mine;
         watched = did.watched ∙ ap (λ (w : List Pair). watched_after w (operation_of w asked) (length (did.others ++ mid.seen))) learned.watched
             ∙ ap (λ (h : History). watched_after was.watched (operation_of was.watched asked) (length h)) all;
-        told = heard.0;
-        notes = notes_behind did.told did.busy did.notes;
-        busy = heard.2;
+        told = did.told ++ heard.0;
+        notes = notes_behind did.told did.notes;
+        busy = busy_both stripes did.told heard.0 did.busy heard.2;
         failures = did.failures;
       }
 
-  forgot_behind : Forgot [] (know mid f) now → Forgot stripes (know was f) now
+  forgot_behind : Forgot stripes (know mid f) now → Forgot stripes (know was f) now
   forgot_behind forgot = record {
     others = forgot.others ++ learned.seen.0;
     number = forgot.number ∙ learned.number;
     seen = forgot.seen ∙ seen_behind forgot.others;
     mine = forgot.mine ∙ learned.mine;
     watched = forgot.watched;
-    told = heard.0;
-    notes = notes_behind forgot.told forgot.busy forgot.notes;
-    busy = heard.2;
+    told = forgot.told ++ heard.0;
+    notes = notes_behind forgot.told forgot.notes;
+    busy = busy_both stripes forgot.told heard.0 forgot.busy heard.2;
     failures = forgot.failures;
   }
 
-  did_not_behind : (promises : Promises) (asked : Asked) (fault : Fault) → DidNot promises [] asked fault (know mid f) now → DidNot promises stripes asked fault (know was f) now
-  did_not_behind promises asked fault.OutOfMemory not = record {
-    others = not.others ++ learned.seen.0;
-    number = not.number ∙ learned.number;
-    seen = not.seen ∙ seen_behind not.others;
-    mine = not.mine ∙ learned.mine;
-    watched = not.watched ∙ ap (λ (w : List Pair). watched_at_fault w asked) learned.watched;
-    told = heard.0;
-    notes = notes_behind not.told not.cause.2 not.notes;
-    cause = (not.cause.0, not.cause.1, heard.2);
+  cause_behind : (promises : Promises) (fault : Fault) (asked : Asked) (told : List Note) → IsCause promises fault stripes asked (know mid f) now told → IsCause promises fault stripes asked (know was f) now (told ++ heard.0)
+  cause_behind promises fault.OutOfMemory asked told cause = (cause.0, cause.1, busy_both stripes told heard.0 cause.2 heard.2)
+  cause_behind promises fault.DeviceFault asked told cause = (cause.0, busy_both stripes told heard.0 cause.1 heard.2)
+  cause_behind promises fault.StoreFull asked told cause = record {
+    stripe = cause.stripe;
+    earlier = cause.earlier ++ heard.0;
+    full = ap (λ (l : List Note). l ++ heard.0) cause.full;
+    busy = busy_both stripes cause.earlier heard.0 cause.busy heard.2;
+    writes = subst (λ (w : List Pair). promises.steady → made now.seen (operation_of w asked) ≢ []) learned.watched cause.writes;
+    failures = cause.failures;
   }
-  did_not_behind promises asked fault.DeviceFault not = record {
+  cause_behind promises fault.CommitsWornOut asked told cause =
+      (cause.0 ++ heard.0, ap (λ (l : List Note). l ++ heard.0) cause.1, cause.2, busy_both stripes cause.0 heard.0 cause.3 heard.2)
+
+  did_not_behind : (promises : Promises) (asked : Asked) (fault : Fault) → DidNot promises stripes asked fault (know mid f) now → DidNot promises stripes asked fault (know was f) now
+  did_not_behind promises asked fault not = record {
     others = not.others ++ learned.seen.0;
     number = not.number ∙ learned.number;
     seen = not.seen ∙ seen_behind not.others;
     mine = not.mine ∙ learned.mine;
     watched = not.watched ∙ ap (λ (w : List Pair). watched_at_fault w asked) learned.watched;
-    told = heard.0;
-    notes = notes_behind not.told not.cause.1 not.notes;
-    cause = (not.cause.0, heard.2);
-  }
-  did_not_behind promises asked fault.StoreFull not = record {
-    others = not.others ++ learned.seen.0;
-    number = not.number ∙ learned.number;
-    seen = not.seen ∙ seen_behind not.others;
-    mine = not.mine ∙ learned.mine;
-    watched = not.watched ∙ ap (λ (w : List Pair). watched_at_fault w asked) learned.watched;
-    told = Full not.cause.stripe ∷ heard.0;
-    notes = not.notes ∙ ap (λ (l : List Note). l ++ mid.notes) (not.cause.full ∙ ap (λ (l : List Note). Full not.cause.stripe ∷ l) (none_busy not.cause.earlier not.cause.busy))
-        ∙ ap (λ (l : List Note). Full not.cause.stripe ∷ l) heard.1;
-    cause = record {
-      stripe = not.cause.stripe;
-      earlier = heard.0;
-      full = refl;
-      busy = heard.2;
-      writes = subst (λ (w : List Pair). promises.steady → made now.seen (operation_of w asked) ≢ []) learned.watched not.cause.writes;
-      failures = not.cause.failures;
-    };
-  }
-  did_not_behind promises asked fault.CommitsWornOut not = record {
-    others = not.others ++ learned.seen.0;
-    number = not.number ∙ learned.number;
-    seen = not.seen ∙ seen_behind not.others;
-    mine = not.mine ∙ learned.mine;
-    watched = not.watched ∙ ap (λ (w : List Pair). watched_at_fault w asked) learned.watched;
-    told = Worn ∷ heard.0;
-    notes = not.notes ∙ ap (λ (l : List Note). l ++ mid.notes) (not.cause.1 ∙ ap (λ (l : List Note). Worn ∷ l) (none_busy not.cause.0 not.cause.3)) ∙ ap (λ (l : List Note). Worn ∷ l) heard.1;
-    cause = (heard.0, refl, not.cause.2, heard.2);
+    told = not.told ++ heard.0;
+    notes = notes_behind not.told not.notes;
+    cause = cause_behind promises fault asked not.told not.cause;
   }
 
-  done_behind : (asked : Option Asked) (reply : Reply) → IsDone [] asked reply (know mid f) now → IsDone stripes asked reply (know was f) now
-  done_behind None reply done = forgot_behind done
-  done_behind (Some asked) reply done = did_behind asked reply done
+  -- What is asked comes to the same from before as from later, where the pass learned and was told of busy stripes meanwhile.
+  pub done_later : (asked : Option Asked) (reply : Reply) → IsDone stripes asked reply (know mid f) now → IsDone stripes asked reply (know was f) now
+  done_later None reply done = forgot_behind done
+  done_later (Some asked) reply done = did_behind asked reply done
 
-  undone_behind : (promises : Promises) (asked : Option Asked) (fault : Fault) → IsUndone promises [] asked fault (know mid f) now → IsUndone promises stripes asked fault (know was f) now
-  undone_behind promises None fault undone = absurd undone
-  undone_behind promises (Some asked) fault undone = did_not_behind promises asked fault undone
+  pub undone_later : (promises : Promises) (asked : Option Asked) (fault : Fault) → IsUndone promises stripes asked fault (know mid f) now → IsUndone promises stripes asked fault (know was f) now
+  undone_later promises None fault undone = absurd undone
+  undone_later promises (Some asked) fault undone = did_not_behind promises asked fault undone
+
+  pub undone_behind : (promises : Promises) (asked : Option Asked) (fault : Fault) → IsUndone promises [] asked fault (know mid f) now → IsUndone promises stripes asked fault (know was f) now
+  undone_behind promises asked fault undone = undone_later promises asked fault (any_undone stripes promises asked fault (know mid f) now undone)
 
   -- What a call came to from where its stripes were taken, it came to from before that.
   pub answer_behind : (a : Answer) (asked : Option Asked) → IfReply a (λ reply. IsDone [] asked reply (know mid f) now) → IfReply a (λ reply. IsDone stripes asked reply (know was f) now)
-  answer_behind (answer.Reply reply) asked done = done_behind asked reply done
+  answer_behind (answer.Reply reply) asked done = done_later asked reply (any_done stripes asked reply (know mid f) now done)
   answer_behind (answer.Fault fault) asked done = tt
 
   pub fault_behind : (promises : Promises) (a : Answer) (asked : Option Asked) → IfFault a (λ fault. IsUndone promises [] asked fault (know mid f) now) → IfFault a (λ fault. IsUndone promises stripes asked fault (know was f) now)
   fault_behind promises (answer.Reply reply) asked undone = tt
   fault_behind promises (answer.Fault fault) asked undone = undone_behind promises asked fault undone
+
+  -- The same of a call that was told of busy stripes in between.
+  pub answer_later : (a : Answer) (asked : Option Asked) → IfReply a (λ reply. IsDone stripes asked reply (know mid f) now) → IfReply a (λ reply. IsDone stripes asked reply (know was f) now)
+  answer_later (answer.Reply reply) asked done = done_later asked reply done
+  answer_later (answer.Fault fault) asked done = tt
+
+  pub fault_later : (promises : Promises) (a : Answer) (asked : Option Asked) → IfFault a (λ fault. IsUndone promises stripes asked fault (know mid f) now) → IfFault a (λ fault. IsUndone promises stripes asked fault (know was f) now)
+  fault_later promises (answer.Reply reply) asked undone = tt
+  fault_later promises (answer.Fault fault) asked undone = undone_later promises asked fault undone

@@ -1,4 +1,5 @@
 pub mod New
+pub mod Dealt
 pub mod Parts
 pub mod Fit
 pub mod Behind
@@ -6,5 +7,6 @@ pub mod Entering
 pub mod Values
 pub mod Stopped
 pub mod Memory
+pub mod Rounds
 pub mod MemoryRows
 pub mod SizeRows

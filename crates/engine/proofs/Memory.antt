@@ -47,7 +47,7 @@ needs_in : (near : Type 0) (store : Store) (command : Command) → ((key value :
 needs_in near store (Set key value Always) never needs = absurd (never key value refl)
 needs_in near store _ never needs = needs
 
-needs_near : (near : Type 0) (store : Store) (call : Call) → ((key value : Bytes) → call ≡ set_call key value → ⊥) → AsksNoMemory near store (asked_for call)
+pub needs_near : (near : Type 0) (store : Store) (call : Call) → ((key value : Bytes) → call ≡ set_call key value → ⊥) → AsksNoMemory near store (asked_for call)
     → near × NeedsNoMemoryOn store call
 needs_near near store (One command) never asks = needs_in near store command never asks
 needs_near near store (Watch keys) never asks = absurd asks

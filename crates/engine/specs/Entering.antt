@@ -1,5 +1,6 @@
 -- Calls that are entered over the stripes that a pass holds.
-use Rattle.std.specs.Prelude.{ℕ, ◌≡◌, ◌≤◌, Bool, false, []}
+use Rattle.std.specs.Prelude.{ℕ, ◌≡◌, ◌≤◌, Bool, false, List, []}
+use Rattle.words.specs.Store.{Bytes}
 use Rattle.words.specs.declared.reply.Reply.{Reply}
 use Rattle.words.specs.Session.{Asked, Run, value_reply, watched_at_fault}
 use Rattle.words.specs.declared.command.Command.TheVariants.{Get, Set}
@@ -7,16 +8,19 @@ use Rattle.words.specs.declared.command.When.TheVariants.{Always}
 use Rattle.gates.specs.declared.held.Held.{Held}
 use Rattle.gates.specs.declared.report.Report.{Report}
 use Rattle.gates.specs.declared.view.Knowledge.{Knowledge}
+use Rattle.gates.specs.declared.report.Report.TheVariants as report
 use Rattle.gates.specs.Background.{IsToldOf, notes_of}
 use Rattle.gates.specs.Sets.{part_at}
-use Rattle.gates.specs.Passes.{AllFit, MayEnd, stripes_of}
+use Rattle.gates.specs.Passes.{AllFit, Learned, MayEnd, ToldBusy, stripes_of}
 use Rattle.gates.specs.Plays.{kept}
 use Rattle.gates.specs.Helds.{IsOpen, borrow_of, gates_of, has_committed, held_parts, held_taken, known_to}
 use Rattle.transact.specs.declared.call.Call.{Call}
 use Rattle.transact.specs.Calls.{call_keys}
+use Rattle.transact.specs.Plans.{IsEntry}
 use Rattle.transact.specs.Tables.{AreThere}
 use Rattle.plans.specs.declared.shard.Shard.{Shard}
 use Rattle.plans.specs.Shards.{shard_meaning}
+use Rattle.engine.specs.Memory.{set_call}
 use Rattle.engine.specs.declared.short.Found.{Found}
 use Rattle.engine.specs.declared.short.Getting.{Getting}
 use Rattle.engine.specs.declared.short.Setting.{Setting}
@@ -62,3 +66,20 @@ module _ {R : Type 0} where
     pub keys : MayEnd ends stripes (held_parts later) (known_to later).watched
     pub told : IsToldOf (shard_meaning steady) (held_taken later) (held_parts later) report
     pub fit : AllFit (shard_meaning steady) stripes (kept ends [] (known_to later)) (held_taken later) (held_parts later)
+
+  -- A call wants pages that it may not read while it holds, and receipts do not lend them. Nothing has changed, and what is held may be given
+  -- back.
+  pub record WasCold (steady lends : Type 0) (reads : Bool) (stripes : ℕ) (call : Call) (before later : Held (Shard R)) : Type 0 where
+    pub back : MayBeGiven steady false report.Nothing stripes before later
+    pub known : known_to later ≡ known_to before
+    pub unlent : lends → ⊥
+    pub outside : reads ≡ false
+    pub entry : IsEntry call
+    pub other : (key value : Bytes) → call ≡ set_call key value → ⊥
+
+-- What a pass knows once a call of it is answered by a fault that came while it held nothing: it took the stripes once more.
+pub record WasAbandoned (stripes : List ℕ) (asked : Asked) (before later : Knowledge) : Type 0 where
+  pub taken : Knowledge
+  pub learned : Learned before taken
+  pub told : ToldBusy stripes before taken
+  pub is : later ≡ at_fault asked taken

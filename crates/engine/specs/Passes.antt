@@ -1,5 +1,8 @@
 -- The passes of an engine, and what they know.
-use Rattle.std.specs.Prelude.{ℕ, ◌≡◌, ◌+◌, List, [], ◌∷◌}
+use Rattle.std.specs.Prelude.{ℕ, ◌≡◌, ◌+◌, List, [], ◌∷◌, Option, Some}
+use Rattle.epoch.specs.Seats.{IsOutside}
+use Rattle.epoch.specs.declared.epochs.Epochs.{Epochs}
+use Rattle.epoch.specs.declared.epochs.EpochSeat.{EpochSeat}
 use Rattle.words.specs.History.{History, Pair, Placed}
 use Rattle.gates.specs.declared.view.Knowledge.{Knowledge}
 use Rattle.gates.specs.declared.view.Note.{Note}
@@ -25,33 +28,44 @@ abbrev pub know : Knowledge → (failures : ℕ) → Known
 know knows failures =
     record { number = knows.number; seen = knows.seen; mine = knows.mine; notes = knows.notes; watched = knows.watched; failures = failures }
 
+-- there is a seat of these epochs, which has no stay
+abbrev pub HasSeat : Epochs → Option EpochSeat → Type 0
+HasSeat epochs seat = (own : EpochSeat) × (seat ≡ Some own) × IsOutside epochs own
+
 module _ {D R : Type 0} where
   -- what a pass knows; `failures` counts the failed calls of an opening
   abbrev pub knows : (failures : D → ℕ) → Pass D R → Known
   knows failures pass = know (known pass.gates) (failures pass.device)
 
-  -- the pass is one of the engine's, and holds nothing; where the device is steady, what it has seen is legal. It has its own entries of it.
+  -- the pass holds none of these gates' stripes, and where the device is steady, what it has seen is legal; it has its own entries of it. It has
+  -- a seat of these epochs, and no stay; and no page is staged.
+  pub record RestsOf (steady : Type 0) (gates : Gates (Shard R)) (epochs : Epochs) (pass : Pass D R) : Type 0 where
+    pub rests : IsResting steady gates pass.gates
+    pub seated : HasSeat epochs pass.seat
+    pub none_staged : pass.staged ≡ []
+
+  -- the pass is one of the engine's, and holds nothing
   abbrev pub Rests : (steady : Type 0) → Engine D R → Pass D R → Type 0
-  Rests steady engine pass = IsResting steady engine.gates pass.gates
+  Rests steady engine pass = RestsOf steady engine.gates engine.epochs pass
 
   -- how many stripes an engine has
   abbrev pub stripe_count : Engine D R → ℕ
   stripe_count engine = stripes_of engine.gates
 
-  -- a pass of these gates with this number, which has seen nothing, and has this opening of the device
-  pub record IsNew (steady : Type 0) (gates : Gates (Shard R)) (number : ℕ) (pass : Pass D R) (opening : D) : Type 0 where
-    pub rests : IsResting steady gates pass.gates
+  -- a pass of these gates and epochs with this number, which has seen nothing, and has this opening of the device
+  pub record IsNew (steady : Type 0) (gates : Gates (Shard R)) (epochs : Epochs) (number : ℕ) (pass : Pass D R) (opening : D) : Type 0 where
+    pub rests : RestsOf steady gates epochs pass
     pub nothing : known pass.gates ≡ newcomer number
     pub device : pass.device ≡ opening
 
-  -- passes of these gates that have seen nothing, with the numbers from this one on, each with its opening of the device
-  abbrev pub AreDealt : (steady : Type 0) → Gates (Shard R) → (number : ℕ) → List (Pass D R) → List D → Type 0
-  AreDealt steady gates number [] [] = Unit {0}
-  AreDealt steady gates number [] (opening ∷ openings) = ⊥
-  AreDealt steady gates number (pass ∷ passes) [] = ⊥
-  AreDealt steady gates number (pass ∷ passes) (opening ∷ openings) =
-      IsNew steady gates number pass opening × AreDealt steady gates (number + 1) passes openings
+  -- passes of these gates and epochs that have seen nothing, with the numbers from this one on, each with its opening of the device
+  abbrev pub AreDealt : (steady : Type 0) → Gates (Shard R) → Epochs → (number : ℕ) → List (Pass D R) → List D → Type 0
+  AreDealt steady gates epochs number [] [] = Unit {0}
+  AreDealt steady gates epochs number [] (opening ∷ openings) = ⊥
+  AreDealt steady gates epochs number (pass ∷ passes) [] = ⊥
+  AreDealt steady gates epochs number (pass ∷ passes) (opening ∷ openings) =
+      IsNew steady gates epochs number pass opening × AreDealt steady gates epochs (number + 1) passes openings
 
   -- they are those of an engine, from number 0 on
   abbrev pub AreOf : (steady : Type 0) → Engine D R → List (Pass D R) → List D → Type 0
-  AreOf steady engine passes openings = AreDealt steady engine.gates 0 passes openings
+  AreOf steady engine passes openings = AreDealt steady engine.gates engine.epochs 0 passes openings

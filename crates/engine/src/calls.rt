@@ -1,56 +1,286 @@
 //! Any call of a pass over the gates.
 
-ghost use Rattle.std.specs.Prelude.{◌≡◌, ◌<◌, [], IfErr, IfOk};
-ghost use Rattle.gates.specs.Sets.{times};
-ghost use Rattle.gates.specs.Passes.{IsResting, WasBusy, known, stripes_of};
+ghost use Rattle.std.specs.Prelude.{◌≡◌, ◌<◌, [], false, IfErr, IfNone, IfOk, IfSome, OnErr, OnOk};
+ghost use Rattle.gates.specs.Sets.{AreBelow, times};
+ghost use Rattle.epoch.specs.Seats.{IsInside};
+ghost use Rattle.hybrid.specs.Staging.{AreRight};
+ghost use Rattle.gates.specs.Passes.{IsResting, Learned, ToldBusy, WasBusy, known, stripes_of};
 ghost use Rattle.transact.specs.Calls.{asked_of};
-ghost use Rattle.transact.specs.Plans.{EndsAll};
-ghost use Rattle.transact.specs.Submits.{IfFault, IfReply, stripes_asked};
+ghost use Rattle.transact.specs.Plans.{EndsAll, IsEntry};
+ghost use Rattle.transact.specs.Submits.{IfFault, IfReply, asked_for, stripes_asked};
 ghost use Rattle.engine.specs.Calls.{HasItsPlace, IsDone, IsUndone, promises_of};
-ghost use Rattle.engine.specs.Passes.{know};
+ghost use Rattle.engine.specs.Entering.{WasAbandoned};
+ghost use Rattle.engine.specs.Passes.{HasSeat, know};
 
-use crate::enter::{Entered, enter_call, give_back};
+use crate::enter::{Entered, enter_at_once, enter_call, give_back, refuse, told_of};
+use crate::outside::{ROUNDS, read_outside};
 use device::{Device, Shows};
-use gates::{Gates, Latch, Pass, Point};
+use epoch::{EpochSeat, Epochs, Inside};
+use gates::{Gates, Latch, Pass, Report, Sorted};
+use hybrid::Staged;
 use plans::laws::stripes_hold_keys;
 use plans::shard::Shard;
 use std::alloc::Global;
 use std::sync::Wait;
 use transact::call::{Answer, Busy, Call};
 use transact::stripes::keys_of;
+use words::reply::Fault;
 
-/// Runs a call of a pass over the gates, whole or not at all, and waits where others hold its stripes. The latch is
-/// told where the stripes of a call are held whose commit is next.
+/// Runs a call of a pass over the gates, whole or not at all, and lets it go. It waits where others hold its stripes. Where
+/// it wants pages, it gives its stripes back, reads outside and plans anew, at most three times; then it reads while it holds
+/// them. The latch is told where the stripes of a call are held whose commit is next.
 #[inline(never)]
 pub(crate) fn submit<T: Wait, L: Latch, R: Shows, D: Device<Receipt = R>>(
     rt: &T,
     alloc: Global,
     gates: &Gates<Shard<R>>,
+    epochs: &Epochs,
     pass: &mut Pass<Shard<R>>,
     device: &mut D,
+    seat: &mut Option<EpochSeat>,
+    staged: &mut Staged<R>,
     call: Call,
     latch: &L,
 ) -> Answer
     requires rests { IsResting R.is_steady gates.now pass.old }
     requires place { HasItsPlace (known pass.old).watched (asked_of call) }
     requires ends { EndsAll call (known pass.old).watched }
+    requires seat { HasSeat epochs.now seat.old }
+    requires none { staged.old ≡ [] }
     ensures rests { IsResting R.is_steady gates.now pass.new }
+    ensures seat { HasSeat epochs.now seat.new }
+    ensures none { staged.new ≡ [] }
     ensures done { IfReply result (λ reply. IsDone (stripes_asked (stripes_of gates.now) call) (asked_of call) reply (know (known pass.old) (D.failures device.old)) (know (known pass.new) (D.failures device.new))) }
     ensures undone { IfFault result (λ fault. IsUndone (promises_of R.is_steady R.lends) (stripes_asked (stripes_of gates.now) call) (asked_of call) fault (know (known pass.old) (D.failures device.old)) (know (known pass.new) (D.failures device.new))) }
 {
+    let answer = submit_in_rounds(
+        rt, alloc, gates, epochs, pass, device, seat, staged, &call, latch,
+    );
+    staged.clear();
+    call.spend();
+    answer
+}
+
+/// Runs a call in rounds, until one answers it. From the first page that it wants until the answer it has a stay.
+fn submit_in_rounds<T: Wait, L: Latch, R: Shows, D: Device<Receipt = R>>(
+    rt: &T,
+    alloc: Global,
+    gates: &Gates<Shard<R>>,
+    epochs: &Epochs,
+    pass: &mut Pass<Shard<R>>,
+    device: &mut D,
+    seat: &mut Option<EpochSeat>,
+    staged: &mut Staged<R>,
+    call: &Call,
+    latch: &L,
+) -> Answer
+    requires rests { IsResting R.is_steady gates.now pass.old }
+    requires place { HasItsPlace (known pass.old).watched (asked_of call.now) }
+    requires ends { EndsAll call.now (known pass.old).watched }
+    requires seat { HasSeat epochs.now seat.old }
+    requires right { R.is_steady → AreRight staged.old }
+    ensures rests { IsResting R.is_steady gates.now pass.new }
+    ensures seat { HasSeat epochs.now seat.new }
+    ensures done { IfReply result (λ reply. IsDone (stripes_asked (stripes_of gates.now) call.now) (asked_of call.now) reply (know (known pass.old) (D.failures device.old)) (know (known pass.new) (D.failures device.new))) }
+    ensures undone { IfFault result (λ fault. IsUndone (promises_of R.is_steady R.lends) (stripes_asked (stripes_of gates.now) call.now) (asked_of call.now) fault (know (known pass.old) (D.failures device.old)) (know (known pass.new) (D.failures device.new))) }
+{
+    let stripes = gates.stripes();
+    let wanted = keys_of(call, stripes);
+    match first_round(
+        rt, alloc, gates, epochs, pass, device, seat, staged, &wanted, call, latch,
+    ) {
+        Ok(answer) => answer,
+        Err(inside) => {
+            let answer = later_rounds(rt, alloc, gates, pass, device, staged, &wanted, call, latch);
+            *seat = Some(epochs.leave(inside));
+            answer
+        }
+    }
+}
+
+/// The first round: the call in one hold of its stripes. Where it wants pages, a stay begins, the stripes are given back, and the
+/// pages are read while nobody waits for them.
+///
+/// # Errors
+///
+/// The stay, where pages were read and there is no answer yet.
+fn first_round<T: Wait, L: Latch, R: Shows, D: Device<Receipt = R>>(
+    rt: &T,
+    alloc: Global,
+    gates: &Gates<Shard<R>>,
+    epochs: &Epochs,
+    pass: &mut Pass<Shard<R>>,
+    device: &mut D,
+    seat: &mut Option<EpochSeat>,
+    staged: &mut Staged<R>,
+    wanted: &Sorted,
+    call: &Call,
+    latch: &L,
+) -> Result<Answer, Inside>
+    requires rests { IsResting R.is_steady gates.now pass.old }
+    requires place { HasItsPlace (known pass.old).watched (asked_of call.now) }
+    requires ends { EndsAll call.now (known pass.old).watched }
+    requires wanted { wanted.now ≡ stripes_asked (stripes_of gates.now) call.now }
+    requires below { AreBelow (stripes_of gates.now) wanted.now }
+    requires seat { HasSeat epochs.now seat.old }
+    requires right { R.is_steady → AreRight staged.old }
+    ensures rests { IsResting R.is_steady gates.now pass.new }
+    ensures seat { OnOk result (HasSeat epochs.now seat.new) }
+    ensures right { R.is_steady → AreRight staged.new }
+    ensures done { IfOk result (λ answer. IfReply answer (λ reply. IsDone (stripes_asked (stripes_of gates.now) call.now) (asked_of call.now) reply (know (known pass.old) (D.failures device.old)) (know (known pass.new) (D.failures device.new)))) }
+    ensures undone { IfOk result (λ answer. IfFault answer (λ fault. IsUndone (promises_of R.is_steady R.lends) (stripes_asked (stripes_of gates.now) call.now) (asked_of call.now) fault (know (known pass.old) (D.failures device.old)) (know (known pass.new) (D.failures device.new)))) }
+    ensures stay { IfErr result (IsInside epochs.now) }
+    ensures learned { OnErr result (Learned (known pass.old) (known pass.new)) }
+    ensures told { OnErr result (ToldBusy (stripes_asked (stripes_of gates.now) call.now) (known pass.old) (known pass.new)) }
+    ensures no_fault { OnErr result (D.failures device.new ≡ D.failures device.old) }
+{
     stripes_hold_keys::<R>();
     let stripes = gates.stripes();
-    let number = pass.number();
-    let wanted = keys_of(&call, stripes);
-    let mut held = gates.take(rt, pass, &wanted);
-    if !matches!(&call, Call::Forget(_)) {
-        latch.at(number, Point::Holding);
+    let mut held = (&*gates).take(rt, &mut *pass, &*wanted);
+    match enter_call(
+        alloc, &mut held, stripes, device, call, staged, false, latch,
+    ) {
+        Ok(entered) => {
+            let Entered {
+                answer,
+                ends,
+                report,
+            } = entered;
+            give_back(held, ends, &report);
+            Ok(answer)
+        }
+        Err(receipts) => {
+            let Some(own) = seat.take() else {
+                unreachable!()
+            };
+            let inside = epochs.enter(rt, own);
+            match read_outside(held, device, staged, receipts) {
+                Ok(()) => Err(inside),
+                Err(stop) => {
+                    *seat = Some(epochs.leave(inside));
+                    let fault = told_of(stop).fault;
+                    Ok(abandon(rt, gates, pass, wanted, call, fault))
+                }
+            }
+        }
     }
+}
+
+/// Runs a call in the rounds after its first one, until one answers it.
+fn later_rounds<T: Wait, L: Latch, R: Shows, D: Device<Receipt = R>>(
+    rt: &T,
+    alloc: Global,
+    gates: &Gates<Shard<R>>,
+    pass: &mut Pass<Shard<R>>,
+    device: &mut D,
+    staged: &mut Staged<R>,
+    wanted: &Sorted,
+    call: &Call,
+    latch: &L,
+) -> Answer
+    requires rests { IsResting R.is_steady gates.now pass.old }
+    requires place { HasItsPlace (known pass.old).watched (asked_of call.now) }
+    requires ends { EndsAll call.now (known pass.old).watched }
+    requires wanted { wanted.now ≡ stripes_asked (stripes_of gates.now) call.now }
+    requires below { AreBelow (stripes_of gates.now) wanted.now }
+    requires right { R.is_steady → AreRight staged.old }
+    ensures rests { IsResting R.is_steady gates.now pass.new }
+    ensures done { IfReply result (λ reply. IsDone (stripes_asked (stripes_of gates.now) call.now) (asked_of call.now) reply (know (known pass.old) (D.failures device.old)) (know (known pass.new) (D.failures device.new))) }
+    ensures undone { IfFault result (λ fault. IsUndone (promises_of R.is_steady R.lends) (stripes_asked (stripes_of gates.now) call.now) (asked_of call.now) fault (know (known pass.old) (D.failures device.old)) (know (known pass.new) (D.failures device.new))) }
+{
+    let mut round = 1;
+    'rounds: loop {
+        let reads = round == ROUNDS;
+        if let Some(answer) = later_round(
+            rt, alloc, gates, pass, device, staged, wanted, call, reads, latch,
+        ) {
+            return answer;
+        }
+        round += 1;
+    }
+}
+
+/// One more round. Pages that are wanted are read while the stripes are held where `reads`; else outside, and there is no answer
+/// yet.
+fn later_round<T: Wait, L: Latch, R: Shows, D: Device<Receipt = R>>(
+    rt: &T,
+    alloc: Global,
+    gates: &Gates<Shard<R>>,
+    pass: &mut Pass<Shard<R>>,
+    device: &mut D,
+    staged: &mut Staged<R>,
+    wanted: &Sorted,
+    call: &Call,
+    reads: bool,
+    latch: &L,
+) -> Option<Answer>
+    requires rests { IsResting R.is_steady gates.now pass.old }
+    requires place { HasItsPlace (known pass.old).watched (asked_of call.now) }
+    requires ends { EndsAll call.now (known pass.old).watched }
+    requires wanted { wanted.now ≡ stripes_asked (stripes_of gates.now) call.now }
+    requires below { AreBelow (stripes_of gates.now) wanted.now }
+    requires right { R.is_steady → AreRight staged.old }
+    ensures rests { IsResting R.is_steady gates.now pass.new }
+    ensures right { R.is_steady → AreRight staged.new }
+    ensures done { IfSome result (λ answer. IfReply answer (λ reply. IsDone (stripes_asked (stripes_of gates.now) call.now) (asked_of call.now) reply (know (known pass.old) (D.failures device.old)) (know (known pass.new) (D.failures device.new)))) }
+    ensures undone { IfSome result (λ answer. IfFault answer (λ fault. IsUndone (promises_of R.is_steady R.lends) (stripes_asked (stripes_of gates.now) call.now) (asked_of call.now) fault (know (known pass.old) (D.failures device.old)) (know (known pass.new) (D.failures device.new)))) }
+    ensures outside { IfNone result (reads ≡ false) }
+    ensures learned { IfNone result (Learned (known pass.old) (known pass.new)) }
+    ensures told { IfNone result (ToldBusy (stripes_asked (stripes_of gates.now) call.now) (known pass.old) (known pass.new)) }
+    ensures no_fault { IfNone result (D.failures device.new ≡ D.failures device.old) }
+{
+    stripes_hold_keys::<R>();
+    let stripes = gates.stripes();
+    let mut held = (&*gates).take(rt, &mut *pass, &*wanted);
+    match enter_call(
+        alloc, &mut held, stripes, device, call, staged, reads, latch,
+    ) {
+        Ok(entered) => {
+            let Entered {
+                answer,
+                ends,
+                report,
+            } = entered;
+            give_back(held, ends, &report);
+            Some(answer)
+        }
+        Err(receipts) => match read_outside(held, device, staged, receipts) {
+            Ok(()) => None,
+            Err(stop) => {
+                let fault = told_of(stop).fault;
+                Some(abandon(rt, gates, pass, wanted, call, fault))
+            }
+        },
+    }
+}
+
+/// Answers a call by a fault that came while it held nothing. The watches of a transaction end all the same, so its stripes
+/// are taken once more.
+fn abandon<T: Wait, R: Shows>(
+    rt: &T,
+    gates: &Gates<Shard<R>>,
+    pass: &mut Pass<Shard<R>>,
+    wanted: &Sorted,
+    call: &Call,
+    fault: Fault,
+) -> Answer
+    requires rests { IsResting R.is_steady gates.now pass.old }
+    requires entry { IsEntry call.now }
+    requires ends { EndsAll call.now (known pass.old).watched }
+    requires wanted { wanted.now ≡ stripes_asked (stripes_of gates.now) call.now }
+    requires below { AreBelow (stripes_of gates.now) wanted.now }
+    ensures rests { IsResting R.is_steady gates.now pass.new }
+    ensures answer { result ≡ Answer.Fault fault }
+    ensures known { WasAbandoned wanted.now (asked_for call.now) (known pass.old) (known pass.new) }
+{
+    stripes_hold_keys::<R>();
+    let stripes = gates.stripes();
+    let mut held = gates.take(rt, pass, wanted);
     let Entered {
         answer,
         ends,
         report,
-    } = enter_call(alloc, &mut held, stripes, device, call);
+    } = refuse(&mut held, stripes, call, fault, Report::Nothing);
     give_back(held, ends, &report);
     answer
 }
@@ -67,12 +297,15 @@ pub(crate) fn try_submit<R: Shows, D: Device<Receipt = R>>(
     gates: &Gates<Shard<R>>,
     pass: &mut Pass<Shard<R>>,
     device: &mut D,
+    staged: &mut Staged<R>,
     call: Call,
 ) -> Result<Answer, (Busy, Call)>
     requires rests { IsResting R.is_steady gates.now pass.old }
     requires place { HasItsPlace (known pass.old).watched (asked_of call) }
     requires ends { EndsAll call (known pass.old).watched }
+    requires none { staged.old ≡ [] }
     ensures rests { IsResting R.is_steady gates.now pass.new }
+    ensures none { staged.new ≡ [] }
     ensures done { IfOk result (λ answer. IfReply answer (λ reply. IsDone [] (asked_of call) reply (know (known pass.old) (D.failures device.old)) (know (known pass.new) (D.failures device.new)))) }
     ensures undone { IfOk result (λ answer. IfFault answer (λ fault. IsUndone (promises_of R.is_steady R.lends) [] (asked_of call) fault (know (known pass.old) (D.failures device.old)) (know (known pass.new) (D.failures device.new)))) }
     ensures stripe { IfErr result (λ refusal. 0 < times refusal.0.stripe (stripes_asked (stripes_of gates.now) call)) }
@@ -84,18 +317,18 @@ pub(crate) fn try_submit<R: Shows, D: Device<Receipt = R>>(
     let stripes = gates.stripes();
     let wanted = keys_of(&call, stripes);
     match gates.try_take(pass, &wanted) {
-        Ok(mut held) => {
+        Ok(()) => {
+            let mut held = gates.hold(pass, &wanted);
             let Entered {
                 answer,
                 ends,
                 report,
-            } = enter_call(alloc, &mut held, stripes, device, call);
+            } = enter_at_once(alloc, &mut held, stripes, device, &call, staged);
             give_back(held, ends, &report);
+            staged.clear();
+            call.spend();
             Ok(answer)
         }
-        Err(refused) => {
-            let stripe = refused.stripe;
-            Err((Busy { stripe }, call))
-        }
+        Err(stripe) => Err((Busy { stripe }, call)),
     }
 }

@@ -1,17 +1,20 @@
 //! The passes of a new engine.
 
-ghost use Rattle.std.specs.Prelude.{◌≡◌, ℕ, IfOk, vec_len};
+ghost use Rattle.std.specs.Prelude.{◌≡◌, ℕ, All, IfOk, vec_len};
 ghost use Rattle.gates.specs.Passes.{AreNew};
+ghost use Rattle.epoch.specs.Seats.{IsOutside};
 ghost use Rattle.engine.specs.Passes.{AreDealt};
 
 use crate::pass::Pass;
 use device::{Device, Shows};
+use epoch::{EpochSeat, Epochs};
 use gates::Gates;
+use hybrid::Staged;
 use plans::shard::Shard;
 use std::alloc::Global;
 use words::word::OutOfMemory;
 
-/// Gives each pass of the gates one of the openings of the device, in order.
+/// Gives each pass of the gates one of the openings of the device, in order, and a seat of the epochs.
 ///
 /// # Errors
 ///
@@ -19,22 +22,37 @@ use words::word::OutOfMemory;
 pub(crate) fn deal<R: Shows, D: Device<Receipt = R>>(
     alloc: Global,
     gates: &Gates<Shard<R>>,
+    epochs: &Epochs,
     passes: Vec<gates::Pass<Shard<R>>>,
+    seats: Vec<EpochSeat>,
     openings: Vec<D>,
 ) -> Result<Vec<Pass<D>>, OutOfMemory>
     requires count { vec_len passes ≡ vec_len openings }
+    requires seats { vec_len seats ≡ vec_len openings }
     requires new { AreNew R.is_steady gates.now 0 passes.items }
-    ensures { IfOk result (λ dealt. AreDealt R.is_steady gates.now 0 dealt.items openings.items) }
+    requires outside { All (IsOutside epochs.now) seats.items }
+    ensures { IfOk result (λ dealt. AreDealt R.is_steady gates.now epochs.now 0 dealt.items openings.items) }
 {
     let _ = gates;
+    let _ = epochs;
     let mut passes = passes;
+    let mut seats = seats;
     let mut openings = openings;
     let mut dealt = Vec::with_capacity(alloc, passes.len())?;
     while let Some(gates) = passes.pop() {
         let Some(device) = openings.pop() else {
             unreachable!()
         };
-        dealt.insert(0, Pass { gates, device })?;
+        let Some(seat) = seats.pop() else {
+            unreachable!()
+        };
+        let pass = Pass {
+            gates,
+            device,
+            seat: Some(seat),
+            staged: Staged::new(alloc),
+        };
+        dealt.insert(0, pass)?;
     }
     Ok(dealt)
 }

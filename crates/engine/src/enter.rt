@@ -1,6 +1,6 @@
 //! Calls over the stripes that a pass holds: from what is held to what may be given back.
 
-ghost use Rattle.std.specs.Prelude.{◌≡◌, []};
+ghost use Rattle.std.specs.Prelude.{◌≡◌, [], IfOk, OnErr};
 ghost use Rattle.words.specs.Store.{Bytes};
 ghost use Rattle.gates.specs.Passes.{IsResting, known, stripes_of};
 ghost use Rattle.gates.specs.Plays.{kept};
@@ -9,7 +9,8 @@ ghost use Rattle.transact.specs.Calls.{asked_of};
 ghost use Rattle.transact.specs.Plans.{EndsAll, IsEntry};
 ghost use Rattle.transact.specs.Submits.{IfFault, IfReply, asked_for};
 ghost use Rattle.engine.specs.Calls.{HasItsPlace, IsDone, IsUndone, promises_of};
-ghost use Rattle.engine.specs.Entering.{MayBeGiven, MayEnter, at_fault, given};
+ghost use Rattle.engine.specs.Entering.{MayBeGiven, MayEnter, WasCold, at_fault, given};
+ghost use Rattle.hybrid.specs.Staging.{AreRight};
 ghost use Rattle.engine.specs.Memory.{set_call};
 ghost use Rattle.engine.specs.Passes.{know};
 ghost use Rattle.engine.specs.Stops.{IsFullOf, fault_of, report_of};
@@ -19,12 +20,13 @@ ghost use Rattle.plans.specs.Stops.{IfCold};
 
 use crate::short::enter_set;
 use device::{Device, Shows};
-use gates::{Held, Report};
+use gates::{Held, Latch, Open, Point, Report};
+use hybrid::Staged;
 use plans::laws::writes_install_a_call;
 use plans::marks::forget;
-use plans::reading::plan_held;
+use plans::reading::plan_staged;
 use plans::shard::Shard;
-use plans::stop::Stop;
+use plans::stop::{Receipts, Stop};
 use std::alloc::Global;
 use transact::call::{Answer, Call};
 use words::bounds::values_are_bounded;
@@ -41,35 +43,77 @@ pub(crate) struct Entered {
     pub(crate) report: Report,
 }
 
-/// Does what a call asks whose stripes are held, and lets the call go. One that ends the watches makes no
-/// entry, takes no memory and cannot fail.
-pub(crate) fn enter_call<R: Shows, D: Device<Receipt = R>>(
+/// Does what a call asks whose stripes are held. One that ends the watches makes no entry, takes no memory and cannot fail.
+/// Where pages are wanted that are not among the staged ones, they are read meanwhile if `reads`.
+///
+/// # Errors
+///
+/// Copies of the receipts of the pages that are wanted, where they may not be read: nothing has changed then. A call that
+/// ends watches wants none, nor does a SET without an option.
+pub(crate) fn enter_call<L: Latch, R: Shows, D: Device<Receipt = R>>(
     alloc: Global,
     held: &mut Held<'_, Shard<R>>,
     stripes: usize,
     device: &mut D,
-    call: Call,
-) -> Entered
-    requires may { MayEnter R.is_steady stripes call held.old }
-    requires place { HasItsPlace (known_to held.old).watched (asked_of call) }
-    requires ends { EndsAll call (known_to held.old).watched }
-    ensures back { MayBeGiven R.is_steady result.ends result.report stripes held.old held.new }
-    ensures done { IfReply result.answer (λ reply. IsDone [] (asked_of call) reply (know (known_to held.old) (D.failures device.old)) (know (given result.ends result.report (known_to held.new)) (D.failures device.new))) }
-    ensures undone { IfFault result.answer (λ fault. IsUndone (promises_of R.is_steady R.lends) [] (asked_of call) fault (know (known_to held.old) (D.failures device.old)) (know (given result.ends result.report (known_to held.new)) (D.failures device.new))) }
+    call: &Call,
+    staged: &mut Staged<R>,
+    reads: bool,
+    latch: &L,
+) -> Result<Entered, Receipts<R>>
+    requires may { MayEnter R.is_steady stripes call.now held.old }
+    requires place { HasItsPlace (known_to held.old).watched (asked_of call.now) }
+    requires ends { EndsAll call.now (known_to held.old).watched }
+    requires right { R.is_steady → AreRight staged.old }
+    ensures right { R.is_steady → AreRight staged.new }
+    ensures back { IfOk result (λ entered. MayBeGiven R.is_steady entered.ends entered.report stripes held.old held.new) }
+    ensures done { IfOk result (λ entered. IfReply entered.answer (λ reply. IsDone [] (asked_of call.now) reply (know (known_to held.old) (D.failures device.old)) (know (given entered.ends entered.report (known_to held.new)) (D.failures device.new)))) }
+    ensures undone { IfOk result (λ entered. IfFault entered.answer (λ fault. IsUndone (promises_of R.is_steady R.lends) [] (asked_of call.now) fault (know (known_to held.old) (D.failures device.old)) (know (given entered.ends entered.report (known_to held.new)) (D.failures device.new)))) }
+    ensures cold { OnErr result (WasCold R.is_steady R.lends reads stripes call.now held.old held.new) }
+    ensures no_fault { OnErr result (D.failures device.new ≡ D.failures device.old) }
 {
     match call {
         Call::Forget(watching) => {
-            let seat = held.number();
-            forget(held, stripes, seat, &watching);
-            drop(watching.into_keys());
-            Entered {
+            let own = held.number();
+            forget(held, stripes, own, watching);
+            Ok(Entered {
                 answer: Answer::Reply(Reply::line(Line::Done)),
                 ends: true,
                 report: Report::Nothing,
-            }
+            })
         }
-        Call::One(command) => enter_one(alloc, held, stripes, device, command),
-        call => enter_spent(alloc, held, stripes, device, call),
+        Call::One(Command::Set(key, value, When::Always)) => {
+            latch.at(held.number(), Point::Holding);
+            let (line, report) = enter_set(held, stripes, device, key, value);
+            Ok(Entered {
+                answer: Answer::of_line(line),
+                ends: false,
+                report,
+            })
+        }
+        call => enter(alloc, held, stripes, device, call, staged, reads, latch),
+    }
+}
+
+/// The same as [`enter_call`], where pages that are wanted are read meanwhile.
+pub(crate) fn enter_at_once<R: Shows, D: Device<Receipt = R>>(
+    alloc: Global,
+    held: &mut Held<'_, Shard<R>>,
+    stripes: usize,
+    device: &mut D,
+    call: &Call,
+    staged: &mut Staged<R>,
+) -> Entered
+    requires may { MayEnter R.is_steady stripes call.now held.old }
+    requires place { HasItsPlace (known_to held.old).watched (asked_of call.now) }
+    requires ends { EndsAll call.now (known_to held.old).watched }
+    requires right { R.is_steady → AreRight staged.old }
+    ensures back { MayBeGiven R.is_steady result.ends result.report stripes held.old held.new }
+    ensures done { IfReply result.answer (λ reply. IsDone [] (asked_of call.now) reply (know (known_to held.old) (D.failures device.old)) (know (given result.ends result.report (known_to held.new)) (D.failures device.new))) }
+    ensures undone { IfFault result.answer (λ fault. IsUndone (promises_of R.is_steady R.lends) [] (asked_of call.now) fault (know (known_to held.old) (D.failures device.old)) (know (given result.ends result.report (known_to held.new)) (D.failures device.new))) }
+{
+    match enter_call(alloc, held, stripes, device, call, staged, true, &Open) {
+        Ok(entered) => entered,
+        Err(_receipts) => unreachable!(),
     }
 }
 
@@ -86,95 +130,55 @@ pub(crate) fn give_back<R: Shows>(held: Held<'_, Shard<R>>, ends: bool, report: 
     }
 }
 
-/// Enters a command. A SET without an option needs no plan: its value is copied into the page.
-fn enter_one<R: Shows, D: Device<Receipt = R>>(
-    alloc: Global,
-    held: &mut Held<'_, Shard<R>>,
-    stripes: usize,
-    device: &mut D,
-    command: Command,
-) -> Entered
-    requires may { MayEnter R.is_steady stripes (Call.One command) held.old }
-    requires place { HasItsPlace (known_to held.old).watched (asked_of (Call.One command)) }
-    ensures back { MayBeGiven R.is_steady result.ends result.report stripes held.old held.new }
-    ensures done { IfReply result.answer (λ reply. IsDone [] (asked_of (Call.One command)) reply (know (known_to held.old) (D.failures device.old)) (know (given result.ends result.report (known_to held.new)) (D.failures device.new))) }
-    ensures undone { IfFault result.answer (λ fault. IsUndone (promises_of R.is_steady R.lends) [] (asked_of (Call.One command)) fault (know (known_to held.old) (D.failures device.old)) (know (given result.ends result.report (known_to held.new)) (D.failures device.new))) }
-{
-    match command {
-        Command::Set(key, value, When::Always) => {
-            let (line, report) = enter_set(held, stripes, device, &key, &value);
-            Entered {
-                answer: Answer::of_line(line),
-                ends: false,
-                report,
-            }
-        }
-        command => enter_spent(alloc, held, stripes, device, Call::One(command)),
-    }
-}
-
-/// Enters a call that comes to an entry and is no SET without an option, and lets it go.
-fn enter_spent<R: Shows, D: Device<Receipt = R>>(
-    alloc: Global,
-    held: &mut Held<'_, Shard<R>>,
-    stripes: usize,
-    device: &mut D,
-    call: Call,
-) -> Entered
-    requires may { MayEnter R.is_steady stripes call held.old }
-    requires entry { IsEntry call }
-    requires place { HasItsPlace (known_to held.old).watched (asked_of call) }
-    requires ends { EndsAll call (known_to held.old).watched }
-    requires other { (key value : Bytes) → call ≡ set_call key value → ⊥ }
-    ensures back { MayBeGiven R.is_steady result.ends result.report stripes held.old held.new }
-    ensures done { IfReply result.answer (λ reply. IsDone [] (asked_of call) reply (know (known_to held.old) (D.failures device.old)) (know (given result.ends result.report (known_to held.new)) (D.failures device.new))) }
-    ensures undone { IfFault result.answer (λ fault. IsUndone (promises_of R.is_steady R.lends) [] (asked_of call) fault (know (known_to held.old) (D.failures device.old)) (know (given result.ends result.report (known_to held.new)) (D.failures device.new))) }
-{
-    let entered = enter(alloc, held, stripes, device, &call);
-    call.spend();
-    entered
-}
-
-/// Runs a call over the parts that are held: plans it, reading the pages that it wants, commits its one entry, and installs
-/// what it writes. With a fault nothing was committed, and values are as they were.
-fn enter<R: Shows, D: Device<Receipt = R>>(
+/// Runs a call over the parts that are held: plans it, commits its one entry, and installs what it writes. With a fault
+/// nothing was committed, and values are as they were.
+fn enter<L: Latch, R: Shows, D: Device<Receipt = R>>(
     alloc: Global,
     held: &mut Held<'_, Shard<R>>,
     stripes: usize,
     device: &mut D,
     call: &Call,
-) -> Entered
+    staged: &mut Staged<R>,
+    reads: bool,
+    latch: &L,
+) -> Result<Entered, Receipts<R>>
     requires may { MayEnter R.is_steady stripes call.now held.old }
     requires entry { IsEntry call.now }
     requires place { HasItsPlace (known_to held.old).watched (asked_of call.now) }
     requires ends { EndsAll call.now (known_to held.old).watched }
     requires other { (key value : Bytes) → call.now ≡ set_call key value → ⊥ }
-    ensures back { MayBeGiven R.is_steady result.ends result.report stripes held.old held.new }
-    ensures done { IfReply result.answer (λ reply. IsDone [] (asked_of call.now) reply (know (known_to held.old) (D.failures device.old)) (know (given result.ends result.report (known_to held.new)) (D.failures device.new))) }
-    ensures undone { IfFault result.answer (λ fault. IsUndone (promises_of R.is_steady R.lends) [] (asked_of call.now) fault (know (known_to held.old) (D.failures device.old)) (know (given result.ends result.report (known_to held.new)) (D.failures device.new))) }
+    requires right { R.is_steady → AreRight staged.old }
+    ensures right { R.is_steady → AreRight staged.new }
+    ensures back { IfOk result (λ entered. MayBeGiven R.is_steady entered.ends entered.report stripes held.old held.new) }
+    ensures done { IfOk result (λ entered. IfReply entered.answer (λ reply. IsDone [] (asked_of call.now) reply (know (known_to held.old) (D.failures device.old)) (know (given entered.ends entered.report (known_to held.new)) (D.failures device.new)))) }
+    ensures undone { IfOk result (λ entered. IfFault entered.answer (λ fault. IsUndone (promises_of R.is_steady R.lends) [] (asked_of call.now) fault (know (known_to held.old) (D.failures device.old)) (know (given entered.ends entered.report (known_to held.new)) (D.failures device.new)))) }
+    ensures cold { OnErr result (WasCold R.is_steady R.lends reads stripes call.now held.old held.new) }
+    ensures no_fault { OnErr result (D.failures device.new ≡ D.failures device.old) }
 {
     values_are_bounded();
     writes_install_a_call::<R>();
     let seat = held.number();
-    let planned = match plan_held(alloc, held, stripes, seat, call, device) {
+    let planned = match plan_staged(alloc, held, stripes, seat, call, staged, reads, device) {
         Ok(planned) => planned,
+        Err(Stop::Cold(receipts)) => return Err(receipts),
         Err(stop) => {
             let Stopped { fault, report } = told_of(stop);
-            return refuse(held, stripes, call, fault, report);
+            return Ok(refuse(held, stripes, call, fault, report));
         }
     };
+    latch.at(seat, Point::Holding);
     match held.commit(call, &planned.reply) {
         Ok(_) => {
             let reply = planned.install(held, stripes, seat, call);
-            Entered {
+            Ok(Entered {
                 answer: Answer::Reply(reply),
                 ends: false,
                 report: Report::Nothing,
-            }
+            })
         }
         Err(_) => {
             planned.undo(held, stripes, seat);
-            refuse(held, stripes, call, Fault::CommitsWornOut, Report::Nothing)
+            Ok(refuse(held, stripes, call, Fault::CommitsWornOut, Report::Nothing))
         }
     }
 }
@@ -193,6 +197,7 @@ pub(crate) fn told_of<R: Shows>(stop: Stop<R>) -> Stopped
     requires never_cold { IfCold stop (λ receipts. ⊥) }
     ensures fault { result.fault ≡ fault_of stop }
     ensures report { result.report ≡ report_of stop }
+    ensures never_cold { IfCold stop (λ receipts. ⊥) }
 {
     match stop {
         Stop::OutOfMemory => Stopped {
@@ -212,7 +217,7 @@ pub(crate) fn told_of<R: Shows>(stop: Stop<R>) -> Stopped
 }
 
 /// Answers a call by a fault. The watches of a transaction end all the same.
-fn refuse<R: Shows>(
+pub(crate) fn refuse<R: Shows>(
     held: &mut Held<'_, Shard<R>>,
     stripes: usize,
     call: &Call,

@@ -2,7 +2,7 @@
 //! another in one history. Each stripe is a hybrid log, whose old pages lie on a device.
 #![tactic(auto)]
 
-ghost use Rattle.std.specs.Prelude.{◌≡◌, ◌+◌, ◌<◌, [], ℕ, IfOk, IfErr, vec_len};
+ghost use Rattle.std.specs.Prelude.{◌≡◌, ◌+◌, ◌<◌, [], ℕ, All, IfOk, IfErr, vec_len};
 ghost use Rattle.words.specs.Bounds.{IsBounded};
 ghost use Rattle.words.specs.declared.command.Command.TheVariants as command;
 ghost use Rattle.words.specs.declared.command.When.TheVariants.{Always};
@@ -20,6 +20,7 @@ use crate::calls::{submit, try_submit};
 use crate::deal::deal;
 use crate::short::{submit_get, submit_set};
 use device::{Device, Shows};
+use epoch::Epochs;
 use gates::{Gates, Latch, Open, Point};
 use plans::shard::Shard;
 use std::alloc::Global;
@@ -33,8 +34,10 @@ use words::word::{OutOfMemory, Word};
 mod calls;
 mod deal;
 mod enter;
+mod outside;
 mod pass;
 mod short;
+mod steps;
 
 pub use pass::Pass;
 
@@ -47,6 +50,7 @@ pub const BACKGROUND_PASSES: usize = 3;
 pub struct Engine<D: Device> {
     alloc: Global,
     gates: Gates<Shard<D::Receipt>>,
+    epochs: Epochs,
     opening: PhantomData<D>,
 }
 
@@ -66,21 +70,28 @@ impl<D: Device> Engine<D> {
         requires openings { vec_len openings ≡ limits.now.clients + BACKGROUND_PASSES }
         ensures stripes { IfOk result (λ made. stripe_count made.0 ≡ limits.now.stripes) }
         ensures passes { IfOk result (λ made. AreOf D.Receipt.is_steady made.0 made.1.items openings.items) }
+        ensures count { IfOk result (λ made. vec_len made.1 ≡ vec_len openings) }
+        ensures rest { IfOk result (λ made. All (Rests D.Receipt.is_steady made.0) made.1.items) }
+        ensures watch { IfOk result (λ made. All (λ pass. (knows D.failures pass).watched ≡ []) made.1.items) }
     {
+        let count = limits.clients + BACKGROUND_PASSES;
         let shards = empty_shards::<D::Receipt>(alloc, limits)?;
-        let (gates, passes) = Gates::new(alloc, shards, limits.clients + BACKGROUND_PASSES)?;
-        let passes = deal(alloc, &gates, passes, openings)?;
+        let (gates, passes) = Gates::new(alloc, shards, count)?;
+        let (epochs, seats) = Epochs::new(alloc, count)?;
+        let passes = deal(alloc, &gates, &epochs, passes, seats, openings)?;
         let engine = Engine {
             alloc,
             gates,
+            epochs,
             opening: PhantomData,
         };
         Ok((engine, passes))
     }
 
     /// Does what the call asks, whole or not at all, and tells its reply. It may wait for calls of other
-    /// passes on the stripes of its keys, and reads the pages that it wants through the pass's opening of the device while it
-    /// holds them. A transaction leaves nothing watched, whatever it is answered.
+    /// passes on the stripes of its keys. The pages that it wants are read through the pass's opening of the device while nobody
+    /// waits for these stripes; where it wants further ones after three such reads, they are read while it holds them. A
+    /// transaction leaves nothing watched, whatever it is answered.
     ///
     /// # Errors
     ///
@@ -127,8 +138,11 @@ impl<D: Device> Engine<D> {
             rt,
             self.alloc,
             &self.gates,
+            &self.epochs,
             &mut pass.gates,
             &mut pass.device,
+            &mut pass.seat,
+            &mut pass.staged,
             call,
             latch,
         );
@@ -161,8 +175,11 @@ impl<D: Device> Engine<D> {
             rt,
             self.alloc,
             &self.gates,
+            &self.epochs,
             &mut pass.gates,
             &mut pass.device,
+            &mut pass.seat,
+            &mut pass.staged,
             key,
             latch,
         );
@@ -205,8 +222,8 @@ impl<D: Device> Engine<D> {
         answer
     }
 
-    /// The same as [`submit`](Engine::submit) without waiting: each stripe of the call is tried once. A call
-    /// that is answered was told of no stripe that it was another pass's.
+    /// The same as [`submit`](Engine::submit) without waiting: each stripe of the call is tried once, and pages are read while
+    /// they are held. A call that is answered was told of no stripe that it was another pass's.
     ///
     /// # Errors
     ///
@@ -228,6 +245,7 @@ impl<D: Device> Engine<D> {
             &self.gates,
             &mut pass.gates,
             &mut pass.device,
+            &mut pass.staged,
             call,
         )
     }

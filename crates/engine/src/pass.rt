@@ -1,12 +1,21 @@
 //! The right to call an engine.
 
-use device::Device;
+use device::{Device, Shows};
+use epoch::EpochSeat;
+use hybrid::Staged;
 use plans::shard::Shard;
 
 /// The right to call an [`Engine`](crate::Engine), for one session at a time, with an opening of the device of its own. It
 /// has a number, by which the entries of its calls are known in the history.
+///
+/// It has a seat of the engine's epochs, so that a page that it reads outside the stripes stays where it is meanwhile, and
+/// the memory of the pages that it reads, which serves from call to call.
 #[derive(Drop)]
 pub struct Pass<D: Device> {
     pub(crate) gates: gates::Pass<Shard<D::Receipt>>,
     pub(crate) device: D,
+    /// None only during a stay.
+    pub(crate) seat: Option<EpochSeat>,
+    /// Empty between calls.
+    pub(crate) staged: Staged<D::Receipt>,
 }

@@ -1,32 +1,39 @@
 //! The short ways of a GET and of a SET without an option, whose key and value stay the caller's.
 
-ghost use Rattle.std.specs.Prelude.{◌≡◌, [], ℕ, false};
+ghost use Rattle.std.specs.Prelude.{◌≡◌, [], ℕ, false, IfErr, IfNone, IfOk, IfSome, OnErr, OnOk};
+ghost use Rattle.epoch.specs.Seats.{IsInside};
+ghost use Rattle.hybrid.specs.Staging.{AreRight};
 ghost use Rattle.words.specs.declared.history.Operation.TheVariants.{Run};
 ghost use Rattle.words.specs.Bounds.{IsBounded};
 ghost use Rattle.words.specs.History.{History, due, keys_named, too_much};
 ghost use Rattle.words.specs.Session.{line_reply};
-ghost use Rattle.gates.specs.Passes.{IsResting, KeysHeld, known, stripes_of};
+ghost use Rattle.gates.specs.Passes.{IsResting, KeysHeld, Learned, ToldBusy, known, stripes_of};
+ghost use Rattle.gates.specs.Sets.{AreBelow};
 ghost use Rattle.gates.specs.Helds.{HasCommitted, IsOpen, gates_of, has_committed, held_parts, known_to, operation_asked};
 ghost use Rattle.gates.specs.declared.report.Report.TheVariants.{Nothing};
 ghost use Rattle.transact.specs.Calls.{answer_of, answer_with, asked_of};
 ghost use Rattle.transact.specs.Plans.{IsPlan};
 ghost use Rattle.transact.specs.Submits.{IfFault, IfReply, asked_for, stripes_asked};
 ghost use Rattle.engine.specs.Calls.{IsDone, IsUndone, promises_of};
-ghost use Rattle.engine.specs.Entering.{MayBeGiven, MayEnter, given};
+ghost use Rattle.engine.specs.Entering.{MayBeGiven, MayEnter, WasCold, given};
 ghost use Rattle.engine.specs.Memory.{get_call, set_call};
-ghost use Rattle.engine.specs.Passes.{know};
+ghost use Rattle.engine.specs.Passes.{HasSeat, know};
 
 use crate::enter::{Stopped, told_of};
+use crate::outside::{ROUNDS, read_outside};
 use device::{Device, Shows};
-use gates::{Asks, CommitsWornOut, Gates, Held, Latch, Pass, Point, Report, Says};
+use epoch::{EpochSeat, Epochs, Inside};
+use gates::{Asks, CommitsWornOut, Gates, Held, Latch, Pass, Point, Report, Says, Sorted};
+use hybrid::Staged;
 use plans::laws::{stripes_hold_keys, writes_install_a_command};
-use plans::reading::value_held;
+use plans::reading::value_staged;
 use plans::shard::Shard;
 use plans::short::{install_set, reserve_set};
+use plans::stop::{Receipts, Stop};
 use std::alloc::Global;
 use std::sync::Wait;
-use transact::plan::weighs_too_much;
 use transact::stripes::stripe_of_key;
+use transact::weight::weighs_too_much;
 use words::command::{Command, When};
 use words::reply::{Fault, Line, Refusal};
 use words::word::Word;
@@ -68,7 +75,8 @@ impl Asks for Setting<'_> {
     ghost asked = { setting_asked };
 }
 
-/// Runs a GET of a pass over the gates. It is answered by what the key has.
+/// Runs a GET of a pass over the gates. It is answered by what the key has. Where it wants a page, it gives its stripe back,
+/// reads outside and looks anew, at most three times; then it reads while it holds the stripe.
 ///
 /// # Errors
 ///
@@ -77,26 +85,200 @@ pub(crate) fn submit_get<T: Wait, L: Latch, R: Shows, D: Device<Receipt = R>>(
     rt: &T,
     alloc: Global,
     gates: &Gates<Shard<R>>,
+    epochs: &Epochs,
     pass: &mut Pass<Shard<R>>,
     device: &mut D,
+    seat: &mut Option<EpochSeat>,
+    staged: &mut Staged<R>,
     key: &Word,
     latch: &L,
 ) -> Result<Option<Word>, Fault>
     requires rests { IsResting R.is_steady gates.now pass.old }
     requires place { IsBounded (Command.Get key.now) }
+    requires seat { HasSeat epochs.now seat.old }
+    requires none { staged.old ≡ [] }
+    ensures rests { IsResting R.is_steady gates.now pass.new }
+    ensures seat { HasSeat epochs.now seat.new }
+    ensures none { staged.new ≡ [] }
+    ensures done { IfReply (answer_with result) (λ reply. IsDone (stripes_asked (stripes_of gates.now) (get_call key.now)) (asked_of (get_call key.now)) reply (know (known pass.old) (D.failures device.old)) (know (known pass.new) (D.failures device.new))) }
+    ensures undone { IfFault (answer_with result) (λ fault. IsUndone (promises_of R.is_steady R.lends) (stripes_asked (stripes_of gates.now) (get_call key.now)) (asked_of (get_call key.now)) fault (know (known pass.old) (D.failures device.old)) (know (known pass.new) (D.failures device.new))) }
+{
+    let answer = get_in_rounds(
+        rt, alloc, gates, epochs, pass, device, seat, staged, key, latch,
+    );
+    staged.clear();
+    answer
+}
+
+/// Runs a GET in rounds, until one answers it. From the first page that it wants until the answer it has a stay.
+fn get_in_rounds<T: Wait, L: Latch, R: Shows, D: Device<Receipt = R>>(
+    rt: &T,
+    alloc: Global,
+    gates: &Gates<Shard<R>>,
+    epochs: &Epochs,
+    pass: &mut Pass<Shard<R>>,
+    device: &mut D,
+    seat: &mut Option<EpochSeat>,
+    staged: &mut Staged<R>,
+    key: &Word,
+    latch: &L,
+) -> Result<Option<Word>, Fault>
+    requires rests { IsResting R.is_steady gates.now pass.old }
+    requires place { IsBounded (Command.Get key.now) }
+    requires seat { HasSeat epochs.now seat.old }
+    requires right { R.is_steady → AreRight staged.old }
+    ensures rests { IsResting R.is_steady gates.now pass.new }
+    ensures seat { HasSeat epochs.now seat.new }
+    ensures done { IfReply (answer_with result) (λ reply. IsDone (stripes_asked (stripes_of gates.now) (get_call key.now)) (asked_of (get_call key.now)) reply (know (known pass.old) (D.failures device.old)) (know (known pass.new) (D.failures device.new))) }
+    ensures undone { IfFault (answer_with result) (λ fault. IsUndone (promises_of R.is_steady R.lends) (stripes_asked (stripes_of gates.now) (get_call key.now)) (asked_of (get_call key.now)) fault (know (known pass.old) (D.failures device.old)) (know (known pass.new) (D.failures device.new))) }
+{
+    let stripes = gates.stripes();
+    let wanted = stripe_of_key(key, stripes);
+    match first_get(
+        rt, alloc, gates, epochs, pass, device, seat, staged, &wanted, key, latch,
+    ) {
+        Ok(answer) => answer,
+        Err(inside) => {
+            let answer = later_gets(rt, alloc, gates, pass, device, staged, &wanted, key, latch);
+            *seat = Some(epochs.leave(inside));
+            answer
+        }
+    }
+}
+
+/// The first round: the GET in one hold of its stripe. Where it wants a page, a stay begins, the stripe is given back, and the
+/// page is read while nobody waits for it.
+///
+/// # Errors
+///
+/// The stay, where a page was read and there is no answer yet.
+fn first_get<T: Wait, L: Latch, R: Shows, D: Device<Receipt = R>>(
+    rt: &T,
+    alloc: Global,
+    gates: &Gates<Shard<R>>,
+    epochs: &Epochs,
+    pass: &mut Pass<Shard<R>>,
+    device: &mut D,
+    seat: &mut Option<EpochSeat>,
+    staged: &mut Staged<R>,
+    wanted: &Sorted,
+    key: &Word,
+    latch: &L,
+) -> Result<Result<Option<Word>, Fault>, Inside>
+    requires rests { IsResting R.is_steady gates.now pass.old }
+    requires place { IsBounded (Command.Get key.now) }
+    requires wanted { wanted.now ≡ stripes_asked (stripes_of gates.now) (get_call key.now) }
+    requires below { AreBelow (stripes_of gates.now) wanted.now }
+    requires seat { HasSeat epochs.now seat.old }
+    requires right { R.is_steady → AreRight staged.old }
+    ensures rests { IsResting R.is_steady gates.now pass.new }
+    ensures seat { OnOk result (HasSeat epochs.now seat.new) }
+    ensures right { R.is_steady → AreRight staged.new }
+    ensures done { IfOk result (λ answer. IfReply (answer_with answer) (λ reply. IsDone (stripes_asked (stripes_of gates.now) (get_call key.now)) (asked_of (get_call key.now)) reply (know (known pass.old) (D.failures device.old)) (know (known pass.new) (D.failures device.new)))) }
+    ensures undone { IfOk result (λ answer. IfFault (answer_with answer) (λ fault. IsUndone (promises_of R.is_steady R.lends) (stripes_asked (stripes_of gates.now) (get_call key.now)) (asked_of (get_call key.now)) fault (know (known pass.old) (D.failures device.old)) (know (known pass.new) (D.failures device.new)))) }
+    ensures stay { IfErr result (IsInside epochs.now) }
+    ensures learned { OnErr result (Learned (known pass.old) (known pass.new)) }
+    ensures told { OnErr result (ToldBusy (stripes_asked (stripes_of gates.now) (get_call key.now)) (known pass.old) (known pass.new)) }
+    ensures no_fault { OnErr result (D.failures device.new ≡ D.failures device.old) }
+{
+    stripes_hold_keys::<R>();
+    let stripes = gates.stripes();
+    let mut held = gates.take(rt, pass, wanted);
+    match enter_get(alloc, &mut held, stripes, device, key, staged, false, latch) {
+        Ok(answer) => {
+            held.give(&Report::Nothing);
+            Ok(answer)
+        }
+        Err(receipts) => {
+            let Some(own) = seat.take() else {
+                unreachable!()
+            };
+            let inside = epochs.enter(rt, own);
+            match read_outside(held, device, staged, receipts) {
+                Ok(()) => Err(inside),
+                Err(stop) => {
+                    *seat = Some(epochs.leave(inside));
+                    Ok(Err(told_of(stop).fault))
+                }
+            }
+        }
+    }
+}
+
+/// Runs a GET in the rounds after its first one, until one answers it.
+fn later_gets<T: Wait, L: Latch, R: Shows, D: Device<Receipt = R>>(
+    rt: &T,
+    alloc: Global,
+    gates: &Gates<Shard<R>>,
+    pass: &mut Pass<Shard<R>>,
+    device: &mut D,
+    staged: &mut Staged<R>,
+    wanted: &Sorted,
+    key: &Word,
+    latch: &L,
+) -> Result<Option<Word>, Fault>
+    requires rests { IsResting R.is_steady gates.now pass.old }
+    requires place { IsBounded (Command.Get key.now) }
+    requires wanted { wanted.now ≡ stripes_asked (stripes_of gates.now) (get_call key.now) }
+    requires below { AreBelow (stripes_of gates.now) wanted.now }
+    requires right { R.is_steady → AreRight staged.old }
     ensures rests { IsResting R.is_steady gates.now pass.new }
     ensures done { IfReply (answer_with result) (λ reply. IsDone (stripes_asked (stripes_of gates.now) (get_call key.now)) (asked_of (get_call key.now)) reply (know (known pass.old) (D.failures device.old)) (know (known pass.new) (D.failures device.new))) }
     ensures undone { IfFault (answer_with result) (λ fault. IsUndone (promises_of R.is_steady R.lends) (stripes_asked (stripes_of gates.now) (get_call key.now)) (asked_of (get_call key.now)) fault (know (known pass.old) (D.failures device.old)) (know (known pass.new) (D.failures device.new))) }
 {
+    let mut round = 1;
+    'rounds: loop {
+        let reads = round == ROUNDS;
+        if let Some(answer) = later_get(
+            rt, alloc, gates, pass, device, staged, wanted, key, reads, latch,
+        ) {
+            return answer;
+        }
+        round += 1;
+    }
+}
+
+/// One more round. A page that is wanted is read while the stripe is held where `reads`; else outside, and there is no answer
+/// yet.
+fn later_get<T: Wait, L: Latch, R: Shows, D: Device<Receipt = R>>(
+    rt: &T,
+    alloc: Global,
+    gates: &Gates<Shard<R>>,
+    pass: &mut Pass<Shard<R>>,
+    device: &mut D,
+    staged: &mut Staged<R>,
+    wanted: &Sorted,
+    key: &Word,
+    reads: bool,
+    latch: &L,
+) -> Option<Result<Option<Word>, Fault>>
+    requires rests { IsResting R.is_steady gates.now pass.old }
+    requires place { IsBounded (Command.Get key.now) }
+    requires wanted { wanted.now ≡ stripes_asked (stripes_of gates.now) (get_call key.now) }
+    requires below { AreBelow (stripes_of gates.now) wanted.now }
+    requires right { R.is_steady → AreRight staged.old }
+    ensures rests { IsResting R.is_steady gates.now pass.new }
+    ensures right { R.is_steady → AreRight staged.new }
+    ensures done { IfSome result (λ answer. IfReply (answer_with answer) (λ reply. IsDone (stripes_asked (stripes_of gates.now) (get_call key.now)) (asked_of (get_call key.now)) reply (know (known pass.old) (D.failures device.old)) (know (known pass.new) (D.failures device.new)))) }
+    ensures undone { IfSome result (λ answer. IfFault (answer_with answer) (λ fault. IsUndone (promises_of R.is_steady R.lends) (stripes_asked (stripes_of gates.now) (get_call key.now)) (asked_of (get_call key.now)) fault (know (known pass.old) (D.failures device.old)) (know (known pass.new) (D.failures device.new)))) }
+    ensures outside { IfNone result (reads ≡ false) }
+    ensures learned { IfNone result (Learned (known pass.old) (known pass.new)) }
+    ensures told { IfNone result (ToldBusy (stripes_asked (stripes_of gates.now) (get_call key.now)) (known pass.old) (known pass.new)) }
+    ensures no_fault { IfNone result (D.failures device.new ≡ D.failures device.old) }
+{
     stripes_hold_keys::<R>();
     let stripes = gates.stripes();
-    let number = pass.number();
-    let wanted = stripe_of_key(key, stripes);
-    let mut held = gates.take(rt, pass, &wanted);
-    latch.at(number, Point::Holding);
-    let answer = enter_get(alloc, &mut held, stripes, device, key);
-    held.give(&Report::Nothing);
-    answer
+    let mut held = gates.take(rt, pass, wanted);
+    match enter_get(alloc, &mut held, stripes, device, key, staged, reads, latch) {
+        Ok(answer) => {
+            held.give(&Report::Nothing);
+            Some(answer)
+        }
+        Err(receipts) => match read_outside(held, device, staged, receipts) {
+            Ok(()) => None,
+            Err(stop) => Some(Err(told_of(stop).fault)),
+        },
+    }
 }
 
 /// Runs a SET without an option of a pass over the gates. Its value is copied into the store. It is answered by a line.
@@ -163,29 +345,42 @@ pub(crate) fn enter_set<R: Shows, D: Device<Receipt = R>>(
     }
 }
 
-/// Runs a GET over the parts that are held: it tells the one copy that is made of the value. Pages that are wanted for it
-/// are read meanwhile.
-fn enter_get<R: Shows, D: Device<Receipt = R>>(
+/// Runs a GET over the parts that are held: it tells the one copy that is made of the value. Where a page is wanted that is
+/// not among the staged ones, it is read meanwhile if `reads`.
+///
+/// # Errors
+///
+/// Copies of the receipts of the pages that are wanted, where they may not be read: nothing has changed then.
+fn enter_get<L: Latch, R: Shows, D: Device<Receipt = R>>(
     alloc: Global,
     held: &mut Held<'_, Shard<R>>,
     stripes: usize,
     device: &mut D,
     key: &Word,
-) -> Result<Option<Word>, Fault>
+    staged: &mut Staged<R>,
+    reads: bool,
+    latch: &L,
+) -> Result<Result<Option<Word>, Fault>, Receipts<R>>
     requires may { MayEnter R.is_steady stripes (get_call key.now) held.old }
     requires place { IsBounded (Command.Get key.now) }
+    requires right { R.is_steady → AreRight staged.old }
+    ensures right { R.is_steady → AreRight staged.new }
     ensures back { MayBeGiven R.is_steady false Nothing stripes held.old held.new }
-    ensures done { IfReply (answer_with result) (λ reply. IsDone [] (asked_of (get_call key.now)) reply (know (known_to held.old) (D.failures device.old)) (know (known_to held.new) (D.failures device.new))) }
-    ensures undone { IfFault (answer_with result) (λ fault. IsUndone (promises_of R.is_steady R.lends) [] (asked_of (get_call key.now)) fault (know (known_to held.old) (D.failures device.old)) (know (known_to held.new) (D.failures device.new))) }
+    ensures done { IfOk result (λ answer. IfReply (answer_with answer) (λ reply. IsDone [] (asked_of (get_call key.now)) reply (know (known_to held.old) (D.failures device.old)) (know (known_to held.new) (D.failures device.new)))) }
+    ensures undone { IfOk result (λ answer. IfFault (answer_with answer) (λ fault. IsUndone (promises_of R.is_steady R.lends) [] (asked_of (get_call key.now)) fault (know (known_to held.old) (D.failures device.old)) (know (known_to held.new) (D.failures device.new)))) }
+    ensures cold { OnErr result (WasCold R.is_steady R.lends reads stripes (get_call key.now) held.old held.new) }
+    ensures no_fault { OnErr result (D.failures device.new ≡ D.failures device.old) }
 {
     writes_install_a_command::<R>();
-    let value = match value_held(alloc, held, stripes, key, device) {
+    let value = match value_staged(alloc, held, stripes, key, staged, reads, device) {
         Ok(value) => value,
-        Err(stop) => return Err(told_of(stop).fault),
+        Err(Stop::Cold(receipts)) => return Err(receipts),
+        Err(stop) => return Ok(Err(told_of(stop).fault)),
     };
+    latch.at(held.number(), Point::Holding);
     match held.commit(&Getting { key }, &Found { value: &value }) {
-        Ok(_) => Ok(value),
-        Err(_) => Err(Fault::CommitsWornOut),
+        Ok(_) => Ok(Ok(value)),
+        Err(_) => Ok(Err(Fault::CommitsWornOut)),
     }
 }
 

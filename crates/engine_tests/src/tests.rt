@@ -25,6 +25,7 @@ use words::reply::{CommandReply, Fault, Item, Reply};
 use words::word::{OutOfMemory, Word, Words};
 
 mod moving;
+mod steps;
 mod trying;
 
 /// How often each of two threads adds to a key.

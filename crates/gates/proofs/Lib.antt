@@ -4,6 +4,7 @@ pub mod Watched
 pub mod Marks
 pub mod Asked
 pub mod Telling
+pub mod Trying
 pub mod Steps
 pub mod Bits
 pub mod Holding

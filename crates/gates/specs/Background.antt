@@ -34,6 +34,12 @@ IsStep (Clean refused) was now =
     (was.oldest < now.oldest) ⊎ (now.retired ≡ was.retired + 1) ⊎ (now.drained ≡ was.drained + 1)
     ⊎ ((now.drained + 1 ≡ was.drained) × (now.unreleased + 1 ≡ was.unreleased))
 
+-- where a drain was refused, a word that was read has blocked it since the stripe was taken
+abbrev pub AreRefused : Work → (was now : Pages) → Type 0
+AreRefused Flush was now = Unit {0}
+AreRefused Evict was now = Unit {0}
+AreRefused (Clean refused) was now = refused.drain ≡ true → was.refusals < now.refusals
+
 module _ {T : Type 0} where
   -- the part of a stripe is such
   pub record IsAt (parts : List (ℕ × T)) (stripe : ℕ) (P : T → Type 0) : Type 0 where
@@ -45,5 +51,6 @@ module _ {T : Type 0} where
   abbrev pub IsToldOf : Meaning T → List (ℕ × (ℕ × T)) → List (ℕ × T) → Report → Type 0
   IsToldOf contents took parts report.Nothing = Unit {0}
   IsToldOf contents took parts (report.Full stripe) = IsAt parts stripe (λ part. IsFull (contents.pages part))
-  IsToldOf contents took parts (report.Idle stripe work) = IsAt parts stripe (λ part. IsIdle work (contents.pages part))
+  IsToldOf contents took parts (report.Idle stripe work) =
+      IsAt parts stripe (λ part. IsIdle work (contents.pages part) × (was : ℕ × T) × (part_at took stripe ≡ Some was) × AreRefused work (contents.pages was.1) (contents.pages part))
   IsToldOf contents took parts (report.Done stripe work) = IsAt parts stripe (λ part. (was : ℕ × T) × (part_at took stripe ≡ Some was) × IsStep work (contents.pages was.1) (contents.pages part))

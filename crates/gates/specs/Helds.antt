@@ -95,6 +95,26 @@ module _ {T : Type 0} where
     pub worn : OnErr result (WasTold Worn (known_to before) (known_to later))
     pub none : OnErr result (has_committed later ≡ false)
 
+  -- A pass has taken these stripes of the gates with one try each, and nothing else. What it knows only grew, its own entries are the same, it
+  -- was told nothing, and each part fits, as in `HasTaken`.
+  pub record TookAll (contents : Meaning T) (gates : Gates T) (stripes : List ℕ) (before now : Pass T) : Type 0 where
+    pub holding : IsHolding contents.trusted gates now
+    pub all : stripes_in now ≡ stripes
+    pub has : (stripe : ℕ) → IsSome (part_at (parts_in now) stripe) ↔ (0 < times stripe stripes)
+    pub learned : Learned (known before) (known now)
+    pub notes : (known now).notes ≡ (known before).notes
+    pub fit : AllFit contents (stripes_of gates) (known now) (taken_in now) (parts_in now)
+    pub lent : AreAsTaken (taken_in now) (parts_in now)
+    pub rising : takes_in now ≡ reverse stripes
+
+  -- what the pass behind a reference has is held, and nothing was committed since
+  pub record HasHeld (trusted : Type 0) (gates : Gates T) (pass : MutBor (Pass T)) (held : Held T) : Type 0 where
+    pub gates_are : held.gates.now ≡ gates
+    pub pass_is : held.pass.ghost_name ≡ pass.ghost_name
+    pub same : held.pass.now ≡ pass.now
+    pub is_open : IsOpen trusted held
+    pub fresh : held.committed ≡ false
+
   -- The pass behind a reference has taken these stripes of the gates, and nothing else. What it knows only grew, its own entries are the
   -- same, it was told of stripes of these alone that others had them, and each part fits: it reads as its part of what the history leaves that it has seen, and its marks say which of the pass's
   -- watched keys were written in it.

@@ -13,6 +13,8 @@ pub record Pages : Type 0 where
   pub unlinked : ℕ
   pub retired : ℕ
   pub drained : ℕ
+  -- how often a word that was read blocked the drain of a place that is retired
+  pub refusals : ℕ
   -- places that were taken and not released, and the most of them
   pub unreleased : ℕ
   pub places : ℕ

@@ -140,7 +140,7 @@ impl<T: Part> Gates<T> {
 
     /// Both passes have then seen one history, which begins with what each had seen, and has the
     /// entries of each.
-    pub fn meet(&self, first: &mut Pass<T>, second: &mut Pass<T>)
+    pub fn meet<'a>(&'a self, first: &'a mut Pass<T>, second: &'a mut Pass<T>)
         requires first { IsResting T.meaning.trusted self.now first.old }
         requires second { IsResting T.meaning.trusted self.now second.old }
         ensures first { IsResting T.meaning.trusted self.now first.new }

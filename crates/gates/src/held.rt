@@ -22,20 +22,11 @@ pub struct Held<'a, T: Part> {
     pub(crate) committed: bool,
 }
 
-/// A stripe that another pass held when it was tried, and the pass that tried it, which holds nothing.
-#[derive(Drop)]
-pub struct Busy<'a, T> {
-    /// The stripe.
-    pub stripe: usize,
-    /// The pass.
-    pub pass: &'a mut Pass<T>,
-}
-
 impl<T: Part> Gates<T> {
     ghost use Rattle.gates.specs.declared.view.Note.TheVariants as note;
     ghost use Rattle.gates.specs.Sets.{times, AreBelow, part_at};
     ghost use Rattle.gates.specs.Passes.{stripes_of, known, parts_in, taken_in, takes_in, stripes_in, AllFit, AreAsTaken, IsHolding, IsResting, Learned, MayEnd, ToldBusy, WasTold, WasBusy, Committed, KeysHeld};
-    ghost use Rattle.gates.specs.Helds.{IsOpen, held_parts, HasTaken};
+    ghost use Rattle.gates.specs.Helds.{IsOpen, held_parts, HasHeld, HasTaken, TookAll};
     ghost use Rattle.atomic_table.specs.Table.{rest};
     ghost use Rattle.gates.specs.Plays.{kept};
     ghost use Rattle.gates.specs.Background.{notes_of};
@@ -120,20 +111,16 @@ impl<T: Part> Gates<T> {
         }
     }
 
-    /// Takes stripes, in rising order, with one try each.
+    /// Takes stripes, in rising order, with one try each. The pass has them then, and [`Gates::hold`] lends them.
     ///
     /// # Errors
     ///
-    /// [`Busy`] with the first stripe whose word was read as another pass's. Nothing is held then.
-    pub fn try_take<'a>(
-        &'a self,
-        pass: &'a mut Pass<T>,
-        stripes: &Sorted,
-    ) -> Result<Held<'a, T>, Busy<'a, T>>
+    /// The first stripe whose word was read as another pass's. The pass has none then.
+    pub fn try_take(&self, pass: &mut Pass<T>, stripes: &Sorted) -> Result<(), usize>
         requires own { IsResting T.meaning.trusted self.now pass.old }
         requires known { AreBelow (stripes_of self.now) stripes.now }
-        ensures ok { IfOk result (λ held. HasTaken T.meaning self.now stripes.now pass.entry held × ((known held.pass.now).notes ≡ (known pass.old).notes)) }
-        ensures busy { IfErr result (λ busy. (busy.pass.ghost_name ≡ pass.entry.ghost_name) × IsResting T.meaning.trusted self.now busy.pass.now × (0 < times busy.stripe stripes.now) × WasBusy busy.stripe (known pass.old) (known busy.pass.now)) }
+        ensures ok { OnOk result (TookAll T.meaning self.now stripes.now pass.old pass.new) }
+        ensures busy { IfErr result (λ stripe. IsResting T.meaning.trusted self.now pass.new × (0 < times stripe stripes.now) × WasBusy stripe (known pass.old) (known pass.new)) }
     {
         stripes.rises();
         let mut left = stripes.again();
@@ -141,17 +128,26 @@ impl<T: Part> Gates<T> {
         while let Some((stripe, others)) = left.split_first() {
             if !self.try_stripe(pass, stripe) {
                 self.give_all(pass, Order::of(taken));
-                return Err(Busy { stripe, pass });
+                return Err(stripe);
             }
             taken = taken.with(stripe);
             left = others;
         }
-        Ok(Held {
+        Ok(())
+    }
+
+    /// What the pass has taken, which is these stripes.
+    pub fn hold<'a>(&'a self, pass: &'a mut Pass<T>, stripes: &Sorted) -> Held<'a, T>
+        requires holding { IsHolding T.meaning.trusted self.now pass.old }
+        requires all { stripes_in pass.old ≡ stripes.now }
+        ensures { HasHeld T.meaning.trusted self.now pass.entry result }
+    {
+        Held {
             gates: self,
             pass,
-            order: Order::of(taken),
+            order: Order::of(stripes.again()),
             committed: false,
-        })
+        }
     }
 
     /// Takes stripes, in rising order, and waits where others hold them.

@@ -17,7 +17,7 @@ pub mod watch_laws;
 
 pub use asks::Asks;
 pub use gates::{CommitsWornOut, Gates, Pass};
-pub use held::{Busy, Held};
+pub use held::Held;
 pub use latch::{Latch, Open, Point};
 pub use part::{Part, Parts};
 pub use report::Report;

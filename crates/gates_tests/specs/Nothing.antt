@@ -18,6 +18,7 @@ no_pages =
       unlinked = 0;
       retired = 0;
       drained = 0;
+      refusals = 0;
       unreleased = 0;
       places = 1;
     }

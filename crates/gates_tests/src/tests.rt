@@ -202,11 +202,11 @@ fn busy_one(gates: &Gates<Blank>, pass: &mut Pass<Blank>, stripes: &Sorted) -> O
     ensures { Rests gates.now pass.new }
 {
     match gates.try_take(pass, stripes) {
-        Ok(held) => {
-            held.give(&Report::Nothing);
+        Ok(()) => {
+            gates.hold(pass, stripes).give(&Report::Nothing);
             None
         }
-        Err(busy) => Some(busy.stripe),
+        Err(stripe) => Some(stripe),
     }
 }
 

@@ -7,6 +7,7 @@ ghost use Rattle.frames.specs.Resident.{IsResident, next_number, page_of};
 ghost use Rattle.hybrid.specs.HybridLog.{HybridLog, IsHybridLog, IsSealed, count_kept, empty_log, free, log_of, receipt_at, receipt_of};
 ghost use Rattle.hybrid.specs.Log.{contents};
 ghost use Rattle.hybrid.specs.Reserving.{IsFull};
+ghost use Rattle.hybrid.specs.declared.stripe.TheConstants.{CALL_PAGES};
 
 use device::Shows;
 use frames::{Frames, NUMBER_BITS};
@@ -167,6 +168,20 @@ impl<R: Shows> Stripe<R> {
         ensures { IsTrue result ↔ IsFull self.now }
     {
         self.unreleased >= self.places || self.next_number() > LAST_PAGE
+    }
+
+    /// Whether at least half of the places are taken and not released.
+    pub fn is_half_used(&self) -> bool
+        ensures { IsTrue result ↔ (self.now.places ≤ self.now.unreleased + self.now.unreleased) }
+    {
+        self.unreleased >= self.places - self.unreleased
+    }
+
+    /// Whether fewer frames are free than pages that a call can open.
+    pub fn is_short_of_frames(&self) -> bool
+        ensures { IsTrue result ↔ (free self.now < CALL_PAGES) }
+    {
+        self.free() < CALL_PAGES
     }
 
     /// The number of the oldest page.

@@ -4,6 +4,7 @@ pub mod Begun
 pub mod Keys
 pub mod Plans
 pub mod Logs
+pub mod Waits
 pub mod Rooms
 pub mod Grown
 pub mod Making
@@ -15,3 +16,5 @@ pub mod Hand
 pub mod Few
 pub mod Installed
 pub mod Held
+pub mod Counts
+pub mod Cleaned

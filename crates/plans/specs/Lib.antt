@@ -1,3 +1,5 @@
+pub mod Counted
+pub mod Cleaning
 pub mod Receipts
 pub mod Shards
 pub mod Rooms

@@ -1,7 +1,24 @@
 -- Receipts, as contracts see them.
-use Rattle.std.specs.Prelude.{ℕ, List}
+use Rattle.std.specs.Prelude.{ℕ, ◌+◌, List, [], ◌∷◌}
+use Rattle.epoch.specs.Seats.{refusals, retired_value}
+use Rattle.epoch.specs.declared.epochs.Retired.{Retired}
+use Rattle.device.specs.Releases.{released_value}
+use Rattle.device.specs.declared.releasable.Releasable.{Releasable}
 use Rattle.hybrid.specs.HybridLog.{Kept}
 
 -- a receipt, by what it has in common with its copies and the page that it shows
 abbrev pub kept_by : {R : Type 0} → (identity shown : R → List ℕ) → R → Kept
 kept_by {R} identity shown receipt = record { identity = identity receipt; shown = shown receipt }
+
+-- a receipt that was retired
+abbrev pub retired_by : {R : Type 0} → (identity shown : R → List ℕ) → Retired R → Kept
+retired_by identity shown retired = kept_by identity shown (retired_value retired)
+
+-- a receipt whose epoch is drained
+abbrev pub drained_by : {R : Type 0} → (identity shown : R → List ℕ) → Releasable R → Kept
+drained_by identity shown drained = kept_by identity shown (released_value drained)
+
+-- how often a word that was read blocked the drain of one of these
+abbrev pub refusals_of : {R : Type 0} → List (Retired R) → ℕ
+refusals_of [] = 0
+refusals_of (retired ∷ others) = refusals retired + refusals_of others

@@ -11,6 +11,7 @@ use Rattle.hybrid.specs.Log.{contents}
 use Rattle.gates.specs.Pages.{Pages}
 use Rattle.gates.specs.Rule.{Meaning}
 use Rattle.watch.specs.Marked.{marks_of}
+use Rattle.plans.specs.Counted.{Counted, Waiting, waiting_of}
 use Rattle.plans.specs.declared.shard.Shard.{Shard}
 
 -- what a write weighs that no later one hides
@@ -18,17 +19,25 @@ abbrev pub weigh : Write → ℕ
 weigh write = WEIGHT_OF_KEY + length write.0 + length (value_bytes write.1)
 
 module _ {R : Type 0} where
+  -- the log of a shard, with what becomes of its places on the device
+  abbrev pub shard_counted : Shard R → Counted
+  shard_counted shard = shard.log
+
+  -- a shard with another one
+  abbrev pub with_counted : Shard R → Counted → Shard R
+  with_counted shard counted = record shard { log = counted }
+
   -- the log of a shard
   abbrev pub shard_log : Shard R → HybridLog
-  shard_log shard = shard.log
+  shard_log shard = shard.log.log
 
-  -- a shard with another log
-  abbrev pub with_log : Shard R → HybridLog → Shard R
-  with_log shard log = record shard { log = log }
+  -- what a shard has beside its log
+  abbrev pub shard_waiting : Shard R → Waiting
+  shard_waiting shard = waiting_of shard.log
 
   -- the store that a shard stands for: what each key has
   abbrev pub shard_store : Shard R → Store
-  shard_store shard = contents (log_of shard.log)
+  shard_store shard = contents (log_of shard.log.log)
 
   -- the marks of a shard
   abbrev pub shard_marks : Shard R → Marks
@@ -37,16 +46,17 @@ module _ {R : Type 0} where
   -- the pages of a shard
   abbrev pub shard_pages : Shard R → Pages
   shard_pages shard = record {
-    oldest = shard.log.oldest;
-    first = shard.log.resident.oldest;
-    tail = next_number shard.log.resident - 1;
-    frames = shard.log.resident.frames;
-    receipts = map is_some shard.log.kept;
-    unlinked = 0;
-    retired = 0;
-    drained = 0;
-    unreleased = shard.log.unreleased;
-    places = shard.log.places;
+    oldest = shard.log.log.oldest;
+    first = shard.log.log.resident.oldest;
+    tail = next_number shard.log.log.resident - 1;
+    frames = shard.log.log.resident.frames;
+    receipts = map is_some shard.log.log.kept;
+    unlinked = length shard.log.unlinked;
+    retired = length shard.log.retired;
+    drained = length shard.log.drained;
+    refusals = shard.log.refusals;
+    unreleased = shard.log.log.unreleased;
+    places = shard.log.log.places;
   }
 
   -- what a shard stands for, where this is the premise of what is said of its values
@@ -60,3 +70,11 @@ module _ {R : Type 0} where
   -- the log of each part is as it was
   abbrev pub SameLogs : (before later : ℕ → Option (Shard R)) → Type 0
   SameLogs before later = (stripe : ℕ) → logs_of later stripe ≡ logs_of before stripe
+
+  -- what parts have beside their logs, each at its stripe
+  abbrev pub waits_of : (ℕ → Option (Shard R)) → ℕ → Option Waiting
+  waits_of parts stripe = option_map shard_waiting (parts stripe)
+
+  -- what each part has beside its log is as it was
+  abbrev pub SameWaits : (before later : ℕ → Option (Shard R)) → Type 0
+  SameWaits before later = (stripe : ℕ) → waits_of later stripe ≡ waits_of before stripe

@@ -16,7 +16,7 @@ ghost use Rattle.plans.specs.Devices.{StillServes};
 ghost use Rattle.plans.specs.Memory.{AreAtHand, IsAtHand};
 ghost use Rattle.plans.specs.Receipts.{kept_by};
 ghost use Rattle.plans.specs.Rooms.{GrowsAt, IsFullAt, IsRoomyAt, LacksRoomAt, ShedsAt, ShedsFewAt};
-ghost use Rattle.plans.specs.Shards.{SameLogs, logs_of, shard_log, shard_meaning, shard_store, weigh};
+ghost use Rattle.plans.specs.Shards.{SameLogs, SameWaits, logs_of, shard_log, shard_meaning, shard_store, weigh};
 ghost use Rattle.plans.specs.Stops.{AreCold, HasFound, IfCold, IfFull, IfNoMemory, IsNeeded, IsWanted, IsWantedFor, IsNotEmpty, Each, faults};
 
 use crate::shard::Shard;
@@ -208,6 +208,7 @@ pub(crate) fn reserve_at<R: Shows, D: Device<Receipt = R>, P: Parts<Shard<R>>>(
     ensures lacks { OnErr result (LacksRoomAt stripe weight (logs_of (P.part_of parts.old)) (logs_of (P.part_of parts.new))) }
     ensures device { StillServes D.serves D.releases device.old device.new }
     ensures no_fault { OnOk result (D.failures device.new ≡ D.failures device.old) }
+    ensures waits { SameWaits (P.part_of parts.old) (P.part_of parts.new) }
     ensures open { P.is_open parts.new }
     ensures keeps { P.keeps parts.old parts.new }
 {
@@ -223,6 +224,7 @@ pub(crate) fn write<R: Shows, P: Parts<Shard<R>>>(parts: &mut P, stripes: usize,
     ensures became { Became (shard_meaning R.is_steady) stripes (write.now ∷ []) (touches (write.now ∷ [])) (P.part_of parts.old) (P.part_of parts.new) }
     ensures room { (weight : ℕ) → weigh write.now ≤ weight → IsRoomyAt (logs_of (P.part_of parts.old)) (striping.stripe_of stripes write.now.0) weight → IsRoomyAt (logs_of (P.part_of parts.new)) (striping.stripe_of stripes write.now.0) (weight - weigh write.now) }
     ensures grown { GrowsAt (striping.stripe_of stripes write.now.0) (weigh write.now) (logs_of (P.part_of parts.old)) (logs_of (P.part_of parts.new)) }
+    ensures waits { SameWaits (P.part_of parts.old) (P.part_of parts.new) }
     ensures open { P.is_open parts.new }
     ensures keeps { P.keeps parts.old parts.new }
 {
@@ -264,6 +266,7 @@ pub(crate) fn begin<R: Shows, P: Parts<Shard<R>>>(
     ensures err { OnErr result (Became (shard_meaning R.is_steady) stripes [] stays (P.part_of parts.old) (P.part_of parts.new)) }
     ensures begun { IfOk result (λ begun. begun ≡ is_none (joined_marks (shard_meaning R.is_steady) stripes (P.part_of parts.old) key.now seat)) }
     ensures logs { SameLogs (P.part_of parts.old) (P.part_of parts.new) }
+    ensures waits { SameWaits (P.part_of parts.old) (P.part_of parts.new) }
     ensures open { P.is_open parts.new }
     ensures keeps { P.keeps parts.old parts.new }
 {
@@ -283,6 +286,7 @@ pub(crate) fn clear<R: Shows, P: Parts<Shard<R>>>(
     requires there { IsSome (P.part_of parts.old (striping.stripe_of stripes key.now)) }
     ensures became { Became (shard_meaning R.is_steady) stripes [] (clears seat (key.now ∷ [])) (P.part_of parts.old) (P.part_of parts.new) }
     ensures logs { SameLogs (P.part_of parts.old) (P.part_of parts.new) }
+    ensures waits { SameWaits (P.part_of parts.old) (P.part_of parts.new) }
     ensures open { P.is_open parts.new }
     ensures keeps { P.keeps parts.old parts.new }
 {

@@ -7,7 +7,7 @@ ghost use Rattle.hybrid.specs.Writing.{AreFit};
 ghost use Rattle.transact.specs.Tables.{Became, touches};
 ghost use Rattle.plans.specs.declared.shard.Shard.{Shard};
 ghost use Rattle.plans.specs.Rooms.{AreRoomy, HaveGrown};
-ghost use Rattle.plans.specs.Shards.{logs_of, shard_meaning};
+ghost use Rattle.plans.specs.Shards.{SameWaits, logs_of, shard_meaning};
 
 use crate::cells::write;
 use crate::shard::Shard;
@@ -30,6 +30,7 @@ fn write_before<R: Shows, P: Parts<Shard<R>>>(
     ensures room { AreRoomy stripes (logs_of (P.part_of parts.new)) others.now }
     ensures became { (later : ℕ → Option (Shard R)) → Became (shard_meaning R.is_steady) stripes others.now (touches others.now) (P.part_of parts.new) later → Became (shard_meaning R.is_steady) stripes (next.now ∷ others.now) (touches (next.now ∷ others.now)) (P.part_of parts.old) later }
     ensures grown { (later : ℕ → Option HybridLog) → HaveGrown stripes others.now (logs_of (P.part_of parts.new)) later → HaveGrown stripes (next.now ∷ others.now) (logs_of (P.part_of parts.old)) later }
+    ensures waits { SameWaits (P.part_of parts.old) (P.part_of parts.new) }
     ensures open { P.is_open parts.new }
     ensures keeps { P.keeps parts.old parts.new }
 {
@@ -52,6 +53,7 @@ pub(crate) fn make_writes<R: Shows, P: Parts<Shard<R>>>(
     requires fits { AreFit writes.now }
     ensures became { Became (shard_meaning R.is_steady) stripes writes.now (touches writes.now) (P.part_of parts.old) (P.part_of parts.new) }
     ensures grown { HaveGrown stripes writes.now (logs_of (P.part_of parts.old)) (logs_of (P.part_of parts.new)) }
+    ensures waits { SameWaits (P.part_of parts.old) (P.part_of parts.new) }
     ensures open { P.is_open parts.new }
     ensures keeps { P.keeps parts.old parts.new }
 {

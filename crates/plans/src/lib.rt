@@ -7,6 +7,8 @@
 #![tactic(auto)]
 
 mod cells;
+pub mod cleaning;
+pub mod counted;
 mod find;
 mod install;
 pub mod laws;

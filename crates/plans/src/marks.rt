@@ -5,7 +5,7 @@ ghost use Rattle.plans.specs.declared.shard.Shard.{Shard};
 ghost use Rattle.transact.specs.Plans.{keys_ended};
 ghost use Rattle.transact.specs.Tables as tables;
 ghost use Rattle.transact.specs.Tables.{AreThere, Became, HasBegun, begins, clears, joined_marks, stays};
-ghost use Rattle.plans.specs.Shards.{SameLogs, shard_meaning};
+ghost use Rattle.plans.specs.Shards.{SameLogs, SameWaits, shard_meaning};
 
 use crate::cells::{begin, clear, is_marked};
 use crate::shard::Shard;
@@ -26,6 +26,7 @@ pub fn forget<R: Shows, P: Parts<Shard<R>>>(
     requires there { AreThere stripes (P.part_of parts.old) watching.now }
     ensures became { Became (shard_meaning R.is_steady) stripes [] (clears seat watching.now) (P.part_of parts.old) (P.part_of parts.new) }
     ensures logs { SameLogs (P.part_of parts.old) (P.part_of parts.new) }
+    ensures waits { SameWaits (P.part_of parts.old) (P.part_of parts.new) }
     ensures open { P.is_open parts.new }
     ensures keeps { P.keeps parts.old parts.new }
 {
@@ -44,6 +45,7 @@ pub(crate) fn end_watches<R: Shows, P: Parts<Shard<R>>>(
     requires there { AreThere stripes (P.part_of parts.old) (keys_ended call.now) }
     ensures became { Became (shard_meaning R.is_steady) stripes [] (clears seat (keys_ended call.now)) (P.part_of parts.old) (P.part_of parts.new) }
     ensures logs { SameLogs (P.part_of parts.old) (P.part_of parts.new) }
+    ensures waits { SameWaits (P.part_of parts.old) (P.part_of parts.new) }
     ensures open { P.is_open parts.new }
     ensures keeps { P.keeps parts.old parts.new }
 {
@@ -67,6 +69,7 @@ pub(crate) fn clear_all<R: Shows, P: Parts<Shard<R>>>(
     requires there { AreThere stripes (P.part_of parts.old) keys.now }
     ensures became { Became (shard_meaning R.is_steady) stripes [] (clears seat keys.now) (P.part_of parts.old) (P.part_of parts.new) }
     ensures logs { SameLogs (P.part_of parts.old) (P.part_of parts.new) }
+    ensures waits { SameWaits (P.part_of parts.old) (P.part_of parts.new) }
     ensures open { P.is_open parts.new }
     ensures keeps { P.keeps parts.old parts.new }
 {
@@ -117,6 +120,7 @@ pub(crate) fn begin_all<R: Shows, P: Parts<Shard<R>>>(
     ensures ok { OnOk result (Became (shard_meaning R.is_steady) stripes [] (begins seat keys.now) (P.part_of parts.old) (P.part_of parts.new)) }
     ensures begun { (before : ℕ → Option (Shard R)) → HasBegun (shard_meaning R.is_steady) stripes seat begun.old.items before (P.part_of parts.old) → HasBegun (shard_meaning R.is_steady) stripes seat begun.new.items before (P.part_of parts.new) }
     ensures logs { SameLogs (P.part_of parts.old) (P.part_of parts.new) }
+    ensures waits { SameWaits (P.part_of parts.old) (P.part_of parts.new) }
     ensures open { P.is_open parts.new }
     ensures keeps { P.keeps parts.old parts.new }
 {
@@ -142,6 +146,7 @@ fn begin_one<R: Shows, P: Parts<Shard<R>>>(
     ensures err { OnErr result (Became (shard_meaning R.is_steady) stripes [] stays (P.part_of parts.old) (P.part_of parts.new)) }
     ensures begun { (before : ℕ → Option (Shard R)) → HasBegun (shard_meaning R.is_steady) stripes seat begun.old.items before (P.part_of parts.old) → HasBegun (shard_meaning R.is_steady) stripes seat begun.new.items before (P.part_of parts.new) }
     ensures logs { SameLogs (P.part_of parts.old) (P.part_of parts.new) }
+    ensures waits { SameWaits (P.part_of parts.old) (P.part_of parts.new) }
     ensures open { P.is_open parts.new }
     ensures keeps { P.keeps parts.old parts.new }
 {

@@ -20,7 +20,7 @@ ghost use Rattle.plans.specs.Devices.{StillServes};
 ghost use Rattle.plans.specs.Memory.{AreAtHand, IsBriefOn, IsPlannedInPlace, NeedsNoMemoryOn};
 ghost use Rattle.plans.specs.Receipts.{kept_by};
 ghost use Rattle.plans.specs.Rooms.{AreRoomy, HaveGrown, MakesRoom, MeetsFull, ShedFew};
-ghost use Rattle.plans.specs.Shards.{SameLogs, logs_of, shard_meaning};
+ghost use Rattle.plans.specs.Shards.{SameLogs, SameWaits, logs_of, shard_meaning};
 ghost use Rattle.plans.specs.Sizes.{AllShort, AreSized, IsSized, IsPlaced};
 ghost use Rattle.plans.specs.Stops.{AreCold, Each, IfCold, IfFull, IfNoMemory, IsNeeded, faults, keys_looked_up};
 
@@ -96,6 +96,7 @@ pub fn plan<R: Shows, D: Device<Receipt = R>, P: Parts<Shard<R>>>(
     ensures spared { IfErr result (λ stop. IfNoMemory stop (SameLogs (P.part_of parts.old) (P.part_of parts.new) × (device.new ≡ device.old))) }
     ensures faults { IfErr result (λ stop. D.failures device.new ≡ D.failures device.old + faults stop) }
     ensures no_fault { OnOk result (D.failures device.new ≡ D.failures device.old) }
+    ensures waits { SameWaits (P.part_of parts.old) (P.part_of parts.new) }
     ensures open { P.is_open parts.new }
     ensures keeps { P.keeps parts.old parts.new }
 {
@@ -149,6 +150,7 @@ fn plan_one<R: Shows, D: Device<Receipt = R>, P: Parts<Shard<R>>>(
     ensures spared { IfErr result (λ stop. IfNoMemory stop ((P.part_of parts.new ≡ P.part_of parts.old) × (device.new ≡ device.old))) }
     ensures faults { IfErr result (λ stop. D.failures device.new ≡ D.failures device.old + faults stop) }
     ensures no_fault { OnOk result (D.failures device.new ≡ D.failures device.old) }
+    ensures waits { SameWaits (P.part_of parts.old) (P.part_of parts.new) }
     ensures open { P.is_open parts.new }
     ensures keeps { P.keeps parts.old parts.new }
 {
@@ -220,6 +222,7 @@ fn plan_copied<R: Shows, D: Device<Receipt = R>, P: Parts<Shard<R>>>(
     ensures spared { IfErr result (λ stop. IfNoMemory stop ((P.part_of parts.new ≡ P.part_of parts.old) × (device.new ≡ device.old))) }
     ensures faults { IfErr result (λ stop. D.failures device.new ≡ D.failures device.old + faults stop) }
     ensures no_fault { OnOk result (D.failures device.new ≡ D.failures device.old) }
+    ensures waits { SameWaits (P.part_of parts.old) (P.part_of parts.new) }
     ensures open { P.is_open parts.new }
     ensures keeps { P.keeps parts.old parts.new }
 {
@@ -272,6 +275,7 @@ fn plan_all<R: Shows, D: Device<Receipt = R>, P: Parts<Shard<R>>>(
     ensures spared { IfErr result (λ stop. IfNoMemory stop ((P.part_of parts.new ≡ P.part_of parts.old) × (device.new ≡ device.old))) }
     ensures faults { IfErr result (λ stop. D.failures device.new ≡ D.failures device.old + faults stop) }
     ensures no_fault { OnOk result (D.failures device.new ≡ D.failures device.old) }
+    ensures waits { SameWaits (P.part_of parts.old) (P.part_of parts.new) }
     ensures open { P.is_open parts.new }
     ensures keeps { P.keeps parts.old parts.new }
 {
@@ -328,6 +332,7 @@ fn plan_exec<R: Shows, D: Device<Receipt = R>, P: Parts<Shard<R>>>(
     ensures spared { IfErr result (λ stop. IfNoMemory stop ((P.part_of parts.new ≡ P.part_of parts.old) × (device.new ≡ device.old))) }
     ensures faults { IfErr result (λ stop. D.failures device.new ≡ D.failures device.old + faults stop) }
     ensures no_fault { OnOk result (D.failures device.new ≡ D.failures device.old) }
+    ensures waits { SameWaits (P.part_of parts.old) (P.part_of parts.new) }
     ensures open { P.is_open parts.new }
     ensures keeps { P.keeps parts.old parts.new }
 {
@@ -378,6 +383,7 @@ fn settle<R: Shows, D: Device<Receipt = R>, P: Parts<Shard<R>>>(
     ensures device { StillServes D.serves D.releases device.old device.new }
     ensures faults { IfErr result (λ stop. D.failures device.new ≡ D.failures device.old + faults stop) }
     ensures no_fault { OnOk result (D.failures device.new ≡ D.failures device.old) }
+    ensures waits { SameWaits (P.part_of parts.old) (P.part_of parts.new) }
     ensures open { P.is_open parts.new }
     ensures keeps { P.keeps parts.old parts.new }
 {
@@ -432,6 +438,7 @@ fn plan_watch<R: Shows, P: Parts<Shard<R>>>(
     ensures err { OnErr result (Became (shard_meaning R.is_steady) stripes [] stays (P.part_of parts.old) (P.part_of parts.new)) }
     ensures logs { SameLogs (P.part_of parts.old) (P.part_of parts.new) }
     ensures stop { IfErr result (λ stop. stop ≡ OutOfMemory) }
+    ensures waits { SameWaits (P.part_of parts.old) (P.part_of parts.new) }
     ensures open { P.is_open parts.new }
     ensures keeps { P.keeps parts.old parts.new }
 {
@@ -463,6 +470,7 @@ impl Planned {
         ensures became { Became (shard_meaning R.is_steady) stripes self.writes (touches_and_clears self.writes seat (keys_ended call.now)) (P.part_of parts.old) (P.part_of parts.new) }
         ensures grown { HaveGrown stripes self.writes (logs_of (P.part_of parts.old)) (logs_of (P.part_of parts.new)) }
         ensures reply { result ≡ self.reply }
+        ensures waits { SameWaits (P.part_of parts.old) (P.part_of parts.new) }
         ensures open { P.is_open parts.new }
         ensures keeps { P.keeps parts.old parts.new }
     {
@@ -486,6 +494,7 @@ impl Planned {
         ensures became { Became (shard_meaning R.is_steady) stripes [] (clears seat self.begun) (P.part_of parts.old) (P.part_of parts.new) }
         ensures undone { (before : ℕ → Option (Shard R)) → HasBegun (shard_meaning R.is_steady) stripes seat self.begun before (P.part_of parts.old) → Became (shard_meaning R.is_steady) stripes [] stays before (P.part_of parts.new) }
         ensures logs { SameLogs (P.part_of parts.old) (P.part_of parts.new) }
+        ensures waits { SameWaits (P.part_of parts.old) (P.part_of parts.new) }
         ensures open { P.is_open parts.new }
         ensures keeps { P.keeps parts.old parts.new }
     {

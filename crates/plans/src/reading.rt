@@ -1,6 +1,6 @@
 //! Pages that a plan wants are read while the stripes are held.
 
-ghost use Rattle.std.specs.Prelude.{◌≡◌, ◌≢◌, ◌+◌, ◌<◌, ◌≤◌, ◌++◌, ⊤, [], ◌∷◌, ℕ, List, Some, Option, IfOk, IfErr, OnOk, OnErr, length, true, unwrap_or};
+ghost use Rattle.std.specs.Prelude.{◌≡◌, ◌≢◌, ◌+◌, ◌<◌, ◌≤◌, ◌++◌, ⊤, [], ◌∷◌, ℕ, List, Some, Option, IfOk, IfErr, OnOk, OnErr, length, true, false, unwrap_or};
 ghost use Rattle.words.specs.History.{History, Pair, after};
 ghost use Rattle.words.specs.Store.{Write};
 ghost use Rattle.words.specs.Session.{Asked, operation_of, value_reply};
@@ -19,7 +19,7 @@ ghost use Rattle.plans.specs.Memory.{AreAtHand, NeedsNoMemoryOn};
 ghost use Rattle.plans.specs.Reading.{AreRead, HasMore, AreServed, IsServed, ServesEach};
 ghost use Rattle.plans.specs.Receipts.{kept_by};
 ghost use Rattle.plans.specs.Rooms.{AreRoomy, IsFullAt, MakesRoom, MeetsFull, ShedFew};
-ghost use Rattle.plans.specs.Shards.{SameLogs, logs_of, shard_meaning};
+ghost use Rattle.plans.specs.Shards.{SameLogs, SameWaits, logs_of, shard_meaning};
 ghost use Rattle.plans.specs.Sizes.{AllShort, IsPlaced};
 ghost use Rattle.plans.specs.Stops.{IfCold, IfFull, IfNoMemory, faults, keys_looked_up};
 
@@ -108,6 +108,7 @@ pub fn read_value<R: Shows, D: Device<Receipt = R>, P: Parts<Shard<R>>>(
     requires there { AreThere stripes (P.part_of parts.old) (key.now ∷ []) }
     ensures value { R.is_honest → AreRight staged.old → AreServed D.serves R.identity device.old (logs_of (P.part_of parts.old)) → IfOk result (λ value. value ≡ joined (shard_meaning R.is_steady) stripes (P.part_of parts.old) key.now) }
     ensures due { R.is_honest → AreRight staged.old → AreServed D.serves R.identity device.old (logs_of (P.part_of parts.old)) → IfOk result (λ value. (seen : History) → AllRead (shard_meaning R.is_steady) stripes (P.part_of parts.old) (after seen) → IsPlan seen (Run (Get key.now)) (value_reply value) []) }
+    ensures right { AreRight staged.old → AreServed D.serves R.identity device.old (logs_of (P.part_of parts.old)) → AreRight staged.new }
     ensures never_cold { IfErr result (λ stop. IfCold stop (λ receipts. ⊥)) }
     ensures never_full { IfErr result (λ stop. IfFull stop (λ stripe. ⊥)) }
     ensures memory { R.is_honest → AreRight staged.old → AreAtHand R.lends stripes (logs_of (P.part_of parts.old)) (key.now ∷ []) staged.old → length (unwrap_or (joined (shard_meaning R.is_steady) stripes (P.part_of parts.old) key.now) []) ≤ WORD_INLINE → IfErr result (λ stop. IfNoMemory stop ⊥) }
@@ -165,6 +166,7 @@ pub fn plan_reading<R: Shows, D: Device<Receipt = R>, P: Parts<Shard<R>>>(
     ensures reads { IfOk result (λ planned. (read : D) × IsReadAlone D.serves D.releases D.writes device.old read × MakesRoom D.wrote (kept_by R.identity R.shown) stripes stripes planned.writes (logs_of (P.part_of parts.old)) read (logs_of (P.part_of parts.new)) device.new) }
     ensures faults { IfErr result (λ stop. D.failures device.new ≡ D.failures device.old + faults stop) }
     ensures no_fault { OnOk result (D.failures device.new ≡ D.failures device.old) }
+    ensures waits { SameWaits (P.part_of parts.old) (P.part_of parts.new) }
     ensures open { P.is_open parts.new }
     ensures keeps { P.keeps parts.old parts.new }
 {
@@ -175,6 +177,87 @@ pub fn plan_reading<R: Shows, D: Device<Receipt = R>, P: Parts<Shard<R>>>(
             Err(stop) => return Err(stop),
         }
     }
+}
+
+/// Plans a call over a steady device. Where `reads`, the pages that it wants are read meanwhile, while the stripes are held;
+/// else it stops where it wants any.
+///
+/// # Errors
+///
+/// A [`Stop`]: [`Stop::Cold`] only where pages may not be read. Values and marks are then as they were.
+pub fn plan_staged<R: Shows, D: Device<Receipt = R>, P: Parts<Shard<R>>>(
+    alloc: Global,
+    parts: &mut P,
+    stripes: usize,
+    seat: u64,
+    call: &Call,
+    staged: &mut Staged<R>,
+    reads: bool,
+    device: &mut D,
+) -> Result<Planned, Stop<R>>
+    requires open { P.is_open parts.old }
+    requires some { 1 ≤ stripes }
+    requires most { stripes ≤ 64 }
+    requires entry { IsEntry call.now }
+    requires place { IsPlaced call.now }
+    requires there { AreThere stripes (P.part_of parts.old) (call_keys call.now) }
+    requires right { R.is_steady → AreRight staged.old }
+    ensures right { R.is_steady → AreRight staged.new }
+    ensures plan { R.is_steady → AllShort (joined (shard_meaning R.is_steady) stripes (P.part_of parts.old)) → IfOk result (λ planned. (asked : Asked) (seen : History) (watched : List Pair) → asked_of call.now ≡ Some asked → Stand (shard_meaning R.is_steady) stripes (P.part_of parts.old) seen seat watched → EndsAll call.now watched → AreWatched watched watched → IsPlan seen (operation_of watched asked) planned.reply planned.writes) }
+    ensures cold { IfErr result (λ stop. IfCold stop (λ receipts. (reads ≡ false) × (R.lends → ⊥) × (P.part_of parts.new ≡ P.part_of parts.old) × (device.new ≡ device.old))) }
+    ensures room { IfOk result (λ planned. AreRoomy stripes (logs_of (P.part_of parts.new)) planned.writes) }
+    ensures fits { IfOk result (λ planned. AreFit planned.writes) }
+    ensures ok { OnOk result (Became (shard_meaning R.is_steady) stripes [] (begins seat (keys_begun call.now)) (P.part_of parts.old) (P.part_of parts.new)) }
+    ensures begun { IfOk result (λ planned. HasBegun (shard_meaning R.is_steady) stripes seat planned.begun (P.part_of parts.old) (P.part_of parts.new)) }
+    ensures err { OnErr result (Became (shard_meaning R.is_steady) stripes [] stays (P.part_of parts.old) (P.part_of parts.new)) }
+    ensures full { IfErr result (λ stop. IfFull stop (IsFullAt (logs_of (P.part_of parts.new)))) }
+    ensures written { R.is_steady → AllShort (joined (shard_meaning R.is_steady) stripes (P.part_of parts.old)) → IfErr result (λ stop. IfFull stop (λ stripe. (asked : Asked) (seen : History) (watched : List Pair) → asked_of call.now ≡ Some asked → Stand (shard_meaning R.is_steady) stripes (P.part_of parts.old) seen seat watched → EndsAll call.now watched → AreWatched watched watched → made seen (operation_of watched asked) ≢ [])) }
+    ensures memory { R.is_steady → R.lends → NeedsNoMemoryOn (joined (shard_meaning R.is_steady) stripes (P.part_of parts.old)) call.now → IfErr result (λ stop. IfNoMemory stop ⊥) }
+    ensures faults { IfErr result (λ stop. D.failures device.new ≡ D.failures device.old + faults stop) }
+    ensures no_fault { OnOk result (D.failures device.new ≡ D.failures device.old) }
+    ensures open { P.is_open parts.new }
+    ensures keeps { P.keeps parts.old parts.new }
+{
+    if reads {
+        return plan_reading(alloc, parts, stripes, seat, call, staged, device);
+    }
+    plan(alloc, parts, stripes, seat, call, staged, device)
+}
+
+/// A copy of the value of a key, over a steady device. Where `reads`, the pages that are wanted for it are read meanwhile,
+/// while the stripes are held; else it stops where one is wanted.
+///
+/// # Errors
+///
+/// A [`Stop`], but for [`Stop::StoreFull`]; [`Stop::Cold`] only where pages may not be read.
+pub fn value_staged<R: Shows, D: Device<Receipt = R>, P: Parts<Shard<R>>>(
+    alloc: Global,
+    parts: &mut P,
+    stripes: usize,
+    key: &Word,
+    staged: &mut Staged<R>,
+    reads: bool,
+    device: &mut D,
+) -> Result<Option<Word>, Stop<R>>
+    requires open { P.is_open parts.old }
+    requires some { 1 ≤ stripes }
+    requires there { AreThere stripes (P.part_of parts.old) (key.now ∷ []) }
+    requires right { R.is_steady → AreRight staged.old }
+    ensures right { R.is_steady → AreRight staged.new }
+    ensures due { R.is_steady → IfOk result (λ value. (seen : History) → AllRead (shard_meaning R.is_steady) stripes (P.part_of parts.old) (after seen) → IsPlan seen (Run (Get key.now)) (value_reply value) []) }
+    ensures cold { IfErr result (λ stop. IfCold stop (λ receipts. (reads ≡ false) × (R.lends → ⊥) × (device.new ≡ device.old))) }
+    ensures never_full { IfErr result (λ stop. IfFull stop (λ stripe. ⊥)) }
+    ensures memory { R.is_steady → R.lends → length (unwrap_or (joined (shard_meaning R.is_steady) stripes (P.part_of parts.old) key.now) []) ≤ WORD_INLINE → IfErr result (λ stop. IfNoMemory stop ⊥) }
+    ensures same { P.part_of parts.new ≡ P.part_of parts.old }
+    ensures faults { IfErr result (λ stop. D.failures device.new ≡ D.failures device.old + faults stop) }
+    ensures no_fault { OnOk result (D.failures device.new ≡ D.failures device.old) }
+    ensures open { P.is_open parts.new }
+    ensures keeps { P.keeps parts.old parts.new }
+{
+    if reads {
+        return read_value(alloc, parts, stripes, key, staged, device);
+    }
+    value_of(alloc, parts, stripes, key, staged)
 }
 
 /// The same as [`plan_reading`], over a steady device, with no page that is staged before.

@@ -7,7 +7,7 @@ ghost use Rattle.transact.specs.Tables.{AreThere, Became, keys_written, stays};
 ghost use Rattle.plans.specs.Devices.{StillServes};
 ghost use Rattle.plans.specs.Receipts.{kept_by};
 ghost use Rattle.plans.specs.Rooms.{AreRoomy, IsFullAt, IsRoomyAt, LacksRoomAt, MakesRoom, MeetsFull, ShedFew, ShedsAt, ShedsFewAt, share};
-ghost use Rattle.plans.specs.Shards.{logs_of, shard_meaning, weigh};
+ghost use Rattle.plans.specs.Shards.{SameWaits, logs_of, shard_meaning, weigh};
 ghost use Rattle.plans.specs.Stops.{IfCold, IfFull, IfNoMemory, faults};
 
 use crate::cells::reserve_at;
@@ -84,6 +84,7 @@ fn reserve_share<R: Shows, D: Device<Receipt = R>, P: Parts<Shard<R>>>(
     ensures memory { IfErr result (λ stop. IfNoMemory stop ⊥) }
     ensures faults { IfErr result (λ stop. D.failures device.new ≡ D.failures device.old + faults stop) }
     ensures no_fault { OnOk result (D.failures device.new ≡ D.failures device.old) }
+    ensures waits { SameWaits (P.part_of parts.old) (P.part_of parts.new) }
     ensures open { P.is_open parts.new }
     ensures keeps { P.keeps parts.old parts.new }
 {
@@ -119,6 +120,7 @@ pub(crate) fn reserve_all<R: Shows, D: Device<Receipt = R>, P: Parts<Shard<R>>>(
     ensures memory { IfErr result (λ stop. IfNoMemory stop ⊥) }
     ensures faults { IfErr result (λ stop. D.failures device.new ≡ D.failures device.old + faults stop) }
     ensures no_fault { OnOk result (D.failures device.new ≡ D.failures device.old) }
+    ensures waits { SameWaits (P.part_of parts.old) (P.part_of parts.new) }
     ensures open { P.is_open parts.new }
     ensures keeps { P.keeps parts.old parts.new }
 {

@@ -1,40 +1,49 @@
-//! What one stripe has: the log of its keys, and the marks of those that are watched.
+//! What one stripe has: the log of its keys with its places on the device, and the marks of the keys that are watched.
 
-ghost use Rattle.std.specs.Prelude.{◌≡◌, ◌+◌, ◌-◌, ◌<◌, ◌≤◌, ⊤, ℕ, List, None, Some, IfOk, IfErr, OnOk, OnErr, IsSome, option_map, is_none, length};
-ghost use Rattle.std.specs.Map.{update};
+ghost use Rattle.std.specs.Prelude.{◌≡◌, ◌+◌, ◌-◌, ◌<◌, ◌≤◌, ⊤, ℕ, List, None, Some, IfOk, IfErr, OnOk, OnErr, IsSome, option_map, is_none, length, ◌↔◌, [], IsTrue};
+ghost use Rattle.std.specs.Bool.{OnTrue, OnFalse};
 ghost use Rattle.std.specs.Borrow.{sem, Lends};
-ghost use Rattle.hybrid.specs.contracts.stripe.Stripe.{the_row as log_row};
+ghost use Rattle.std.specs.Map.{update};
+ghost use Rattle.plans.specs.contracts.counted.CountedLog.{the_row as log_row};
 ghost use Rattle.plans.specs.contracts.shard.Shard.{the_row};
 ghost use Rattle.std.specs.Str.{bytes_eq};
 ghost use Rattle.words.specs.Watches.{touched};
 ghost use Rattle.words.specs.declared.limits.TheConstants.{VALUE_BYTES_MAX, WEIGHT_MAX};
+ghost use Rattle.gates.specs.Background.{IsIdle, IsStep};
+ghost use Rattle.gates.specs.Pages as pages;
+ghost use Rattle.gates.specs.declared.view.Work.TheVariants.{Clean, Evict, Flush};
+ghost use Rattle.gates.specs.declared.view.Refused.{Refused};
 ghost use Rattle.watch.specs.Marked.{are_these, begun_if, cleared};
-ghost use Rattle.hybrid.specs.HybridLog.{HasRoom, IsGrown, empty_log, receipt_at};
+ghost use Rattle.hybrid.specs.HybridLog.{HasRoom, IsGrown, empty_log, receipt_at, IsSealed, receipt_of, with_dropped};
 ghost use Rattle.hybrid.specs.Lookups.{Leads, MatchLookup};
 ghost use Rattle.hybrid.specs.Reserving.{IsFull, MatchFault};
 ghost use Rattle.hybrid.specs.Shedding.{HasShed};
 ghost use Rattle.hybrid.specs.Staging.{AreRight, IsMissing};
 ghost use Rattle.hybrid.specs.Log.{Fits};
 ghost use Rattle.plans.specs.Devices.{StillServes};
+ghost use Rattle.plans.specs.Counted.{HasDrained, HasFlushed, HasLanded, HasReleased, HasRetired, IsFirstSealed, MatchBegun, MatchMoved, WasRefused, claimed, with_flight, without_flight};
+ghost use Rattle.epoch.specs.Seats.{AdvancedPast, IsOutside, WasWorn, known};
 ghost use Rattle.plans.specs.Receipts.{kept_by};
 ghost use Rattle.plans.specs.Rooms.{LacksRoom, ShedsFew};
-ghost use Rattle.plans.specs.Shards.{shard_log, shard_marks, shard_store, weigh, with_log};
+ghost use Rattle.plans.specs.Shards.{shard_log, shard_marks, shard_store, weigh, shard_counted, shard_pages, shard_waiting, with_counted};
 
+use crate::counted::{Begun, CountedLog, Moved};
 use device::{Device, Shows};
+use epoch::{EpochSeat, Epochs};
 use gates::Part;
-use hybrid::{Fault, Lookup, Staged, Stripe};
+use hybrid::{Fault, Lookup, Staged};
+use records::Page;
 use std::alloc::Global;
 use strings::writes::Write;
 use watch::Marks;
 use words::limits::{Limits, VALUE_BYTES_MAX};
 use words::word::{OutOfMemory, Word};
 
-/// What one stripe has: the log of its keys, and the marks of those that are watched.
+/// What one stripe has: the log of its keys with its places on the device, and the marks of the keys that are watched.
 #[derive(Drop)]
 pub struct Shard<R: Shows> {
-    log: Stripe<R>,
+    pub(crate) log: CountedLog<R>,
     marks: Marks,
-    // Later: the places in flight, and the lists of unlinked, retired and drained receipts.
 }
 
 /// A write, as a log takes it.
@@ -74,13 +83,14 @@ impl<R: Shows> Shard<R> {
     ///
     /// # Errors
     ///
-    /// [`OutOfMemory`] where there is no memory for its frames or its buckets.
+    /// [`OutOfMemory`] where there is no memory for its frames, its buckets or the lists of its places.
     pub fn new(alloc: Global, limits: &Limits) -> Result<Shard<R>, OutOfMemory>
         ensures log { IfOk result (λ made. shard_log made ≡ empty_log limits.now.stripes limits.now.buckets limits.now.frames limits.now.places) }
         ensures empty { IfOk result (λ made. (key : List ℕ) → shard_store made key ≡ None) }
+        ensures counted { IfOk result (λ made. shard_counted made ≡ record { log = shard_log made; in_flight = 0; unlinked = []; retired = []; drained = []; refusals = 0 }) }
         ensures unmarked { IfOk result (λ made. (key : List ℕ) (number : ℕ) → shard_marks made key number ≡ None) }
     {
-        let log = Stripe::new(alloc, limits)?;
+        let log = CountedLog::new(alloc, limits)?;
         Ok(Shard {
             log,
             marks: Marks::new(alloc),
@@ -98,8 +108,9 @@ impl<R: Shows> Shard<R> {
         ensures lent { R.lends → MatchLookup result (λ value. ⊤) ⊤ (λ number. ⊥) }
     {
         // By the log's invariant no record has a longer value.
-        let _ = self.log.oldest();
-        match self.log.find(key.as_slice(), staged) {
+        let log = self.log.stripe();
+        let _ = log.oldest();
+        match log.find(key.as_slice(), staged) {
             Lookup::Found(value) => {
                 if value.len() <= VALUE_BYTES_MAX {
                     Lookup::Found(value)
@@ -112,17 +123,17 @@ impl<R: Shows> Shard<R> {
         }
     }
 
-    /// Its log.
-    pub fn log(&self) -> &Stripe<R>
-        ensures { result.now ≡ shard_log self.now }
+    /// Its log, with what becomes of its places.
+    pub fn counted(&self) -> &CountedLog<R>
+        ensures { result.now ≡ shard_counted self.now }
     {
         &self.log
     }
 
-    /// Its log, to write to. Its marks stay as they are.
-    pub fn log_mut(&mut self) -> &mut Stripe<R>
-        ensures* writes_back { sem 𝓛 (Lends (the_row R.row R.Shows) (log_row R.row R.Shows) self.entry result (with_log self.old)) }
-        ensures log { result.now ≡ shard_log self.old }
+    /// The same, to write to. Its marks stay as they are.
+    pub fn counted_mut(&mut self) -> &mut CountedLog<R>
+        ensures* writes_back { sem 𝓛 (Lends (the_row R.row R.Shows) (log_row R.row R.Shows) self.entry result (with_counted self.old)) }
+        ensures log { result.now ≡ shard_counted self.old }
     {
         &mut self.log
     }
@@ -131,7 +142,7 @@ impl<R: Shows> Shard<R> {
     pub fn receipt(&self, number: u64) -> Option<&R>
         ensures { option_map (λ receipt. kept_by R.identity R.shown receipt.now) result ≡ receipt_at (shard_log self.now) number }
     {
-        self.log.receipt(number)
+        self.log.stripe().receipt(number)
     }
 
     /// Makes room for writes of this weight: flushes and drops pages. What keys have and marks stay.
@@ -148,6 +159,7 @@ impl<R: Shows> Shard<R> {
         requires { weight ≤ WEIGHT_MAX }
         ensures store { shard_store self.new ≡ shard_store self.old }
         ensures marks { shard_marks self.new ≡ shard_marks self.old }
+        ensures waits { shard_waiting self.new ≡ shard_waiting self.old }
         ensures room { OnOk result (HasRoom (shard_log self.new) weight) }
         ensures shed { D.failures device.new ≡ D.failures device.old → HasShed D.wrote (kept_by R.identity R.shown) (shard_log self.old) device.old (shard_log self.new) device.new }
         ensures fault { IfErr result (λ fault. MatchFault fault (D.failures device.new ≡ D.failures device.old + 1) (IsFull (shard_log self.new) × (D.failures device.new ≡ D.failures device.old))) }
@@ -156,10 +168,7 @@ impl<R: Shows> Shard<R> {
         ensures device { StillServes D.serves D.releases device.old device.new }
         ensures no_fault { OnOk result (D.failures device.new ≡ D.failures device.old) }
     {
-        match self.log.reserve(weight, device) {
-            Ok(_room) => Ok(()),
-            Err(fault) => Err(fault),
-        }
+        self.log.reserve(weight, device)
     }
 
     /// Writes a key, for which there is room: its value is this, or none, and its marks are touched. It takes no
@@ -167,6 +176,7 @@ impl<R: Shows> Shard<R> {
     pub fn write(&mut self, write: &Write)
         requires room { HasRoom (shard_log self.old) (weigh write.now) }
         requires fits { Fits write.now.0 write.now.1 }
+        ensures waits { shard_waiting self.new ≡ shard_waiting self.old }
         ensures value { (k : List ℕ) → shard_store self.new k ≡ update bytes_eq (shard_store self.old) write.now.0 write.now.1 k }
         ensures marks { (k : List ℕ) (number : ℕ) → shard_marks self.new k number ≡ touched (bytes_eq write.now.0 k) (shard_marks self.old k number) }
         ensures room { (weight : ℕ) → weigh write.now ≤ weight → HasRoom (shard_log self.old) weight → HasRoom (shard_log self.new) (weight - weigh write.now) }
@@ -184,6 +194,7 @@ impl<R: Shows> Shard<R> {
     pub fn set(&mut self, key: &Word, value: &Word)
         requires room { HasRoom (shard_log self.old) (weigh (key.now, Some value.now)) }
         requires fits { Fits key.now (Some value.now) }
+        ensures waits { shard_waiting self.new ≡ shard_waiting self.old }
         ensures value { (k : List ℕ) → shard_store self.new k ≡ update bytes_eq (shard_store self.old) key.now (Some value.now) k }
         ensures marks { (k : List ℕ) (number : ℕ) → shard_marks self.new k number ≡ touched (bytes_eq key.now k) (shard_marks self.old k number) }
         ensures grown { IsGrown (shard_log self.old) (shard_log self.new) (weigh (key.now, Some value.now)) }
@@ -208,6 +219,7 @@ impl<R: Shows> Shard<R> {
     ///
     /// [`OutOfMemory`] where there is no memory for the mark. All marks are then as they were.
     pub fn begin(&mut self, key: &Word, seat: u64) -> Result<bool, OutOfMemory>
+        ensures waits { shard_waiting self.new ≡ shard_waiting self.old }
         ensures log { shard_log self.new ≡ shard_log self.old }
         ensures ok { OnOk result ((k : List ℕ) (s : ℕ) → shard_marks self.new k s ≡ begun_if (are_these key.now seat k s) (shard_marks self.old k s)) }
         ensures begun { IfOk result (λ begun. begun ≡ is_none (shard_marks self.old key.now seat)) }
@@ -218,9 +230,139 @@ impl<R: Shows> Shard<R> {
 
     /// A session does not watch a key any more. It takes no memory.
     pub fn clear(&mut self, key: &Word, seat: u64)
+        ensures waits { shard_waiting self.new ≡ shard_waiting self.old }
         ensures log { shard_log self.new ≡ shard_log self.old }
         ensures marks { (k : List ℕ) (s : ℕ) → shard_marks self.new k s ≡ cleared (are_these key.now seat k s) (shard_marks self.old k s) }
     {
         self.marks.clear_key(key, seat)
+    }
+
+    /// Drops the oldest resident page from its frame, where its receipt is kept, and says whether it did. What keys have
+    /// and marks stay.
+    pub fn drop_oldest(&mut self) -> bool
+        ensures store { shard_store self.new ≡ shard_store self.old }
+        ensures marks { shard_marks self.new ≡ shard_marks self.old }
+        ensures exact { IsTrue result ↔ IsSome (receipt_of (shard_log self.old) (shard_log self.old).resident.oldest) }
+        ensures dropped { OnTrue result (shard_counted self.new ≡ record (shard_counted self.old) { log = with_dropped (shard_log self.old) }) }
+        ensures same { OnFalse result (self.new ≡ self.old) }
+        ensures done { OnTrue result (IsStep Evict (shard_pages self.old) (shard_pages self.new)) }
+        ensures idle { OnFalse result (IsIdle Evict (shard_pages self.new)) }
+    {
+        self.log.drop_oldest()
+    }
+
+    /// Copies the oldest page that waits to be written, and counts a place for it. What keys have and marks stay.
+    pub fn begin_flush(&mut self, page: &mut Page) -> Begun
+        ensures store { shard_store self.new ≡ shard_store self.old }
+        ensures marks { shard_marks self.new ≡ shard_marks self.old }
+        ensures begun { MatchBegun result ((number : ℕ) → IsSealed (shard_log self.old) number → ⊥) (IsFull (shard_log self.old)) (λ number. IsFirstSealed (shard_log self.old) number page.new) }
+        ensures counted { MatchBegun result (self.new ≡ self.old) (self.new ≡ self.old) (λ number. shard_counted self.new ≡ with_flight (shard_counted self.old)) }
+        ensures told { MatchBegun result (IsIdle Flush (shard_pages self.new)) (pages.IsFull (shard_pages self.new)) (λ number. ⊤) }
+    {
+        let _oldest = self.log.stripe().oldest();
+        self.log.begin_flush(page)
+    }
+
+    /// Keeps the receipt of a page that was written, where the page is still as it was written; else the receipt came too
+    /// late and counts as unlinked. The place was counted before the write; false where it was not, and none may be
+    /// taken now. What keys have and marks stay.
+    pub fn end_flush(&mut self, number: u64, page: &Page, receipt: R) -> bool
+        requires shown { R.shown receipt ≡ page.now }
+        ensures store { shard_store self.new ≡ shard_store self.old }
+        ensures marks { shard_marks self.new ≡ shard_marks self.old }
+        ensures landed { OnTrue result (HasLanded (claimed (shard_counted self.old)) number page.now (kept_by R.identity R.shown receipt) (shard_counted self.new)) }
+        ensures same { OnFalse result (self.new ≡ self.old) }
+        ensures none { OnFalse result ((shard_counted self.old).in_flight ≡ 0) }
+        ensures done { OnTrue result (IsStep Flush (shard_pages self.old) (shard_pages self.new)) }
+        ensures full { OnFalse result (pages.IsFull (shard_pages self.new)) }
+    {
+        if !self.log.claim() {
+            return false;
+        }
+        let _oldest = self.log.stripe().oldest();
+        self.log.land(number, page, receipt);
+        true
+    }
+
+    /// Counts a place off whose page could not be written. What keys have and marks stay.
+    pub fn fail_flush(&mut self)
+        ensures store { shard_store self.new ≡ shard_store self.old }
+        ensures marks { shard_marks self.new ≡ shard_marks self.old }
+        ensures freed { shard_counted self.new ≡ without_flight (shard_counted self.old) }
+    {
+        self.log.free_place();
+    }
+
+    /// Writes the oldest page that waits for it to the device, and keeps its receipt. False where none waits. What keys
+    /// have and marks stay. `page` is what it is copied into.
+    ///
+    /// # Errors
+    ///
+    /// [`Fault::DeviceFault`] where the write failed; [`Fault::StoreFull`] where no place may be taken. All is then as it was.
+    pub fn flush<D: Device<Receipt = R>>(
+        &mut self,
+        page: &mut Page,
+        device: &mut D,
+    ) -> Result<bool, Fault>
+        ensures store { shard_store self.new ≡ shard_store self.old }
+        ensures marks { shard_marks self.new ≡ shard_marks self.old }
+        ensures flushed { IfOk result (λ done. OnTrue done (HasFlushed (shard_counted self.old) (shard_counted self.new))) }
+        ensures unchanged { IfOk result (λ done. OnFalse done (self.new ≡ self.old)) }
+        ensures failed { OnErr result (shard_counted self.new ≡ shard_counted self.old) }
+        ensures done { IfOk result (λ done. OnTrue done (IsStep Flush (shard_pages self.old) (shard_pages self.new))) }
+        ensures idle { IfOk result (λ done. OnFalse done (IsIdle Flush (shard_pages self.new))) }
+        ensures fault { IfErr result (λ fault. MatchFault fault (D.failures device.new ≡ D.failures device.old + 1) (pages.IsFull (shard_pages self.new) × (D.failures device.new ≡ D.failures device.old))) }
+        ensures no_fault { OnOk result (D.failures device.new ≡ D.failures device.old) }
+    {
+        let number = match self.begin_flush(page) {
+            Begun::Idle => return Ok(false),
+            Begun::Full => return Err(Fault::StoreFull),
+            Begun::Sealed(number) => number,
+        };
+        let Ok(receipt) = device.write(page) else {
+            self.fail_flush();
+            return Err(Fault::DeviceFault);
+        };
+        if !self.end_flush(number, page, receipt) {
+            unreachable!()
+        }
+        Ok(true)
+    }
+
+    /// Gives the oldest drained receipt back to the device, and says whether there was one. What keys have and marks stay.
+    pub fn release<D: Device<Receipt = R>>(&mut self, device: &mut D) -> bool
+        ensures store { shard_store self.new ≡ shard_store self.old }
+        ensures marks { shard_marks self.new ≡ shard_marks self.old }
+        ensures released { OnTrue result (HasReleased D.serves R.identity (shard_counted self.old) device.old (shard_counted self.new) device.new) }
+        ensures counted { OnTrue result (D.releases device.new ≡ D.releases device.old + 1) }
+        ensures none { OnFalse result (((shard_counted self.old).drained ≡ []) × (self.new ≡ self.old) × (device.new ≡ device.old)) }
+        ensures done { (refused : Refused) → OnTrue result (IsStep (Clean refused) (shard_pages self.old) (shard_pages self.new)) }
+        ensures no_fault { D.failures device.new ≡ D.failures device.old }
+    {
+        let _counted = self.log.stripe();
+        self.log.release(device)
+    }
+
+    /// Retires the oldest unlinked receipt. What keys have and marks stay.
+    pub fn retire(&mut self, epochs: &Epochs, seat: &mut EpochSeat) -> Moved
+        requires outside { IsOutside epochs.now seat.old }
+        ensures outside { IsOutside epochs.now seat.new }
+        ensures store { shard_store self.new ≡ shard_store self.old }
+        ensures marks { shard_marks self.new ≡ shard_marks self.old }
+        ensures retired { MatchMoved result (HasRetired (shard_counted self.old) (shard_counted self.new)) (((shard_counted self.old).unlinked ≡ []) × (self.new ≡ self.old)) (self.new ≡ self.old) }
+        ensures told { MatchMoved result ((e : ℕ) × AdvancedPast e (known seat.old) (known seat.new)) (seat.new ≡ seat.old) (WasWorn (known seat.old) (known seat.new)) }
+        ensures done { (refused : Refused) → MatchMoved result (IsStep (Clean refused) (shard_pages self.old) (shard_pages self.new)) ⊤ ⊤ }
+    {
+        self.log.retire(epochs, seat)
+    }
+
+    /// Drains the oldest retired receipt. What keys have and marks stay.
+    pub fn drain(&mut self) -> Moved
+        ensures store { shard_store self.new ≡ shard_store self.old }
+        ensures marks { shard_marks self.new ≡ shard_marks self.old }
+        ensures drained { MatchMoved result (HasDrained (shard_counted self.old) (shard_counted self.new)) (((shard_counted self.old).retired ≡ []) × (self.new ≡ self.old)) (WasRefused (shard_counted self.old) (shard_counted self.new)) }
+        ensures done { (refused : Refused) → MatchMoved result (IsStep (Clean refused) (shard_pages self.old) (shard_pages self.new)) ⊤ ⊤ }
+    {
+        self.log.drain()
     }
 }

@@ -16,6 +16,6 @@ stripe_below : (n : ℕ) (key : Bytes) → 1 ≤ n → stripe_of n key < n
 unfolding stripe_of
 stripe_below n key some = mod-lt _ some
 
-pub all_there : {R : Type 0} (stripes : Stripes R) (n : ℕ) (keys : List Bytes) → n ≡ length stripes.shards.items → 1 ≤ n → AreThere n (part_at stripes) keys
+pub all_there : {T : Type 0} (stripes : Stripes T) (n : ℕ) (keys : List Bytes) → n ≡ length stripes.shards.items → 1 ≤ n → AreThere n (part_at stripes) keys
 all_there stripes n [] is some = tt
 all_there stripes n (key ∷ keys) is some = (is_there stripes.shards.items (stripe_of n key) (omega (arith, is, stripe_below n key some)), all_there stripes n keys is some)

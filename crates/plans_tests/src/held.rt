@@ -2,27 +2,27 @@
 
 ghost use Rattle.std.specs.Prelude.{◌≡◌, length};
 
-use device::{Device, Shows};
+use device::Device;
 use gates::Parts;
 use plans::shard::Shard;
 
-/// The stripes of a store, all of them held.
+/// The stripes of a store, all of them held, whatever a shard is.
 #[derive(Drop)]
-pub struct Stripes<R: Shows> {
+pub struct Stripes<T> {
     /// The shard of each stripe.
-    pub shards: Vec<Shard<R>>,
+    pub shards: Vec<T>,
 }
 
 /// A store: its stripes and its device.
 #[derive(Drop)]
 pub struct Store<D: Device> {
     /// The stripes.
-    pub stripes: Stripes<D::Receipt>,
+    pub stripes: Stripes<Shard<D::Receipt>>,
     /// An opening of the device.
     pub device: D,
 }
 
-impl<R: Shows> Parts<Shard<R>> for Stripes<R> {
+impl<T> Parts<T> for Stripes<T> {
     ghost use Rattle.std.specs.Prelude.{refl};
     ghost use Rattle.std.proofs.Common.{◌∙◌};
     ghost use Rattle.plans_tests.specs.Held.{SameCount, part_at, with_part};
@@ -39,7 +39,7 @@ impl<R: Shows> Parts<Shard<R>> for Stripes<R> {
 
     ghost keeps_both = { λ one two three first second. second ∙ first };
 
-    fn part(&mut self, stripe: usize) -> &mut Shard<R> {
+    fn part(&mut self, stripe: usize) -> &mut T {
         &mut self.shards[stripe]
     }
 

@@ -4,8 +4,8 @@ ghost use Rattle.std.specs.Prelude.{◌≡◌, ◌≢◌, IfErr};
 
 use crate::closing::{Leaving, close_later};
 use crate::fault::ServerFault;
-use crate::setting::Options;
 use crossbeam_channel::Sender;
+use options::Options;
 use std::io;
 use std::io::{ErrorKind, Write};
 use std::net::{Ipv4Addr, Net, SocketAddrV4, TcpListener, TcpStream};

@@ -4,10 +4,11 @@
 
 mod accepting;
 mod closing;
+mod duties;
 mod ending_list;
 mod fault;
+mod laps;
 mod serving;
-mod setting;
 mod socket;
 mod workers;
 mod working;
@@ -15,5 +16,4 @@ mod working;
 pub use accepting::listen;
 pub use ending_list::Endings;
 pub use fault::ServerFault;
-pub use setting::{ACCEPT_MAX, DeviceKind, Options};
 pub use workers::{opening_count, run_workers};

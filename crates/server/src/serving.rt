@@ -1,12 +1,13 @@
-//! How many connections are served right now.
+//! How many connections are served right now, and whether more may come.
 
-use std::sync::atomic::{AtomicUsize, Ordering};
+use std::sync::atomic::{AtomicBool, AtomicUsize, Ordering};
 
 /// How many connections are served right now, and on how many processors.
 #[derive(Drop)]
 pub(crate) struct Serving {
     count: AtomicUsize,
     processors: usize,
+    closed: AtomicBool,
 }
 
 impl Serving {
@@ -15,6 +16,7 @@ impl Serving {
         Serving {
             count: AtomicUsize::new(0),
             processors,
+            closed: AtomicBool::new(false),
         }
     }
 
@@ -26,6 +28,21 @@ impl Serving {
     /// A worker has served a connection that it began to serve.
     pub(crate) fn end(&self) {
         self.count.fetch_sub(1, Ordering::SeqCst);
+    }
+
+    /// No connection is accepted any more.
+    pub(crate) fn close(&self) {
+        self.closed.store(true, Ordering::SeqCst);
+    }
+
+    /// Whether no connection is accepted any more, and none is served.
+    pub(crate) fn is_over(&self) -> bool {
+        self.closed.load(Ordering::SeqCst) && self.is_idle()
+    }
+
+    /// Whether no connection is served.
+    pub(crate) fn is_idle(&self) -> bool {
+        self.count.load(Ordering::SeqCst) == 0
     }
 
     /// Whether there is a processor for each connection.

@@ -1,20 +1,21 @@
-//! A server: the thread that accepts, one for each worker, and one that closes.
+//! A server: the thread that accepts, one for each worker, one that closes, and three that work in the background.
 
-ghost use Rattle.std.specs.Prelude.{◌≡◌, ◌≢◌, ◌+◌, [], IfErr, All, vec_len};
+ghost use Rattle.std.specs.Prelude.{◌≡◌, ◌≢◌, ◌+◌, [], IfErr, IfOk, All, vec_len};
 ghost use Rattle.engine.specs.Passes.{knows, Rests};
 ghost use Rattle.engine.specs.declared.TheConstants.{BACKGROUND_PASSES};
 
 use crate::accepting::accept_all;
 use crate::closing::{LEAVING_MAX, Leaving, close_all};
+use crate::duties::{Chores, Duty, work_in_background};
 use crate::ending_list::Endings;
 use crate::fault::ServerFault;
 use crate::serving::Serving;
-use crate::setting::Options;
 use crate::working::work;
 use crossbeam_channel::{Receiver, Sender, bounded};
 use device::Device;
 use engine::{BACKGROUND_PASSES, Engine, Pass};
 use gates::Latch;
+use options::Options;
 use std::net::{TcpListener, TcpStream};
 use std::rt::Clock;
 use std::sync::Wait;
@@ -35,7 +36,9 @@ pub fn opening_count(options: &Options) -> usize
 /// How each connection that was served ended goes to `endings`. It answers `Ok` when the last has ended.
 ///
 /// The pages of the store that have left their frames lie on the device of these openings, of which there are as many as
-/// [`opening_count`] says: each worker has one of its own. What the options say of a device is the caller's to heed.
+/// [`opening_count`] says: each worker has one of its own, and so has each of three threads that work in the background: they
+/// write pages to the device, drop them from their frames and give places back, and end with the last worker. What the options
+/// say of a device is the caller's to heed.
 ///
 /// # Errors
 ///
@@ -96,22 +99,64 @@ where
             ensures listens { IfErr result (λ fault. fault ≢ ServerFault.CannotListen) }
             ensures opened { IfErr result (λ fault. fault ≢ ServerFault.CannotOpenDevice) }
         {
-            let to_closer = start_closer(rt, scope)?;
-            start_workers(
+            let came = start_and_accept(
                 rt,
                 scope,
+                listener,
+                options,
                 latch,
                 endings,
                 serving,
                 engine,
                 passes,
-                options.workers,
+                to_workers,
                 for_workers,
-                &to_closer,
-            )?;
-            accept_all(rt, listener, options.accept, to_workers, to_closer)
+            );
+            serving.close();
+            came
         },
     )
+}
+
+/// Starts the other threads, and accepts connections for the workers.
+fn start_and_accept<'s, 'e, R, L, D>(
+    rt: &'s R,
+    scope: &Scope<'s, &'e ()>,
+    listener: TcpListener,
+    options: &Options,
+    latch: &'s L,
+    endings: &'s Endings,
+    serving: &'s Serving,
+    engine: &'s Engine<D>,
+    passes: Vec<Pass<D>>,
+    to_workers: Sender<TcpStream>,
+    for_workers: &'s Receiver<TcpStream>,
+) -> Result<(), ServerFault>
+where
+    R: AllocGlobal + Clock + Wait + Sync,
+    L: Latch + Sync,
+    D: Device + Send + Sync,
+    D::Receipt: Send + Sync,
+    requires rest { All (Rests D.Receipt.is_steady engine.now) passes.items }
+    requires watch { All (λ pass. (knows D.failures pass).watched ≡ []) passes.items }
+    ensures listens { IfErr result (λ fault. fault ≢ ServerFault.CannotListen) }
+    ensures opened { IfErr result (λ fault. fault ≢ ServerFault.CannotOpenDevice) }
+{
+    let to_closer = start_closer(rt, scope)?;
+    let passes = start_background(rt, scope, options, engine, passes, serving)?;
+    start_workers(
+        rt,
+        scope,
+        latch,
+        endings,
+        serving,
+        engine,
+        passes,
+        options.workers,
+        for_workers,
+        &to_closer,
+    )?;
+    accept_all(rt, listener, options.accept, to_workers, to_closer)
 }
 
 /// How many processors there are; 1 where the system does not tell.
@@ -133,6 +178,87 @@ fn start_closer<'s, 'e, R: AllocGlobal + Clock + Wait + Sync>(
     let (closer, handed) = bounded(rt.alloc(), LEAVING_MAX)?;
     scope.spawn(move || close_all(rt, &handed, all))?;
     Ok(closer)
+}
+
+/// Starts the threads that work in the background, each with one of the last passes, and gives the others back. They work until
+/// serving is over.
+fn start_background<'s, 'e, R, D>(
+    rt: &'s R,
+    scope: &Scope<'s, &'e ()>,
+    options: &Options,
+    engine: &'s Engine<D>,
+    passes: Vec<Pass<D>>,
+    serving: &'s Serving,
+) -> Result<Vec<Pass<D>>, ServerFault>
+where
+    R: AllocGlobal + Clock + Wait + Sync,
+    D: Device + Send + Sync,
+    D::Receipt: Send + Sync,
+    requires rest { All (Rests D.Receipt.is_steady engine.now) passes.items }
+    requires watch { All (λ pass. (knows D.failures pass).watched ≡ []) passes.items }
+    ensures rest { IfOk result (λ others. All (Rests D.Receipt.is_steady engine.now) others.items) }
+    ensures watch { IfOk result (λ others. All (λ pass. (knows D.failures pass).watched ≡ []) others.items) }
+    ensures fault { IfErr result (λ fault. fault ≡ ServerFault.OutOfMemory) }
+{
+    let alloc = rt.alloc();
+    let cleaner = Chores::of_cleaner(alloc, options.stripes, options.places)?;
+    let evictor = Chores::of(alloc, Duty::Evict);
+    let flusher = Chores::of(alloc, Duty::Flush);
+    let passes = start_chores(rt, scope, engine, passes, cleaner, serving)?;
+    let passes = start_chores(rt, scope, engine, passes, evictor, serving)?;
+    start_chores(rt, scope, engine, passes, flusher, serving)
+}
+
+/// Starts a thread for these chores, with the last pass, and gives the others back.
+fn start_chores<'s, 'e, R, D>(
+    rt: &'s R,
+    scope: &Scope<'s, &'e ()>,
+    engine: &'s Engine<D>,
+    mut passes: Vec<Pass<D>>,
+    chores: Chores,
+    serving: &'s Serving,
+) -> Result<Vec<Pass<D>>, ServerFault>
+where
+    R: AllocGlobal + Clock + Wait + Sync,
+    D: Device + Send + Sync,
+    D::Receipt: Send + Sync,
+    requires rest { All (Rests D.Receipt.is_steady engine.now) passes.items }
+    requires watch { All (λ pass. (knows D.failures pass).watched ≡ []) passes.items }
+    ensures rest { IfOk result (λ others. All (Rests D.Receipt.is_steady engine.now) others.items) }
+    ensures watch { IfOk result (λ others. All (λ pass. (knows D.failures pass).watched ≡ []) others.items) }
+    ensures fault { IfErr result (λ fault. fault ≡ ServerFault.OutOfMemory) }
+{
+    let Some(pass) = passes.pop() else {
+        return Ok(passes);
+    };
+    start_one(rt, scope, engine, pass, chores, serving)?;
+    Ok(passes)
+}
+
+/// Starts a thread for these chores with this pass.
+fn start_one<'s, 'e, R, D>(
+    rt: &'s R,
+    scope: &Scope<'s, &'e ()>,
+    engine: &'s Engine<D>,
+    pass: Pass<D>,
+    chores: Chores,
+    serving: &'s Serving,
+) -> Result<(), ServerFault>
+where
+    R: AllocGlobal + Clock + Wait + Sync,
+    D: Device + Send + Sync,
+    D::Receipt: Send + Sync,
+    requires rests { Rests D.Receipt.is_steady engine.now pass }
+    ensures { IfErr result (λ fault. fault ≡ ServerFault.OutOfMemory) }
+{
+    scope.spawn(
+        move ||
+            requires rests { Rests D.Receipt.is_steady engine.now pass }
+        {
+            work_in_background(rt, engine, pass, chores, serving);
+        },
+    )?;
+    Ok(())
 }
 
 /// Starts so many workers, each with a pass of its own. Further passes are dropped.

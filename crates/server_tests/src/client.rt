@@ -5,7 +5,8 @@ ghost use Rattle.engine.specs.declared.TheConstants.{BACKGROUND_PASSES};
 
 use device::{Device, FileDevice, MemoryDevice, OpenFault};
 use gates::{Latch, Open};
-use server::{DeviceKind, Endings, Options, listen, opening_count, run_workers};
+use options::{DeviceKind, Options};
+use server::{Endings, listen, opening_count, run_workers};
 use std::alloc::{AllocError, Global};
 use std::fs::{File, Files};
 use std::io::{Read, Write};
@@ -365,6 +366,13 @@ fn read_line(stream: &TcpStream, line: &mut Vec<u8>) -> Option<()> {
         }
     }
     Some(())
+}
+
+/// The next line, without its end.
+pub(crate) fn reads_line(alloc: Global, stream: &TcpStream) -> Option<Vec<u8>> {
+    let mut line = Vec::new(alloc);
+    read_line(stream, &mut line)?;
+    Some(line)
 }
 
 /// The number that comes next as a bulk string. The null bulk string is read as 0.

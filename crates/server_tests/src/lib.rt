@@ -15,6 +15,8 @@ mod files;
 #[cfg(test)]
 mod holding;
 #[cfg(test)]
+mod overwriting;
+#[cfg(test)]
 mod pages;
 #[cfg(test)]
 mod pipelines;

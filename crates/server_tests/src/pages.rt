@@ -2,7 +2,7 @@
 
 use crate::client::{OK, connect, reads, reads_at_once, sends, with_options};
 use gates::Open;
-use server::{DeviceKind, Options};
+use options::{DeviceKind, Options};
 use std::alloc::Global;
 use std::io;
 use std::io::Write;

@@ -5,7 +5,7 @@ use crate::client::{answers, connect, integer, options_with, reads, sends, with_
 use crate::counters::{additions, number_now, sum};
 use crate::pages::{FIRST, has_thirty, options, sets_thirty};
 use gates::Open;
-use server::Options;
+use options::Options;
 use std::alloc::Global;
 use std::net::{Net, TcpStream};
 use std::test::Fail;

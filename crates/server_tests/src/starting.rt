@@ -2,7 +2,8 @@
 
 use crate::client::{memory, options_with};
 use gates::Open;
-use server::{DeviceKind, Endings, Options, ServerFault, listen, run_workers};
+use options::{DeviceKind, Options};
+use server::{Endings, ServerFault, listen, run_workers};
 use std::alloc::Global;
 use std::net::{Net, TcpListener, TcpStream};
 use std::rt::Clock;

@@ -1,12 +1,3 @@
 pub mod Watched
-pub mod Shards
-pub mod Stores
-pub mod Become
-pub mod Places
 pub mod Keys
-pub mod Begun
-pub mod Plans
-pub mod Short
-pub mod ShortRows
-pub mod Installed
-pub mod Added
+pub mod Heavy

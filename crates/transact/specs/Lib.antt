@@ -1,5 +1,4 @@
 pub mod Calls
-pub mod Shards
 pub mod Tables
 pub mod Plans
 pub mod Submits

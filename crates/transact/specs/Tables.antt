@@ -5,8 +5,6 @@ use Rattle.words.specs.History.{History, Pair, after, is_among}
 use Rattle.words.specs.Watches.{Marks, touched, begun, mark_at}
 use Rattle.words.specs.Stripes.{stripe_of, IsPart}
 use Rattle.gates.specs.Rule.{Meaning}
-use Rattle.transact.specs.Shards.{HasPlace, place_of}
-use Rattle.transact.specs.declared.shard.Shard.{Shard}
 
 -- what becomes of marks: of a key, for a session
 abbrev pub Change : Type 0
@@ -98,41 +96,10 @@ module _ {T : Type 0} where
     pub there : (i : ℕ) → IsSome (before i) → IsSome (later i)
     pub was : (i : ℕ) (new : T) → later i ≡ Some new → (old : T) × (before i ≡ Some old) × PartBecame contents n i writes change old new
 
--- there is a place for the key in its part
-abbrev pub IsReady : ℕ → (ℕ → Option Shard) → Bytes → Type 0
-IsReady n parts key = (part : Shard) × (parts (stripe_of n key) ≡ Some part) × HasPlace part key
-
--- the place that a part has of a key, where there is the part
-abbrev pub place_in : Bytes → Option Shard → Option (Option Bytes)
-place_in key None = None
-place_in key (Some part) = place_of part key
-
--- the places that parts have together
-abbrev pub joined_places : ℕ → (ℕ → Option Shard) → Bytes → Option (Option Bytes)
-joined_places n parts key = place_in key (parts (stripe_of n key))
-
--- a key has a place only where it has a value
-abbrev pub IsTidy : ℕ → (ℕ → Option Shard) → Bytes → Type 0
-IsTidy n parts key = joined_places n parts key ≢ Some None
-
--- Each key that these write has a place only where it has a value, and so has each other key that had none without.
-abbrev pub AreTidied : ℕ → List Write → (before later : ℕ → Option Shard) → Type 0
-AreTidied n writes before later = (key : Bytes) → (writes_key writes key ≡ false → IsTidy n before key) → IsTidy n later key
-
--- there is a place for each key that is written
-abbrev pub AreReady : ℕ → (ℕ → Option Shard) → List Write → Type 0
-AreReady n parts [] = Unit {0}
-AreReady n parts (write ∷ writes) = IsReady n parts write.0 × AreReady n parts writes
-
 -- a session watches none of these keys
 abbrev pub AreUnmarked : Marks → (own : ℕ) → List Bytes → Type 0
 AreUnmarked marks own [] = Unit {0}
 AreUnmarked marks own (key ∷ keys) = (marks key own ≡ None) × AreUnmarked marks own keys
-
--- a session watches each of these keys, none of which was written since, and no key stands twice
-abbrev pub AreAdded : Marks → (own : ℕ) → List Bytes → Type 0
-AreAdded marks own [] = Unit {0}
-AreAdded marks own (key ∷ keys) = (marks key own ≡ Some false) × (is_among keys key ≡ false) × AreAdded marks own keys
 
 -- A session watches these keys since, of which it watched none before.
 pub record HasBegun {T : Type 0} (contents : Meaning T) (n own : ℕ) (keys : List Bytes) (before later : ℕ → Option T) : Type 0 where

@@ -3,7 +3,7 @@
 ghost use Rattle.std.specs.Prelude.{◌≡◌, ◌≤◌, ◌-◌, [], drop, length, nat_eq, true, IsOk, OnOk, OnErr};
 ghost use Rattle.words.specs.History.{is_among};
 ghost use Rattle.words.specs.Watches.{with_new};
-ghost use Rattle.transact.specs.Calls.{answer_of, answer_with, reply_to, watched_with, IsEarlier};
+ghost use Rattle.transact.specs.Calls.{answer_of, reply_to, watched_with, IsEarlier};
 
 use gates::Asks;
 use std::alloc::Global;
@@ -64,16 +64,6 @@ impl Answer {
     {
         match told {
             Ok(line) => Answer::Reply(Reply::line(line)),
-            Err(fault) => Answer::Fault(fault),
-        }
-    }
-
-    /// The answer that tells what a GET found, or a fault. It takes no memory.
-    pub fn of_value(told: Result<Option<Word>, Fault>) -> Answer
-        ensures { result ≡ answer_with told }
-    {
-        match told {
-            Ok(value) => Answer::Reply(Reply::value(value)),
             Err(fault) => Answer::Fault(fault),
         }
     }

@@ -1,13 +1,7 @@
-//! Calls over several parts of the store that are held: what a call comes to is planned before its commit, and
-//! installed after it.
+//! What a session asks of the shared store, what it is answered, and the stripes that a call needs. The definitions
+//! say of any parts that are held what they have together, and what becomes of them.
 #![tactic(auto)]
 
 pub mod call;
-pub mod cells;
-mod find;
-mod install;
-pub mod laws;
-pub mod plan;
-pub mod shard;
 pub mod stripes;
-pub mod watches;
+pub mod weight;

@@ -1,12 +1,10 @@
 //! The stripes that a call needs.
 
-ghost use Rattle.std.specs.Prelude.{◌≡◌, ◌≤◌, ◌<◌, ◌↔◌, ◌∷◌, [], ℕ, Option, IsSome};
+ghost use Rattle.std.specs.Prelude.{◌≡◌, ◌≤◌, ◌∷◌, []};
 ghost use Rattle.words.specs.Commands as table;
-ghost use Rattle.gates.specs.Sets.{AreBelow, times};
+ghost use Rattle.gates.specs.Sets.{AreBelow};
 ghost use Rattle.transact.specs.Calls.{call_keys};
 ghost use Rattle.transact.specs.Plans.{stripes_with};
-ghost use Rattle.transact.specs.Tables.{AreThere};
-ghost use Rattle.transact.specs.declared.shard.Shard.{Shard};
 
 use crate::call::Call;
 use gates::Sorted;
@@ -22,7 +20,6 @@ pub fn keys_of(call: &Call, stripes: usize) -> Sorted
     requires most { stripes ≤ 64 }
     ensures exact { result ≡ stripes_with stripes [] (call_keys call.now) }
     ensures below { AreBelow stripes result }
-    ensures there { (parts : ℕ → Option Shard) → ((stripe : ℕ) → IsSome (parts stripe) ↔ (0 < times stripe result)) → AreThere stripes parts (call_keys call.now) }
 {
     match call {
         Call::One(command) => with_command(Sorted::none(), command, stripes),
@@ -52,7 +49,6 @@ pub fn stripe_of_key(key: &Word, stripes: usize) -> Sorted
     requires most { stripes ≤ 64 }
     ensures exact { result ≡ stripes_with stripes [] (key.now ∷ []) }
     ensures below { AreBelow stripes result }
-    ensures there { (parts : ℕ → Option Shard) → ((stripe : ℕ) → IsSome (parts stripe) ↔ (0 < times stripe result)) → AreThere stripes parts (key.now ∷ []) }
 {
     with_key(Sorted::none(), key, stripes)
 }

@@ -12,8 +12,7 @@ use Rattle.world_events.specs.declared.event.Event.TheVariants as event
 use Rattle.world_log.specs.Given.{StaysGiven}
 use Rattle.world_log.specs.Stripes.{acts_for, lane_log, lent}
 use Rattle.world_log.specs.WorldLogs.{IsWorldLog, KeepsHeld, NoneReleasedAt, Took, stays_of}
-use Rattle.world_log.specs.declared.lanes.Lane.{Lane}
-use Rattle.world_log.specs.declared.stripes.Stripes.{Stripes}
+use Rattle.world_log.specs.Types.{Lane, Stripes}
 use Rattle.world_log.specs.declared.logs.WorldLog.{WorldLog}
 use Rattle.world_model.specs.Advancing.{Goes, When}
 use Rattle.world_model.specs.States.{ClientState, State, client, stripe_count}

@@ -7,7 +7,7 @@ use Rattle.hybrid.specs.Staging.{AreRight}
 use Rattle.world_log.specs.Places.{Receipt, Shelves}
 use Rattle.world_log.specs.Given.{IsGiven}
 use Rattle.world_log.specs.WorldLogs.{IsNew as IsNewLog, IsWorldLog}
-use Rattle.world_log.specs.declared.stripes.Stripes.{Stripes}
+use Rattle.world_log.specs.Types.{Stripes}
 use Rattle.world_model.specs.States.{ClientState, State, fresh, start}
 use Rattle.world_model.specs.Enabled.{are_none}
 use Rattle.world_model.specs.Places.{Each}

@@ -26,7 +26,7 @@ use Rattle.plans.specs.Stops.{AreCold, IfCold, IfFull, faults, keys_looked_up}
 use Rattle.world_log.specs.Places.{Receipt, Shelves, Serves, Wrote, SamePlaces, identity, view, writes_of}
 use Rattle.world_log.specs.PlanLaws.{ReadLaws, logs_lent, with_parts}
 use Rattle.world_log.specs.Stripes.{KeepsOthers, acts_for, lent}
-use Rattle.world_log.specs.declared.stripes.Stripes.{Stripes}
+use Rattle.world_log.specs.Types.{Stripes}
 use Rattle.world_log.specs.declared.logs.WorldLog.{WorldLog}
 use Rattle.world.specs.Planning.{HasMet, HasNamed, HasPlanned, count_of}
 

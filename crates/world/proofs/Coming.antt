@@ -32,8 +32,7 @@ use Rattle.world_log.specs.PlanLaws.{IsMade as RoomIsMade, IsStill, OpeningLaw, 
 use Rattle.world_log.specs.Stripes.{IsEven, KeepsOthers, acts_for, lent, part_in, stores_of, marks_of}
 use Rattle.world_log.specs.WorldLogs.{IsWorldLog}
 use Rattle.world_log.specs.WorldLogs as logs
-use Rattle.world_log.specs.declared.lanes.Lane.{Lane}
-use Rattle.world_log.specs.declared.stripes.Stripes.{Stripes}
+use Rattle.world_log.specs.Types.{Lane, Stripes}
 use Rattle.world_log.specs.declared.logs.WorldLog.{WorldLog}
 use Rattle.world_model.specs.Logs.{place_at}
 use Rattle.world_model.specs.States.{Phase, Calling, Due, ClientState, State, client, fresh, log_of, open_call, stripe_count, with_client}

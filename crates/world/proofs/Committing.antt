@@ -32,7 +32,7 @@ use Rattle.world_log.specs.PlanLaws.{logs_lent, with_parts}
 use Rattle.world_log.specs.Stripes.{KeepsOthers, acts_for, lent}
 use Rattle.world_log.specs.WorldLogs.{IsWorldLog}
 use Rattle.world_log.specs.WorldLogs as logs
-use Rattle.world_log.specs.declared.stripes.Stripes.{Stripes}
+use Rattle.world_log.specs.Types.{Stripes}
 use Rattle.world_log.specs.declared.logs.WorldLog.{WorldLog}
 use Rattle.world_model.specs.States.{Phase, Serving, Calling, Leaving, Left, Ended, ClientState, State, client, fresh, open_call, stripe_count}
 use Rattle.world_model.specs.Enabled.{are_none, first_missing, is_enabled_for, next_stripe}

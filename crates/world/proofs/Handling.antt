@@ -5,7 +5,7 @@ use Rattle.std.specs.Vec.{with_item}
 use Rattle.words.specs.Store.{Bytes}
 use Rattle.world_events.specs.declared.event.Event.{Event}
 use Rattle.world_events.specs.declared.event.Event.TheVariants as event
-use Rattle.world_log.specs.declared.stripes.Stripes.{Stripes}
+use Rattle.world_log.specs.Types.{Stripes}
 use Rattle.world_model.specs.States.{Phase, ClientState, State, client, with_client}
 use Rattle.world_model.specs.Enabled.{hears, holds_none}
 use Rattle.world_model.specs.Advancing.{Advances, Goes, When, is_idle}

@@ -21,11 +21,10 @@ use Rattle.transact.specs.Tables.{AreThere, Became, PartBecame, begins, clears, 
 use Rattle.hybrid.specs.HybridLog.{HybridLog}
 use Rattle.plans.specs.declared.shard.Shard.{Shard}
 use Rattle.plans.specs.Rooms.{AreRoomy}
-use Rattle.plans.specs.Shards.{logs_of, shard_log, shard_store, shard_marks, shard_meaning}
+use Rattle.plans.specs.Shards.{SameWaits, logs_of, shard_log, shard_store, shard_marks, shard_meaning}
 use Rattle.world_log.specs.Places.{Receipt}
-use Rattle.world_log.specs.declared.lanes.Lane.{Lane}
-use Rattle.world_log.specs.declared.stripes.Stripes.{Stripes}
-use Rattle.world_log.specs.Stripes.{IsEven, KeepsOthers, acts_for, lent, part_in, marks_of, stores_of}
+use Rattle.world_log.specs.Types.{Lane, Stripes}
+use Rattle.world_log.specs.Stripes.{IsEven, KeepsLanes, KeepsOthers, acts_for, lent, part_in, marks_of, stores_of}
 use Rattle.world_log.specs.Stripes as lanes
 use Rattle.world_model.specs.Enabled.{first_missing, holds, is_number}
 use Rattle.world_model.specs.Commits.{marks_changed}
@@ -346,7 +345,18 @@ has_installed before mid later c call writes even one two planned installed ther
         ∙ sym (ap (marks_changed c call writes key session) (marks_same (slice_get before.lanes.items stripe) key session))
 
 pub keeps_same : (stripes : Stripes) → KeepsOthers stripes stripes
-keeps_same stripes = record { holders = refl; acting = refl; count = refl; queues = λ i. refl; others = λ i away. refl }
+keeps_same stripes = record { holders = refl; acting = refl; count = refl; queues = λ i. refl; others = λ i away. refl; waits = λ i. refl }
+
+-- what a plan keeps, with what it leaves beside the logs
+pub keeps_with : (before later : Stripes) → KeepsLanes before later → SameWaits (lent before) (lent later) → KeepsOthers before later
+keeps_with before later keeps waits = record {
+  holders = keeps.holders;
+  acting = keeps.acting;
+  count = keeps.count;
+  queues = keeps.queues;
+  others = keeps.others;
+  waits = waits;
+}
 
 -- the same of watches that end
 pub has_forgotten : (before later : Stripes) (c : ℕ) (keys : List Bytes)

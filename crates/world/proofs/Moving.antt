@@ -22,8 +22,7 @@ use Rattle.world_log.specs.Given.{IsGiven, StaysGiven}
 use Rattle.world_log.specs.Stripes.{IsEven, KeepsOthers, acts_for, lent, marks_in, marks_of, with_holder}
 use Rattle.world_log.specs.WorldLogs.{IsWorldLog}
 use Rattle.world_log.specs.WorldLogs as logs
-use Rattle.world_log.specs.declared.lanes.Lane.{Lane}
-use Rattle.world_log.specs.declared.stripes.Stripes.{Stripes}
+use Rattle.world_log.specs.Types.{Lane, Stripes}
 use Rattle.world_log.specs.declared.logs.WorldLog.{WorldLog}
 use Rattle.world_model.specs.Advancing.{When}
 use Rattle.world_model.specs.States.{Phase, Due, ClientState, State, client, fresh, open_call, stripe_count, with_client}

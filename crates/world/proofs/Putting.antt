@@ -23,7 +23,7 @@ use Rattle.plans.specs.Sizes.{AllShort}
 use Rattle.world_log.specs.Places.{Receipt, Shelves, Wrote, view}
 use Rattle.world_log.specs.PlanLaws.{logs_lent, with_parts}
 use Rattle.world_log.specs.Stripes.{IsEven, KeepsOthers, acts_for, lent, marks_of, stores_of}
-use Rattle.world_log.specs.declared.stripes.Stripes.{Stripes}
+use Rattle.world_log.specs.Types.{Stripes}
 use Rattle.world_log.specs.declared.logs.WorldLog.{WorldLog}
 use Rattle.world_model.specs.Commits.{marks_changed}
 use Rattle.world_model.specs.Enabled.{first_missing}
@@ -149,6 +149,7 @@ keeps_both old mid new one two = record {
   count = two.count ∙ one.count;
   queues = λ i. two.queues i ∙ one.queues i;
   others = λ i away. two.others i (rw (one.holders, one.acting) away) ∙ one.others i away;
+  waits = λ i. two.waits i ∙ one.waits i;
 }
 
 grown_from : (n : ℕ) (old mid new : ℕ → Option HybridLog) → ((i : ℕ) → mid i ≡ old i) → HaveGrown n [] mid new → HaveGrown n [] old new

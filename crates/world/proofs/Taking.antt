@@ -29,8 +29,7 @@ use Rattle.world_log.specs.Places.{Receipt, Shelves, Wrote, view}
 use Rattle.world_log.specs.PlanLaws.{IsStill}
 use Rattle.world_log.specs.Stripes.{acts_for, lent, part_in, stores_of, marks_of}
 use Rattle.world_log.specs.Stripes as lanes
-use Rattle.world_log.specs.declared.lanes.Lane.{Lane}
-use Rattle.world_log.specs.declared.stripes.Stripes.{Stripes}
+use Rattle.world_log.specs.Types.{Lane, Stripes}
 use Rattle.world_model.specs.States.{Phase, Serving, Calling, Leaving, Left, Ended, ClientState, State, client, fresh, open_call, stripe_count, whole, with_client}
 use Rattle.world_model.specs.Enabled.{holds, is_number}
 use Rattle.world_model.specs.Planning.{reply_now, stay_begun, taken, writes_now}

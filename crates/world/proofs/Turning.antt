@@ -12,7 +12,7 @@ use Rattle.plans.specs.Rooms.{AreRoomy, IsRoomyAt}
 use Rattle.plans.specs.Shards.{logs_of}
 use Rattle.connection.specs.Clients.{Progress}
 use Rattle.world_log.specs.Stripes.{acts_for, lent}
-use Rattle.world_log.specs.declared.stripes.Stripes.{Stripes}
+use Rattle.world_log.specs.Types.{Stripes}
 use Rattle.world_events.specs.declared.event.Event.{Event}
 use Rattle.world_events.specs.Actors.{actor}
 use Rattle.world_model.specs.States.{Phase, Calling, State, client, stripe_count}

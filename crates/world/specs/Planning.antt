@@ -22,7 +22,7 @@ use Rattle.world_log.specs.Places.{Receipt, Shelves, Wrote, SamePlaces, view}
 use Rattle.world_log.specs.PlanLaws.{logs_lent, with_parts}
 use Rattle.world_log.specs.Given.{IsGiven}
 use Rattle.world_log.specs.Stripes.{KeepsOthers, acts_for, lent, states_of}
-use Rattle.world_log.specs.declared.stripes.Stripes.{Stripes}
+use Rattle.world_log.specs.Types.{Stripes}
 use Rattle.world_log.specs.declared.logs.WorldLog.{WorldLog}
 use Rattle.world_model.specs.Logs.{place_at}
 use Rattle.world_model.specs.States.{log_at}

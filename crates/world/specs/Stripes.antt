@@ -4,7 +4,7 @@ use Rattle.words.specs.Store.{Bytes, Write, written}
 use Rattle.words.specs.Stripes.{stripe_of}
 use Rattle.transact.specs.Tables.{Change}
 use Rattle.world_log.specs.Stripes.{stores_of, marks_of}
-use Rattle.world_log.specs.declared.stripes.Stripes.{Stripes}
+use Rattle.world_log.specs.Types.{Stripes}
 
 -- Writes were made in the stripes of their keys, and marks changed so.
 pub record HasInstalled (before : Stripes) (writes : List Write) (change : Change) (later : Stripes) : Type 0 where

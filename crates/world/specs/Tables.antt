@@ -18,7 +18,7 @@ use Rattle.world_log.specs.Given.{IsGiven, StaysGiven}
 use Rattle.world_log.specs.Stripes.{acts_for, lent, with_holder}
 use Rattle.world_log.specs.WorldLogs.{IsWorldLog, KeepsHeld, Took, epoch_of}
 use Rattle.world_log.specs.WorldLogs as logs
-use Rattle.world_log.specs.declared.stripes.Stripes.{Stripes}
+use Rattle.world_log.specs.Types.{Stripes}
 use Rattle.world_events.specs.declared.event.Event.{Event}
 use Rattle.world_events.specs.declared.event.Event.TheVariants.{Commit}
 use Rattle.world_events.specs.Actors.{actor}

@@ -180,7 +180,10 @@ impl World {
         match event {
             Event::Copy(i) => self.log.copy(self.alloc, *i),
             Event::Write(i) => self.log.write(*i),
-            Event::Install(i) => self.log.install(*i),
+            Event::Install(i) => {
+                self.log.install(*i);
+                Ok(())
+            }
             Event::Drop(i) => {
                 self.log.evict(*i);
                 Ok(())

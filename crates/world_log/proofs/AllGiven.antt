@@ -6,15 +6,15 @@ use Rattle.std.proofs.lemmas.List.{get_or-drop}
 use Rattle.words.specs.Store.{Bytes}
 use Rattle.hybrid.specs.HybridLog as hybrid
 use Rattle.hybrid.specs.HybridLog.{HybridLog, Kept, receipt_of}
-use Rattle.hybrid.specs.Reserving.{IsFull}
 use Rattle.hybrid.specs.Shedding as trace
 use Rattle.hybrid.specs.Staging.{IsUnlinked}
 use Rattle.frames.specs.Resident.{page_of}
 use Rattle.world_model.specs.Places.{Each}
 use Rattle.world_log.specs.Places.{Receipt, Shelf, Shelves, Wrote, flag, view, with_shelf}
-use Rattle.world_log.specs.Beside.{AreSame, IsUnlinkedIn, DoesRetire, DoesDrain, DoesRelease, DoesWrite, IsWritten}
-use Rattle.world_log.specs.Given.{IsGiven, IsGivenKept, AreGivenKept, IsGivenBy, AreAllGiven, StaysGiven, KeepsGiven}
+use Rattle.plans.specs.Counted.{Counted, HasLanded, HasUnlinked, with_flight}
+use Rattle.world_log.specs.Beside.{Beside, DoesDrain, DoesRelease, DoesRetire, DoesWrite, IsWritten, beside_of}
 use Rattle.world_log.specs.declared.queues.Queues.{Queues}
+use Rattle.world_log.specs.Given.{IsGiven, IsGivenKept, AreGivenKept, IsGivenBy, AreAllGiven, StaysGiven, KeepsGiven}
 use Rattle.world_log.specs.declared.queues.Flushing.{Flushing}
 use Rattle.world_log.specs.declared.queues.Flushing.TheVariants as has
 use Rattle.world_log.specs.PlaceLaws.{same_flag}
@@ -80,94 +80,74 @@ kept_left device old new weight left all i kept is =
 
 -- ALL OF A STRIPE
 
-pub all_same : (device : Shelves) (p : HybridLog) (before after : Queues) → AreSame before after → AreAllGiven device p before → AreAllGiven device p after
-all_same device p before after same given = record {
-  kept = given.kept;
-  flushing = subst (IsGivenBy device) (sym same.flushing) given.flushing;
-  unlinked = subst (Each (IsGiven device)) (sym same.unlinked) given.unlinked;
-  retired = subst (Each (λ (one : Receipt × ℕ). IsGiven device one.0)) (sym same.retired) given.retired;
-  drained = subst (Each (λ (one : Receipt × ℕ). IsGiven device one.0)) (sym same.drained) given.drained;
-}
-
 by_stays : (old new : Shelves) (f : Flushing) → StaysGiven old new → IsGivenBy old f → IsGivenBy new f
 by_stays old new has.Nothing stays given = tt
 by_stays old new (has.Copied number page) stays given = tt
 by_stays old new (has.Wrote number page r) stays given = stays r given
 
-pub all_stays : (old new : Shelves) (p : HybridLog) (queues : Queues) → StaysGiven old new → AreAllGiven old p queues → AreAllGiven new p queues
-all_stays old new p queues stays given = record {
+pub all_stays : (old new : Shelves) (p : HybridLog) (beside : Beside) → StaysGiven old new → AreAllGiven old p beside → AreAllGiven new p beside
+all_stays old new p beside stays given = record {
   kept = kept_stays old new p stays given.kept;
-  flushing = by_stays old new queues.flushing stays given.flushing;
-  unlinked = each_map (IsGiven old) (IsGiven new) queues.unlinked.items stays given.unlinked;
+  flushing = by_stays old new beside.flushing stays given.flushing;
+  unlinked =
+      each_map (IsGivenKept old) (IsGivenKept new) beside.unlinked
+      (λ one was. record { given = stays _ was.given; identity = was.identity }) given.unlinked;
   retired =
-      each_map (λ (one : Receipt × ℕ). IsGiven old one.0) (λ (one : Receipt × ℕ). IsGiven new one.0) queues.retired.items
+      each_map (λ (one : Receipt × ℕ). IsGiven old one.0) (λ (one : Receipt × ℕ). IsGiven new one.0) beside.retired
       (λ one was. stays one.0 was) given.retired;
   drained =
-      each_map (λ (one : Receipt × ℕ). IsGiven old one.0) (λ (one : Receipt × ℕ). IsGiven new one.0) queues.drained.items
+      each_map (λ (one : Receipt × ℕ). IsGiven old one.0) (λ (one : Receipt × ℕ). IsGiven new one.0) beside.drained
       (λ one was. stays one.0 was) given.drained;
 }
 
--- another log, whose receipts are given
-all_log : (device : Shelves) (old new : HybridLog) (queues : Queues) → (AreGivenKept old device → AreGivenKept new device)
-    → AreAllGiven device old queues → AreAllGiven device new queues
-all_log device old new queues goes given = record {
-  kept = goes given.kept;
+pub copy_given : (old new : Counted) (queues : Queues) (number : ℕ) (page : _) → new ≡ with_flight old
+    → KeepsGiven old.log (beside_of old queues) new.log (beside_of new (record queues { flushing = has.Copied number page }))
+copy_given old new queues number page is device given =
+    subst (λ (x : Counted). AreAllGiven device x.log (beside_of x (record queues { flushing = has.Copied number page }))) (sym is)
+    (record { kept = given.kept; flushing = tt; unlinked = given.unlinked; retired = given.retired; drained = given.drained })
+
+pub landed_given : (old new : Counted) (queues : Queues) (number : ℕ) (page : _) (r : Receipt) (bytes : List ℕ) → queues.flushing ≡ has.Wrote number page r
+    → HasLanded old number bytes (view r) new → KeepsGiven old.log (beside_of old queues) new.log (beside_of new (record queues { flushing = has.Nothing }))
+landed_given old new queues number page r bytes is landed device given =
+    let one : IsGiven device r = subst (IsGivenBy device) is given.flushing in
+    elim landed.how [
+      | inl kept ↦
+          subst (λ (x : Counted). AreAllGiven device x.log (beside_of x (record queues { flushing = has.Nothing }))) (sym kept.1)
+          (record {
+            kept = kept_receipt device old.log number r one given.kept;
+            flushing = tt;
+            unlinked = given.unlinked;
+            retired = given.retired;
+            drained = given.drained;
+          })
+      | inr late ↦
+          subst (λ (x : Counted). AreAllGiven device x.log (beside_of x (record queues { flushing = has.Nothing }))) (sym late.1)
+          (record {
+            kept = given.kept;
+            flushing = tt;
+            unlinked = each_last (IsGivenKept device) old.unlinked (view r) given.unlinked (kept_view device r one);
+            retired = given.retired;
+            drained = given.drained;
+          })
+    ]
+
+pub drop_given : (old new : Counted) (queues : Queues) (t : Bool) → OnTrue t (new ≡ record old { log = hybrid.with_dropped old.log }) → OnFalse t (new ≡ old)
+    → KeepsGiven old.log (beside_of old queues) new.log (beside_of new queues)
+drop_given old new queues true yes_is no_is device given =
+    subst (λ (x : Counted). AreAllGiven device x.log (beside_of x queues)) (sym yes_is)
+    (record { kept = given.kept; flushing = given.flushing; unlinked = given.unlinked; retired = given.retired; drained = given.drained })
+drop_given old new queues false yes_is no_is device given = subst (λ (x : Counted). AreAllGiven device x.log (beside_of x queues)) (sym no_is) given
+
+pub clean_given : (old new : Counted) (queues : Queues) (weight : ℕ) → HasUnlinked old new weight
+    → KeepsGiven old.log (beside_of old queues) new.log (beside_of new queues)
+clean_given old new queues weight done device given = record {
+  kept = kept_left device old.log new.log weight done.left given.kept;
   flushing = given.flushing;
-  unlinked = given.unlinked;
+  unlinked =
+      subst (Each (IsGivenKept device)) (sym (ap (λ (x : Counted). x.unlinked) done.is))
+      (each_last (IsGivenKept device) old.unlinked done.kept given.unlinked (given.kept (old.log.oldest - old.log.oldest) done.kept done.had));
   retired = given.retired;
   drained = given.drained;
-}
-
-pub copy_given : (old new : HybridLog) (queues : Queues) (number : ℕ) (page : _) (t : Bool) → OnTrue t (new ≡ record old { unreleased = old.unreleased + 1 })
-    → OnFalse t (IsFull old × (new ≡ old)) → KeepsGiven old queues new (record queues { flushing = has.Copied number page })
-copy_given old new queues number page t yes_is no_is device given =
-    all_log device old new (record queues { flushing = has.Copied number page }) (kept_as device old new (same t yes_is no_is))
-    (record { kept = given.kept; flushing = tt; unlinked = given.unlinked; retired = given.retired; drained = given.drained })
-  where
-    same : (t : Bool) → OnTrue t (new ≡ record old { unreleased = old.unreleased + 1 }) → OnFalse t (IsFull old × (new ≡ old)) → new.kept ≡ old.kept
-    same true yes_is no_is = ap (λ (p : HybridLog). p.kept) yes_is
-    same false yes_is no_is = ap (λ (p : HybridLog). p.kept) no_is.1
-
-pub install_given : (old new : HybridLog) (queues : Queues) (number : ℕ) (page : _) (r : Receipt) → queues.flushing ≡ has.Wrote number page r
-    → new ≡ hybrid.with_receipt old number (view r) → KeepsGiven old queues new (record queues { flushing = has.Nothing })
-install_given old new queues number page r is same device given =
-    let one : IsGiven device r = subst (IsGivenBy device) is given.flushing in
-    record {
-      kept = subst (λ (p : HybridLog). AreGivenKept p device) (sym same) (kept_receipt device old number r one given.kept);
-      flushing = tt;
-      unlinked = given.unlinked;
-      retired = given.retired;
-      drained = given.drained;
-    }
-
-pub back_given : (p : HybridLog) (queues after : Queues) (number : ℕ) (page : _) (r : Receipt) → queues.flushing ≡ has.Wrote number page r
-    → IsUnlinkedIn r (record queues { flushing = has.Nothing }) after → KeepsGiven p queues p after
-back_given p queues after number page r is done device given =
-    let one : IsGiven device r = subst (IsGivenBy device) is given.flushing in
-    record {
-      kept = given.kept;
-      flushing = subst (IsGivenBy device) (sym done.0) tt;
-      unlinked = subst (Each (IsGiven device)) (sym done.1) (each_last (IsGiven device) queues.unlinked.items r given.unlinked one);
-      retired = subst (Each (λ (one : Receipt × ℕ). IsGiven device one.0)) (sym done.2) given.retired;
-      drained = subst (Each (λ (one : Receipt × ℕ). IsGiven device one.0)) (sym done.3) given.drained;
-    }
-
-pub drop_given : (old new : HybridLog) (queues : Queues) (t : Bool) → OnTrue t (new ≡ hybrid.with_dropped old) → OnFalse t (new ≡ old)
-    → KeepsGiven old queues new queues
-drop_given old new queues t yes_is no_is device given = all_log device old new queues (kept_as device old new (same t yes_is no_is)) given
-  where
-    same : (t : Bool) → OnTrue t (new ≡ hybrid.with_dropped old) → OnFalse t (new ≡ old) → new.kept ≡ old.kept
-    same true yes_is no_is = ap (λ (p : HybridLog). p.kept) yes_is
-    same false yes_is no_is = ap (λ (p : HybridLog). p.kept) no_is
-
-pub clean_given : (old new : HybridLog) (weight : ℕ) (before after : Queues) (r : Receipt) → IsUnlinked old new weight
-    → ((device : Shelves) → AreGivenKept old device → IsGiven device r) → IsUnlinkedIn r before after → KeepsGiven old before new after
-clean_given old new weight before after r left own done device given = record {
-  kept = kept_left device old new weight left given.kept;
-  flushing = subst (IsGivenBy device) (sym done.0) given.flushing;
-  unlinked = subst (Each (IsGiven device)) (sym done.1) (each_last (IsGiven device) before.unlinked.items r given.unlinked (own device given.kept));
-  retired = subst (Each (λ (one : Receipt × ℕ). IsGiven device one.0)) (sym done.2) given.retired;
-  drained = subst (Each (λ (one : Receipt × ℕ). IsGiven device one.0)) (sym done.3) given.drained;
 }
 
 -- ROOM
@@ -235,11 +215,11 @@ pub room_kept : (old new : HybridLog) (device after : Shelves) → trace.HasShed
     → AreGivenKept old device → AreGivenKept new after
 room_kept old new device after shed = (steps_stay shed.count old new device after shed.all).1
 
-pub room_given : (old new : HybridLog) (queues : Queues) (device after : Shelves) → trace.HasShed {D = Shelves} {R = Receipt} Wrote view old device new after
-    → AreAllGiven device old queues → AreAllGiven after new queues
-room_given old new queues device after shed given =
+pub room_given : (old new : HybridLog) (beside : Beside) (device after : Shelves) → trace.HasShed {D = Shelves} {R = Receipt} Wrote view old device new after
+    → AreAllGiven device old beside → AreAllGiven after new beside
+room_given old new beside device after shed given =
     let both = steps_stay shed.count old new device after shed.all in
-    let there : AreAllGiven after old queues = all_stays device after old queues both.0 given in
+    let there : AreAllGiven after old beside = all_stays device after old beside both.0 given in
     record {
       kept = both.1 given.kept;
       flushing = there.flushing;
@@ -257,62 +237,58 @@ view_given device r kept = record {
   fresh = same_flag r.released false (ap (λ (l : List ℕ). get_or l 1 0) kept.identity);
 }
 
--- the oldest page's receipt
-pub oldest_given : (p : HybridLog) (r : Receipt) → receipt_of p p.oldest ≡ Some (view r)
-    → (device : Shelves) → AreGivenKept p device → IsGiven device r
-oldest_given p r has device given = view_given device r (given (p.oldest - p.oldest) (view r) has)
-
 -- WHAT STANDS BESIDE THE LOG
 
-pub retire_given : (device : Shelves) (p : HybridLog) (before after : Queues) (epoch : ℕ) → DoesRetire true epoch before after
+pub retire_given : (device : Shelves) (p : HybridLog) (before after : Beside) (epoch : ℕ) → DoesRetire true epoch before after
     → AreAllGiven device p before → AreAllGiven device p after
 retire_given device p before after epoch does given =
-    let old = subst (Each (IsGiven device)) does.2 given.unlinked in
-    record {
+    let old = subst (Each (IsGivenKept device)) does.2 given.unlinked in
+    subst (AreAllGiven device p) (sym does.3)
+    (record {
       kept = given.kept;
-      flushing = subst (IsGivenBy device) (sym does.6) given.flushing;
-      unlinked = subst (Each (IsGiven device)) (sym does.3) old.1;
+      flushing = given.flushing;
+      unlinked = old.1;
       retired =
-          subst (Each (λ (one : Receipt × ℕ). IsGiven device one.0)) (sym does.4)
-          (each_last (λ (one : Receipt × ℕ). IsGiven device one.0) before.retired.items (does.0, epoch) given.retired old.0);
-      drained = subst (λ q. Each (λ (one : Receipt × ℕ). IsGiven device one.0) q.items) (sym does.5) given.drained;
-    }
+          each_last (λ (one : Receipt × ℕ). IsGiven device one.0) before.retired (does.0, epoch) given.retired (view_given device does.0 old.0);
+      drained = given.drained;
+    })
 
-pub drain_given : (device : Shelves) (p : HybridLog) (before after : Queues) → DoesDrain true before after
-    → AreAllGiven device p before → AreAllGiven device p after
-drain_given device p before after does given =
+pub drain_given : (device : Shelves) (c : Counted) (before after : Queues) → DoesDrain true before after
+    → AreAllGiven device c.log (beside_of c before) → AreAllGiven device c.log (beside_of c after)
+drain_given device c before after does given =
     let old = subst (Each (λ (one : Receipt × ℕ). IsGiven device one.0)) does.2 given.retired in
     record {
       kept = given.kept;
-      flushing = subst (IsGivenBy device) (sym does.6) given.flushing;
-      unlinked = subst (λ q. Each (IsGiven device) q.items) (sym does.5) given.unlinked;
+      flushing = subst (IsGivenBy device) (sym does.5) given.flushing;
+      unlinked = given.unlinked;
       retired = subst (Each (λ (one : Receipt × ℕ). IsGiven device one.0)) (sym does.3) old.1;
       drained =
           subst (Each (λ (one : Receipt × ℕ). IsGiven device one.0)) (sym does.4)
           (each_last (λ (one : Receipt × ℕ). IsGiven device one.0) before.drained.items does.0 given.drained old.0);
     }
 
-pub release_stays : (done : Bool) (page : Bytes) (old : HybridLog) (before : Queues) (device : Shelves) (new : HybridLog) (after : Queues) (shown : Shelves)
+pub release_stays : (done : Bool) (page : Bytes) (old : HybridLog) (before : Beside) (device : Shelves) (new : HybridLog) (after : Beside) (shown : Shelves)
     → DoesRelease done page old before device new after shown → StaysGiven device shown
 release_stays true page old before device new after shown does r given =
-    subst (λ (d : Shelves). IsGiven d r) (sym does.7) (given_released device r (does.0).0.place page given)
+    subst (λ (d : Shelves). IsGiven d r) (sym does.4) (given_released device r (does.0).0.place page given)
 release_stays false page old before device new after shown does r given = subst (λ (d : Shelves). IsGiven d r) (sym does.3) given
 
-pub release_given : (done : Bool) (page : Bytes) (old : HybridLog) (before : Queues) (device : Shelves) (new : HybridLog) (after : Queues) (shown : Shelves)
+pub release_given : (done : Bool) (page : Bytes) (old : HybridLog) (before : Beside) (device : Shelves) (new : HybridLog) (after : Beside) (shown : Shelves)
     → DoesRelease done page old before device new after shown → AreAllGiven device old before → AreAllGiven shown new after
 release_given true page old before device new after shown does given =
     let was = subst (Each (λ (one : Receipt × ℕ). IsGiven device one.0)) does.2 given.drained in
     all_stays device shown new after (release_stays true page old before device new after shown does)
+    (subst (AreAllGiven device new) (sym does.3)
     (record {
-      kept = kept_as device old new (ap (λ (q : HybridLog). q.kept) does.8) given.kept;
-      flushing = subst (IsGivenBy device) (sym does.6) given.flushing;
-      unlinked = subst (λ q. Each (IsGiven device) q.items) (sym does.4) given.unlinked;
-      retired = subst (λ q. Each (λ (one : Receipt × ℕ). IsGiven device one.0) q.items) (sym does.5) given.retired;
-      drained = subst (Each (λ (one : Receipt × ℕ). IsGiven device one.0)) (sym does.3) was.1;
-    })
+      kept = kept_as device old new (ap (λ (q : HybridLog). q.kept) does.5) given.kept;
+      flushing = given.flushing;
+      unlinked = given.unlinked;
+      retired = given.retired;
+      drained = was.1;
+    }))
 release_given false page old before device new after shown does given =
     all_stays device shown new after (release_stays false page old before device new after shown does)
-    (all_same device new before after does.1 (subst (λ (q : HybridLog). AreAllGiven device q before) (sym does.2) given))
+    (subst (AreAllGiven device new) (sym does.1) (subst (λ (q : HybridLog). AreAllGiven device q before) (sym does.2) given))
 
 written_stays : (f : Flushing) (old new : Shelves) (after : Flushing) → IsWritten f old after new → StaysGiven old new × IsGivenBy new after
 written_stays has.Nothing old new after is = absurd is
@@ -329,12 +305,12 @@ pub write_stays : (done : Bool) (before : Queues) (old : Shelves) (after : Queue
 write_stays true before old after new does r given = (written_stays before.flushing old new after.flushing does.0).0 r given
 write_stays false before old after new does r given = subst (λ (d : Shelves). IsGiven d r) (sym does.2) given
 
-pub write_given : (done : Bool) (p : HybridLog) (before : Queues) (old : Shelves) (after : Queues) (new : Shelves) → DoesWrite done before old after new
-    → AreAllGiven old p before → AreAllGiven new p after
-write_given true p before old after new does given =
+pub write_given : (done : Bool) (c : Counted) (before : Queues) (old : Shelves) (after : Queues) (new : Shelves) → DoesWrite done before old after new
+    → AreAllGiven old c.log (beside_of c before) → AreAllGiven new c.log (beside_of c after)
+write_given true c before old after new does given =
     let all = written_stays before.flushing old new after.flushing does.0 in
-    let there : AreAllGiven new p before = all_stays old new p before all.0 given in
-    subst (AreAllGiven new p) (sym does.1)
+    let there : AreAllGiven new c.log (beside_of c before) = all_stays old new c.log (beside_of c before) all.0 given in
+    subst (λ (q : Queues). AreAllGiven new c.log (beside_of c q)) (sym does.1)
     (record { kept = there.kept; flushing = all.1; unlinked = there.unlinked; retired = there.retired; drained = there.drained })
-write_given false p before old after new does given =
-    subst (AreAllGiven new p) (sym does.1) (subst (λ (d : Shelves). AreAllGiven d p before) (sym does.2) given)
+write_given false c before old after new does given =
+    subst (λ (q : Queues). AreAllGiven new c.log (beside_of c q)) (sym does.1) (subst (λ (d : Shelves). AreAllGiven d c.log (beside_of c before)) (sym does.2) given)

@@ -7,12 +7,13 @@ use Rattle.records.specs.Page.{empty_page}
 use Rattle.records.specs.Records.{Stored, records_of}
 use Rattle.hybrid.specs.HybridLog.{HybridLog, IsHybridLog, Kept, empty_log, log_of}
 use Rattle.hybrid.specs.Log.{Log, contents, log_from, newest, newest_first, page_log, value_of}
-use Rattle.plans.specs.Shards.{shard_log, shard_marks}
+use Rattle.plans.specs.Counted.{Counted}
+use Rattle.plans.specs.Shards.{shard_counted, shard_log, shard_marks}
 use Rattle.plans.specs.declared.shard.Shard.{Shard}
 use Rattle.world_model.specs.Logs.{LogState, new_log, unreleased}
 use Rattle.world_model.specs.States.{State, start}
-use Rattle.world_log.specs.Beside.{IsFaithful, flushing_of, log_state, place_stamped}
-use Rattle.world_log.specs.Given.{IsGiven, IsGivenBy}
+use Rattle.world_log.specs.Beside.{Beside, IsFaithful, beside_of, count_flushing, flushing_of, log_state, place_of, place_stamped}
+use Rattle.world_log.specs.Given.{IsGiven, IsGivenBy, IsGivenKept}
 use Rattle.world_model.specs.Places.{Each}
 use Rattle.world_log.specs.Lanes.{AreNewLanes, IsNewLane}
 use Rattle.world_log.specs.Places.{Receipt, Shelves, places_of}
@@ -20,7 +21,7 @@ use Rattle.world_log.specs.Stripes.{lane_state, marks_in, store_in}
 use Rattle.world_log.specs.WorldLogs.{IsLane, IsWorldLog, state_of}
 use Rattle.world_log.specs.declared.queues.Queues.{Queues}
 use Rattle.world_log.specs.declared.queues.Flushing.TheVariants as has
-use Rattle.world_log.specs.declared.lanes.Lane.{Lane}
+use Rattle.world_log.specs.Types.{Lane}
 use Rattle.world_log.specs.declared.logs.WorldLog.{WorldLog}
 use Rattle.world_log.proofs.Agreeing.{numbered_of}
 
@@ -49,19 +50,19 @@ no_value key = by_newest (newest [] key) (no_newest key)
 -- A NEW LANE
 
 -- nothing stands beside its log
-record AreEmpty (queues : Queues) : Type 0 where
-  flushing : queues.flushing ≡ has.Nothing
-  unlinked : queues.unlinked.items ≡ []
-  retired : queues.retired.items ≡ []
-  drained : queues.drained.items ≡ []
+record AreEmpty (beside : Beside) : Type 0 where
+  flushing : beside.flushing ≡ has.Nothing
+  unlinked : beside.unlinked ≡ []
+  retired : beside.retired ≡ []
+  drained : beside.drained ≡ []
 
-state_is : (p : HybridLog) (queues : Queues) (stripes buckets frames places : ℕ) → p ≡ empty_log stripes buckets frames places → AreEmpty queues
-    → log_state p queues ≡ new_log
-state_is p queues stripes buckets frames places is none =
-    ap (λ (q : HybridLog). log_state q queues) is
+state_is : (p : HybridLog) (beside : Beside) (stripes buckets frames places : ℕ) → p ≡ empty_log stripes buckets frames places → AreEmpty beside
+    → log_state p beside ≡ new_log
+state_is p beside stripes buckets frames places is none =
+    ap (λ (q : HybridLog). log_state q beside) is
     ∙ (λ j. record new_log {
       flushing = flushing_of (none.flushing j);
-      unlinked = map (λ (r : Receipt). r.place) (none.unlinked j);
+      unlinked = map place_of (none.unlinked j);
       retired = map place_stamped (none.retired j);
       drained = map place_stamped (none.drained j);
     })
@@ -71,13 +72,18 @@ never_kept zero kept is = cc is
 never_kept (suc i) kept is = cc is
 
 pub new_lane : (shard : Shard Receipt) (queues : Queues) (stripes buckets frames places : ℕ)
-    → shard_log shard ≡ empty_log stripes buckets frames places → ((key : Bytes) (session : ℕ) → shard_marks shard key session ≡ None)
+    → shard_log shard ≡ empty_log stripes buckets frames places
+    → shard_counted shard ≡ record { log = shard_log shard; in_flight = 0; unlinked = []; retired = []; drained = []; refusals = 0 }
+    → ((key : Bytes) (session : ℕ) → shard_marks shard key session ≡ None)
     → IsHybridLog (shard_log shard) → records_of (empty_page 0) ≡ []
-    → queues.flushing ≡ has.Nothing → queues.unlinked.items ≡ [] → queues.retired.items ≡ [] → queues.drained.items ≡ []
+    → queues.flushing ≡ has.Nothing → queues.retired.items ≡ [] → queues.drained.items ≡ []
     → IsNewLane frames places (record { shard = shard; queues = queues })
-new_lane shard queues stripes buckets frames places log marks fit none flushing unlinked retired drained =
-    let are : AreEmpty queues = record { flushing = flushing; unlinked = unlinked; retired = retired; drained = drained } in
-    let state : log_state (shard_log shard) queues ≡ new_log = state_is (shard_log shard) queues stripes buckets frames places log are in
+new_lane shard queues stripes buckets frames places log counted marks fit none flushing retired drained =
+    let unlinked : (shard_counted shard).unlinked ≡ [] = ap (λ (c : Counted). c.unlinked) counted in
+    let are : AreEmpty (beside_of (shard_counted shard) queues) =
+    record { flushing = flushing; unlinked = unlinked; retired = retired; drained = drained } in
+    let state : log_state (shard_log shard) (beside_of (shard_counted shard) queues) ≡ new_log =
+    state_is (shard_log shard) (beside_of (shard_counted shard) queues) stripes buckets frames places log are in
     record {
       log = state;
       store = λ key.
@@ -87,6 +93,10 @@ new_lane shard queues stripes buckets frames places log marks fit none flushing 
       right = record {
         agrees = record {
           counted = ap (λ (p : HybridLog). p.unreleased) log ∙ sym (ap unreleased state);
+          in_flight = ap (λ (c : Counted). c.in_flight) counted
+              ∙ (λ j. count_flushing (sym flushing j) + length (sym retired j) + length (sym drained j));
+          retired = ap (λ (c : Counted). c.retired) counted;
+          drained = ap (λ (c : Counted). c.drained) counted;
           faithful = subst (IsFaithful (shard_log shard)) (sym flushing) tt;
         };
         numbered = numbered_of (shard_log shard) fit;
@@ -95,7 +105,7 @@ new_lane shard queues stripes buckets frames places log marks fit none flushing 
         given = record {
           kept = λ i kept is. absurd (never_kept i kept (sym (ap (λ (p : HybridLog). slice_index_or p.kept i None) log) ∙ is));
           flushing = subst (IsGivenBy _) (sym flushing) tt;
-          unlinked = subst (Each (IsGiven _)) (sym unlinked) tt;
+          unlinked = subst (Each (IsGivenKept _)) (sym unlinked) tt;
           retired = subst (Each (λ (one : Receipt × ℕ). IsGiven _ one.0)) (sym retired) tt;
           drained = subst (Each (λ (one : Receipt × ℕ). IsGiven _ one.0)) (sym drained) tt;
         };

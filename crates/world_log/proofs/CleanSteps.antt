@@ -1,5 +1,5 @@
 -- The cleaner's step on one stripe.
-use Rattle.std.proofs.Common.{◌≡◌, ◌≢◌, ◌⊎◌, ℕ, zero, suc, ◌+◌, ◌-◌, ◌<◌, ◌≤◌, Bool, false, List, [], ◌∷◌, ◌++◌, length, map, get_or, set, drop, replicate, Option, None, Some, IsSome, refl, sym, ap, ap₂, subst, ◌∙◌, arith, inl, inr, if◌then◌else◌, nat_lt}
+use Rattle.std.proofs.Common.{◌≡◌, ◌≢◌, ◌⊎◌, ℕ, zero, suc, ◌+◌, ◌-◌, ◌<◌, ◌≤◌, Bool, false, List, [], ◌∷◌, ◌++◌, length, map, get_or, set, drop, replicate, Option, None, Some, IsSome, refl, sym, ap, subst, ◌∙◌, arith, inl, inr, if◌then◌else◌, nat_lt}
 use Rattle.std.specs.Prelude.{slice_index_or, slice_get}
 use Rattle.std.proofs.Common.{length-append}
 use Rattle.std.proofs.lemmas.Bool.{cases_lt, cases_eq}
@@ -16,14 +16,16 @@ use Rattle.words.specs.declared.limits.TheConstants.{WEIGHT_MAX}
 use Rattle.world_log.specs.PlaceLaws.{served_copy}
 use Rattle.world_model.specs.Logs.{LogState, places_kept, place_at, unreleased, with_opened, without_oldest}
 use Rattle.world_log.specs.declared.queues.Flushing.TheVariants as has
-use Rattle.world_log.specs.declared.queues.Queues.{Queues}
 use Rattle.world_log.specs.declared.queues.Flushing.{Flushing}
 use Rattle.world_log.proofs.Agreeing.{numbered_of, place_is, total}
 use Rattle.hybrid.specs.HybridLog.{HybridLog, IsHybridLog, Kept, count_kept, receipt_of, receipt_at, log_of, shown_page}
-use Rattle.hybrid.specs.Staging.{StagedPage, IsMissing, IsUnlinked}
+use Rattle.hybrid.specs.Staging.{StagedPage, IsMissing}
 use Rattle.world_log.specs.MakingRoom.{ShedsMany, HasMadeRoom}
 use Rattle.world_log.specs.Places.{Receipt, Shelf, Shelves, Serves, SamePlaces, Wrote, identity, page_released, places_of, view}
-use Rattle.world_log.specs.Beside.{place_kept, place_stamped, flushing_of, log_state, IsFaithful, Agrees, IsUnlinkedIn}
+use Rattle.plans.specs.Counted as counting
+use Rattle.plans.specs.Counted.{Counted}
+use Rattle.world_log.specs.Beside.{Agrees, Beside, IsFaithful, beside_of, log_state, place_kept, place_of}
+use Rattle.world_log.specs.declared.queues.Queues.{Queues}
 use Rattle.world_log.specs.Cleaning.{IsServedBy, AreServed, IsFetched, HasUnlinked}
 
 -- A PAGE THAT IS STAGED
@@ -83,9 +85,9 @@ served_places p device after same served i one is =
 
 -- THE PAGE THAT LEFT
 
-place_of_some : (p : HybridLog) (queues : Queues) (one : Kept) → IsHybridLog p → receipt_of p p.oldest ≡ Some one
-    → place_at (log_state p queues) p.oldest ≡ Some (get_or one.identity 0 0)
-place_of_some p queues one fit has = place_is p queues (numbered_of p fit) p.oldest (omega arith) ∙ ap place_kept has
+place_of_some : (p : HybridLog) (beside : Beside) (one : Kept) → IsHybridLog p → receipt_of p p.oldest ≡ Some one
+    → place_at (log_state p beside) p.oldest ≡ Some (get_or one.identity 0 0)
+place_of_some p beside one fit has = place_is p beside (numbered_of p fit) p.oldest (omega arith) ∙ ap place_kept has
 
 kept_left : (kept : List (Option Kept)) (n : ℕ) → map place_kept (drop 1 (kept ++ replicate n None)) ≡ drop 1 (map place_kept kept ++ replicate n None)
 kept_left [] zero = refl
@@ -100,53 +102,26 @@ kept_left (one ∷ kept) n = map-append place_kept kept (replicate n None) ∙ a
     nones zero = refl
     nones (suc n) = ap (λ (l : List (Option ℕ)). None ∷ l) (nones n)
 
-pub has_unlinked : (old new : HybridLog) (weight : ℕ) (before after : Queues) (receipt : Receipt) → IsHybridLog old → old.oldest < old.resident.oldest
-    → weight ≤ WEIGHT_MAX → IsUnlinked old new weight → receipt_of old old.oldest ≡ Some (view receipt)
-    → IsUnlinkedIn receipt before after → HasUnlinked old before new after
-has_unlinked old new weight before after receipt fit cold light left has unlinked = record {
+-- the place of the receipt that was unlinked
+unlinked_place : (unlinked : List Kept) (kept : Kept) → map place_of (unlinked ++ kept ∷ []) ≡ map place_of unlinked ++ place_of kept ∷ []
+unlinked_place unlinked kept = map-append place_of unlinked (kept ∷ [])
+
+pub has_unlinked : (old new : Counted) (weight : ℕ) (queues : Queues) → IsHybridLog old.log → old.log.oldest < old.log.resident.oldest
+    → weight ≤ WEIGHT_MAX → counting.HasUnlinked old new weight → HasUnlinked old.log (beside_of old queues) new.log (beside_of new queues)
+has_unlinked old new weight queues fit cold light done = record {
   cold = cold;
-  place = receipt.place;
-  opened = left.opened;
-  there = place_of_some old before (view receipt) fit has;
-  few = omega (arith, left.few, light);
+  place = place_of done.kept;
+  opened = (done.left).opened;
+  there = place_of_some old.log (beside_of old queues) done.kept fit done.had;
+  few = omega (arith, (done.left).few, light);
   done =
-      ap (λ (o : ℕ). record (log_state new after) { oldest = o }) left.oldest
-      ∙ ap (λ (o : ℕ). record (log_state new after) { oldest = old.oldest + 1; first = o }) left.first
-      ∙ ap (λ (k : List (Option Kept)). record (log_state new after) { oldest = old.oldest + 1; first = old.resident.oldest; kept = map place_kept k }) left.kept
-      ∙ ap (λ (k : List (Option ℕ)). record (log_state new after) { oldest = old.oldest + 1; first = old.resident.oldest; kept = k }) (kept_left old.kept left.opened)
-      ∙ beside_same;
+      ap (λ (o : ℕ). record (log_state new.log (beside_of new queues)) { oldest = o }) (done.left).oldest
+      ∙ ap (λ (o : ℕ). record (log_state new.log (beside_of new queues)) { oldest = old.log.oldest + 1; first = o }) (done.left).first
+      ∙ ap (λ (k : List (Option ℕ)). record (log_state new.log (beside_of new queues)) { oldest = old.log.oldest + 1; first = old.log.resident.oldest; kept = k })
+      (ap (map place_kept) (done.left).kept ∙ kept_left old.log.kept (done.left).opened)
+      ∙ ap (λ (u : List ℕ). record (without_oldest (with_opened (log_state old.log (beside_of old queues)) (done.left).opened) (place_of done.kept)) { unlinked = u })
+      (ap (λ (x : Counted). map place_of x.unlinked) done.is ∙ unlinked_place old.unlinked done.kept);
 }
-  where
-    beside_same : (record (log_state new after) {
-      oldest = old.oldest + 1;
-      first = old.resident.oldest;
-      kept = drop 1 (map place_kept old.kept ++ replicate left.opened None);
-    }) ≡ without_oldest (with_opened (log_state old before) left.opened) receipt.place
-    beside_same =
-        ap (λ (f : Flushing). record (log_state new after) {
-          oldest = old.oldest + 1;
-          first = old.resident.oldest;
-          kept = drop 1 (map place_kept old.kept ++ replicate left.opened None);
-          flushing = flushing_of f;
-        }) unlinked.0
-        ∙ ap (λ (u : List Receipt). record (log_state new after) {
-          oldest = old.oldest + 1;
-          first = old.resident.oldest;
-          kept = drop 1 (map place_kept old.kept ++ replicate left.opened None);
-          flushing = flushing_of before.flushing;
-          unlinked = map (λ (r : Receipt). r.place) u;
-        }) unlinked.1
-        ∙ ap (λ (u : List ℕ). record (log_state new after) {
-          oldest = old.oldest + 1;
-          first = old.resident.oldest;
-          kept = drop 1 (map place_kept old.kept ++ replicate left.opened None);
-          flushing = flushing_of before.flushing;
-          unlinked = u;
-        }) (map-append (λ (r : Receipt). r.place) before.unlinked.items (receipt ∷ []))
-        ∙ ap₂ (λ (r d : List (Receipt × ℕ)). record (without_oldest (with_opened (log_state old before) left.opened) receipt.place) {
-          retired = map place_stamped r;
-          drained = map place_stamped d;
-        }) unlinked.2 unlinked.3
 
 -- COUNTS AND THE FLUSHER'S COPY
 
@@ -185,14 +160,18 @@ faithful_step old new (has.Copied number page) low first pages faithful =
 faithful_step old new (has.Wrote number page receipt) low first pages faithful =
     (omega (arith, low, faithful.0), λ from. faithful.1 (omega (arith, first, from)) ∙ sym (pages number from faithful.0), faithful.2)
 
-pub agrees_unlinked : (old new : HybridLog) (weight : ℕ) (before after : Queues) (receipt : Receipt) → Agrees old before → IsUnlinked old new weight
-    → HasUnlinked old before new after → after.flushing ≡ before.flushing → Agrees new after
-agrees_unlinked old new weight before after receipt agrees left done same = record {
+pub agrees_unlinked : (old new : Counted) (weight : ℕ) (queues : Queues) → Agrees old queues → counting.HasUnlinked old new weight
+    → HasUnlinked old.log (beside_of old queues) new.log (beside_of new queues) → Agrees new queues
+agrees_unlinked old new weight queues agrees left done = record {
   counted =
-      left.unreleased ∙ agrees.counted ∙ sym (ap unreleased done.done ∙ unlinked_counts (log_state old before) done.place done.opened done.there);
+      (left.left).unreleased ∙ agrees.counted
+      ∙ sym (ap unreleased done.done ∙ unlinked_counts (log_state old.log (beside_of old queues)) done.place done.opened done.there);
+  in_flight = ap (λ (x : Counted). x.in_flight) left.is ∙ agrees.in_flight;
+  retired = ap (λ (x : Counted). x.retired) left.is ∙ agrees.retired;
+  drained = ap (λ (x : Counted). x.drained) left.is ∙ agrees.drained;
   faithful =
-      rw same (faithful_step old new before.flushing (omega (arith, left.first, left.next, left.frames)) (omega (arith, left.first))
-      (λ n from lt. left.read_only n (omega (arith, left.first, from)) lt) agrees.faithful);
+      faithful_step old.log new.log queues.flushing (omega (arith, (left.left).first, (left.left).next, (left.left).frames)) (omega (arith, (left.left).first))
+      (λ n from lt. (left.left).read_only n (omega (arith, (left.left).first, from)) lt) agrees.faithful;
 }
 
 -- ROOM WAS MADE
@@ -305,14 +284,14 @@ cold_still old new count cold reserved =
 
 -- ROOM, OVER A DEVICE WITH THE SAME PLACES
 
-pub made_from : (old new : HybridLog) (device one two after : Shelves) (queues : Queues) → SamePlaces device one → SamePlaces two after
-    → HasMadeRoom old one new two queues → HasMadeRoom old device new after queues
-made_from old new device one two after queues first last made =
+pub made_from : (old new : HybridLog) (device one two after : Shelves) (beside : Beside) → SamePlaces device one → SamePlaces two after
+    → HasMadeRoom old one new two beside → HasMadeRoom old device new after beside
+made_from old new device one two after beside first last made =
     record {
       count = made.count;
       sheds =
-          subst (λ (l : List Shelf). ShedsMany old.resident.frames old.places made.count (log_state old queues) (places_of device) (log_state new queues) (map page_released l)) (sym last)
-          (subst (λ (l : List Shelf). ShedsMany old.resident.frames old.places made.count (log_state old queues) (map page_released l) (log_state new queues) (places_of two)) first
+          subst (λ (l : List Shelf). ShedsMany old.resident.frames old.places made.count (log_state old beside) (places_of device) (log_state new beside) (map page_released l)) (sym last)
+          (subst (λ (l : List Shelf). ShedsMany old.resident.frames old.places made.count (log_state old beside) (map page_released l) (log_state new beside) (places_of two)) first
           made.sheds);
       counted = made.counted;
     }

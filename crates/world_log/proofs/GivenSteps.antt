@@ -7,10 +7,9 @@ use Rattle.hybrid.specs.HybridLog.{HybridLog, Kept}
 use Rattle.world_model.specs.Logs.{place_at}
 use Rattle.world_model.specs.Places.{standing, stands}
 use Rattle.world_log.specs.Places.{Receipt, Shelf, Shelves, SamePlaces, Serves, page_released, places_of, with_shelf, with_shown}
-use Rattle.world_log.specs.Beside.{log_state, place_kept}
+use Rattle.world_log.specs.Beside.{Beside, log_state, place_kept}
 use Rattle.world_log.specs.Cleaning.{AreServed}
 use Rattle.world_log.specs.Given.{IsGiven, AreGivenKept, NoneKeptReleased, StaysGiven}
-use Rattle.world_log.specs.declared.queues.Queues.{Queues}
 use Rattle.world_log.proofs.Agreeing.{kept_read}
 
 map_get : (shelves : List Shelf) (i : ℕ) (shelf : Shelf) → slice_get shelves i ≡ Some shelf → slice_get (map page_released shelves) i ≡ Some (page_released shelf)
@@ -41,20 +40,20 @@ served_given device receipt given is =
     given.there ∙ ap (λ (s : Shelf). Some s) (shelf_is given.shelf receipt.page receipt.released (shut ∙ sym given.fresh) (given.shows shut))
 
 -- a receipt that is kept at a place of the list is that of a page
-page_of_place : (p : HybridLog) (queues : Queues) (i : ℕ) (one : Kept) → slice_index_or p.kept i None ≡ Some one
-    → place_at (log_state p queues) (p.oldest + i) ≡ Some (get_or one.identity 0 0)
-page_of_place p queues i one is =
+page_of_place : (p : HybridLog) (beside : Beside) (i : ℕ) (one : Kept) → slice_index_or p.kept i None ≡ Some one
+    → place_at (log_state p beside) (p.oldest + i) ≡ Some (get_or one.identity 0 0)
+page_of_place p beside i one is =
     let low : nat_lt (p.oldest + i) p.oldest ≡ false = grind arith in
     let at : p.oldest + i - p.oldest ≡ i = omega arith in
     ap (λ (t : Bool). if t then None else get_or (map place_kept p.kept) (p.oldest + i - p.oldest) None) low
     ∙ ap (λ (k : ℕ). get_or (map place_kept p.kept) k None) at ∙ kept_read p.kept i ∙ ap place_kept is
 
-pub served_kept : (p : HybridLog) (queues : Queues) (device : Shelves) → AreGivenKept p device → NoneKeptReleased p queues device → AreServed p device
-served_kept p queues device given none i one is =
+pub served_kept : (p : HybridLog) (beside : Beside) (device : Shelves) → AreGivenKept p device → NoneKeptReleased p beside device → AreServed p device
+served_kept p beside device given none i one is =
     let g = given i one is in
     record {
       shelf = served_given device (record { place = get_or one.identity 0 0; page = one.shown; released = false }) g.given
-          (none (p.oldest + i) (get_or one.identity 0 0) (page_of_place p queues i one is));
+          (none (p.oldest + i) (get_or one.identity 0 0) (page_of_place p beside i one is));
       identity = g.identity;
     }
 

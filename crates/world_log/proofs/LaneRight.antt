@@ -5,24 +5,24 @@ use Rattle.hybrid.specs.Log.{Log, contents}
 use Rattle.plans.specs.Shards.{shard_marks}
 use Rattle.world_log.specs.Beside.{Agrees, IsAlike, SameLog}
 use Rattle.world_log.specs.Lanes.{StaysRight}
-use Rattle.world_log.specs.Stripes.{lane_log}
-use Rattle.world_log.specs.declared.lanes.Lane.{Lane}
+use Rattle.world_log.specs.Stripes.{lane_counted, lane_log}
+use Rattle.world_log.specs.Types.{Lane}
 use Rattle.world_log.proofs.Agreeing.{numbered_of}
 
-pub lane_right : (old new : Lane) → Agrees (lane_log new) new.queues → IsAlike (lane_log old) (lane_log new) → IsHybridLog (lane_log new)
+pub lane_right : (old new : Lane) → Agrees (lane_counted new) new.queues → IsAlike (lane_log old) (lane_log new) → IsHybridLog (lane_log new)
     → SameLog (lane_log old) (lane_log new) → shard_marks new.shard ≡ shard_marks old.shard → StaysRight old new
 lane_right old new agrees alike fit same marks = record {
-  agrees = record { counted = agrees.counted; faithful = agrees.faithful };
+  agrees = agrees;
   numbered = numbered_of (lane_log new) fit;
   alike = record { frames = alike.frames; places = alike.places };
   store = ap (λ (l : Log). contents l) same;
   marks = marks;
 }
 
-pub lane_contents : (old new : Lane) → Agrees (lane_log new) new.queues → IsAlike (lane_log old) (lane_log new) → IsHybridLog (lane_log new)
+pub lane_contents : (old new : Lane) → Agrees (lane_counted new) new.queues → IsAlike (lane_log old) (lane_log new) → IsHybridLog (lane_log new)
     → SameContents (lane_log old) (lane_log new) → shard_marks new.shard ≡ shard_marks old.shard → StaysRight old new
 lane_contents old new agrees alike fit same marks = record {
-  agrees = record { counted = agrees.counted; faithful = agrees.faithful };
+  agrees = agrees;
   numbered = numbered_of (lane_log new) fit;
   alike = record { frames = alike.frames; places = alike.places };
   store = λ j key. same key j;

@@ -4,7 +4,7 @@ use Rattle.std.specs.Prelude.{slice_get}
 use Rattle.std.specs.Vec.{with_item}
 use Rattle.std.proofs.lemmas.List.{map-set, map-append, length-map, set-get_or}
 use Rattle.std.proofs.lemmas.Option.{slice_get_within, get_or_from_slice_get}
-use Rattle.hybrid.specs.HybridLog.{HybridLog}
+use Rattle.hybrid.specs.HybridLog.{HybridLog, Kept}
 use Rattle.world_events.specs.declared.event.Event.{Event}
 use Rattle.world_events.specs.declared.event.Event.TheVariants as event
 use Rattle.world_model.specs.Logs as logs
@@ -14,18 +14,21 @@ use Rattle.world_model.specs.Advancing.{When}
 use Rattle.world_model.specs.Effects.{Works}
 use Rattle.world_model.specs.Enabled.{is_enabled_in, has_none, has_written, has_copied, are_none, all_past, is_past, may_drain}
 use Rattle.world_model.specs.States.{with_log}
-use Rattle.world_log.specs.Beside.{IsNumbered, AreSame, IsWritten, IsFaithful, DoesWrite, DoesRetire, DoesDrain, place_stamped, Does, DoesCopy, DoesInstall, DoesDrop, Agrees, IsAlike, may_copy, has_receipt, has_copy, flushing_of, log_state}
+use Rattle.world_log.specs.Beside.{Agrees, Beside, Does, DoesCopy, DoesDrain, DoesDrop, DoesInstall, DoesRetire, DoesWrite, IsAlike, IsFaithful, IsNumbered, IsWritten, beside_of, count_flushing, flights, flushing_of, has_copy, has_receipt, log_state, may_copy, place_of, place_stamped}
 use Rattle.words.specs.Store.{Bytes}
 use Rattle.world_log.specs.Places.{Receipt, Shelves, places_of, page_released, with_shelf}
-use Rattle.world_log.specs.Stripes.{lane_log, lane_state}
+use Rattle.plans.specs.Counted.{Counted}
+use Rattle.plans.specs.Shards.{shard_counted, shard_log}
+use Rattle.plans.specs.declared.shard.Shard.{Shard}
+use Rattle.world_log.specs.Stripes.{lane_beside, lane_counted, lane_log, lane_state}
 use Rattle.world_log.specs.WorldLogs.{IsLane, IsWorldLog, IsOldest, state_beside, all_stays_past, stays_of}
 use Rattle.world_log.proofs.Agreeing.{total}
 use Rattle.world_log.specs.Given.{AreAllGiven, StaysGiven}
-use Rattle.world_log.proofs.AllGiven.{all_stays, all_same, retire_given, drain_given, write_stays, write_given}
+use Rattle.world_log.proofs.AllGiven.{all_stays, retire_given, drain_given, write_stays, write_given}
 use Rattle.world_log.specs.declared.queues.Queues.{Queues}
 use Rattle.world_log.specs.declared.queues.Flushing.{Flushing}
 use Rattle.world_log.specs.declared.queues.Flushing.TheVariants as has
-use Rattle.world_log.specs.declared.lanes.Lane.{Lane}
+use Rattle.world_log.specs.Types.{Lane}
 use Rattle.world_log.specs.declared.logs.WorldLog.{WorldLog}
 
 -- an event of a stripe did what it does where it is enabled, and else nothing, whatever the values
@@ -64,8 +67,8 @@ lane_of store i lane is there = is.lanes i lane there
 
 -- a log with another lane
 pub store_with : (store : WorldLog) (i : ℕ) (lane new : Lane) → IsWorldLog store → slice_get store.stripes.lanes.items i ≡ Some lane
-    → IsAlike (lane_log lane) (lane_log new) → Agrees (lane_log new) new.queues → IsNumbered (lane_log new)
-    → AreAllGiven store.device (lane_log new) new.queues → IsWorldLog (with_lane store i new)
+    → IsAlike (lane_log lane) (lane_log new) → Agrees (lane_counted new) new.queues → IsNumbered (lane_log new)
+    → AreAllGiven store.device (lane_log new) (lane_beside new) → IsWorldLog (with_lane store i new)
 store_with store i lane new is there alike agrees numbered given =
     let old : IsLane store.device store.frames store.limit lane = is.lanes i lane there in
     let one : IsLane store.device store.frames store.limit new =
@@ -93,21 +96,21 @@ store_device store device stays is = record {
         numbered = one.numbered;
         frames = one.frames;
         places = one.places;
-        given = all_stays store.device device (lane_log x) x.queues stays one.given;
+        given = all_stays store.device device (lane_log x) (lane_beside x) stays one.given;
       };
 }
 
 -- a log with another lane, whose own log is as it was
 pub store_beside : (store : WorldLog) (i : ℕ) (lane new : Lane) → IsWorldLog store → slice_get store.stripes.lanes.items i ≡ Some lane
-    → lane_log new ≡ lane_log lane → Agrees (lane_log lane) new.queues → AreAllGiven store.device (lane_log lane) new.queues
+    → lane_log new ≡ lane_log lane → Agrees (lane_counted new) new.queues → AreAllGiven store.device (lane_log lane) (lane_beside new)
     → IsWorldLog (with_lane store i new)
 store_beside store i lane new is there same agrees given =
     let one : IsLane store.device store.frames store.limit lane = is.lanes i lane there in
     store_with store i lane new is there
     (record { frames = ap (λ (q : HybridLog). q.resident.frames) same; places = ap (λ (q : HybridLog). q.places) same })
-    (subst (λ (q : HybridLog). Agrees q new.queues) (sym same) agrees)
+    agrees
     (subst IsNumbered (sym same) one.numbered)
-    (subst (λ (q : HybridLog). AreAllGiven store.device q new.queues) (sym same) given)
+    (subst (λ (q : HybridLog). AreAllGiven store.device q (lane_beside new)) (sym same) given)
 
 pub logs_with : (store : WorldLog) (i : ℕ) (lane new : Lane) (log : LogState) → slice_get store.stripes.lanes.items i ≡ Some lane → lane_state new ≡ log
     → map lane_state (set store.stripes.lanes.items i new) ≡ set (map lane_state store.stripes.lanes.items) i log
@@ -142,11 +145,11 @@ abbrev Makes : Bool → (may : Bool) → (LogState → LogState) → LogState �
 Makes true may step log later = (may ≡ true) × (later ≡ step log)
 Makes false may step log later = (may ≡ false) × (later ≡ log)
 
-makes : (done may : Bool) (step : LogState → LogState) (old : HybridLog) (before : Queues) (new : HybridLog) (after : Queues)
+makes : (done may : Bool) (step : LogState → LogState) (old : HybridLog) (before : Beside) (new : HybridLog) (after : Beside)
     → Does done may step old before new after → Makes done may step (log_state old before) (log_state new after)
 makes true may step old before new after does = (does.enabled, does.done)
 makes false may step old before new after does =
-    (does.enabled, ap (λ (p : HybridLog). log_state p after) does.log ∙ ap (log_state old) does.queues)
+    (does.enabled, ap (λ (p : HybridLog). log_state p after) does.log ∙ ap (log_state old) does.beside)
 
 took : (rest : State) (e : Event) (store : WorldLog) (i : ℕ) (lane new : Lane) (done may : Bool) (step : LogState → LogState)
     → slice_get store.stripes.lanes.items i ≡ Some lane
@@ -197,16 +200,16 @@ copy_test frames limit log = has_none log.flushing && (is_some (oldest_sealed fr
 
 pub took_copy : (rest : State) (store : WorldLog) (i : ℕ) (lane new : Lane) (done : Bool) → IsWorldLog store → IsReached store i lane
     → is_none (get_or store.stripes.holders.items i None) ≡ true
-    → DoesCopy done (lane_log lane) lane.queues (lane_log new) new.queues → TookBeside rest (event.Copy i) store (with_lane store i new)
+    → DoesCopy done (lane_log lane) (lane_beside lane) (lane_log new) (lane_beside new) → TookBeside rest (event.Copy i) store (with_lane store i new)
 took_copy rest store i lane new done is at free does =
     let one : IsLane store.device store.frames store.limit lane = is.lanes i lane at.there in
-    took rest (event.Copy i) store i lane new done (may_copy (lane_log lane) lane.queues) (with_copy (lane_log lane).resident.frames) at.there
+    took rest (event.Copy i) store i lane new done (may_copy (lane_log lane) (lane_beside lane)) (with_copy (lane_log lane).resident.frames) at.there
     (both_true _ _ (copy_test store.frames store.limit (log_of (state_beside rest store) i)) at.below free
     ∙ ap (copy_test store.frames store.limit) (log_there store.stripes.lanes.items i lane at.there)
     ∙ ap (λ (f : ℕ). copy_test f store.limit (lane_state lane)) (sym one.frames)
     ∙ ap (λ (l : ℕ). copy_test (lane_log lane).resident.frames l (lane_state lane)) (sym one.places))
     (λ after same. same ∙ ap (λ (f : ℕ). with_log (state_beside rest store) i (with_copy f (log_of (state_beside rest store) i))) one.frames)
-    (makes done _ _ (lane_log lane) lane.queues (lane_log new) new.queues does)
+    (makes done _ _ (lane_log lane) (lane_beside lane) (lane_log new) (lane_beside new) does)
 
 written_is : (f : Flushing) → has_written (flushing_of f) ≡ has_receipt f
 written_is has.Nothing = refl
@@ -215,7 +218,7 @@ written_is (has.Wrote number page receipt) = refl
 
 pub took_install : (rest : State) (store : WorldLog) (i : ℕ) (lane new : Lane) (done : Bool) → IsWorldLog store → IsReached store i lane
     → is_none (get_or store.stripes.holders.items i None) ≡ true
-    → DoesInstall done (lane_log lane) lane.queues (lane_log new) new.queues → TookBeside rest (event.Install i) store (with_lane store i new)
+    → DoesInstall done (lane_log lane) (lane_beside lane) (lane_log new) (lane_beside new) → TookBeside rest (event.Install i) store (with_lane store i new)
 took_install rest store i lane new done is at free does =
     let one : IsLane store.device store.frames store.limit lane = is.lanes i lane at.there in
     took rest (event.Install i) store i lane new done (has_receipt lane.queues.flushing) (with_installed (lane_log lane).resident.frames) at.there
@@ -223,64 +226,43 @@ took_install rest store i lane new done is at free does =
     ∙ ap (λ (log : LogState). has_written log.flushing) (log_there store.stripes.lanes.items i lane at.there)
     ∙ written_is lane.queues.flushing)
     (λ after same. same ∙ ap (λ (f : ℕ). with_log (state_beside rest store) i (with_installed f (log_of (state_beside rest store) i))) one.frames)
-    (makes done _ _ (lane_log lane) lane.queues (lane_log new) new.queues does)
+    (makes done _ _ (lane_log lane) (lane_beside lane) (lane_log new) (lane_beside new) does)
 
 pub took_drop : (rest : State) (store : WorldLog) (i : ℕ) (lane new : Lane) (done : Bool) → IsWorldLog store → IsReached store i lane
     → is_none (get_or store.stripes.holders.items i None) ≡ true
-    → DoesDrop done (lane_log lane) lane.queues (lane_log new) new.queues → TookBeside rest (event.Drop i) store (with_lane store i new)
+    → DoesDrop done (lane_log lane) (lane_beside lane) (lane_log new) (lane_beside new) → TookBeside rest (event.Drop i) store (with_lane store i new)
 took_drop rest store i lane new done is at free does =
     took rest (event.Drop i) store i lane new done (is_some (place_at (lane_state lane) (lane_state lane).first)) dropped at.there
     (both_true _ _ (is_some (place_at (log_of (state_beside rest store) i) (log_of (state_beside rest store) i).first)) at.below free
     ∙ ap (λ (log : LogState). is_some (place_at log log.first)) (log_there store.stripes.lanes.items i lane at.there))
     (λ after same. same)
-    (makes done _ _ (lane_log lane) lane.queues (lane_log new) new.queues does)
+    (makes done _ _ (lane_log lane) (lane_beside lane) (lane_log new) (lane_beside new) does)
 
 -- WHAT STANDS BESIDE THE LOG
-
-pub log_beside : (p : HybridLog) (before after : Queues) → AreSame before after → log_state p after ≡ log_state p before
-log_beside p before after same =
-    let flushing : flushing_of after.flushing ≡ flushing_of before.flushing = ap flushing_of same.flushing in
-    let unlinked = ap (map (λ (r : Receipt). r.place)) same.unlinked in
-    let retired = ap (map place_stamped) same.retired in
-    let drained = ap (map place_stamped) same.drained in
-    λ j. record (log_state p before) { flushing = flushing j; unlinked = unlinked j; retired = retired j; drained = drained j }
 
 stamped_length : (l : List Stamped) → length (places_stamped l) ≡ length l
 stamped_length [] = refl
 stamped_length (one ∷ l) = omega (arith, stamped_length l)
 
-agrees_as : (p : HybridLog) (before after : Queues) → Agrees p before → after.flushing ≡ before.flushing
-    → unreleased (log_state p after) ≡ unreleased (log_state p before) → Agrees p after
-agrees_as p before after agrees same count = record {
-  counted = agrees.counted ∙ sym count;
-  faithful = subst (IsFaithful p) (sym same) agrees.faithful;
-}
-
 -- RETIRE
-
-map_places : (l : List Receipt) (one : Receipt) (others : List Receipt) → l ≡ one ∷ others
-    → map (λ (r : Receipt). r.place) l ≡ one.place ∷ map (λ (r : Receipt). r.place) others
-map_places l one others is = ap (map (λ (r : Receipt). r.place)) is
 
 abbrev stamp_of : ℕ → ℕ → Stamped
 stamp_of place epoch = record { place = place; epoch = epoch }
 
-pub retired_log : (p : HybridLog) (before after : Queues) (epoch : ℕ) → DoesRetire true epoch before after
+pub retired_log : (p : HybridLog) (before after : Beside) (epoch : ℕ) → DoesRetire true epoch before after
     → (not (are_none (log_state p before).unlinked) ≡ true) × (log_state p after ≡ with_retired (log_state p before) epoch)
 retired_log p before after epoch does =
     let log : LogState = log_state p before in
-    let unlinked : log.unlinked ≡ does.0.place ∷ map (λ (r : Receipt). r.place) does.1 = map_places before.unlinked.items does.0 does.1 does.2 in
-    let fewer : map (λ (r : Receipt). r.place) after.unlinked.items ≡ map (λ (r : Receipt). r.place) does.1 = ap (map (λ (r : Receipt). r.place)) does.3 in
-    let more : map place_stamped after.retired.items ≡ log.retired ++ stamp_of does.0.place epoch ∷ [] =
-    ap (map place_stamped) does.4 ∙ map-append place_stamped before.retired.items ((does.0, epoch) ∷ []) in
-    let drained : map place_stamped after.drained.items ≡ log.drained = ap (λ q. map place_stamped q.items) does.5 in
-    let flushing : flushing_of after.flushing ≡ log.flushing = ap flushing_of does.6 in (
+    let unlinked : log.unlinked ≡ does.0.place ∷ map place_of does.1 = ap (map place_of) does.2 in
+    let more : map place_stamped (before.retired ++ (does.0, epoch) ∷ []) ≡ log.retired ++ stamp_of does.0.place epoch ∷ [] =
+    map-append place_stamped before.retired ((does.0, epoch) ∷ []) in (
       ap (λ (l : List ℕ). not (are_none l)) unlinked,
-      (λ j. record log { flushing = flushing j; unlinked = fewer j; retired = more j; drained = drained j })
+      ap (log_state p) does.3
+          ∙ ap (λ (l : List Stamped). record log { unlinked = map place_of does.1; retired = l }) more
           ∙ sym (ap (λ (l : List ℕ). retired_from log l epoch) unlinked),
     )
 
-retire_counts : (log : LogState) (unlinked : List ℕ) (epoch : ℕ) → log.unlinked ≡ unlinked → unreleased (retired_from log unlinked epoch) ≡ unreleased log
+pub retire_counts : (log : LogState) (unlinked : List ℕ) (epoch : ℕ) → log.unlinked ≡ unlinked → unreleased (retired_from log unlinked epoch) ≡ unreleased log
 retire_counts log [] epoch is = refl
 retire_counts log (place ∷ others) epoch is =
     let new : LogState = retired_from log (place ∷ others) epoch in
@@ -308,13 +290,13 @@ with_epoch store i new epoch = record store { stripes = record (store.stripes) {
 
 pub took_retire : (rest : State) (store : WorldLog) (i : ℕ) (lane new : Lane) (next : ℕ) → IsReached store i lane
     → next ≡ store.epoch + 1 → (lane_log new) ≡ (lane_log lane)
-    → DoesRetire true store.epoch lane.queues new.queues → TookBeside rest (event.Retire i) store (with_epoch store i new next)
+    → DoesRetire true store.epoch (lane_beside lane) (lane_beside new) → TookBeside rest (event.Retire i) store (with_epoch store i new next)
 took_retire rest store i lane new next at up same does =
     let state : State = state_beside rest store in
     let there = log_there store.stripes.lanes.items i lane at.there in
-    let done = retired_log (lane_log lane) lane.queues new.queues store.epoch does in
+    let done = retired_log (lane_log lane) (lane_beside lane) (lane_beside new) store.epoch does in
     let log : lane_state new ≡ with_retired (log_of state i) store.epoch =
-    ap (λ (p : HybridLog). log_state p new.queues) same ∙ done.1 ∙ ap (λ (l : LogState). with_retired l store.epoch) (sym there) in
+    ap (λ (p : HybridLog). log_state p (lane_beside new)) same ∙ done.1 ∙ ap (λ (l : LogState). with_retired l store.epoch) (sym there) in
     let logs : map lane_state (set store.stripes.lanes.items i new) ≡ set state.logs i (with_retired (log_of state i) store.epoch) =
     logs_with store i lane new _ at.there log in
     when_true (is_enabled_in state (event.Retire i)) _ _
@@ -322,63 +304,64 @@ took_retire rest store i lane new next at up same does =
     (λ j. let s : State = record state { logs = logs j; epoch = up j } in s)
 
 pub took_retire_not : (rest : State) (store : WorldLog) (i : ℕ) (lane new : Lane) → IsReached store i lane → (lane_log new) ≡ (lane_log lane)
-    → DoesRetire false store.epoch lane.queues new.queues → TookBeside rest (event.Retire i) store (with_lane store i new)
+    → DoesRetire false store.epoch (lane_beside lane) (lane_beside new) → TookBeside rest (event.Retire i) store (with_lane store i new)
 took_retire_not rest store i lane new at same does =
     let state : State = state_beside rest store in
     let there = log_there store.stripes.lanes.items i lane at.there in
     when_false (is_enabled_in state (event.Retire i)) _ _
     (true_left _ (not (are_none (log_of state i).unlinked)) at.below ∙ ap (λ (l : LogState). not (are_none l.unlinked)) there
-    ∙ ap (λ (l : List Receipt). not (are_none (map (λ (r : Receipt). r.place) l))) does.0)
+    ∙ ap (λ (l : List Kept). not (are_none (map place_of l))) does.0)
     (state_same rest store i lane new at.there
-    (ap (λ (p : HybridLog). log_state p new.queues) same ∙ log_beside (lane_log lane) lane.queues new.queues does.1))
+    (ap (λ (p : HybridLog). log_state p (lane_beside new)) same ∙ ap (log_state (lane_log lane)) does.1))
 
 -- a log where the epoch has changed, and a lane, whose own log is as it was
 pub store_retired : (store : WorldLog) (i : ℕ) (lane new : Lane) (next : ℕ) → IsWorldLog store → slice_get store.stripes.lanes.items i ≡ Some lane
-    → lane_log new ≡ lane_log lane → DoesRetire true store.epoch lane.queues new.queues → IsWorldLog (with_epoch store i new next)
-store_retired store i lane new next is there same does =
+    → lane_log new ≡ lane_log lane → Agrees (lane_counted new) new.queues → DoesRetire true store.epoch (lane_beside lane) (lane_beside new)
+    → IsWorldLog (with_epoch store i new next)
+store_retired store i lane new next is there same agrees does =
     let one : IsLane store.device store.frames store.limit lane = is.lanes i lane there in
-    let done = retired_log (lane_log lane) lane.queues new.queues store.epoch does in
     let kept : IsWorldLog (with_lane store i new) =
-    store_beside store i lane new is there same
-    (agrees_as (lane_log lane) lane.queues new.queues one.agrees does.6
-    (ap unreleased done.1 ∙ retire_counts (log_state (lane_log lane) lane.queues) _ store.epoch refl))
-    (retire_given store.device (lane_log lane) lane.queues new.queues store.epoch does one.given) in
+    store_beside store i lane new is there same agrees
+    (retire_given store.device (lane_log lane) (lane_beside lane) (lane_beside new) store.epoch does one.given) in
     record { even = kept.even; lanes = kept.lanes }
 
 -- nothing of what stands beside it has changed
 pub store_same : (store : WorldLog) (i : ℕ) (lane new : Lane) → IsWorldLog store → slice_get store.stripes.lanes.items i ≡ Some lane
-    → lane_log new ≡ lane_log lane → AreSame lane.queues new.queues → IsWorldLog (with_lane store i new)
-store_same store i lane new is there same beside_same =
-    let one : IsLane store.device store.frames store.limit lane = is.lanes i lane there in
-    store_beside store i lane new is there same
-    (agrees_as (lane_log lane) lane.queues new.queues one.agrees beside_same.flushing (ap unreleased (log_beside (lane_log lane) lane.queues new.queues beside_same)))
-    (all_same store.device (lane_log lane) lane.queues new.queues beside_same one.given)
+    → lane_log new ≡ lane_log lane → Agrees (lane_counted new) new.queues → lane_beside new ≡ lane_beside lane → IsWorldLog (with_lane store i new)
+store_same store i lane new is there same agrees beside_same =
+    store_beside store i lane new is there same agrees
+    (subst (AreAllGiven store.device (lane_log lane)) (sym beside_same) (is.lanes i lane there).given)
 
 -- WRITE
 
 places_more : (device : Shelves) (page : Bytes) → places_of (with_shelf device page) ≡ places_of device ++ None ∷ []
 places_more device page = map-append page_released device.shelves (record { page = page; released = false } ∷ [])
 
-pub written_log : (p : HybridLog) (before after : Queues) (old new : Shelves) (f : Flushing) → before.flushing ≡ f
+pub written_log : (c : Counted) (before after : Queues) (old new : Shelves) (f : Flushing) → before.flushing ≡ f
     → IsWritten f old after.flushing new → after ≡ record before { flushing = after.flushing }
     → (has_copied (flushing_of before.flushing) ≡ true)
-    × (log_state p after ≡ with_written (log_state p before) (length (places_of old)))
+    × (log_state c.log (beside_of c after) ≡ with_written (log_state c.log (beside_of c before)) (length (places_of old)))
     × (places_of new ≡ places_of old ++ None ∷ [])
-    × (IsFaithful p before.flushing → IsFaithful p after.flushing)
-written_log p before after old new has.Nothing same written is = absurd written
-written_log p before after old new (has.Wrote number page receipt) same written is = absurd written
-written_log p before after old new (has.Copied number page) same written is =
-    let log : LogState = log_state p before in
+    × (IsFaithful c.log before.flushing → IsFaithful c.log after.flushing)
+    × (flights after ≡ flights before)
+written_log c before after old new has.Nothing same written is = absurd written
+written_log c before after old new (has.Wrote number page receipt) same written is = absurd written
+written_log c before after old new (has.Copied number page) same written is =
+    let log : LogState = log_state c.log (beside_of c before) in
     let count : length (places_of old) ≡ length old.shelves = length-map old.shelves page_released in
     let left : flushing_of after.flushing ≡ logs.Wrote number (length old.shelves) = ap flushing_of written.0 in
     let right : written_to (flushing_of before.flushing) (length (places_of old)) ≡ logs.Wrote number (length old.shelves) =
     ap (λ (f : Flushing). written_to (flushing_of f) (length (places_of old))) same ∙ ap (logs.Wrote number) count in (
       ap (λ (f : Flushing). has_copied (flushing_of f)) same,
-      ap (log_state p) is ∙ ap (λ (f : logs.Flushing). let l : LogState = record log { flushing = f } in l) (left ∙ sym right),
+      ap (λ (q : Queues). log_state c.log (beside_of c q)) is
+          ∙ ap (λ (f : logs.Flushing). let l : LogState = record log { flushing = f } in l) (left ∙ sym right),
       ap places_of written.1 ∙ places_more old page.value,
       (λ faithful.
-          let old_one : IsFaithful p (has.Copied number page) = subst (IsFaithful p) same faithful in
-          subst (IsFaithful p) (sym written.0) (old_one.0, old_one.1, refl)),
+          let old_one : IsFaithful c.log (has.Copied number page) = subst (IsFaithful c.log) same faithful in
+          subst (IsFaithful c.log) (sym written.0) (old_one.0, old_one.1, refl)),
+      ap flights is
+          ∙ ap (λ (n : ℕ). n + length before.retired.items + length before.drained.items)
+          (ap count_flushing written.0 ∙ sym (ap count_flushing same)),
     )
 
 write_counts : (log : LogState) (place : ℕ) → has_copied log.flushing ≡ true → unreleased (with_written log place) ≡ unreleased log
@@ -400,14 +383,15 @@ write_counts log place is = by_flushing log.flushing refl is
         )
 
 pub took_write : (rest : State) (store : WorldLog) (i : ℕ) (lane new : Lane) (device : Shelves) (done : Bool) → IsReached store i lane
-    → (lane_log new) ≡ (lane_log lane) → DoesWrite done lane.queues store.device new.queues device
+    → new.shard ≡ lane.shard → DoesWrite done lane.queues store.device new.queues device
     → TookBeside rest (event.Write i) store (with_both store i new device)
 took_write rest store i lane new device true at same does =
     let state : State = state_beside rest store in
     let there = log_there store.stripes.lanes.items i lane at.there in
-    let done = written_log (lane_log lane) lane.queues new.queues store.device device lane.queues.flushing refl does.0 does.1 in
+    let done = written_log (lane_counted lane) lane.queues new.queues store.device device lane.queues.flushing refl does.0 does.1 in
     let log : lane_state new ≡ with_written (log_of state i) (length state.places) =
-    ap (λ (p : HybridLog). log_state p new.queues) same ∙ done.1 ∙ ap (λ (l : LogState). with_written l (length state.places)) (sym there) in
+    ap (λ (s : Shard Receipt). log_state (shard_log s) (beside_of (shard_counted s) new.queues)) same ∙ done.1
+    ∙ ap (λ (l : LogState). with_written l (length state.places)) (sym there) in
     let logs_now : map lane_state (set store.stripes.lanes.items i new) ≡ set state.logs i (with_written (log_of state i) (length state.places)) =
     logs_with store i lane new _ at.there log in
     when_true (is_enabled_in state (event.Write i)) _ _
@@ -421,47 +405,68 @@ took_write rest store i lane new device false at same does =
     ∙ copy_is lane.queues.flushing ∙ does.0)
     (ap (λ (d : Shelves). let s : State = record (state_beside rest (with_lane store i new)) { places = places_of d } in s) does.2
     ∙ state_same rest store i lane new at.there
-    (ap (λ (p : HybridLog). log_state p new.queues) same ∙ ap (log_state (lane_log lane)) does.1))
+    (ap (λ (s : Shard Receipt). log_state (shard_log s) (beside_of (shard_counted s) new.queues)) same
+    ∙ ap (λ (q : Queues). log_state (lane_log lane) (beside_of (lane_counted lane) q)) does.1))
   where
     copy_is : (f : Flushing) → has_copied (flushing_of f) ≡ has_copy f
     copy_is has.Nothing = refl
     copy_is (has.Copied number page) = refl
     copy_is (has.Wrote number page receipt) = refl
 
-pub store_written : (store : WorldLog) (i : ℕ) (lane new : Lane) (device : Shelves) (done : Bool) → IsWorldLog store
-    → slice_get store.stripes.lanes.items i ≡ Some lane → lane_log new ≡ lane_log lane → DoesWrite done lane.queues store.device new.queues device
-    → IsWorldLog (with_both store i new device)
-store_written store i lane new device done is there same does =
+-- what the world has beside a log has changed, and its shard has not
+pub store_queues : (store : WorldLog) (i : ℕ) (lane : Lane) (queues : Queues) → IsWorldLog store → slice_get store.stripes.lanes.items i ≡ Some lane
+    → Agrees (lane_counted lane) queues → AreAllGiven store.device (lane_log lane) (beside_of (lane_counted lane) queues)
+    → IsWorldLog (with_lane store i (record { shard = lane.shard; queues = queues }))
+store_queues store i lane queues is there agrees given = store_beside store i lane (record { shard = lane.shard; queues = queues }) is there refl agrees given
+
+pub store_written : (store : WorldLog) (i : ℕ) (lane : Lane) (queues : Queues) (device : Shelves) (done : Bool) → IsWorldLog store
+    → slice_get store.stripes.lanes.items i ≡ Some lane → DoesWrite done lane.queues store.device queues device
+    → IsWorldLog (with_both store i (record { shard = lane.shard; queues = queues }) device)
+store_written store i lane queues device done is there does =
     let one : IsLane store.device store.frames store.limit lane = is.lanes i lane there in
-    store_beside (record store { device = device }) i lane new
-    (store_device store device (write_stays done lane.queues store.device new.queues device does) is) there same (agrees done does)
-    (write_given done (lane_log lane) lane.queues store.device new.queues device does one.given)
+    store_queues (record store { device = device }) i lane queues
+    (store_device store device (write_stays done lane.queues store.device queues device does) is) there (agrees done does)
+    (write_given done (lane_counted lane) lane.queues store.device queues device does one.given)
   where
-    agrees : (t : Bool) → DoesWrite t lane.queues store.device new.queues device → Agrees (lane_log lane) new.queues
+    agrees : (t : Bool) → DoesWrite t lane.queues store.device queues device → Agrees (lane_counted lane) queues
     agrees true does =
-        let before : Agrees (lane_log lane) lane.queues = (is.lanes i lane there).agrees in
-        let done = written_log (lane_log lane) lane.queues new.queues store.device device lane.queues.flushing refl does.0 does.1 in
+        let before : Agrees (lane_counted lane) lane.queues = (is.lanes i lane there).agrees in
+        let done = written_log (lane_counted lane) lane.queues queues store.device device lane.queues.flushing refl does.0 does.1 in
         record {
           counted = before.counted
-              ∙ sym (ap unreleased done.1 ∙ write_counts (log_state (lane_log lane) lane.queues) (length (places_of store.device)) done.0);
+              ∙ sym (ap unreleased done.1 ∙ write_counts (lane_state lane) (length (places_of store.device)) done.0);
+          in_flight = before.in_flight ∙ sym done.4;
+          retired = before.retired;
+          drained = before.drained;
           faithful = done.3 before.faithful;
         }
-    agrees false does = subst (Agrees (lane_log lane)) (sym does.1) (is.lanes i lane there).agrees
+    agrees false does = subst (Agrees (lane_counted lane)) (sym does.1) (is.lanes i lane there).agrees
 
 -- DRAIN
 
-pub drained_log : (p : HybridLog) (before after : Queues) → DoesDrain true before after
-    → log_state p after ≡ with_drained (log_state p before)
-drained_log p before after does =
-    let log : LogState = log_state p before in
+pub drained_log : (c : Counted) (before after : Queues) → DoesDrain true before after
+    → log_state c.log (beside_of c after) ≡ with_drained (log_state c.log (beside_of c before))
+drained_log c before after does =
+    let log : LogState = log_state c.log (beside_of c before) in
     let retired : log.retired ≡ place_stamped does.0 ∷ map place_stamped does.1 = ap (map place_stamped) does.2 in
     let fewer : map place_stamped after.retired.items ≡ map place_stamped does.1 = ap (map place_stamped) does.3 in
     let more : map place_stamped after.drained.items ≡ log.drained ++ place_stamped does.0 ∷ [] =
     ap (map place_stamped) does.4 ∙ map-append place_stamped before.drained.items (does.0 ∷ []) in
-    let unlinked : map (λ (r : Receipt). r.place) after.unlinked.items ≡ log.unlinked = ap (λ q. map (λ (r : Receipt). r.place) q.items) does.5 in
-    let flushing : flushing_of after.flushing ≡ log.flushing = ap flushing_of does.6 in
-    (λ j. record log { flushing = flushing j; unlinked = unlinked j; retired = fewer j; drained = more j })
+    let flushing : flushing_of after.flushing ≡ log.flushing = ap flushing_of does.5 in
+    (λ j. record log { flushing = flushing j; retired = fewer j; drained = more j })
     ∙ sym (ap (λ (l : List Stamped). drained_from log l) retired)
+
+-- as many are in flight
+drain_flights : (before after : Queues) → DoesDrain true before after → flights after ≡ flights before
+drain_flights before after does =
+    omega (
+      arith,
+      ap count_flushing does.5,
+      ap (λ (l : List (Receipt × ℕ)). length l) does.2,
+      ap (λ (l : List (Receipt × ℕ)). length l) does.3,
+      ap (λ (l : List (Receipt × ℕ)). length l) does.4,
+      length-append before.drained.items (does.0 ∷ []),
+    )
 
 drain_counts : (log : LogState) (retired : List Stamped) → log.retired ≡ retired → unreleased (drained_from log retired) ≡ unreleased log
 drain_counts log [] is = refl
@@ -489,7 +494,7 @@ may_some : (clients : List ClientState) (retired : List Stamped) (one : Stamped)
 may_some clients retired one others is = ap (may_drain clients) is
 
 pub took_drain : (rest : State) (store : WorldLog) (i : ℕ) (lane new : Lane) (stays : List (Option ℕ)) → IsReached store i lane
-    → stays_of rest ≡ stays → (lane_log new) ≡ (lane_log lane) → (does : DoesDrain true lane.queues new.queues)
+    → stays_of rest ≡ stays → new.shard ≡ lane.shard → (does : DoesDrain true lane.queues new.queues)
     → all_stays_past stays does.0.1 ≡ true → TookBeside rest (event.Drain i) store (with_lane store i new)
 took_drain rest store i lane new stays at same_stays same does past =
     let state : State = state_beside rest store in
@@ -499,7 +504,8 @@ took_drain rest store i lane new stays at same_stays same does past =
     ∙ may_some rest.clients _ (place_stamped does.0) (map place_stamped does.1) (ap (map place_stamped) does.2)
     ∙ past_same rest.clients does.0.1 ∙ ap (λ (l : List (Option ℕ)). all_stays_past l does.0.1) same_stays ∙ past)
     (state_with rest store i lane new _ at.there
-    (ap (λ (p : HybridLog). log_state p new.queues) same ∙ drained_log (lane_log lane) lane.queues new.queues does ∙ ap with_drained (sym there)))
+    (ap (λ (s : Shard Receipt). log_state (shard_log s) (beside_of (shard_counted s) new.queues)) same
+    ∙ drained_log (lane_counted lane) lane.queues new.queues does ∙ ap with_drained (sym there)))
 
 -- where there is none, or a stay holds it back, nothing happens
 pub took_drain_none : (rest : State) (store : WorldLog) (i : ℕ) (lane : Lane) → IsReached store i lane → lane.queues.retired.items ≡ []
@@ -524,18 +530,24 @@ took_drain_held rest store i lane stays one others at same_stays is held =
     ∙ past_same rest.clients one.1 ∙ ap (λ (l : List (Option ℕ)). all_stays_past l one.1) same_stays ∙ held)
     refl
 
-pub store_drained : (store : WorldLog) (i : ℕ) (lane new : Lane) → IsWorldLog store → slice_get store.stripes.lanes.items i ≡ Some lane
-    → lane_log new ≡ lane_log lane → DoesDrain true lane.queues new.queues → IsWorldLog (with_lane store i new)
-store_drained store i lane new is there same does =
+pub store_drained : (store : WorldLog) (i : ℕ) (lane : Lane) (queues : Queues) → IsWorldLog store → slice_get store.stripes.lanes.items i ≡ Some lane
+    → DoesDrain true lane.queues queues → IsWorldLog (with_lane store i (record { shard = lane.shard; queues = queues }))
+store_drained store i lane queues is there does =
     let one : IsLane store.device store.frames store.limit lane = is.lanes i lane there in
-    store_beside store i lane new is there same
-    (agrees_as (lane_log lane) lane.queues new.queues one.agrees does.6
-    (ap unreleased (drained_log (lane_log lane) lane.queues new.queues does) ∙ drain_counts (log_state (lane_log lane) lane.queues) _ refl))
-    (drain_given store.device (lane_log lane) lane.queues new.queues does one.given)
+    let before : Agrees (lane_counted lane) lane.queues = one.agrees in
+    store_queues store i lane queues is there
+    (record {
+      counted = before.counted ∙ sym (ap unreleased (drained_log (lane_counted lane) lane.queues queues does) ∙ drain_counts (lane_state lane) _ refl);
+      in_flight = before.in_flight ∙ sym (drain_flights lane.queues queues does);
+      retired = before.retired;
+      drained = before.drained;
+      faithful = subst (IsFaithful (lane_log lane)) (sym does.5) before.faithful;
+    })
+    (drain_given store.device (lane_counted lane) lane.queues queues does one.given)
 
 -- the oldest one is past all stays
 pub took_drain_by : (rest : State) (store : WorldLog) (i : ℕ) (lane new : Lane) (stays : List (Option ℕ)) (epoch : ℕ) (done : Bool) → IsReached store i lane
-    → stays_of rest ≡ stays → (lane_log new) ≡ (lane_log lane) → IsOldest lane.queues epoch → all_stays_past stays epoch ≡ true
+    → stays_of rest ≡ stays → new.shard ≡ lane.shard → IsOldest lane.queues epoch → all_stays_past stays epoch ≡ true
     → DoesDrain done lane.queues new.queues → TookBeside rest (event.Drain i) store (with_lane store i new)
 took_drain_by rest store i lane new stays epoch false at same_stays same oldest past does = absurd (never (sym oldest.items ∙ does.0))
   where
@@ -549,14 +561,14 @@ took_drain_by rest store i lane new stays epoch true at same_stays same oldest p
     stamp [] = 0
     stamp (one ∷ others) = one.1
 
-pub store_drained_by : (store : WorldLog) (i : ℕ) (lane new : Lane) (epoch : ℕ) (done : Bool) → IsWorldLog store
-    → slice_get store.stripes.lanes.items i ≡ Some lane → lane_log new ≡ lane_log lane → IsOldest lane.queues epoch
-    → DoesDrain done lane.queues new.queues → IsWorldLog (with_lane store i new)
-store_drained_by store i lane new epoch false is there same oldest does = absurd (never (sym oldest.items ∙ does.0))
+pub store_drained_by : (store : WorldLog) (i : ℕ) (lane : Lane) (queues : Queues) (epoch : ℕ) (done : Bool) → IsWorldLog store
+    → slice_get store.stripes.lanes.items i ≡ Some lane → IsOldest lane.queues epoch
+    → DoesDrain done lane.queues queues → IsWorldLog (with_lane store i (record { shard = lane.shard; queues = queues }))
+store_drained_by store i lane queues epoch false is there oldest does = absurd (never (sym oldest.items ∙ does.0))
   where
     never : {one : Receipt × ℕ} {others : List (Receipt × ℕ)} → one ∷ others ≡ [] → ⊥
     never is = cc is
-store_drained_by store i lane new epoch true is there same oldest does = store_drained store i lane new is there same does
+store_drained_by store i lane queues epoch true is there oldest does = store_drained store i lane queues is there does
 
 pub same_lane : (store : WorldLog) (i : ℕ) (one other : Lane) → slice_get store.stripes.lanes.items i ≡ Some one → slice_get store.stripes.lanes.items i ≡ Some other → one ≡ other
 same_lane store i one other here there = some_lane (sym here ∙ there)

@@ -3,58 +3,56 @@ use Rattle.std.proofs.Common.{◌≡◌, ◌≢◌, ℕ, Bool, true, false, leng
 use Rattle.std.specs.Prelude.{slice_get}
 use Rattle.std.specs.Vec.{with_item}
 use Rattle.std.proofs.lemmas.Bool.{cases_eq}
-use Rattle.plans.specs.declared.shard.Shard.{Shard}
 use Rattle.world_model.specs.Enabled.{holds}
-use Rattle.world_log.specs.Places.{Receipt}
-use Rattle.world_log.specs.Stripes.{KeepsOthers, lent, part_in, queues_in, with_part, with_part_in}
+use Rattle.world_log.specs.Stripes.{KeepsLanes, lent, part_in, queues_in, with_part, with_part_in}
 use Rattle.world_log.specs.declared.lanes.Lane.{Lane}
 use Rattle.world_log.specs.declared.stripes.Stripes.{Stripes}
 use Rattle.world_log.proofs.GivenSteps.{get_other, get_set}
 
 -- it is there
-pub record IsThere (stripes : Stripes) (i : ℕ) : Type 0 where
+pub record IsThere {S : Type 0} (stripes : Stripes S) (i : ℕ) : Type 0 where
   pub held : holds stripes.holders.items stripes.acting i ≡ true
-  pub lane : Lane
+  pub lane : Lane S
   pub there : slice_get stripes.lanes.items i ≡ Some lane
 
-pub is_there : (stripes : Stripes) (i : ℕ) → IsSome (lent stripes i) → IsThere stripes i
-is_there stripes i some = by_holder (holds stripes.holders.items stripes.acting i) refl (slice_get stripes.lanes.items i) refl
+pub is_there : {S : Type 0} (stripes : Stripes S) (i : ℕ) → IsSome (lent stripes i) → IsThere stripes i
+is_there {S} stripes i some = by_holder (holds stripes.holders.items stripes.acting i) refl (slice_get stripes.lanes.items i) refl
   where
-    never : IsSome {T = Shard Receipt} None → ⊥
+    never : IsSome {T = S} None → ⊥
     never x = cc x
 
     lent_is : (t : Bool) → holds stripes.holders.items stripes.acting i ≡ t → lent stripes i ≡ (if t then part_in (slice_get stripes.lanes.items i) else None)
     lent_is t is = ap (λ (b : Bool). if b then part_in (slice_get stripes.lanes.items i) else None) is
 
-    by_holder : (t : Bool) → holds stripes.holders.items stripes.acting i ≡ t → (o : Option Lane) → slice_get stripes.lanes.items i ≡ o → IsThere stripes i
+    by_holder : (t : Bool) → holds stripes.holders.items stripes.acting i ≡ t → (o : Option (Lane S)) → slice_get stripes.lanes.items i ≡ o → IsThere stripes i
     by_holder false away o there = absurd (never (subst IsSome (lent_is false away) some))
     by_holder true held None there = absurd (never (subst IsSome (lent_is true held ∙ ap part_in there) some))
     by_holder true held (Some lane) there = record { held = held; lane = lane; there = there }
 
-module _ (stripes : Stripes) (i : ℕ) (lane : Lane) (held : holds stripes.holders.items stripes.acting i ≡ true)
+module _ {S : Type 0} (stripes : Stripes S) (i : ℕ) (lane : Lane S) (held : holds stripes.holders.items stripes.acting i ≡ true)
     (there : slice_get stripes.lanes.items i ≡ Some lane) where
   -- the stripes with another part in its lane
-  abbrev pub written : Shard Receipt → Stripes
+  abbrev pub written : S → Stripes S
   written part = record stripes { lanes = with_item stripes.lanes i (record { shard = part; queues = lane.queues }) }
 
-  pub writes : (part : Shard Receipt) → written part ≡ with_part stripes i part
-  writes part = ap (λ (o : Option Lane). with_part_in stripes i o part) (sym there)
+  pub writes : (part : S) → written part ≡ with_part stripes i part
+  writes part = ap (λ (o : Option (Lane S)). with_part_in stripes i o part) (sym there)
 
   pub value_is : lent stripes i ≡ Some lane.shard
   value_is = ap (λ (b : Bool). if b then part_in (slice_get stripes.lanes.items i) else None) held ∙ ap part_in there
 
-  pub written_is : (part : Shard Receipt) → lent (with_part stripes i part) i ≡ Some part
-  written_is part = subst (λ (s : Stripes). lent s i ≡ Some part) (writes part)
+  pub written_is : (part : S) → lent (with_part stripes i part) i ≡ Some part
+  written_is part = subst (λ (s : Stripes S). lent s i ≡ Some part) (writes part)
       (ap (λ (b : Bool). if b then part_in (slice_get (written part).lanes.items i) else None) held
       ∙ ap part_in (get_set stripes.lanes.items i (record { shard = part; queues = lane.queues }) lane there))
 
-  pub others_are : (part : Shard Receipt) (other : ℕ) → other ≢ i → lent (with_part stripes i part) other ≡ lent stripes other
-  others_are part other away = subst (λ (s : Stripes). lent s other ≡ lent stripes other) (writes part)
-      (ap (λ (o : Option Lane). if holds stripes.holders.items stripes.acting other then part_in o else None)
+  pub others_are : (part : S) (other : ℕ) → other ≢ i → lent (with_part stripes i part) other ≡ lent stripes other
+  others_are part other away = subst (λ (s : Stripes S). lent s other ≡ lent stripes other) (writes part)
+      (ap (λ (o : Option (Lane S)). if holds stripes.holders.items stripes.acting other then part_in o else None)
       (get_other stripes.lanes.items i other (record { shard = part; queues = lane.queues }) away))
 
-  pub keeps_is : (part : Shard Receipt) → KeepsOthers stripes (with_part stripes i part)
-  keeps_is part = subst (KeepsOthers stripes) (writes part) (record {
+  pub keeps_is : (part : S) → KeepsLanes stripes (with_part stripes i part)
+  keeps_is part = subst (KeepsLanes stripes) (writes part) (record {
     holders = refl;
     acting = refl;
     count = length-set stripes.lanes.items i (record { shard = part; queues = lane.queues });

@@ -4,6 +4,7 @@ pub mod CleanSteps
 pub mod GivenSteps
 pub mod AllGiven
 pub mod LaneSteps
+pub mod CountSteps
 pub mod RoomSteps
 pub mod LaneRight
 pub mod Values

@@ -19,23 +19,21 @@ use Rattle.world_model.specs.Enabled.{holds}
 use Rattle.world_model.specs.Logs.{LogState, new_log, unreleased, with_opened, place_at}
 use Rattle.world_model.specs.Rooms.{is_written_in}
 use Rattle.world_model.specs.States.{State, log_at}
-use Rattle.world_log.specs.Beside.{log_state, place_kept, IsNumbered}
+use Rattle.world_log.specs.Beside.{Beside, IsNumbered, log_state, place_kept}
 use Rattle.world_log.specs.Cleaning.{AreServed}
 use Rattle.world_log.specs.Given.{AreGivenKept, IsGivenKept}
 use Rattle.world_log.specs.Places.{Receipt, Serves, SamePlaces, Shelf, Shelves, identity, page_released, writes_of}
 use Rattle.world_log.specs.PlanLaws.{IsColdIn, logs_lent, with_parts}
-use Rattle.world_log.specs.Stripes.{KeepsOthers, lane_log, lane_state, queues_in, states_of}
+use Rattle.world_log.specs.Stripes.{KeepsOthers, lane_beside, lane_log, lane_state, queues_in, states_of}
 use Rattle.world_log.specs.WorldLogs.{IsLane, IsWorldLog, NoneReleasedAt, state_of}
-use Rattle.world_log.specs.declared.queues.Queues.{Queues}
-use Rattle.world_log.specs.declared.lanes.Lane.{Lane}
-use Rattle.world_log.specs.declared.stripes.Stripes.{Stripes}
+use Rattle.world_log.specs.Types.{Lane, Stripes}
 use Rattle.world_log.specs.declared.logs.WorldLog.{WorldLog}
 use Rattle.world_log.proofs.Agreeing.{place_is, total}
 use Rattle.world_log.proofs.AllGiven.{some_front}
 use Rattle.world_log.proofs.CleanSteps.{copy_served, faithful_step, len_opened}
 use Rattle.world_log.proofs.GivenSteps.{given_places}
 use Rattle.world_log.proofs.LaneSteps.{log_there, store_device}
-use Rattle.world_log.proofs.Planning.{IsLent, IsRight, is_lent, lanes_right, lane_right, lent_log, share_light, unwritten_share}
+use Rattle.world_log.proofs.Planning.{IsLent, IsRight, beside_lent, is_lent, lanes_right, lane_right, lent_log, share_light, unwritten_share}
 use Rattle.world_log.proofs.RoomSteps.{served_at}
 
 -- A LOG THAT HAS GROWN
@@ -45,12 +43,12 @@ nones zero = refl
 nones (suc n) = ap (λ (l : List (Option ℕ)). None ∷ l) (nones n)
 
 -- as plain data
-grown_state : (old new : HybridLog) (weight_is : ℕ) (queues : Queues) → (grown : IsGrown old new weight_is)
-    → log_state new queues ≡ with_opened (log_state old queues) grown.opened
-grown_state old new weight_is queues grown =
-    ap (λ (o : ℕ). record (log_state new queues) { oldest = o }) grown.oldest
-    ∙ ap (λ (f : ℕ). record (log_state new queues) { oldest = old.oldest; first = f }) grown.first
-    ∙ ap (λ (k : List (Option ℕ)). record (log_state old queues) { kept = k })
+grown_state : (old new : HybridLog) (weight_is : ℕ) (beside : Beside) → (grown : IsGrown old new weight_is)
+    → log_state new beside ≡ with_opened (log_state old beside) grown.opened
+grown_state old new weight_is beside grown =
+    ap (λ (o : ℕ). record (log_state new beside) { oldest = o }) grown.oldest
+    ∙ ap (λ (f : ℕ). record (log_state new beside) { oldest = old.oldest; first = f }) grown.first
+    ∙ ap (λ (k : List (Option ℕ)). record (log_state old beside) { kept = k })
     (ap (map place_kept) grown.kept ∙ map-append place_kept old.kept (replicate grown.opened None)
     ∙ ap (λ (l : List (Option ℕ)). map place_kept old.kept ++ l) (nones grown.opened))
 
@@ -68,7 +66,7 @@ grown_right log lane old new weight_is grown right = record {
     live = omega (arith, grown.oldest, grown.first, (right.numbered).live);
     numbered = omega (arith, grown.oldest, grown.next, (right.numbered).numbered, kept_length);
   };
-  counted = grown.unreleased ∙ right.counted ∙ sym (ap unreleased (grown_state old new weight_is lane.queues grown) ∙ grown_counts (log_state old lane.queues) grown.opened);
+  counted = grown.unreleased ∙ right.counted ∙ sym (ap unreleased (grown_state old new weight_is (lane_beside lane) grown) ∙ grown_counts (log_state old (lane_beside lane)) grown.opened);
   faithful = faithful_step old new lane.queues.flushing (omega (arith, grown.first, grown.next, grown.frames)) (omega (arith, grown.first))
       (λ k from lt. grown.read_only k (omega (arith, grown.first, from)) lt) right.faithful;
   frames = grown.frames ∙ right.frames;
@@ -94,9 +92,6 @@ module _ (laws : GrowthLaws) (rest later : State) (log : WorldLog) (stripes : St
 
   some_lane : {a b : Lane} → Option.Some a ≡ Some b → a ≡ b
   some_lane x = cc x
-
-  some_queues : {a b : Queues} → Option.Some a ≡ Some b → a ≡ b
-  some_queues x = cc x
 
   none : {X : Type 0} {x : X} → Option.None ≡ Some x → ⊥
   none x = cc x
@@ -127,11 +122,11 @@ module _ (laws : GrowthLaws) (rest later : State) (log : WorldLog) (stripes : St
       let was = grown.was i (lane_log other) has in
       let one : IsLent log.stripes i was.0 = is_lent log.stripes i was.0 was.1 in
       let old_is : was.0 ≡ lane_log lane = one.log ∙ ap lane_log (some_lane (sym one.there ∙ there)) in
-      let queues : other.queues ≡ lane.queues = some_queues (sym (ap queues_in at) ∙ keeps.queues i ∙ ap queues_in there) in (
+      let beside : lane_beside other ≡ lane_beside lane = beside_lent log.stripes stripes keeps i lane other there at held in (
         (was.2).opened,
         laws.few was.0 (lane_log other) (share n i writes) (omega (arith, light, share_light n i writes)) was.2,
-        ap (log_state (lane_log other)) queues ∙ grown_state was.0 (lane_log other) (share n i writes) lane.queues was.2
-            ∙ ap (λ (p : HybridLog). with_opened (log_state p lane.queues) (was.2).opened) old_is,
+        ap (log_state (lane_log other)) beside ∙ grown_state was.0 (lane_log other) (share n i writes) (lane_beside lane) was.2
+            ∙ ap (λ (p : HybridLog). with_opened (log_state p (lane_beside lane)) (was.2).opened) old_is,
         λ unwritten. never_opened was.0 (lane_log other) was.2
             (some_log (sym has ∙ grown.unwritten i (unwritten_share n i writes unwritten) ∙ was.1)),
       )
@@ -250,8 +245,8 @@ cold_lent log n keys staged kept is cold =
     let receipt : Receipt = record { place = get_or kept.identity 0 0; page = kept.shown; released = false } in
     let within : number - p.oldest < length p.kept = within_kept p.kept (number - p.oldest) kept at.1 in
     let away : number < p.resident.oldest = not_resident p number (cold.wanted).missing.away (omega (arith, within, at.0, numbered.numbered)) in
-    let state_is : log_at (states_of log.stripes) i ≡ log_state p (lane.lane).queues =
-    log_there log.stripes.lanes.items i lane.lane lane.there ∙ ap (λ (q : HybridLog). log_state q (lane.lane).queues) (sym lane.log) in
+    let state_is : log_at (states_of log.stripes) i ≡ log_state p (lane_beside lane.lane) =
+    log_there log.stripes.lanes.items i lane.lane lane.there ∙ ap (λ (q : HybridLog). log_state q (lane_beside lane.lane)) (sym lane.log) in
     record {
       receipt = receipt;
       is = ap (λ (l : List ℕ). record { identity = l; shown = kept.shown }) one.identity;
@@ -261,7 +256,7 @@ cold_lent log n keys staged kept is cold =
       number = number;
       away = subst (λ (l : LogState). number < l.first) (sym state_is) away;
       place = subst (λ (l : LogState). place_at l number ≡ Some receipt.place) (sym state_is)
-          (place_is p (lane.lane).queues numbered number at.0 ∙ ap place_kept at.1);
+          (place_is p (lane_beside lane.lane) numbered number at.0 ∙ ap place_kept at.1);
     }
   where
     not_resident : (p : HybridLog) (number : ℕ) → (IsResident p.resident number → ⊥) → number < next_number p.resident → number < p.resident.oldest

@@ -13,22 +13,22 @@ use Rattle.hybrid.specs.HybridLog.{HybridLog, IsGrown, Kept, receipt_at, receipt
 use Rattle.hybrid.specs.Shedding as trace
 use Rattle.plans.specs.Rooms as rooms
 use Rattle.plans.specs.Rooms.{share}
-use Rattle.plans.specs.Shards.{shard_log, weigh}
+use Rattle.plans.specs.Counted.{Waiting}
+use Rattle.plans.specs.Shards.{shard_log, shard_waiting, waits_of, weigh}
 use Rattle.world_model.specs.Enabled.{holds}
 use Rattle.world_model.specs.Logs.{LogState, is_full, unreleased}
 use Rattle.world_model.specs.Rooms.{ShedsAll, is_written_in, AreWritten, IsFull as IsFullState}
 use Rattle.world_model.specs.States.{State, log_at, log_of}
-use Rattle.world_log.specs.Beside.{log_state, IsFaithful, IsNumbered, Agrees}
+use Rattle.world_log.specs.Beside.{Agrees, Beside, IsFaithful, IsNumbered, flights, log_state}
 use Rattle.world_log.specs.Given.{AreAllGiven, AreGivenKept, StaysGiven}
 use Rattle.world_log.specs.MakingRoom.{HasMadeRoom, ShedsMany}
 use Rattle.world_log.specs.Places.{Receipt, Shelves, Wrote, places_of, view}
 use Rattle.world_log.specs.PlanLaws.{IsMade, SameValues, logs_lent, with_parts}
-use Rattle.world_log.specs.Stripes.{KeepsOthers, lane_log, lane_state, part_in, queues_in, states_of}
+use Rattle.world_log.specs.Stripes.{KeepsOthers, lane_beside, lane_counted, lane_log, lane_state, lent, part_in, queues_in, states_of}
 use Rattle.world_log.specs.WorldLogs.{IsLane, IsWorldLog, state_of}
 use Rattle.world_log.specs.declared.queues.Queues.{Queues}
 use Rattle.world_log.specs.declared.queues.Flushing.{Flushing}
-use Rattle.world_log.specs.declared.lanes.Lane.{Lane}
-use Rattle.world_log.specs.declared.stripes.Stripes.{Stripes}
+use Rattle.world_log.specs.Types.{Lane, Stripes}
 use Rattle.world_log.specs.declared.logs.WorldLog.{WorldLog}
 use Rattle.world_log.proofs.AllGiven.{all_stays, kept_stays, room_kept, room_stays}
 use Rattle.world_log.proofs.CleanSteps.{faithful_step}
@@ -40,7 +40,7 @@ use Rattle.world_log.proofs.Shedding.{room_made, room_right}
 -- the plain log of a lane, where it may have another log
 abbrev pub put_one : Lane → Option HybridLog → LogState
 put_one lane None = lane_state lane
-put_one lane (Some p) = log_state p lane.queues
+put_one lane (Some p) = log_state p (lane_beside lane)
 
 abbrev pub put : List Lane → (ℕ → Option HybridLog) → List LogState
 put [] logs = []
@@ -51,19 +51,19 @@ put_length [] logs = refl
 put_length (lane ∷ lanes) logs = ap suc (put_length lanes (λ i. logs (suc i)))
 
 put_there : (lanes : List Lane) (logs : ℕ → Option HybridLog) (i : ℕ) (lane : Lane) (p : HybridLog) → slice_get lanes i ≡ Some lane
-    → logs i ≡ Some p → log_at (put lanes logs) i ≡ log_state p lane.queues
+    → logs i ≡ Some p → log_at (put lanes logs) i ≡ log_state p (lane_beside lane)
 put_there [] logs i lane p there is = absurd (cc there)
-put_there (one ∷ lanes) logs zero lane p there is = ap (put_one one) is ∙ ap (λ (l : Lane). log_state p l.queues) (some_lane there)
+put_there (one ∷ lanes) logs zero lane p there is = ap (put_one one) is ∙ ap (λ (l : Lane). log_state p (lane_beside l)) (some_lane there)
   where
     some_lane : {a b : Lane} → Option.Some a ≡ Some b → a ≡ b
     some_lane x = cc x
 put_there (one ∷ lanes) logs (suc i) lane p there is = put_there lanes (λ j. logs (suc j)) i lane p there is
 
 put_set : (lanes : List Lane) (old new : ℕ → Option HybridLog) (i : ℕ) (lane : Lane) (p : HybridLog) → slice_get lanes i ≡ Some lane
-    → new i ≡ Some p → ((j : ℕ) → j ≢ i → new j ≡ old j) → put lanes new ≡ set (put lanes old) i (log_state p lane.queues)
+    → new i ≡ Some p → ((j : ℕ) → j ≢ i → new j ≡ old j) → put lanes new ≡ set (put lanes old) i (log_state p (lane_beside lane))
 put_set [] old new i lane p there is others = absurd (cc there)
 put_set (one ∷ lanes) old new zero lane p there is others =
-    ap₂ (λ (x : LogState) (l : List LogState). x ∷ l) (ap (put_one one) is ∙ ap (λ (l : Lane). log_state p l.queues) (some_lane there))
+    ap₂ (λ (x : LogState) (l : List LogState). x ∷ l) (ap (put_one one) is ∙ ap (λ (l : Lane). log_state p (lane_beside l)) (some_lane there))
     (ap (put lanes) (λ k j. others (suc j) (λ e. zero_not j e) k))
   where
     some_lane : {a b : Lane} → Option.Some a ≡ Some b → a ≡ b
@@ -120,13 +120,46 @@ is_lent stripes i p is = by_holder (holds stripes.holders.items stripes.acting i
     by_holder true held (Some lane) there =
         record { held = held; lane = lane; there = there; log = some (sym is ∙ lent_log stripes i lane held there) }
 
+-- what a shard has beside its log, where that is lent
+pub waiting_lent : (old new : Stripes) → KeepsOthers old new → (i : ℕ) (lane other : Lane) → slice_get old.lanes.items i ≡ Some lane
+    → slice_get new.lanes.items i ≡ Some other → holds new.holders.items new.acting i ≡ true → shard_waiting other.shard ≡ shard_waiting lane.shard
+waiting_lent old new keeps i lane other there at held =
+    some_waiting (sym (lent_waits new i other held at) ∙ keeps.waits i
+    ∙ lent_waits old i lane ((λ j. holds ((sym keeps.holders j).items) (sym keeps.acting j) i) ∙ held) there)
+  where
+    some_waiting : {a b : Waiting} → Option.Some a ≡ Some b → a ≡ b
+    some_waiting x = cc x
+
+    lent_waits : (stripes : Stripes) (i : ℕ) (lane : Lane) → holds stripes.holders.items stripes.acting i ≡ true → slice_get stripes.lanes.items i ≡ Some lane
+        → waits_of (lent stripes) i ≡ Some (shard_waiting lane.shard)
+    lent_waits stripes i lane held there =
+        ap (λ (t : Bool). option_map shard_waiting (if t then part_in (slice_get stripes.lanes.items i) else None)) held
+        ∙ ap (λ (o : Option Lane). option_map shard_waiting (part_in o)) there
+
+some_queues : {a b : Queues} → Option.Some a ≡ Some b → a ≡ b
+some_queues x = cc x
+
+pub queues_lent : (old new : Stripes) → KeepsOthers old new → (i : ℕ) (lane other : Lane) → slice_get old.lanes.items i ≡ Some lane
+    → slice_get new.lanes.items i ≡ Some other → other.queues ≡ lane.queues
+queues_lent old new keeps i lane other there at = some_queues (sym (ap queues_in at) ∙ keeps.queues i ∙ ap queues_in there)
+
+-- so what stands beside the log is the same
+pub beside_lent : (old new : Stripes) → KeepsOthers old new → (i : ℕ) (lane other : Lane) → slice_get old.lanes.items i ≡ Some lane
+    → slice_get new.lanes.items i ≡ Some other → holds new.holders.items new.acting i ≡ true → lane_beside other ≡ lane_beside lane
+beside_lent old new keeps i lane other there at held =
+    let queues : other.queues ≡ lane.queues = queues_lent old new keeps i lane other there at in
+    let waits : shard_waiting other.shard ≡ shard_waiting lane.shard = waiting_lent old new keeps i lane other there at held in
+    λ j. record {
+      flushing = (queues j).flushing;
+      unlinked = (waits j).unlinked;
+      retired = ((queues j).retired).items;
+      drained = ((queues j).drained).items;
+    }
+
 -- the plain logs, put together from what is lent
 lanes_put : (old new : Stripes) → KeepsOthers old new → put old.lanes.items (logs_lent new) ≡ states_of new
 lanes_put old new keeps = put_is old.lanes.items new.lanes.items (logs_lent new) keeps.count each
   where
-    some_queues : {a b : Queues} → Option.Some a ≡ Some b → a ≡ b
-    some_queues x = cc x
-
     some_lane : {a b : Lane} → Option.Some a ≡ Some b → a ≡ b
     some_lane x = cc x
 
@@ -134,7 +167,7 @@ lanes_put old new keeps = put_is old.lanes.items new.lanes.items (logs_lent new)
         → (t : Bool) → holds new.holders.items new.acting i ≡ t → put_one lane (logs_lent new i) ≡ lane_state other
     by_holder i lane other there at true held =
         ap (put_one lane) (lent_log new i other held at)
-        ∙ ap (log_state (lane_log other)) (some_queues (sym (sym (ap queues_in at) ∙ keeps.queues i ∙ ap queues_in there)))
+        ∙ ap (log_state (lane_log other)) (sym (beside_lent old new keeps i lane other there at held))
     by_holder i lane other there at false away =
         ap (put_one lane) (not_lent new i away)
         ∙ ap lane_state (some_lane (sym there ∙ sym (keeps.others i ((λ j. holds ((sym keeps.holders j).items) (sym keeps.acting j) i) ∙ away)) ∙ at))
@@ -187,7 +220,7 @@ faithful_all (suc n) old new before after flushing all faithful =
 -- a log that a lane may have, as it is right
 pub record IsRight (log : WorldLog) (device : Shelves) (lane : Lane) (p : HybridLog) : Type 0 where
   pub numbered : IsNumbered p
-  pub counted : p.unreleased ≡ unreleased (log_state p lane.queues)
+  pub counted : p.unreleased ≡ unreleased (log_state p (lane_beside lane))
   pub faithful : IsFaithful p lane.queues.flushing
   pub frames : p.resident.frames ≡ log.frames
   pub places : p.places ≡ log.limit
@@ -221,9 +254,6 @@ lanes_right log stripes device is keeps stays right = record {
     none : {X : Type 0} {x : X} → Option.None ≡ Some x → ⊥
     none x = cc x
 
-    some_queues : {a b : Queues} → Option.Some a ≡ Some b → a ≡ b
-    some_queues x = cc x
-
     some_lane : {a b : Lane} → Option.Some a ≡ Some b → a ≡ b
     some_lane x = cc x
 
@@ -233,7 +263,7 @@ lanes_right log stripes device is keeps stays right = record {
       numbered = one.numbered;
       frames = one.frames;
       places = one.places;
-      given = all_stays log.device device (lane_log lane) lane.queues stays one.given;
+      given = all_stays log.device device (lane_log lane) (lane_beside lane) stays one.given;
     }
 
     by_holder : (i : ℕ) (lane other : Lane) → slice_get log.stripes.lanes.items i ≡ Some lane → slice_get stripes.lanes.items i ≡ Some other
@@ -244,15 +274,24 @@ lanes_right log stripes device is keeps stays right = record {
         (with_given lane (is.lanes i lane there))
     by_holder i lane other there at true held =
         let one : IsRight log device lane (lane_log other) = right i lane (lane_log other) there (lent_log stripes i other held at) in
-        let queues : other.queues ≡ lane.queues = some_queues (sym (ap queues_in at) ∙ keeps.queues i ∙ ap queues_in there) in
-        let was : AreAllGiven device (lane_log lane) lane.queues =
-        all_stays log.device device (lane_log lane) lane.queues stays (is.lanes i lane there).given in
+        let queues : other.queues ≡ lane.queues = queues_lent log.stripes stripes keeps i lane other there at in
+        let waits : shard_waiting other.shard ≡ shard_waiting lane.shard = waiting_lent log.stripes stripes keeps i lane other there at held in
+        let beside : lane_beside other ≡ lane_beside lane = beside_lent log.stripes stripes keeps i lane other there at held in
+        let old : Agrees (lane_counted lane) lane.queues = (is.lanes i lane there).agrees in
+        let was : AreAllGiven device (lane_log lane) (lane_beside lane) =
+        all_stays log.device device (lane_log lane) (lane_beside lane) stays (is.lanes i lane there).given in
         record {
-          agrees = subst (Agrees (lane_log other)) (sym queues) (record { counted = one.counted; faithful = one.faithful });
+          agrees = record {
+            counted = one.counted ∙ ap (λ (b : Beside). unreleased (log_state (lane_log other) b)) (sym beside);
+            in_flight = ap (λ (w : Waiting). w.in_flight) waits ∙ old.in_flight ∙ ap flights (sym queues);
+            retired = ap (λ (w : Waiting). w.retired) waits ∙ old.retired;
+            drained = ap (λ (w : Waiting). w.drained) waits ∙ old.drained;
+            faithful = subst (λ (q : Queues). IsFaithful (lane_log other) q.flushing) (sym queues) one.faithful;
+          };
           numbered = one.numbered;
           frames = one.frames;
           places = one.places;
-          given = subst (AreAllGiven device (lane_log other)) (sym queues)
+          given = subst (AreAllGiven device (lane_log other)) (sym beside)
               (record { kept = one.kept; flushing = was.flushing; unlinked = was.unlinked; retired = was.retired; drained = was.drained });
         }
 
@@ -394,8 +433,8 @@ module _ (rest : State) (log : WorldLog) (writes : List Write) (is : IsWorldLog 
       was : IsRight log device own shed.was
       was = reached.right i own shed.was at shed.there
 
-      made : HasMadeRoom shed.was device shed.is after own.queues
-      made = room_made shed.was shed.is own.queues device after was.numbered was.counted shed.shed
+      made : HasMadeRoom shed.was device shed.is after (lane_beside own)
+      made = room_made shed.was shed.is (lane_beside own) device after was.numbered was.counted shed.shed
 
       more : StaysGiven device after
       more = room_stays shed.was shed.is device after shed.shed
@@ -404,23 +443,23 @@ module _ (rest : State) (log : WorldLog) (writes : List Write) (is : IsWorldLog 
       below = slice_get_within lanes i own at
 
       lifted : ShedsAll (made_state logs device) (replicate made.count i)
-          (record (made_state logs device) { logs = set (put lanes logs) i (log_state shed.is own.queues); places = places_of after })
+          (record (made_state logs device) { logs = set (put lanes logs) i (log_state shed.is (lane_beside own)); places = places_of after })
       lifted =
-          sheds_lift (made_state logs device) i made.count (log_state shed.is own.queues) (places_of after)
+          sheds_lift (made_state logs device) i made.count (log_state shed.is (lane_beside own)) (places_of after)
           (omega (arith, below, put_length lanes logs)) (omega (arith, below, (is.even).lanes))
-          (subst (λ (l : LogState). ShedsMany log.frames log.limit made.count l (places_of device) (log_state shed.is own.queues) (places_of after))
+          (subst (λ (l : LogState). ShedsMany log.frames log.limit made.count l (places_of device) (log_state shed.is (lane_beside own)) (places_of after))
           (sym (put_there lanes logs i own shed.was at shed.there))
-          (subst (λ (f : ℕ). ShedsMany f log.limit made.count (log_state shed.was own.queues) (places_of device) (log_state shed.is own.queues) (places_of after)) was.frames
-          (subst (λ (l : ℕ). ShedsMany shed.was.resident.frames l made.count (log_state shed.was own.queues) (places_of device) (log_state shed.is own.queues) (places_of after)) was.places
+          (subst (λ (f : ℕ). ShedsMany f log.limit made.count (log_state shed.was (lane_beside own)) (places_of device) (log_state shed.is (lane_beside own)) (places_of after)) was.frames
+          (subst (λ (l : ℕ). ShedsMany shed.was.resident.frames l made.count (log_state shed.was (lane_beside own)) (places_of device) (log_state shed.is (lane_beside own)) (places_of after)) was.places
           made.sheds)))
 
-      same_state : (record (made_state logs device) { logs = set (put lanes logs) i (log_state shed.is own.queues); places = places_of after }) ≡ made_state new after
+      same_state : (record (made_state logs device) { logs = set (put lanes logs) i (log_state shed.is (lane_beside own)); places = places_of after }) ≡ made_state new after
       same_state = ap (λ (l : List LogState). let s : State = record (made_state logs device) { logs = l; places = places_of after } in s)
           (sym (put_set lanes logs new i own shed.is at shed.left shed.others))
 
       fine : IsRight log after own shed.is
       fine =
-          let done = room_right shed.was shed.is own.queues device after was.numbered was.counted shed.shed in
+          let done = room_right shed.was shed.is (lane_beside own) device after was.numbered was.counted shed.shed in
           record {
             numbered = done.0;
             counted = done.1;
@@ -465,7 +504,7 @@ module _ (rest : State) (log : WorldLog) (writes : List Write) (is : IsWorldLog 
     start_state : made_state (logs_lent log.stripes) log.device ≡ state_of rest log
     start_state =
         ap (λ (l : List LogState). let s : State = record (state_of rest log) { logs = l } in s)
-        (lanes_put log.stripes log.stripes (record { holders = refl; acting = refl; count = refl; queues = λ i. refl; others = λ i away. refl }))
+        (lanes_put log.stripes log.stripes (record { holders = refl; acting = refl; count = refl; queues = λ i. refl; others = λ i away. refl; waits = λ i. refl }))
 
     pub made_is : IsMade rest log (with_parts log stripes device) writes
     made_is = record {
@@ -484,8 +523,8 @@ module _ (rest : State) (log : WorldLog) (writes : List Write) (is : IsWorldLog 
         let right : IsRight log device own.0 full.log = done.right i own.0 full.log own.1 full.there in
         ap (λ (s : State). is_full log.limit (log_of s i)) (sym end_state)
         ∙ ap (is_full log.limit) (put_there lanes (logs_lent stripes) i own.0 full.log own.1 full.there)
-        ∙ ap (λ (l : ℕ). is_full l (log_state full.log (own.0).queues)) (sym right.places)
-        ∙ full_is full.log (own.0).queues right.numbered right.counted full.full
+        ∙ ap (λ (l : ℕ). is_full l (log_state full.log (lane_beside own.0))) (sym right.places)
+        ∙ full_is full.log (lane_beside own.0) right.numbered right.counted full.full
 
 pub room_made_is : (rest : State) (log : WorldLog) (stripes : Stripes) (device : Shelves) (writes : List Write)
     → IsWorldLog log → KeepsOthers log.stripes stripes → SameValues log.stripes stripes

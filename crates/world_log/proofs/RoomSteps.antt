@@ -19,17 +19,16 @@ use Rattle.world_model.specs.Effects as effects
 use Rattle.world_log.specs.Places.{Receipt, Shelves, page_released, places_of}
 use Rattle.world_model.specs.Places.{Each}
 use Rattle.world_log.specs.Given.{IsGiven}
-use Rattle.world_log.specs.Beside.{AreGiven, log_state, flushing_of, place_stamped, DoesRelease, IsNumbered}
+use Rattle.world_log.specs.Beside.{AreGiven, Beside, DoesRelease, IsNumbered, log_state, place_stamped}
 use Rattle.world_log.specs.MakingRoom.{LeavesBy, ShedsOne, ShedsMany, HasMadeRoom}
 use Rattle.world_log.specs.Cleaning.{AreServed, HasUnlinked, DoesUnlink}
-use Rattle.world_log.specs.Stripes.{lane_log, lane_state}
+use Rattle.world_log.specs.Stripes.{lane_beside, lane_log, lane_state}
 use Rattle.world_log.specs.WorldLogs.{IsLane, IsWorldLog, NoneReleasedAt, state_beside}
-use Rattle.world_log.specs.declared.queues.Queues.{Queues}
-use Rattle.world_log.specs.declared.lanes.Lane.{Lane}
+use Rattle.world_log.specs.Types.{Lane}
 use Rattle.world_log.specs.declared.logs.WorldLog.{WorldLog}
 use Rattle.world_log.proofs.GivenSteps.{served_kept}
 use Rattle.world_log.proofs.Agreeing.{pages_same}
-use Rattle.world_log.proofs.LaneSteps.{lane_of, TookBeside, with_both, IsReached, log_there, logs_with, log_beside, state_same, with_lane, when_true, when_false, both_true, true_left}
+use Rattle.world_log.proofs.LaneSteps.{lane_of, TookBeside, with_both, IsReached, log_there, logs_with, state_same, with_lane, when_true, when_false, both_true, true_left}
 
 -- the state with another log in a place, and other places
 abbrev placed : State → ℕ → LogState → List (Option Bytes) → State
@@ -90,17 +89,17 @@ sheds_lift state i (suc n) later more below within sheds =
 
 -- THE CLEANER
 
-pub full_is : (p : HybridLog) (queues : Queues) → IsNumbered p → p.unreleased ≡ unreleased (log_state p queues) → IsFull p
-    → is_full p.places (log_state p queues) ≡ true
-full_is p queues numbered counted (inl all) =
-    ap (λ (t : Bool). t || nat_lt LAST_PAGE (next_page (log_state p queues))) (le_is p.places (unreleased (log_state p queues)) (omega (arith, all, counted)))
+pub full_is : (p : HybridLog) (beside : Beside) → IsNumbered p → p.unreleased ≡ unreleased (log_state p beside) → IsFull p
+    → is_full p.places (log_state p beside) ≡ true
+full_is p beside numbered counted (inl all) =
+    ap (λ (t : Bool). t || nat_lt LAST_PAGE (next_page (log_state p beside))) (le_is p.places (unreleased (log_state p beside)) (omega (arith, all, counted)))
   where
     le_is : (a b : ℕ) → a ≤ b → nat_le a b ≡ true
     le_is a b le = grind (arith, le)
-full_is p queues numbered counted (inr last) =
-    or_true (nat_le p.places (unreleased (log_state p queues)))
-    (nat_lt LAST_PAGE (next_page (log_state p queues)))
-    (lt_is LAST_PAGE (next_page (log_state p queues)) (subst (λ (n : ℕ). LAST_PAGE < n) (sym (pages_same p queues numbered)) last))
+full_is p beside numbered counted (inr last) =
+    or_true (nat_le p.places (unreleased (log_state p beside)))
+    (nat_lt LAST_PAGE (next_page (log_state p beside)))
+    (lt_is LAST_PAGE (next_page (log_state p beside)) (subst (λ (n : ℕ). LAST_PAGE < n) (sym (pages_same p beside numbered)) last))
   where
     lt_is : (a b : ℕ) → a < b → nat_lt a b ≡ true
     lt_is a b lt = grind (arith, lt)
@@ -111,38 +110,38 @@ full_is p queues numbered counted (inr last) =
 
 -- room made in a lane, as of the state
 made_lift : (rest : State) (store : WorldLog) (i : ℕ) (lane : Lane) (mid : HybridLog) (device : Shelves) → IsWorldLog store → IsReached store i lane
-    → (made : HasMadeRoom (lane_log lane) store.device mid device lane.queues)
-    → ShedsAll (state_beside rest store) (replicate made.count i) (placed (state_beside rest store) i (log_state mid lane.queues) (places_of device))
+    → (made : HasMadeRoom (lane_log lane) store.device mid device (lane_beside lane))
+    → ShedsAll (state_beside rest store) (replicate made.count i) (placed (state_beside rest store) i (log_state mid (lane_beside lane)) (places_of device))
 made_lift rest store i lane mid device is at made =
     let state : State = state_beside rest store in
     let one : IsLane store.device store.frames store.limit lane = is.lanes i lane at.there in
     let within : i < length store.stripes.lanes.items = slice_get_within store.stripes.lanes.items i lane at.there in
     let below : i < length state.logs = omega (arith, within, length-map store.stripes.lanes.items lane_state) in
-    let frames = subst (λ (f : ℕ). ShedsMany f (lane_log lane).places made.count (lane_state lane) (places_of store.device) (log_state mid lane.queues) (places_of device))
+    let frames = subst (λ (f : ℕ). ShedsMany f (lane_log lane).places made.count (lane_state lane) (places_of store.device) (log_state mid (lane_beside lane)) (places_of device))
     one.frames made.sheds in
-    let limit = subst (λ (l : ℕ). ShedsMany store.frames l made.count (lane_state lane) (places_of store.device) (log_state mid lane.queues) (places_of device))
+    let limit = subst (λ (l : ℕ). ShedsMany store.frames l made.count (lane_state lane) (places_of store.device) (log_state mid (lane_beside lane)) (places_of device))
     one.places frames in
-    sheds_lift state i made.count (log_state mid lane.queues) (places_of device) below (ltb-true _ _ at.below)
-    (subst (λ (l : LogState). ShedsMany store.frames store.limit made.count l (places_of store.device) (log_state mid lane.queues) (places_of device))
+    sheds_lift state i made.count (log_state mid (lane_beside lane)) (places_of device) below (ltb-true _ _ at.below)
+    (subst (λ (l : LogState). ShedsMany store.frames store.limit made.count l (places_of store.device) (log_state mid (lane_beside lane)) (places_of device))
     (sym (log_there store.stripes.lanes.items i lane at.there)) limit)
 
 unlinks : (rest : State) (store : WorldLog) (i : ℕ) (lane new : Lane) (device : Shelves) (what : Bool) → IsWorldLog store → IsReached store i lane
     → IsNumbered (lane_log new) → (lane_log new).places ≡ (lane_log lane).places
-    → DoesUnlink what (lane_log lane) lane.queues store.device (lane_log new) new.queues device
+    → DoesUnlink what (lane_log lane) (lane_beside lane) store.device (lane_log new) (lane_beside new) device
     → Unlinks (state_beside rest store) i (state_beside rest (with_both store i new device))
 unlinks rest store i lane new device false is at fit alike does =
     let state : State = state_beside rest store in
     let one : IsLane store.device store.frames store.limit lane = is.lanes i lane at.there in
     let within : i < length store.stripes.lanes.items = slice_get_within store.stripes.lanes.items i lane at.there in
     let below : i < length state.logs = omega (arith, within, length-map store.stripes.lanes.items lane_state) in
-    let log : lane_state new ≡ log_state (lane_log new) lane.queues = ap (log_state (lane_log new)) does.2 in
-    let after : State = placed state i (log_state (lane_log new) lane.queues) (places_of device) in
+    let log : lane_state new ≡ log_state (lane_log new) (lane_beside lane) = ap (log_state (lane_log new)) does.2 in
+    let after : State = placed state i (log_state (lane_log new) (lane_beside lane)) (places_of device) in
     let same : state_beside rest (with_both store i new device) ≡ after =
     ap (λ (l : List LogState). let s : State = record state { logs = l; places = places_of device } in s) (logs_with store i lane new _ at.there log) in
     let full : is_full store.limit (log_of after i) ≡ true =
-    ap (is_full store.limit) (here state i (log_state (lane_log new) lane.queues) (places_of device) below)
-    ∙ ap (λ (l : ℕ). is_full l (log_state (lane_log new) lane.queues)) (sym (alike ∙ one.places))
-    ∙ full_is (lane_log new) lane.queues fit (does.0).counted does.1 in
+    ap (is_full store.limit) (here state i (log_state (lane_log new) (lane_beside lane)) (places_of device) below)
+    ∙ ap (λ (l : ℕ). is_full l (log_state (lane_log new) (lane_beside lane))) (sym (alike ∙ one.places))
+    ∙ full_is (lane_log new) (lane_beside lane) fit (does.0).counted does.1 in
     subst (Unlinks state i) (sym same)
     (effects.StopsFull (does.0).count after (made_lift rest store i lane (lane_log new) device is at does.0) full)
 unlinks rest store i lane new device true is at fit alike does =
@@ -150,13 +149,13 @@ unlinks rest store i lane new device true is at fit alike does =
     let within : i < length store.stripes.lanes.items = slice_get_within store.stripes.lanes.items i lane at.there in
     let below : i < length state.logs = omega (arith, within, length-map store.stripes.lanes.items lane_state) in
     let p : HybridLog = does.0 in
-    let made : HasMadeRoom (lane_log lane) store.device p device lane.queues = does.1 in
-    let done : HasUnlinked p lane.queues (lane_log new) new.queues = does.2 in
-    let mid : State = placed state i (log_state p lane.queues) (places_of device) in
-    let there : log_of mid i ≡ log_state p lane.queues = here state i (log_state p lane.queues) (places_of device) below in
+    let made : HasMadeRoom (lane_log lane) store.device p device (lane_beside lane) = does.1 in
+    let done : HasUnlinked p (lane_beside lane) (lane_log new) (lane_beside new) = does.2 in
+    let mid : State = placed state i (log_state p (lane_beside lane)) (places_of device) in
+    let there : log_of mid i ≡ log_state p (lane_beside lane) = here state i (log_state p (lane_beside lane)) (places_of device) below in
     let step : LogState → LogState = λ l. without_oldest (with_opened l done.opened) done.place in
     let logs : map lane_state (set store.stripes.lanes.items i new) ≡ set mid.logs i (step (log_of mid i)) =
-    logs_with store i lane new _ at.there (done.done ∙ ap step (sym there)) ∙ sym (set-set state.logs i (log_state p lane.queues) (step (log_of mid i))) in
+    logs_with store i lane new _ at.there (done.done ∙ ap step (sym there)) ∙ sym (set-set state.logs i (log_state p (lane_beside lane)) (step (log_of mid i))) in
     let same : state_beside rest (with_both store i new device) ≡ with_log mid i (step (log_of mid i)) =
     ap (λ (l : List LogState). let s : State = record state { logs = l; places = places_of device } in s) logs in
     subst (Unlinks state i) (sym same)
@@ -168,7 +167,7 @@ unlinks rest store i lane new device true is at fit alike does =
 pub took_unlink : (rest : State) (store : WorldLog) (i : ℕ) (lane new : Lane) (device : Shelves) (what : Bool) → IsWorldLog store → IsReached store i lane
     → is_none (get_or store.stripes.holders.items i None) ≡ true → nat_lt (lane_log lane).oldest (lane_log lane).resident.oldest ≡ true
     → IsNumbered (lane_log new) → (lane_log new).places ≡ (lane_log lane).places
-    → DoesUnlink what (lane_log lane) lane.queues store.device (lane_log new) new.queues device
+    → DoesUnlink what (lane_log lane) (lane_beside lane) store.device (lane_log new) (lane_beside new) device
     → TookBeside rest (event.Unlink i) store (with_both store i new device)
 took_unlink rest store i lane new device what is at free cold fit alike does =
     let state : State = state_beside rest store in
@@ -179,33 +178,27 @@ took_unlink rest store i lane new device what is at free cold fit alike does =
 
 -- RELEASE
 
-released_log : (p : HybridLog) (before : Queues) (old : Shelves) (page : Bytes) (new : HybridLog) (after : Queues) (shown : Shelves)
+released_log : (p : HybridLog) (before : Beside) (old : Shelves) (page : Bytes) (new : HybridLog) (after : Beside) (shown : Shelves)
     → DoesRelease true page p before old new after shown
     → (not (are_none (log_state p before).drained) ≡ true) × (log_state new after ≡ with_released (log_state p before))
     × (places_of shown ≡ places_released (places_of old) (log_state p before).drained page)
 released_log p before old page new after shown does =
     let log : LogState = log_state p before in
-    let drained : log.drained ≡ place_stamped does.0 ∷ map place_stamped does.1 = ap (map place_stamped) does.2 in
-    let fewer : map place_stamped after.drained.items ≡ map place_stamped does.1 = ap (map place_stamped) does.3 in
-    let unlinked : map (λ (r : Receipt). r.place) after.unlinked.items ≡ log.unlinked = ap (λ q. map (λ (r : Receipt). r.place) q.items) does.4 in
-    let retired : map place_stamped after.retired.items ≡ log.retired = ap (λ q. map place_stamped q.items) does.5 in
-    let flushing : flushing_of after.flushing ≡ log.flushing = ap flushing_of does.6 in (
+    let drained : log.drained ≡ place_stamped does.0 ∷ map place_stamped does.1 = ap (map place_stamped) does.2 in (
       ap (λ (l : List Stamped). not (are_none l)) drained,
-      ap (λ (q : HybridLog). log_state q after) does.8
-          ∙ (λ j. record log { flushing = flushing j; unlinked = unlinked j; retired = retired j; drained = fewer j })
-          ∙ sym (ap (λ (l : List Stamped). released_from log l) drained),
-      ap places_of does.7 ∙ map-set page_released old.shelves (does.0).0.place (record { page = page; released = true })
+      ap (λ (q : HybridLog). log_state q after) does.5 ∙ ap (log_state p) does.3 ∙ sym (ap (λ (l : List Stamped). released_from log l) drained),
+      ap places_of does.4 ∙ map-set page_released old.shelves (does.0).0.place (record { page = page; released = true })
           ∙ sym (ap (λ (l : List Stamped). places_released (places_of old) l page) drained),
     )
 
 pub took_release : (rest : State) (store : WorldLog) (i : ℕ) (lane new : Lane) (device : Shelves) (page : Bytes) (done : Bool)
     → IsReached store i lane
-    → DoesRelease done page (lane_log lane) lane.queues store.device (lane_log new) new.queues device
+    → DoesRelease done page (lane_log lane) (lane_beside lane) store.device (lane_log new) (lane_beside new) device
     → TookBeside rest (event.Release i page) store (with_both store i new device)
 took_release rest store i lane new device page true at does =
     let state : State = state_beside rest store in
     let there = log_there store.stripes.lanes.items i lane at.there in
-    let done = released_log (lane_log lane) lane.queues store.device page (lane_log new) new.queues device does in
+    let done = released_log (lane_log lane) (lane_beside lane) store.device page (lane_log new) (lane_beside new) device does in
     let logs : map lane_state (set store.stripes.lanes.items i new) ≡ set state.logs i (with_released (log_of state i)) =
     logs_with store i lane new _ at.there (done.1 ∙ ap with_released (sym there)) in
     let places : places_of device ≡ places_released state.places (log_of state i).drained page =
@@ -221,7 +214,7 @@ took_release rest store i lane new device page false at does =
     ∙ ap (λ (l : List (Receipt × ℕ)). not (are_none (map place_stamped l))) does.0)
     (ap (λ (d : Shelves). let s : State = record (state_beside rest (with_lane store i new)) { places = places_of d } in s) does.3
     ∙ state_same rest store i lane new at.there
-    (ap (λ (p : HybridLog). log_state p new.queues) does.2 ∙ log_beside (lane_log lane) lane.queues new.queues does.1))
+    (ap (λ (p : HybridLog). log_state p (lane_beside new)) does.2 ∙ ap (log_state (lane_log lane)) does.1))
 
 -- WHAT IS GIVEN
 
@@ -235,7 +228,7 @@ drained_there device (one ∷ drained) given =
 pub served_at : (store : WorldLog) (i : ℕ) (lane : Lane) → IsWorldLog store → slice_get store.stripes.lanes.items i ≡ Some lane → NoneReleasedAt store i
     → AreServed (lane_log lane) store.device
 served_at store i lane is there none =
-    served_kept (lane_log lane) lane.queues store.device (lane_of store i lane is there).given.kept
+    served_kept (lane_log lane) (lane_beside lane) store.device (lane_of store i lane is there).given.kept
     (λ number place has. none number place (ap (λ (l : LogState). place_at l number) (log_there store.stripes.lanes.items i lane there) ∙ has))
 
 -- ROOM FOR A PLAN

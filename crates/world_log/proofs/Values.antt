@@ -17,8 +17,7 @@ use Rattle.world_log.specs.PlanLaws.{IsStill, SameValues}
 use Rattle.world_log.specs.Stripes.{KeepsOthers, lent, marks_in, part_in, store_in}
 use Rattle.world_log.specs.WorldLogs.{Took, state_beside, state_of, with_values}
 use Rattle.world_log.specs.declared.queues.Queues.{Queues}
-use Rattle.world_log.specs.declared.lanes.Lane.{Lane}
-use Rattle.world_log.specs.declared.stripes.Stripes.{Stripes}
+use Rattle.world_log.specs.Types.{Lane, Stripes}
 use Rattle.world_log.specs.declared.logs.WorldLog.{WorldLog}
 use Rattle.world_log.proofs.LaneSteps.{TookBeside, with_lane, with_both}
 

@@ -7,9 +7,8 @@ use Rattle.hybrid.specs.Staging.{StagedPage}
 use Rattle.world_model.specs.Commits.{OPENED_MAX}
 use Rattle.world_model.specs.Logs.{place_at, with_opened, without_oldest}
 use Rattle.world_log.specs.Places.{Shelves}
-use Rattle.world_log.specs.Beside.{log_state}
+use Rattle.world_log.specs.Beside.{Beside, log_state}
 use Rattle.world_log.specs.MakingRoom.{HasMadeRoom}
-use Rattle.world_log.specs.declared.queues.Queues.{Queues}
 
 -- a receipt that is kept is one of this device, which serves it
 pub record IsServedBy (device : Shelves) (kept : Kept) : Type 0 where
@@ -28,7 +27,7 @@ pub record IsFetched (p : HybridLog) (number : ℕ) (old new : List StagedPage) 
   pub staged : new ≡ old ++ record { kept = kept; page = page } ∷ []
 
 -- the oldest page left the log, so many pages were opened, and its place is unlinked
-pub record HasUnlinked (old : HybridLog) (before : Queues) (new : HybridLog) (after : Queues) : Type 0 where
+pub record HasUnlinked (old : HybridLog) (before : Beside) (new : HybridLog) (after : Beside) : Type 0 where
   pub cold : old.oldest < old.resident.oldest
   pub place : ℕ
   pub opened : ℕ
@@ -37,7 +36,7 @@ pub record HasUnlinked (old : HybridLog) (before : Queues) (new : HybridLog) (af
   pub done : log_state new after ≡ without_oldest (with_opened (log_state old before) opened) place
 
 -- What the cleaner's step did: room was made, and then the oldest page left the log; or the stripe is full, and it did not.
-abbrev pub DoesUnlink : Bool → HybridLog → Queues → Shelves → HybridLog → Queues → Shelves → Type 0
+abbrev pub DoesUnlink : Bool → HybridLog → Beside → Shelves → HybridLog → Beside → Shelves → Type 0
 DoesUnlink true old before device new after later =
     (mid : HybridLog) × HasMadeRoom old device mid later before × HasUnlinked mid before new after
 DoesUnlink false old before device new after later = HasMadeRoom old device new later before × IsFull new × (after ≡ before)

@@ -1,12 +1,12 @@
 -- What two steps on parts keep.
 use Rattle.std.proofs.Common.{◌∙◌, refl}
-use Rattle.world_log.specs.Stripes.{KeepsOthers}
+use Rattle.world_log.specs.Stripes.{KeepsLanes}
 use Rattle.world_log.specs.declared.stripes.Stripes.{Stripes}
 
-pub keeps_itself : (stripes : Stripes) → KeepsOthers stripes stripes
+pub keeps_itself : {S : Type 0} (stripes : Stripes S) → KeepsLanes stripes stripes
 keeps_itself stripes = record { holders = refl; acting = refl; count = refl; queues = λ i. refl; others = λ i away. refl }
 
-pub keeps_both : (one two three : Stripes) → KeepsOthers one two → KeepsOthers two three → KeepsOthers one three
+pub keeps_both : {S : Type 0} (one two three : Stripes S) → KeepsLanes one two → KeepsLanes two three → KeepsLanes one three
 keeps_both one two three first second = record {
   holders = second.holders ∙ first.holders;
   acting = second.acting ∙ first.acting;

@@ -6,13 +6,13 @@ use Rattle.hybrid.specs.HybridLog.{HybridLog, receipt_at}
 use Rattle.world_log.specs.Places.{Receipt, view}
 use Rattle.world_log.specs.Beside.{Agrees, IsAlike, IsNumbered}
 use Rattle.world_model.specs.Logs.{new_log}
-use Rattle.world_log.specs.Stripes.{lane_log, lane_state}
+use Rattle.world_log.specs.Stripes.{lane_counted, lane_log, lane_state}
 use Rattle.world_log.specs.WorldLogs.{IsLane}
-use Rattle.world_log.specs.declared.lanes.Lane.{Lane}
+use Rattle.world_log.specs.Types.{Lane}
 
 -- the log agrees with what stands beside it, and what keys have is as it was
 pub record StaysRight (old new : Lane) : Type 0 where
-  pub agrees : Agrees (lane_log new) new.queues
+  pub agrees : Agrees (lane_counted new) new.queues
   pub numbered : IsNumbered (lane_log new)
   pub alike : IsAlike (lane_log old) (lane_log new)
   pub store : shard_store new.shard ≡ shard_store old.shard

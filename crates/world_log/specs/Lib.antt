@@ -1,11 +1,12 @@
-pub mod Places
-pub mod PlaceLaws
 pub mod Beside
-pub mod MakingRoom
 pub mod Cleaning
 pub mod Given
-pub mod Stripes
 pub mod KeepLaws
-pub mod WorldLogs
 pub mod Lanes
+pub mod MakingRoom
+pub mod PlaceLaws
+pub mod Places
 pub mod PlanLaws
+pub mod Stripes
+pub mod Types
+pub mod WorldLogs

@@ -4,8 +4,7 @@ use Rattle.words.specs.Store.{Bytes}
 use Rattle.hybrid.specs.HybridLog.{HybridLog}
 use Rattle.world_model.specs.Logs.{LogState, unreleased, place_at, first_mutable, is_full, dropped, with_receipt}
 use Rattle.world_log.specs.Places.{Shelves, places_of}
-use Rattle.world_log.specs.Beside.{log_state}
-use Rattle.world_log.specs.declared.queues.Queues.{Queues}
+use Rattle.world_log.specs.Beside.{Beside, log_state}
 
 module _ (frames limit : ℕ) where
   -- the oldest resident page leaves its frame; where no receipt of it is kept, it is written to the next place first, which may be taken
@@ -24,7 +23,7 @@ module _ (frames limit : ℕ) where
       (mid : LogState) × (between : List (Option Bytes)) × ShedsMany n log places mid between × ShedsOne mid between later more
 
 -- room was made in a stripe
-pub record HasMadeRoom (old : HybridLog) (device : Shelves) (new : HybridLog) (after : Shelves) (queues : Queues) : Type 0 where
+pub record HasMadeRoom (old : HybridLog) (device : Shelves) (new : HybridLog) (after : Shelves) (beside : Beside) : Type 0 where
   pub count : ℕ
-  pub sheds : ShedsMany old.resident.frames old.places count (log_state old queues) (places_of device) (log_state new queues) (places_of after)
-  pub counted : new.unreleased ≡ unreleased (log_state new queues)
+  pub sheds : ShedsMany old.resident.frames old.places count (log_state old beside) (places_of device) (log_state new beside) (places_of after)
+  pub counted : new.unreleased ≡ unreleased (log_state new beside)

@@ -18,7 +18,7 @@ use Rattle.world_log.specs.Places.{Receipt, Shelves, Serves, Wrote, SamePlaces, 
 use Rattle.world_log.specs.Given.{IsGiven, StaysGiven}
 use Rattle.world_log.specs.Stripes.{KeepsOthers, IsEven, lent, stores_of, marks_of, states_of}
 use Rattle.world_log.specs.WorldLogs.{IsWorldLog, NoneReleasedAt, state_of}
-use Rattle.world_log.specs.declared.stripes.Stripes.{Stripes}
+use Rattle.world_log.specs.Types.{Stripes}
 use Rattle.world_log.specs.declared.logs.WorldLog.{WorldLog}
 
 -- how many stripes there are

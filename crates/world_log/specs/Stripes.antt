@@ -6,22 +6,67 @@ use Rattle.words.specs.Watches.{Marks}
 use Rattle.words.specs.Stripes.{stripe_of}
 use Rattle.hybrid.specs.HybridLog.{HybridLog}
 use Rattle.plans.specs.declared.shard.Shard.{Shard}
-use Rattle.plans.specs.Shards.{shard_log, shard_store, shard_marks}
+use Rattle.plans.specs.Counted.{Counted}
+use Rattle.plans.specs.Shards.{SameWaits, shard_counted, shard_log, shard_store, shard_marks}
 use Rattle.world_model.specs.Enabled.{holds}
 use Rattle.world_model.specs.Logs.{LogState, place_at}
 use Rattle.world_model.specs.States.{log_at}
 use Rattle.world_log.specs.Places.{Receipt}
-use Rattle.world_log.specs.Beside.{log_state}
+use Rattle.world_log.specs.Beside.{Beside, beside_of, log_state}
 use Rattle.world_log.specs.declared.queues.Queues.{Queues}
-use Rattle.world_log.specs.declared.lanes.Lane.{Lane}
-use Rattle.world_log.specs.declared.stripes.Stripes.{Stripes}
+use Rattle.world_log.specs.Types.{Lane, Stripes}
+use Rattle.world_log.specs.declared.lanes.Lane as any
+use Rattle.world_log.specs.declared.stripes.Stripes as any_lanes
+
+-- PARTS OF ANY TYPE
+
+module _ {S : Type 0} where
+  -- the part of a stripe
+  abbrev pub part_in : Option (any.Lane S) → Option S
+  part_in None = None
+  part_in (Some lane) = Some lane.shard
+
+  -- the part of a stripe, if the client holds it that acts
+  abbrev pub lent : any_lanes.Stripes S → ℕ → Option S
+  lent stripes i = if holds stripes.holders.items stripes.acting i then part_in (slice_get stripes.lanes.items i) else None
+
+  -- the stripes with another part of one
+  abbrev pub with_part_in : any_lanes.Stripes S → ℕ → Option (any.Lane S) → S → any_lanes.Stripes S
+  with_part_in stripes i None part = stripes
+  with_part_in stripes i (Some lane) part = record stripes { lanes = with_item stripes.lanes i (record lane { shard = part }) }
+
+  abbrev pub with_part : any_lanes.Stripes S → ℕ → S → any_lanes.Stripes S
+  with_part stripes i part = with_part_in stripes i (slice_get stripes.lanes.items i) part
+
+  -- what the world has beside the log of a stripe
+  abbrev pub queues_in : Option (any.Lane S) → Option Queues
+  queues_in None = None
+  queues_in (Some lane) = Some lane.queues
+
+  -- Nothing differs but the parts of the stripes that the acting client holds.
+  pub record KeepsLanes (before later : any_lanes.Stripes S) : Type 0 where
+    pub holders : later.holders ≡ before.holders
+    pub acting : later.acting ≡ before.acting
+    pub count : length later.lanes.items ≡ length before.lanes.items
+    pub queues : (i : ℕ) → queues_in (slice_get later.lanes.items i) ≡ queues_in (slice_get before.lanes.items i)
+    pub others : (i : ℕ) → holds before.holders.items before.acting i ≡ false → slice_get later.lanes.items i ≡ slice_get before.lanes.items i
+
+-- OF THE WORLD
 
 -- the log of a stripe, by itself and as plain data
 abbrev pub lane_log : Lane → HybridLog
 lane_log lane = shard_log lane.shard
 
+-- the log, with what its shard counts of its places
+abbrev pub lane_counted : Lane → Counted
+lane_counted lane = shard_counted lane.shard
+
+-- what stands beside the log
+abbrev pub lane_beside : Lane → Beside
+lane_beside lane = beside_of (lane_counted lane) lane.queues
+
 abbrev pub lane_state : Lane → LogState
-lane_state lane = log_state (lane_log lane) lane.queues
+lane_state lane = log_state (lane_log lane) (lane_beside lane)
 
 -- who holds which
 abbrev pub holders_of : Stripes → List (Option ℕ)
@@ -48,23 +93,6 @@ marks_of stripes key session = marks_in (slice_get stripes.lanes.items (stripe_o
 abbrev pub states_of : Stripes → List LogState
 states_of stripes = map lane_state stripes.lanes.items
 
--- the part of a stripe
-abbrev pub part_in : Option Lane → Option (Shard Receipt)
-part_in None = None
-part_in (Some lane) = Some lane.shard
-
--- the part of a stripe, if the client holds it that acts
-abbrev pub lent : Stripes → ℕ → Option (Shard Receipt)
-lent stripes i = if holds stripes.holders.items stripes.acting i then part_in (slice_get stripes.lanes.items i) else None
-
--- the stripes with another part of one
-abbrev pub with_part_in : Stripes → ℕ → Option Lane → Shard Receipt → Stripes
-with_part_in stripes i None part = stripes
-with_part_in stripes i (Some lane) part = record stripes { lanes = with_item stripes.lanes i (record lane { shard = part }) }
-
-abbrev pub with_part : Stripes → ℕ → Shard Receipt → Stripes
-with_part stripes i part = with_part_in stripes i (slice_get stripes.lanes.items i) part
-
 -- the same with another holder of one, or where another client acts
 abbrev pub with_holder : Stripes → ℕ → Option ℕ → Stripes
 with_holder stripes i holder = record stripes { holders = with_item stripes.holders i holder }
@@ -72,18 +100,14 @@ with_holder stripes i holder = record stripes { holders = with_item stripes.hold
 abbrev pub acts_for : Stripes → ℕ → Stripes
 acts_for stripes client = record stripes { acting = client }
 
--- what stands beside the log of a stripe
-abbrev pub queues_in : Option Lane → Option Queues
-queues_in None = None
-queues_in (Some lane) = Some lane.queues
-
--- Nothing differs but the parts of the stripes that the acting client holds.
+-- Of these nothing differs but what keys have, their marks, and the logs.
 pub record KeepsOthers (before later : Stripes) : Type 0 where
   pub holders : later.holders ≡ before.holders
   pub acting : later.acting ≡ before.acting
   pub count : length later.lanes.items ≡ length before.lanes.items
   pub queues : (i : ℕ) → queues_in (slice_get later.lanes.items i) ≡ queues_in (slice_get before.lanes.items i)
   pub others : (i : ℕ) → holds before.holders.items before.acting i ≡ false → slice_get later.lanes.items i ≡ slice_get before.lanes.items i
+  pub waits : SameWaits (lent before) (lent later)
 
 -- there is a lane for each stripe, and so many stripes as there may be
 pub record IsEven (stripes : Stripes) : Type 0 where

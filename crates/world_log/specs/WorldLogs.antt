@@ -11,10 +11,9 @@ use Rattle.world_model.specs.Effects.{Works}
 use Rattle.world_log.specs.Places.{Receipt, Shelves, places_of}
 use Rattle.world_log.specs.Beside.{Agrees, IsNumbered}
 use Rattle.world_log.specs.Given.{AreAllGiven}
-use Rattle.world_log.specs.Stripes.{IsEven, lane_log, marks_of, states_of, stores_of}
+use Rattle.world_log.specs.Stripes.{IsEven, lane_beside, lane_counted, lane_log, marks_of, states_of, stores_of}
 use Rattle.world_log.specs.declared.queues.Queues.{Queues}
-use Rattle.world_log.specs.declared.lanes.Lane.{Lane}
-use Rattle.world_log.specs.declared.stripes.Stripes.{Stripes}
+use Rattle.world_log.specs.Types.{Lane, Stripes}
 use Rattle.world_log.specs.declared.logs.WorldLog.{WorldLog}
 
 abbrev pub epoch_of : WorldLog → ℕ
@@ -45,11 +44,11 @@ IsNew stripes frames limit log =
 
 -- a stripe's log agrees with what stands beside it, has so many frames and places, and the device gave all of its receipts
 pub record IsLane (device : Shelves) (frame_count limit : ℕ) (lane : Lane) : Type 0 where
-  pub agrees : Agrees (lane_log lane) lane.queues
+  pub agrees : Agrees (lane_counted lane) lane.queues
   pub numbered : IsNumbered (lane_log lane)
   pub frames : (lane_log lane).resident.frames ≡ frame_count
   pub places : (lane_log lane).places ≡ limit
-  pub given : AreAllGiven device (lane_log lane) lane.queues
+  pub given : AreAllGiven device (lane_log lane) (lane_beside lane)
 
 -- there is a log for each stripe, and each is right
 pub record IsWorldLog (log : WorldLog) : Type 0 where

@@ -6,7 +6,7 @@ ghost use Rattle.hybrid.specs.HybridLog.{HasRoom, SameContents};
 ghost use Rattle.hybrid.specs.Staging.{AreRight, IsMissing};
 ghost use Rattle.hybrid.specs.Weighing.{oldest_weight};
 ghost use Rattle.hybrid.specs.declared.stripe.TheConstants.{CLEAN_WEIGHT};
-ghost use Rattle.world_log.specs.Beside.{Agrees, IsAlike};
+ghost use Rattle.world_log.specs.Beside.{Agrees, IsAlike, beside_of};
 ghost use Rattle.world_log.specs.Cleaning.{AreServed, DoesUnlink, HasUnlinked, IsFetched};
 ghost use Rattle.world_log.specs.Given.{AreAllGiven, KeepsGiven, StaysGiven};
 ghost use Rattle.world_log.specs.Places.{SamePlaces};
@@ -15,10 +15,11 @@ use crate::laws::reads_change_no_place;
 use crate::queues::Queues;
 use crate::shelves::{WorldDevice, WorldReceipt};
 use crate::stopped::Stopped;
-use crate::works::{make_room, unlink};
+use crate::works::make_room;
 use device::Shows;
 use hybrid::laws::reading_ends;
-use hybrid::{Cleaned, Room, Staged, Stripe, Weighed};
+use hybrid::{Room, Staged, Stripe, Weighed};
+use plans::counted::{Cleaning, CountedLog};
 use std::alloc::Global;
 
 /// Reads the page of this number, of which a receipt is kept, and stages it.
@@ -75,37 +76,35 @@ fn weigh(
 /// Copies the live records of the oldest page, which is not resident, to the tail, where there is room for
 /// them, and unlinks its place; pages that are wanted for that are read.
 fn clean(
-    stripe: &mut Stripe<WorldReceipt>,
-    queues: &mut Queues,
+    log: &mut CountedLog<WorldReceipt>,
+    queues: &Queues,
     device: &mut WorldDevice,
     staged: &mut Staged<WorldReceipt>,
     weight: usize,
 ) -> Result<(), Stopped>
-    requires agrees { Agrees stripe.old queues.old }
-    requires cold { stripe.old.oldest < stripe.old.resident.oldest }
-    requires served { AreServed stripe.old device.old }
+    requires agrees { Agrees log.old queues.now }
+    requires cold { log.old.log.oldest < log.old.log.resident.oldest }
+    requires served { AreServed log.old.log device.old }
     requires right { AreRight staged.old }
-    requires room { HasRoom stripe.old weight }
-    requires enough { oldest_weight stripe.old ≤ weight }
+    requires room { HasRoom log.old.log weight }
+    requires enough { oldest_weight log.old.log ≤ weight }
     requires most { weight ≤ WEIGHT_MAX }
-    ensures does { OnOk result (HasUnlinked stripe.old queues.old stripe.new queues.new) }
-    ensures given { OnOk result (KeepsGiven stripe.old queues.old stripe.new queues.new) }
-    ensures agrees { OnOk result (Agrees stripe.new queues.new) }
-    ensures alike { OnOk result (IsAlike stripe.old stripe.new) }
-    ensures same { OnOk result (SameContents stripe.old stripe.new) }
+    ensures does { OnOk result (HasUnlinked log.old.log (beside_of log.old queues.now) log.new.log (beside_of log.new queues.now)) }
+    ensures given { OnOk result (KeepsGiven log.old.log (beside_of log.old queues.now) log.new.log (beside_of log.new queues.now)) }
+    ensures agrees { OnOk result (Agrees log.new queues.now) }
+    ensures alike { OnOk result (IsAlike log.old.log log.new.log) }
+    ensures same { OnOk result (SameContents log.old.log log.new.log) }
     ensures places { OnOk result (SamePlaces device.old device.new) }
 {
     reading_ends();
-    let _oldest = stripe.oldest();
+    let _ = queues;
+    let _oldest = log.stripe().oldest();
     loop {
-        match stripe.clean_oldest(staged, Room { weight }) {
-            Cleaned::Unlinked(receipt) => {
-                unlink(queues, receipt)?;
-                return Ok(());
-            }
-            Cleaned::Cold(number, _room) => fetch(stripe, number, staged, device)?,
-            Cleaned::Heavy(_weight) => unreachable!(),
-            Cleaned::Nothing => unreachable!(),
+        match log.clean_oldest(staged, Room { weight }) {
+            Cleaning::Unlinked => return Ok(()),
+            Cleaning::Cold(number) => fetch(log.stripe(), number, staged, device)?,
+            Cleaning::Heavy(_weight) => unreachable!(),
+            Cleaning::Resident => unreachable!(),
         }
     }
 }
@@ -114,27 +113,27 @@ fn clean(
 /// did. It does not where the stripe is full.
 pub(crate) fn unlink_oldest(
     alloc: Global,
-    stripe: &mut Stripe<WorldReceipt>,
-    queues: &mut Queues,
+    log: &mut CountedLog<WorldReceipt>,
+    queues: &Queues,
     device: &mut WorldDevice,
 ) -> Result<bool, Stopped>
-    requires agrees { Agrees stripe.old queues.old }
-    requires served { AreServed stripe.old device.old }
-    requires cold { stripe.old.oldest < stripe.old.resident.oldest }
-    ensures does { IfOk result (λ done. DoesUnlink done stripe.old queues.old device.old stripe.new queues.new device.new) }
-    ensures given { OnOk result (AreAllGiven device.old stripe.old queues.old → AreAllGiven device.new stripe.new queues.new) }
+    requires agrees { Agrees log.old queues.now }
+    requires served { AreServed log.old.log device.old }
+    requires cold { log.old.log.oldest < log.old.log.resident.oldest }
+    ensures does { IfOk result (λ done. DoesUnlink done log.old.log (beside_of log.old queues.now) device.old log.new.log (beside_of log.new queues.now) device.new) }
+    ensures given { OnOk result (AreAllGiven device.old log.old.log (beside_of log.old queues.now) → AreAllGiven device.new log.new.log (beside_of log.new queues.now)) }
     ensures stays { OnOk result (StaysGiven device.old device.new) }
-    ensures alike { OnOk result (IsAlike stripe.old stripe.new) }
-    ensures agrees { OnOk result (Agrees stripe.new queues.new) }
-    ensures same { OnOk result (SameContents stripe.old stripe.new) }
+    ensures alike { OnOk result (IsAlike log.old.log log.new.log) }
+    ensures agrees { OnOk result (Agrees log.new queues.now) }
+    ensures same { OnOk result (SameContents log.old.log log.new.log) }
 {
-    let _oldest = stripe.oldest();
+    let _oldest = log.stripe().oldest();
     let mut staged = Staged::new(alloc);
-    let weight = weigh(stripe, &mut staged, device)?;
-    if !make_room(stripe, queues, device, weight)? {
+    let weight = weigh(log.stripe(), &mut staged, device)?;
+    if !make_room(log, queues, device, weight)? {
         return Ok(false);
     }
-    clean(stripe, queues, device, &mut staged, weight)?;
+    clean(log, queues, device, &mut staged, weight)?;
     Ok(true)
 }
 

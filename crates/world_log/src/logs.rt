@@ -17,8 +17,9 @@ use crate::queues::Queues;
 use crate::shelves::{WorldDevice, WorldReceipt};
 use crate::stopped::Stopped;
 use crate::stripes::Stripes;
-use crate::works::{copied, drain, retire, write};
+use crate::works::{copied, drain, write};
 use hybrid::Staged;
+use plans::shard::Shard;
 use std::alloc::Global;
 use words::limits::Limits;
 use world_events::ShownPage;
@@ -27,7 +28,7 @@ use world_events::ShownPage;
 #[derive(Drop)]
 pub struct WorldLog {
     /// The stripes.
-    pub stripes: Stripes,
+    pub stripes: Stripes<Shard<WorldReceipt>>,
     /// The device.
     pub device: WorldDevice,
     epoch: u64,
@@ -103,23 +104,18 @@ impl WorldLog {
     }
 
     /// The flusher gives a stripe the receipt of the page that it wrote.
-    ///
-    /// # Errors
-    ///
-    /// [`Stopped`] where there is no memory for a place that is unlinked at once.
-    pub fn install(&mut self, i: usize) -> Result<(), Stopped>
+    pub fn install(&mut self, i: usize)
         requires log { IsWorldLog self.old }
-        ensures took { OnOk result ((rest : State) → Took rest (event.Install i) self.old self.new) }
-        ensures log { OnOk result (IsWorldLog self.new) }
-        ensures given { OnOk result (StaysGiven self.old.device self.new.device) }
-        ensures held { OnOk result (KeepsHeld self.old.stripes self.new.stripes) }
+        ensures took { (rest : State) → Took rest (event.Install i) self.old self.new }
+        ensures log { IsWorldLog self.new }
+        ensures given { StaysGiven self.old.device self.new.device }
+        ensures held { KeepsHeld self.old.stripes self.new.stripes }
     {
         if i >= self.stripes.lanes.len() || self.stripes.holders[i].is_some() {
-            return Ok(());
+            return;
         }
         let lane = &mut self.stripes.lanes[i];
-        let _done = lane.install()?;
-        Ok(())
+        let _done = lane.install();
     }
 
     /// The evictor drops the oldest resident page of a stripe from its frame.
@@ -153,7 +149,7 @@ impl WorldLog {
         if i >= self.stripes.lanes.len() || self.stripes.holders[i].is_some() {
             return Ok(());
         }
-        if !is_cold(self.stripes.lanes[i].shard.log()) {
+        if !is_cold(self.stripes.lanes[i].shard.counted().stripe()) {
             return Ok(());
         }
         let lane = &mut self.stripes.lanes[i];
@@ -180,7 +176,7 @@ impl WorldLog {
             return Err(Stopped);
         };
         let lane = &mut self.stripes.lanes[i];
-        if retire(&mut lane.queues, self.epoch)? {
+        if lane.retire(self.epoch)? {
             self.epoch = next;
         }
         Ok(())

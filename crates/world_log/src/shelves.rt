@@ -1,7 +1,7 @@
 //! The world's device: pages in memory, place by place. A place that was released shows whatever page it is
 //! given.
 
-ghost use Rattle.std.specs.Prelude.{◌≡◌, ◌+◌, ◌<◌, [], ℕ, IfOk, IsOk, OnOk, OnErr, length, false};
+ghost use Rattle.std.specs.Prelude.{◌≡◌, ◌+◌, ◌<◌, [], ℕ, IfOk, IsNone, IsOk, OnOk, OnErr, length, false};
 ghost use Rattle.std.specs.Arc.{arc_value};
 ghost use Rattle.world_log.specs.Places.{with_shelf, with_shown};
 
@@ -61,7 +61,9 @@ impl Shows for WorldReceipt {
     }
 
     /// Always none.
-    fn page(&self) -> Option<&Page> {
+    fn page(&self) -> Option<&Page>
+        ensures { IsNone result }
+    {
         None
     }
 }

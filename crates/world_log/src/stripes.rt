@@ -1,6 +1,6 @@
 //! The stripes of the world: what each stores, on its log, and who holds it.
 
-ghost use Rattle.std.specs.Prelude.{◌≡◌, ◌<◌, [], IfOk, IfSome, Some, None, length, replicate, get_or, is_none};
+ghost use Rattle.std.specs.Prelude.{◌≡◌, ◌<◌, [], IfOk, IfSome, Some, None, length, replicate, get_or, is_none, ℕ, IfNone, IsFalse, IsTrue};
 ghost use Rattle.gates.specs.Sets.{AreBelow};
 ghost use Rattle.transact.specs.Submits.{stripes_asked};
 ghost use Rattle.transact.specs.Plans.{stripes_with};
@@ -21,14 +21,14 @@ use words::limits::Limits;
 /// What each stripe stores, on its log; the client that holds it, if one does; and the client that acts, to
 /// which the parts are lent of the stripes that it holds, and no others.
 #[derive(Drop)]
-pub struct Stripes {
-    pub(crate) lanes: Vec<Lane>,
+pub struct Stripes<S> {
+    pub(crate) lanes: Vec<Lane<S>>,
     pub(crate) holders: Vec<Option<usize>>,
     pub(crate) acting: usize,
 }
 
-impl Parts<Shard<WorldReceipt>> for Stripes {
-    ghost use Rattle.world_log.specs.Stripes.{lent, with_part, KeepsOthers};
+impl<S> Parts<S> for Stripes<S> {
+    ghost use Rattle.world_log.specs.Stripes.{lent, with_part, KeepsLanes};
     ghost use Rattle.world_log.specs.KeepLaws.{keeps_itself, keeps_both};
 
     ghost part_of = { lent };
@@ -37,13 +37,13 @@ impl Parts<Shard<WorldReceipt>> for Stripes {
 
     ghost is_open = { λ stripes. Unit {0} };
 
-    ghost keeps = { KeepsOthers };
+    ghost keeps = { KeepsLanes };
 
     ghost keeps_same = { keeps_itself };
 
     ghost keeps_both = { keeps_both };
 
-    fn part(&mut self, stripe: usize) -> &mut Shard<WorldReceipt> {
+    fn part(&mut self, stripe: usize) -> &mut S {
         let lane = &mut self.lanes[stripe];
         &mut lane.shard
     }
@@ -53,9 +53,12 @@ impl Parts<Shard<WorldReceipt>> for Stripes {
     }
 }
 
-impl Stripes {
+impl Stripes<Shard<WorldReceipt>> {
     /// Stripes that store nothing and that nobody holds.
-    pub(crate) fn new(alloc: Global, limits: &Limits) -> Result<Stripes, Stopped>
+    pub(crate) fn new(
+        alloc: Global,
+        limits: &Limits,
+    ) -> Result<Stripes<Shard<WorldReceipt>>, Stopped>
         ensures lanes { IfOk result (λ made. AreNewLanes limits.now.stripes limits.now.frames limits.now.places made.lanes.items) }
         ensures holders { IfOk result (λ made. holders_of made ≡ replicate limits.now.stripes None) }
     {
@@ -129,14 +132,24 @@ impl Stripes {
 
     /// A stripe that a client holds, whose log keeps a receipt of this place for a page that is not resident.
     pub fn keeper_of(&self, client: usize, place: u64) -> Option<usize>
-        ensures { IfSome result (IsKeeper self.now client place) }
+        ensures kept { IfSome result (IsKeeper self.now client place) }
+        ensures none { IfNone result ((stripe : ℕ) → IsKeeper self.now client place stripe → ⊥) }
     {
         for stripe in 0..self.lanes.len() {
-            if self.is_held_by(client, stripe) && self.lanes[stripe].keeps_away(place) {
+            if self.is_keeper(client, place, stripe) {
                 return Some(stripe);
             }
         }
         None
+    }
+
+    /// Whether this is such a stripe.
+    fn is_keeper(&self, client: usize, place: u64, stripe: usize) -> bool
+        requires within { stripe < length self.now.lanes.items }
+        ensures kept { IsTrue result → IsKeeper self.now client place stripe }
+        ensures other { IsFalse result → IsKeeper self.now client place stripe → ⊥ }
+    {
+        self.is_held_by(client, stripe) && self.lanes[stripe].keeps_away(place)
     }
 
     /// The first stripe that a client's open call needs and that it does not hold.
@@ -174,7 +187,7 @@ impl Stripes {
 }
 
 /// So many stripes that store nothing.
-fn new_lanes(alloc: Global, limits: &Limits) -> Result<Vec<Lane>, Stopped>
+fn new_lanes(alloc: Global, limits: &Limits) -> Result<Vec<Lane<Shard<WorldReceipt>>>, Stopped>
     ensures { IfOk result (λ lanes. AreNewLanes limits.now.stripes limits.now.frames limits.now.places lanes.items) }
 {
     let mut lanes = Vec::new(alloc);

@@ -137,7 +137,7 @@ fn flush(log: &mut WorldLog, alloc: Global) -> Result<(), Stopped>
 {
     log.copy(alloc, 0)?;
     log.write(0)?;
-    log.install(0)?;
+    log.install(0);
     log.evict(0);
     Ok(())
 }

@@ -9,12 +9,13 @@ ghost use Rattle.hybrid.specs.Reserving.{IsFull, IsReserved};
 ghost use Rattle.world_log.specs.Cleaning.{AreServed};
 ghost use Rattle.world_log.specs.Given.{AreAllGiven, KeepsGiven, StaysGiven};
 ghost use Rattle.world_log.specs.MakingRoom.{HasMadeRoom};
-ghost use Rattle.world_log.specs.Beside.{Agrees, IsAlike, SameLog, DoesCopy, DoesWrite, DoesInstall, IsUnlinkedIn, DoesDrop, DoesRetire, DoesDrain, DoesRelease, AreGiven, is_idle as has_nothing};
+ghost use Rattle.world_log.specs.Beside.{Agrees, AreGiven, DoesCopy, DoesDrain, DoesDrop, DoesInstall, DoesRelease, DoesRetire, DoesWrite, IsAlike, SameLog, beside_of, is_idle as has_nothing};
 
 use crate::queues::{Flushing, Queues};
 use crate::shelves::{WorldDevice, WorldReceipt};
 use crate::stopped::Stopped;
-use hybrid::{Fault, Stripe};
+use hybrid::Fault;
+use plans::counted::{Begun, CountedLog};
 use records::Page;
 use std::alloc::Global;
 use std::mem;
@@ -23,30 +24,30 @@ use std::sync::Arc;
 /// The flusher copies the oldest page that waits for it, where one does.
 pub(crate) fn copy(
     alloc: Global,
-    stripe: &mut Stripe<WorldReceipt>,
+    log: &mut CountedLog<WorldReceipt>,
     queues: &mut Queues,
 ) -> Result<bool, Stopped>
-    requires agrees { Agrees stripe.old queues.old }
-    ensures does { IfOk result (λ done. DoesCopy done stripe.old queues.old stripe.new queues.new) }
-    ensures given { OnOk result (KeepsGiven stripe.old queues.old stripe.new queues.new) }
-    ensures alike { OnOk result (IsAlike stripe.old stripe.new) }
-    ensures same { OnOk result (SameLog stripe.old stripe.new) }
-    ensures agrees { OnOk result (Agrees stripe.new queues.new) }
+    requires agrees { Agrees log.old queues.old }
+    ensures does { IfOk result (λ done. DoesCopy done log.old.log (beside_of log.old queues.old) log.new.log (beside_of log.new queues.new)) }
+    ensures given { OnOk result (KeepsGiven log.old.log (beside_of log.old queues.old) log.new.log (beside_of log.new queues.new)) }
+    ensures alike { OnOk result (IsAlike log.old.log log.new.log) }
+    ensures same { OnOk result (SameLog log.old.log log.new.log) }
+    ensures agrees { OnOk result (Agrees log.new queues.new) }
 {
-    let _oldest = stripe.oldest();
-    if !is_idle(&queues.flushing) || stripe.is_full() {
+    let _oldest = log.stripe().oldest();
+    if !is_idle(&queues.flushing) || log.stripe().is_full() {
         return Ok(false);
     }
-    let Some(number) = stripe.sealed() else {
-        return Ok(false);
-    };
-    let Some(page) = stripe.page(number) else {
-        unreachable!()
-    };
-    let page = copied(alloc, page)?;
-    let _taken = stripe.take_place();
-    queues.flushing = Flushing::Copied(number, page);
-    Ok(true)
+    let mut page = Page::new(0);
+    match log.begin_flush(&mut page) {
+        Begun::Sealed(number) => {
+            let page = shared(alloc, page)?;
+            queues.flushing = Flushing::Copied(number, page);
+            Ok(true)
+        }
+        Begun::Idle => Ok(false),
+        Begun::Full => unreachable!(),
+    }
 }
 
 /// Whether the flusher has nothing of a stripe.
@@ -62,7 +63,14 @@ pub(crate) fn copied(alloc: Global, page: &Page) -> Result<Arc<Page>, Stopped>
 {
     let mut copy = Page::new(0);
     copy.copy_from(page);
-    match Arc::new(alloc, copy) {
+    shared(alloc, copy)
+}
+
+/// A page that can be shared.
+fn shared(alloc: Global, page: Page) -> Result<Arc<Page>, Stopped>
+    ensures { IfOk result (λ shared. arc_value shared ≡ page) }
+{
+    match Arc::new(alloc, page) {
         Ok(page) => Ok(page),
         Err(_) => Err(Stopped),
     }
@@ -87,71 +95,60 @@ pub(crate) fn write(queues: &mut Queues, device: &mut WorldDevice) -> Result<boo
     }
 }
 
-/// The flusher comes back with its receipt: it is kept, or its place is unlinked.
-pub(crate) fn install(
-    stripe: &mut Stripe<WorldReceipt>,
-    queues: &mut Queues,
-) -> Result<bool, Stopped>
-    requires agrees { Agrees stripe.old queues.old }
-    ensures does { IfOk result (λ done. DoesInstall done stripe.old queues.old stripe.new queues.new) }
-    ensures given { OnOk result (KeepsGiven stripe.old queues.old stripe.new queues.new) }
-    ensures alike { OnOk result (IsAlike stripe.old stripe.new) }
-    ensures same { OnOk result (SameLog stripe.old stripe.new) }
-    ensures agrees { OnOk result (Agrees stripe.new queues.new) }
+/// The flusher comes back with its receipt: it is kept, or unlinked at once.
+pub(crate) fn install(log: &mut CountedLog<WorldReceipt>, queues: &mut Queues) -> bool
+    requires agrees { Agrees log.old queues.old }
+    ensures does { DoesInstall result log.old.log (beside_of log.old queues.old) log.new.log (beside_of log.new queues.new) }
+    ensures given { KeepsGiven log.old.log (beside_of log.old queues.old) log.new.log (beside_of log.new queues.new) }
+    ensures alike { IsAlike log.old.log log.new.log }
+    ensures same { SameLog log.old.log log.new.log }
+    ensures agrees { Agrees log.new queues.new }
 {
-    let _oldest = stripe.oldest();
+    let _oldest = log.stripe().oldest();
     match mem::replace(&mut queues.flushing, Flushing::Nothing) {
-        Flushing::Wrote(number, page, receipt) => match stripe.mark_flushed(
-            number, &page, receipt,
-        ) {
-            Ok(()) => Ok(true),
-            Err(back) => {
-                unlink(queues, back)?;
-                Ok(true)
-            }
-        },
+        Flushing::Wrote(number, page, receipt) => {
+            log.land(number, &page, receipt);
+            true
+        }
         other => {
             queues.flushing = other;
-            Ok(false)
+            false
         }
     }
 }
 
-/// A place is unlinked, the newest of all.
-pub(crate) fn unlink(queues: &mut Queues, receipt: WorldReceipt) -> Result<(), Stopped>
-    ensures { OnOk result (IsUnlinkedIn receipt queues.old queues.new) }
-{
-    match queues.unlinked.push_back(receipt) {
-        Ok(()) => Ok(()),
-        Err(_) => Err(Stopped),
-    }
-}
-
 /// The evictor drops the oldest resident page of a stripe, whose receipt is kept.
-pub(crate) fn evict(stripe: &mut Stripe<WorldReceipt>, queues: &mut Queues) -> bool
-    requires agrees { Agrees stripe.old queues.old }
-    ensures does { DoesDrop result stripe.old queues.old stripe.new queues.new }
-    ensures given { KeepsGiven stripe.old queues.old stripe.new queues.new }
-    ensures alike { IsAlike stripe.old stripe.new }
-    ensures same { SameLog stripe.old stripe.new }
-    ensures agrees { Agrees stripe.new queues.new }
+pub(crate) fn evict(log: &mut CountedLog<WorldReceipt>, queues: &Queues) -> bool
+    requires agrees { Agrees log.old queues.now }
+    ensures does { DoesDrop result log.old.log (beside_of log.old queues.now) log.new.log (beside_of log.new queues.now) }
+    ensures given { KeepsGiven log.old.log (beside_of log.old queues.now) log.new.log (beside_of log.new queues.now) }
+    ensures alike { IsAlike log.old.log log.new.log }
+    ensures same { SameLog log.old.log log.new.log }
+    ensures agrees { Agrees log.new queues.now }
 {
-    let _oldest = stripe.oldest();
-    let _ = &queues.flushing;
-    stripe.drop_oldest()
+    let _oldest = log.stripe().oldest();
+    let _ = queues;
+    log.drop_oldest()
 }
 
 /// The oldest unlinked place is retired at this epoch.
-pub(crate) fn retire(queues: &mut Queues, epoch: u64) -> Result<bool, Stopped>
-    ensures does { IfOk result (λ done. DoesRetire done epoch queues.old queues.new) }
+pub(crate) fn retire(
+    log: &mut CountedLog<WorldReceipt>,
+    queues: &mut Queues,
+    epoch: u64,
+) -> Result<bool, Stopped>
+    requires agrees { Agrees log.old queues.old }
+    ensures does { IfOk result (λ done. DoesRetire done epoch (beside_of log.old queues.old) (beside_of log.new queues.new)) }
+    ensures log { OnOk result (log.new.log ≡ log.old.log) }
+    ensures agrees { OnOk result (Agrees log.new queues.new) }
 {
-    let Some(receipt) = queues.unlinked.pop_front() else {
+    let Some(receipt) = log.take_unlinked() else {
         return Ok(false);
     };
-    match queues.retired.push_back((receipt, epoch)) {
-        Ok(()) => Ok(true),
-        Err(_) => Err(Stopped),
-    }
+    let Ok(()) = queues.retired.push_back((receipt, epoch)) else {
+        return Err(Stopped);
+    };
+    Ok(true)
 }
 
 /// The oldest retired place is drained.
@@ -169,51 +166,52 @@ pub(crate) fn drain(queues: &mut Queues) -> Result<bool, Stopped>
 
 /// The oldest drained place is released: from now on, a read of it gives this page.
 pub(crate) fn release(
-    stripe: &mut Stripe<WorldReceipt>,
+    log: &mut CountedLog<WorldReceipt>,
     queues: &mut Queues,
     device: &mut WorldDevice,
     page: Arc<Page>,
 ) -> bool
-    requires agrees { Agrees stripe.old queues.old }
+    requires agrees { Agrees log.old queues.old }
     requires given { AreGiven queues.old.drained.items device.old }
-    ensures does { DoesRelease result (arc_value page) stripe.old queues.old device.old stripe.new queues.new device.new }
-    ensures alike { IsAlike stripe.old stripe.new }
-    ensures same { SameLog stripe.old stripe.new }
-    ensures agrees { Agrees stripe.new queues.new }
+    ensures does { DoesRelease result (arc_value page) log.old.log (beside_of log.old queues.old) device.old log.new.log (beside_of log.new queues.new) device.new }
+    ensures alike { IsAlike log.old.log log.new.log }
+    ensures same { SameLog log.old.log log.new.log }
+    ensures agrees { Agrees log.new queues.new }
 {
     let Some((receipt, _epoch)) = queues.drained.pop_front() else {
         return false;
     };
     device.show(receipt.place as usize, page);
-    stripe.free_place();
+    log.free_place();
     true
 }
 
 /// Room for writes of this weight in one stripe, and whether there is any: pages may leave their frames.
 pub(crate) fn make_room(
-    stripe: &mut Stripe<WorldReceipt>,
+    log: &mut CountedLog<WorldReceipt>,
     queues: &Queues,
     device: &mut WorldDevice,
     weight: usize,
 ) -> Result<bool, Stopped>
     requires weight { weight ≤ WEIGHT_MAX }
-    requires agrees { Agrees stripe.old queues.now }
-    requires served { AreServed stripe.old device.old }
-    ensures agrees { OnOk result (Agrees stripe.new queues.now) }
-    ensures served { OnOk result (AreServed stripe.new device.new) }
-    ensures alike { OnOk result (IsAlike stripe.old stripe.new) }
-    ensures same { OnOk result (SameLog stripe.old stripe.new) }
-    ensures made { OnOk result (HasMadeRoom stripe.old device.old stripe.new device.new queues.now) }
-    ensures reserved { OnOk result ((count : ℕ) × IsReserved stripe.old stripe.new count) }
-    ensures given { OnOk result (AreAllGiven device.old stripe.old queues.now → AreAllGiven device.new stripe.new queues.now) }
+    requires agrees { Agrees log.old queues.now }
+    requires served { AreServed log.old.log device.old }
+    ensures agrees { OnOk result (Agrees log.new queues.now) }
+    ensures served { OnOk result (AreServed log.new.log device.new) }
+    ensures alike { OnOk result (IsAlike log.old.log log.new.log) }
+    ensures same { OnOk result (SameLog log.old.log log.new.log) }
+    ensures made { OnOk result (HasMadeRoom log.old.log device.old log.new.log device.new (beside_of log.old queues.now)) }
+    ensures beside { OnOk result (beside_of log.new queues.now ≡ beside_of log.old queues.now) }
+    ensures reserved { OnOk result ((count : ℕ) × IsReserved log.old.log log.new.log count) }
+    ensures given { OnOk result (AreAllGiven device.old log.old.log (beside_of log.old queues.now) → AreAllGiven device.new log.new.log (beside_of log.new queues.now)) }
     ensures stays { OnOk result (StaysGiven device.old device.new) }
-    ensures room { IfOk result (λ made. OnTrue made (HasRoom stripe.new weight)) }
-    ensures full { IfOk result (λ made. OnFalse made (IsFull stripe.new)) }
+    ensures room { IfOk result (λ made. OnTrue made (HasRoom log.new.log weight)) }
+    ensures full { IfOk result (λ made. OnFalse made (IsFull log.new.log)) }
 {
-    let _oldest = stripe.oldest();
+    let _oldest = log.stripe().oldest();
     let _ = queues;
-    match stripe.reserve(weight, device) {
-        Ok(_room) => Ok(true),
+    match log.reserve(weight, device) {
+        Ok(()) => Ok(true),
         Err(Fault::StoreFull) => Ok(false),
         Err(Fault::DeviceFault) => Err(Stopped),
     }

@@ -1,5 +1,5 @@
 use Rattle.std.proofs.Common.{rules, arith}
-use Rattle.server.specs.Settings.{AreInRange}
+use Rattle.options.specs.Settings.{AreInRange}
 use Rattle.command_line.proofs.Unique.{has_given, in_range_too, none_where, none_anyway}
 use Rattle.command_line.proofs.given.Goals as goal
 

@@ -1,20 +1,16 @@
-use Rattle.std.proofs.Common.{arith}
-use Rattle.connection.proofs.Dealt.{all_rest, all_watch, dealt_count, ok_then}
+use Rattle.std.proofs.Common.{◌≡◌, ◌∙◌, IfOk, Result, Ok, Err}
 use Rattle.connection.proofs.tests.new_engine.Goals as goal
 
+-- what is said of a result that is there leads to more
+ok_then : {A E : Type 0} {P Q : A → Type 0} (r : Result A E) → ((x : A) → P x → Q x) → IfOk r P → IfOk r Q
+ok_then (Ok x) more holds = more x holds
+ok_then (Err e) more holds = tt
+
 pub returns-clause-count : goal.returns-clause-count
-returns-clause-count g c =
-    ok_then c.new.result
-    (λ made dealt. omega (
-      arith,
-      made.1.ok.0,
-      c.args.openings.ok.0,
-      c.requires.openings,
-      dealt_count g.D.Receipt.Shows.is_steady made.0 0 made.1.items c.args.openings.items dealt,
-    )) c.new.ensures.passes
+returns-clause-count g c = ok_then c.new.result (λ made same. same ∙ c.requires.openings) c.new.ensures.count
 
 pub returns-clause-rest : goal.returns-clause-rest
-returns-clause-rest g c = ok_then c.new.result (λ made dealt. all_rest g.D.Receipt.Shows.is_steady made.0 made.1.items c.args.openings.items dealt) c.new.ensures.passes
+returns-clause-rest g c = c.new.ensures.rest
 
 pub returns-clause-watch : goal.returns-clause-watch
-returns-clause-watch g c = ok_then c.new.result (λ made dealt. all_watch g.D.Receipt.Shows.is_steady g.D.Device.failures made.0 made.1.items c.args.openings.items dealt) c.new.ensures.passes
+returns-clause-watch g c = c.new.ensures.watch

@@ -16,7 +16,7 @@ use Rattle.engine.proofs.enter.enter_call.Goals as goal
 pub returns-in-Forget-clause-back : goal.returns-in-Forget-clause-back
 returns-in-Forget-clause-back g c =
     let start : Held (Shard _) = c.args.held.now in
-    given_forgot g.R.Shows.is_steady c.args.stripes c.number-seat.result c.in-Forget.watching Nothing start c.forget.new.parts c.forget.ensures.open tt (c.number-seat.ensures ∙ seat_is g.R.Shows.is_steady start c.requires.may.is_open)
+    given_forgot g.R.Shows.is_steady c.args.stripes c.number-own.result c.in-Forget.watching Nothing start c.forget.new.parts c.forget.ensures.open tt (c.number-own.ensures ∙ seat_is g.R.Shows.is_steady start c.requires.may.is_open)
     (subst (λ (x : Call). EndsAll x (known_to start).watched) c.in-Forget.is c.requires.ends)
     (subst (λ (x : Call). AreThere c.args.stripes (parts_of g.R.Shows.is_steady start) (call_keys x)) c.in-Forget.is c.requires.may.there)
     c.requires.may.fit c.forget.ensures.keeps c.forget.ensures.became

@@ -1,23 +1,20 @@
-use Rattle.std.proofs.Common.{◌≡◌, ◌∙◌, ◌+◌, ap, arith, length}
+use Rattle.std.proofs.Common.{◌≡◌, ◌∙◌, ◌+◌, IfOk, Result, Ok, Err, ap, arith, length}
 use Rattle.std.proofs.lemmas.List.{length-replicate}
 use Rattle.device.specs.Counts.{no_calls}
-use Rattle.engine_tests.proofs.Dealt.{all_rest, all_watch, dealt_count, ok_then}
 use Rattle.engine_tests.proofs.tests.new_engine.Goals as goal
+
+-- what is said of a result that is there leads to more
+ok_then : {A E : Type 0} {P Q : A → Type 0} (r : Result A E) → ((x : A) → P x → Q x) → IfOk r P → IfOk r Q
+ok_then (Ok x) more holds = more x holds
+ok_then (Err e) more holds = tt
 
 pub returns-clause-count : goal.returns-clause-count
 returns-clause-count c =
     let many : length c.in_ok-openings.openings.items ≡ c.default-limits.result.clients + 3 = ap (λ l. length l) c.in_ok-openings.ensures ∙ length-replicate (c.default-limits.result.clients + 3) no_calls in
-    ok_then c.new.result
-    (λ made dealt. omega (
-      arith,
-      made.1.ok.0,
-      many,
-      c.default-limits.ensures.clients_are,
-      dealt_count (Unit {0}) made.0 0 made.1.items c.in_ok-openings.openings.items dealt,
-    )) c.new.ensures.passes
+    ok_then c.new.result (λ made same. omega (arith, same, c.in_ok-openings.openings.ok.0, many, c.default-limits.ensures.clients_are)) c.new.ensures.count
 
 pub returns-clause-rest : goal.returns-clause-rest
-returns-clause-rest c = ok_then c.new.result (λ made dealt. all_rest (Unit {0}) made.0 made.1.items c.in_ok-openings.openings.items dealt) c.new.ensures.passes
+returns-clause-rest c = c.new.ensures.rest
 
 pub returns-clause-watch : goal.returns-clause-watch
-returns-clause-watch c = ok_then c.new.result (λ made dealt. all_watch (Unit {0}) (λ device. 0) made.0 made.1.items c.in_ok-openings.openings.items dealt) c.new.ensures.passes
+returns-clause-watch c = c.new.ensures.watch

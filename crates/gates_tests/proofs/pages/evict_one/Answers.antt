@@ -24,3 +24,13 @@ give-requires-in-Idle-clause-fit g c =
 pub give-requires-in-Full-clause-fit : goal.give-requires-in-Full-clause-fit
 give-requires-in-Full-clause-fit g c =
     fit_held g.T.Part.meaning c.args.gates.now c.args.stripe _ c.take-held.result c.evict_at-outcome.new.parts c.take-held.ensures.gates_are c.evict_at-outcome.ensures.keeps c.evict_at-outcome.ensures.stepped c.take-held.ensures.fit
+
+pub give-requires-in-Idle-clause-told : goal.give-requires-in-Idle-clause-told
+give-requires-in-Idle-clause-told g c =
+    let s = c.in-Idle.ensures.stepped in
+    let lent = c.take-held.ensures.lent c.args.stripe s.old s.was in
+    record {
+      part = s.new;
+      there = s.is;
+      is = (s.says, (lent.0, s.old), ap (λ took. part_at took c.args.stripe) c.evict_at-outcome.ensures.keeps.taken ∙ lent.1, tt);
+    }

@@ -2,6 +2,7 @@ use Rattle.std.proofs.Common.{ℕ}
 use Rattle.plans.specs.Shards.{shard_log}
 use Rattle.plans.proofs.Few.{err_then, few_at, lacks_at}
 use Rattle.plans.proofs.Logs.{log_at, logs_as}
+use Rattle.plans.proofs.Waits.{waits_one}
 use Rattle.plans.proofs.cells.reserve_at.Goals as goal
 
 pub returns-clause-shed : goal.returns-clause-shed
@@ -40,3 +41,10 @@ returns-clause-lacks g c =
     let before = g.P.Parts.part_of c.args.parts.now in
     let later = g.P.Parts.part_of (g.P.Parts.with_part c.args.parts.now i new) in
     err_then c.reserve.result (λ lacks. lacks_at c.args.weight i before later c.part.result.now new c.part.ensures.value (c.part.ensures.written new) lacks) c.reserve.ensures.lacks
+
+pub returns-clause-waits : goal.returns-clause-waits
+returns-clause-waits g c =
+    let i : ℕ = c.args.stripe in
+    let new = c.reserve.new.self in
+    waits_one (g.P.Parts.part_of c.args.parts.now) (g.P.Parts.part_of (g.P.Parts.with_part c.args.parts.now i new)) i c.part.result.now new
+    c.part.ensures.value (c.part.ensures.written new) (c.part.ensures.others new) c.reserve.ensures.waits

@@ -7,12 +7,14 @@ use Rattle.plans.specs.Shards.{logs_of, shard_meaning}
 use Rattle.plans.proofs.Become.{became_unwritten}
 use Rattle.plans.proofs.Grown.{grown_none}
 use Rattle.plans.proofs.Rooms.{no_share}
+use Rattle.plans.proofs.Waits.{waits_both}
 use Rattle.plans.proofs.install.make_writes.Goals as goal
 
 pub loop-first-init : goal.loop-first-init
 loop-first-init g c = record {
   is_open = c.requires.open;
   keeps = g.met.P.Parts.keeps_same c.args.parts.now;
+  waits = λ j. refl;
   room = c.requires.room;
   fits = c.requires.fits;
   became = λ later became. became;
@@ -41,6 +43,7 @@ loop-first-preserved g c =
     record {
       is_open = c.write_before.ensures.open;
       keeps = g.met.P.Parts.keeps_both c.args.parts.now c.loop-first.parts c.write_before.new.parts inv.keeps c.write_before.ensures.keeps;
+      waits = waits_both (g.P.Parts.part_of c.args.parts.now) before (g.P.Parts.part_of c.write_before.new.parts) inv.waits c.write_before.ensures.waits;
       room = c.write_before.ensures.room;
       fits = all.1;
       became = λ later became. inv.became later
@@ -62,3 +65,6 @@ returns-clause-grown g c =
     let logs = logs_of (g.P.Parts.part_of c.loop-first.parts) in
     let none : c.loop-first.left.now ≡ [] = no_share c.loop-first.left.now c.in_default.ensures.cases in
     c.loop-first.invariant.grown logs (subst (λ (l : List Write). HaveGrown n l logs logs) (sym none) (grown_none c.growth_adds_up.ensures n logs))
+
+pub returns-clause-waits : goal.returns-clause-waits
+returns-clause-waits g c = c.loop-first.invariant.waits

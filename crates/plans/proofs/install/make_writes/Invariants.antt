@@ -5,13 +5,14 @@ use Rattle.transact.specs.Tables.{Became, touches}
 use Rattle.hybrid.specs.HybridLog.{HybridLog}
 use Rattle.plans.specs.declared.shard.Shard.{Shard}
 use Rattle.plans.specs.Rooms.{AreRoomy, HaveGrown}
-use Rattle.plans.specs.Shards.{logs_of, shard_meaning}
+use Rattle.plans.specs.Shards.{SameWaits, logs_of, shard_meaning}
 use Rattle.plans.proofs.install.make_writes.Given as goal
 
 abbrev pub invariant-loop-first : goal.invariant-loop-first
 invariant-loop-first g l = record {
   is_open : g.P.Parts.is_open l.parts;
   keeps : g.P.Parts.keeps l.fn.parts l.parts;
+  waits : SameWaits (g.P.Parts.part_of l.fn.parts) (g.P.Parts.part_of l.parts);
   room : AreRoomy l.stripes (logs_of (g.P.Parts.part_of l.parts)) l.left;
   fits : AreFit l.left;
   became : (later : ℕ → Option (Shard _)) → Became (shard_meaning g.R.Shows.is_steady) l.stripes l.left (touches l.left) (g.P.Parts.part_of l.parts) later

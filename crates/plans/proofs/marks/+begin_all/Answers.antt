@@ -6,6 +6,7 @@ use Rattle.plans.proofs.Logs.{logs_both}
 use Rattle.plans.proofs.Become.{there_after}
 use Rattle.plans.proofs.Stores.{ok_then}
 use Rattle.plans.proofs.Begun.{begun_more}
+use Rattle.plans.proofs.Waits.{waits_both}
 use Rattle.plans.proofs.marks.+begin_all.Goals as goal
 
 pub begin_all-requires : goal.begin_all-requires
@@ -32,3 +33,7 @@ returns-clause-ok g t c =
 pub returns-clause-logs : goal.returns-clause-logs
 returns-clause-logs g t c =
     logs_both (g.P.Parts.part_of c.args.parts.now) (g.P.Parts.part_of c.begin_one.new.parts) (g.P.Parts.part_of c.begin_all.new.parts) c.begin_one.ensures.logs c.begin_all.ensures.logs
+
+pub returns-clause-waits : goal.returns-clause-waits
+returns-clause-waits g t c =
+    waits_both (g.P.Parts.part_of c.args.parts.now) (g.P.Parts.part_of c.begin_one.new.parts) (g.P.Parts.part_of c.begin_all.new.parts) c.begin_one.ensures.waits c.begin_all.ensures.waits

@@ -5,6 +5,7 @@ use Rattle.transact.specs.Tables.{AreThere, Became, clears}
 use Rattle.plans.proofs.Logs.{logs_both}
 use Rattle.plans.proofs.Become.{there_after}
 use Rattle.plans.proofs.Begun.{cleared_more}
+use Rattle.plans.proofs.Waits.{waits_both}
 use Rattle.plans.proofs.marks.+clear_all.Goals as goal
 
 pub clear_all-requires : goal.clear_all-requires
@@ -29,3 +30,7 @@ returns-in-Some-clause-became g t c =
 pub returns-in-Some-clause-logs : goal.returns-in-Some-clause-logs
 returns-in-Some-clause-logs g t c =
     logs_both (g.P.Parts.part_of c.args.parts.now) (g.P.Parts.part_of c.clear.new.parts) (g.P.Parts.part_of c.clear_all.new.parts) c.clear.ensures.logs c.clear_all.ensures.logs
+
+pub returns-in-Some-clause-waits : goal.returns-in-Some-clause-waits
+returns-in-Some-clause-waits g t c =
+    waits_both (g.P.Parts.part_of c.args.parts.now) (g.P.Parts.part_of c.clear.new.parts) (g.P.Parts.part_of c.clear_all.new.parts) c.clear.ensures.waits c.clear_all.ensures.waits

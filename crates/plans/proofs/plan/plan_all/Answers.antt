@@ -18,6 +18,7 @@ use Rattle.plans.proofs.Become.{became_same, became_twice}
 use Rattle.plans.proofs.Stores.{ok_both, ok_then_all}
 use Rattle.plans.proofs.Plans.{plan_of_all, answers_there, light_writes}
 use Rattle.plans.proofs.Found.{all_found, all_wanted, cold_needed, no_wanted, short_found, some_wanted}
+use Rattle.plans.proofs.Waits.{waits_both, waits_same}
 use Rattle.plans.proofs.plan.plan_all.Goals as goal
 
 pub returns-in_default-clause-became : goal.returns-in_default-clause-became
@@ -120,3 +121,17 @@ returns-clause-spared g c = never_refused c.settle.result _ c.settle.ensures.mem
 pub returns-then-not-is_empty-clause-lent : goal.returns-then-not-is_empty-clause-lent
 returns-then-not-is_empty-clause-lent g c = λ lent.
     subst IsNotEmpty (c.find_commands.ensures.lent lent ∙ c.new-cold.ensures) (some_wanted c.find_commands.new.cold (sym c.is_empty.ensures ∙ c.if-not-is_empty.true))
+
+pub returns-in_default-clause-waits : goal.returns-in_default-clause-waits
+returns-in_default-clause-waits g c = waits_same (g.P.Parts.part_of c.args.parts.now) (g.P.Parts.part_of c.find_commands.new.parts) c.find_commands.ensures.same
+
+pub returns-then-not-is_empty-clause-waits : goal.returns-then-not-is_empty-clause-waits
+returns-then-not-is_empty-clause-waits g c = waits_same (g.P.Parts.part_of c.args.parts.now) (g.P.Parts.part_of c.find_commands.new.parts) c.find_commands.ensures.same
+
+pub returns-in_default-answer_all-clause-waits : goal.returns-in_default-answer_all-clause-waits
+returns-in_default-answer_all-clause-waits g c = waits_same (g.P.Parts.part_of c.args.parts.now) (g.P.Parts.part_of c.find_commands.new.parts) c.find_commands.ensures.same
+
+pub returns-clause-waits : goal.returns-clause-waits
+returns-clause-waits g c =
+    waits_both (g.P.Parts.part_of c.args.parts.now) (g.P.Parts.part_of c.find_commands.new.parts) (g.P.Parts.part_of c.settle.new.parts)
+    (waits_same (g.P.Parts.part_of c.args.parts.now) (g.P.Parts.part_of c.find_commands.new.parts) c.find_commands.ensures.same) c.settle.ensures.waits

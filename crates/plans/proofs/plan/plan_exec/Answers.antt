@@ -9,6 +9,7 @@ use Rattle.plans.proofs.Making.{full_as, made_from, made_nothing}
 use Rattle.plans.proofs.Become.{became_same, became_twice}
 use Rattle.plans.proofs.Stores.{ok_then_all}
 use Rattle.plans.proofs.Plans.{null_plan, dirty_is}
+use Rattle.plans.proofs.Waits.{waits_both, waits_same}
 use Rattle.plans.proofs.plan.plan_exec.Goals as goal
 
 pub returns-then-any_marked-clause-plan : goal.returns-then-any_marked-clause-plan
@@ -76,3 +77,11 @@ returns-clause-few g c =
 
 pub returns-clause-spared : goal.returns-clause-spared
 returns-clause-spared g c = refused_as c.plan_all.result _ _ (λ spared. (spared.0 ∙ c.any_marked.ensures.same, spared.1)) c.plan_all.ensures.spared
+
+pub returns-then-any_marked-clause-waits : goal.returns-then-any_marked-clause-waits
+returns-then-any_marked-clause-waits g c = waits_same (g.P.Parts.part_of c.args.parts.now) (g.P.Parts.part_of c.any_marked.new.parts) c.any_marked.ensures.same
+
+pub returns-clause-waits : goal.returns-clause-waits
+returns-clause-waits g c =
+    waits_both (g.P.Parts.part_of c.args.parts.now) (g.P.Parts.part_of c.any_marked.new.parts) (g.P.Parts.part_of c.plan_all.new.parts)
+    (waits_same (g.P.Parts.part_of c.args.parts.now) (g.P.Parts.part_of c.any_marked.new.parts) c.any_marked.ensures.same) c.plan_all.ensures.waits

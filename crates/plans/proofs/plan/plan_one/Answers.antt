@@ -10,6 +10,7 @@ use Rattle.plans.proofs.Few.{few_none, refused_any}
 use Rattle.plans.proofs.Logs.{logs_same}
 use Rattle.plans.proofs.Making.{made_nothing, never_met, no_room}
 use Rattle.plans.proofs.Stores.{ok_then_all}
+use Rattle.plans.proofs.Waits.{waits_same}
 use Rattle.plans.proofs.plan.plan_one.Goals as goal
 
 pub returns-in-Get-clause-became : goal.returns-in-Get-clause-became
@@ -48,3 +49,6 @@ returns-in-Get-clause-memory g c = λ honest right hand brief.
     let parts = g.P.Parts.part_of c.args.parts.now in
     c.plan_get.ensures.memory honest right (subst (λ (x : Command). AreAtHand g.R.Shows.lends n (logs_of parts) (keys_of x) c.args.staged.now) c.in-Get.is hand)
     (subst (λ (x : Command). IsPlannedInPlace (joined (shard_meaning g.R.Shows.is_steady) n parts) x) c.in-Get.is brief)
+
+pub returns-in-Get-clause-waits : goal.returns-in-Get-clause-waits
+returns-in-Get-clause-waits g c = waits_same (g.P.Parts.part_of c.args.parts.now) (g.P.Parts.part_of c.plan_get.new.parts) c.plan_get.ensures.same

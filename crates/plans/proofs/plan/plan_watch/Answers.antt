@@ -5,6 +5,7 @@ use Rattle.transact.specs.Tables.{AreThere, Became, HasBegun, clears}
 use Rattle.plans.proofs.Logs.{logs_both}
 use Rattle.plans.proofs.Become.{became_same, there_after}
 use Rattle.plans.proofs.Begun.{has_begun_none, taken_back}
+use Rattle.plans.proofs.Waits.{waits_both}
 use Rattle.plans.proofs.plan.plan_watch.Goals as goal
 
 pub clear_all-requires-clause-there : goal.clear_all-requires-clause-there
@@ -40,3 +41,7 @@ returns-clause-began g c =
 pub returns-in-Err-clause-logs : goal.returns-in-Err-clause-logs
 returns-in-Err-clause-logs g c =
     logs_both (g.P.Parts.part_of c.args.parts.now) (g.P.Parts.part_of c.begin_all.new.parts) (g.P.Parts.part_of c.clear_all.new.parts) c.begin_all.ensures.logs c.clear_all.ensures.logs
+
+pub returns-in-Err-clause-waits : goal.returns-in-Err-clause-waits
+returns-in-Err-clause-waits g c =
+    waits_both (g.P.Parts.part_of c.args.parts.now) (g.P.Parts.part_of c.begin_all.new.parts) (g.P.Parts.part_of c.clear_all.new.parts) c.begin_all.ensures.waits c.clear_all.ensures.waits

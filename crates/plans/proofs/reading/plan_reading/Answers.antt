@@ -16,6 +16,7 @@ use Rattle.plans.proofs.Few.{few_from, more_both, more_none, read_both, read_sam
 use Rattle.plans.proofs.Logs.{logs_both, logs_same}
 use Rattle.plans.proofs.Making.{full_read, made_from}
 use Rattle.plans.proofs.Unread.{are_cold_served, reads_fewer}
+use Rattle.plans.proofs.Waits.{waits_both, waits_same}
 use Rattle.plans.proofs.reading.plan_reading.Goals as goal
 
 pub loop-planned-init : goal.loop-planned-init
@@ -195,3 +196,18 @@ pub returns-in_err-read_all-in-Err-Cold-clause-spared : goal.returns-in_err-read
 returns-in_err-read_all-in-Err-Cold-clause-spared g c =
     let untouched = rw c.in-Err-Cold.field-0-is at c.in-Err-Cold.ensures.untouched in
     refused_any _ _ (logs_same (g.P.Parts.part_of c.args.parts.now) (g.P.Parts.part_of c.plan.new.parts) (untouched.0 ∙ c.loop-planned.invariant.same))
+
+pub returns-in-Ok-clause-waits : goal.returns-in-Ok-clause-waits
+returns-in-Ok-clause-waits g c =
+    waits_both (g.P.Parts.part_of c.args.parts.now) (g.P.Parts.part_of c.loop-planned.parts) (g.P.Parts.part_of c.plan.new.parts)
+    (waits_same (g.P.Parts.part_of c.args.parts.now) (g.P.Parts.part_of c.loop-planned.parts) c.loop-planned.invariant.same) c.plan.ensures.waits
+
+pub returns-in-Err-clause-waits : goal.returns-in-Err-clause-waits
+returns-in-Err-clause-waits g c =
+    waits_both (g.P.Parts.part_of c.args.parts.now) (g.P.Parts.part_of c.loop-planned.parts) (g.P.Parts.part_of c.plan.new.parts)
+    (waits_same (g.P.Parts.part_of c.args.parts.now) (g.P.Parts.part_of c.loop-planned.parts) c.loop-planned.invariant.same) c.plan.ensures.waits
+
+pub returns-in_err-read_all-in-Err-Cold-clause-waits : goal.returns-in_err-read_all-in-Err-Cold-clause-waits
+returns-in_err-read_all-in-Err-Cold-clause-waits g c =
+    waits_both (g.P.Parts.part_of c.args.parts.now) (g.P.Parts.part_of c.loop-planned.parts) (g.P.Parts.part_of c.plan.new.parts)
+    (waits_same (g.P.Parts.part_of c.args.parts.now) (g.P.Parts.part_of c.loop-planned.parts) c.loop-planned.invariant.same) c.plan.ensures.waits

@@ -86,3 +86,13 @@ returns-in-Err-clause-memory g c = λ honest right hand brief.
     (subst (λ (staged : List StagedPage). AreAtHand g.R.Shows.lends c.args.stripes (logs_of before) (c.args.key.now ∷ []) staged) (sym (inv.first hand))
     (subst (λ p. AreAtHand g.R.Shows.lends c.args.stripes (logs_of p) (c.args.key.now ∷ []) c.args.staged.now) (sym inv.same) hand))
     (subst (λ p. length (unwrap_or (joined (shard_meaning g.R.Shows.is_steady) c.args.stripes p c.args.key.now) []) ≤ WORD_INLINE) (sym inv.same) brief)
+
+pub returns-in_err-read_all-in-Err-Cold-clause-right : goal.returns-in_err-read_all-in-Err-Cold-clause-right
+returns-in_err-read_all-in-Err-Cold-clause-right g c = λ right served.
+    let inv = c.loop-value.invariant in
+    let before = g.P.Parts.part_of c.loop-value.parts in
+    let cold = rw c.in-Err-Cold.field-0-is at c.in-Err-Cold.ensures.cold in
+    c.read_all.ensures.right
+    (are_cold_served g.D.Device.serves g.R.Shows.identity c.args.stripes (logs_of (g.P.Parts.part_of c.args.parts.now)) (logs_of before) (c.args.key.now ∷ []) c.loop-value.staged c.in-Err-Cold.receipts
+    c.args.device.now c.loop-value.device c.loop-value.device (logs_same (g.P.Parts.part_of c.args.parts.now) before inv.same) inv.still refl served cold)
+    (inv.right right served)

@@ -10,6 +10,7 @@ use Rattle.plans.proofs.Become.{became_same, became_twice, there_after}
 use Rattle.plans.proofs.Few.{few_more, few_none, still_both, still_same}
 use Rattle.plans.proofs.Making.{made_more, met_stop, room_at}
 use Rattle.plans.proofs.Rooms.{roomy_as, roomy_by, share_below, share_light, share_there}
+use Rattle.plans.proofs.Waits.{waits_both}
 use Rattle.plans.proofs.room.reserve_all.Goals as goal
 
 pub loop-stripe-init : goal.loop-stripe-init
@@ -19,6 +20,7 @@ loop-stripe-init g c =
       is_open = c.requires.open;
       keeps = g.met.P.Parts.keeps_same c.args.parts.now;
       became = became_same (shard_meaning g.R.Shows.is_steady) c.args.stripes parts parts refl;
+      waits = λ j. refl;
       same = refl;
       device = still_same g.D.Device.serves g.D.Device.releases g.D.Device.writes c.args.device.now;
       ahead = λ j above. refl;
@@ -61,6 +63,7 @@ loop-stripe-preserved g c =
       is_open = e.open;
       keeps = g.met.P.Parts.keeps_both c.args.parts.now c.loop-stripe.parts c.reserve_share.new.parts inv.keeps e.keeps;
       became = became_twice (shard_meaning g.R.Shows.is_steady) n start before later inv.became e.became;
+      waits = waits_both start before later inv.waits e.waits;
       same = c.in_ok-reserve_share.ensures.no_fault ∙ inv.same;
       device = still_both g.D.Device.serves g.D.Device.releases g.D.Device.writes c.args.device.now c.loop-stripe.device c.reserve_share.new.device inv.device e.device;
       ahead = λ j above. e.others j (λ at. absurd (omega (arith, at, above))) ∙ inv.ahead j (omega (arith, above));
@@ -114,3 +117,10 @@ returns-in_err-reserve_share-clause-full g c =
     c.in_err-reserve_share.ensures.lacks c.in_err-reserve_share.ensures.faults e.shed c.in_err-reserve_share.ensures.full in
     let p = err_from_is_err_and c.from_residual.result c.from_residual.ensures.1 in
     rw (p.1, p.2) met
+
+pub returns-clause-waits : goal.returns-clause-waits
+returns-clause-waits g c = c.loop-stripe.invariant.waits
+
+pub returns-in_err-reserve_share-clause-waits : goal.returns-in_err-reserve_share-clause-waits
+returns-in_err-reserve_share-clause-waits g c =
+    waits_both (g.P.Parts.part_of c.args.parts.now) (g.P.Parts.part_of c.loop-stripe.parts) (g.P.Parts.part_of c.reserve_share.new.parts) c.loop-stripe.invariant.waits c.reserve_share.ensures.waits

@@ -3,7 +3,7 @@ use Rattle.transact.specs.Tables.{Became, stays}
 use Rattle.plans.specs.Receipts.{kept_by}
 use Rattle.plans.specs.Rooms.{IsRoomyAt, MakesRoom, ShedFew, share}
 use Rattle.plans.specs.Devices.{StillServes}
-use Rattle.plans.specs.Shards.{logs_of, shard_meaning}
+use Rattle.plans.specs.Shards.{SameWaits, logs_of, shard_meaning}
 use Rattle.plans.proofs.room.reserve_all.Given as goal
 
 abbrev pub invariant-loop-stripe : goal.invariant-loop-stripe
@@ -11,6 +11,7 @@ invariant-loop-stripe g l = record {
   is_open : g.P.Parts.is_open l.parts;
   keeps : g.P.Parts.keeps l.fn.parts l.parts;
   became : Became (shard_meaning g.R.Shows.is_steady) l.stripes [] stays (g.P.Parts.part_of l.fn.parts) (g.P.Parts.part_of l.parts);
+  waits : SameWaits (g.P.Parts.part_of l.fn.parts) (g.P.Parts.part_of l.parts);
   same : g.D.Device.failures l.device ≡ g.D.Device.failures l.fn.device;
   device : StillServes g.D.Device.serves g.D.Device.releases l.fn.device l.device;
   ahead : (j : ℕ) → l.stripe ≤ j → logs_of (g.P.Parts.part_of l.parts) j ≡ logs_of (g.P.Parts.part_of l.fn.parts) j;

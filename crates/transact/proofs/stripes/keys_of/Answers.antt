@@ -5,7 +5,7 @@ use Rattle.words.specs.Commands.{keys_of_all}
 use Rattle.transact.specs.Plans.{stripes_with}
 use Rattle.transact.specs.Calls.{call_keys}
 use Rattle.transact.specs.declared.call.Call.{Call}
-use Rattle.transact.proofs.Keys.{taken_there, with_append}
+use Rattle.transact.proofs.Keys.{with_append}
 use Rattle.transact.proofs.stripes.keys_of.Goals as goal
 
 pub returns-in-Exec-clause-exact : goal.returns-in-Exec-clause-exact
@@ -22,25 +22,3 @@ returns-in-Exec-clause-exact c =
 
 pub returns-in-One-clause-exact : goal.returns-in-One-clause-exact
 returns-in-One-clause-exact c = search rules
-
-pub returns-in-Watch-clause-exact : goal.returns-in-Watch-clause-exact
-returns-in-Watch-clause-exact c = search rules
-
-pub returns-in-Forget-clause-exact : goal.returns-in-Forget-clause-exact
-returns-in-Forget-clause-exact c = search rules
-
-pub returns-in-One-clause-there : goal.returns-in-One-clause-there
-returns-in-One-clause-there c = λ parts has.
-    taken_there c.args.stripes parts c.with_command.result (call_keys c.args.call.now) (returns-in-One-clause-exact c) has
-
-pub returns-in-Watch-clause-there : goal.returns-in-Watch-clause-there
-returns-in-Watch-clause-there c = λ parts has.
-    taken_there c.args.stripes parts c.stripes_of_keys.result (call_keys c.args.call.now) (returns-in-Watch-clause-exact c) has
-
-pub returns-in-Exec-clause-there : goal.returns-in-Exec-clause-there
-returns-in-Exec-clause-there c = λ parts has.
-    taken_there c.args.stripes parts c.with_keys.result (call_keys c.args.call.now) (returns-in-Exec-clause-exact c) has
-
-pub returns-in-Forget-clause-there : goal.returns-in-Forget-clause-there
-returns-in-Forget-clause-there c = λ parts has.
-    taken_there c.args.stripes parts c.stripes_of_keys-in-Forget.result (call_keys c.args.call.now) (returns-in-Forget-clause-exact c) has

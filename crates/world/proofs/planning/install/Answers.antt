@@ -1,7 +1,7 @@
 use Rattle.std.proofs.Common.{length}
 use Rattle.transact.specs.Plans.{keys_ended}
 use Rattle.world_log.specs.Stripes.{acts_for, lent}
-use Rattle.world.proofs.Installing.{ended_there}
+use Rattle.world.proofs.Installing.{ended_there, keeps_with}
 use Rattle.world.proofs.Putting.{lent_all, put_is, there_of}
 use Rattle.world.proofs.planning.install.Goals as goal
 
@@ -15,4 +15,4 @@ pub returns-clause-put : goal.returns-clause-put
 returns-clause-put c =
     put_is c.args.log.now c.act_for.new.self c.count-count.result c.args.client c.args.call.now c.args.planned c.install.new.parts c.act_for.ensures c.count-count.ensures
     c.requires.log.even c.requires.looks c.requires.all c.requires.room
-    (record { became = c.install.ensures.became; grown = c.install.ensures.grown; keeps = c.install.ensures.keeps })
+    (record { became = c.install.ensures.became; grown = c.install.ensures.grown; keeps = keeps_with _ _ c.install.ensures.keeps c.install.ensures.waits })

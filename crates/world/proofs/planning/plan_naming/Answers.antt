@@ -2,6 +2,7 @@ use Rattle.std.proofs.Common.{refl}
 use Rattle.transact.specs.Calls.{call_keys}
 use Rattle.world.proofs.Calls.{came_is, full_as, met_is, met_so}
 use Rattle.world.proofs.Putting.{lent_all, some_of_them, there_of}
+use Rattle.world.proofs.Installing.{keeps_with}
 use Rattle.world.proofs.planning.plan_naming.Goals as goal
 
 pub plan-requires-clause-there : goal.plan-requires-clause-there
@@ -17,7 +18,7 @@ returns-in-Ok-clause-planned c =
       due = λ short asked seen watched asks stand ends are. c.in-Ok.ensures.plan tt c.requires.right short asked seen watched asks stand ends are;
       roomy = c.in-Ok.ensures.room;
       fits = c.in-Ok.ensures.fits;
-      keeps = c.plan.ensures.keeps;
+      keeps = keeps_with _ _ c.plan.ensures.keeps c.plan.ensures.waits;
       became = c.in-Ok.ensures.ok;
       read = c.args.log.now.device;
       reads = refl;
@@ -30,7 +31,7 @@ returns-in-Err-clause-full c =
     (λ i met. met_is c.args.log.now c.count-count.result c.act_for.new.self c.args.client c.args.call.now i c.plan.new.parts c.plan.new.device c.act_for.ensures
     (some_of_them c.args.log.now.stripes c.act_for.new.self c.count-count.result c.args.client c.act_for.ensures c.count-count.ensures)
     (record {
-      keeps = c.plan.ensures.keeps;
+      keeps = keeps_with _ _ c.plan.ensures.keeps c.plan.ensures.waits;
       became = c.in-Err.ensures.err;
       read = c.args.log.now.device;
       reads = refl;

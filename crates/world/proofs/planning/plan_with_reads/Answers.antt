@@ -2,6 +2,7 @@ use Rattle.std.proofs.Common.{refl}
 use Rattle.transact.specs.Calls.{call_keys}
 use Rattle.world.proofs.Calls.{came_is, full_as, full_read, met_is, met_so, read_places, served_as}
 use Rattle.world.proofs.Putting.{lent_all, some_of_them, there_of}
+use Rattle.world.proofs.Installing.{keeps_with}
 use Rattle.world.proofs.planning.plan_with_reads.Goals as goal
 
 pub plan_reading-requires-clause-there : goal.plan_reading-requires-clause-there
@@ -19,7 +20,7 @@ returns-in-Ok-clause-planned c =
       due = λ short asked seen watched asks stand ends are. c.in-Ok.ensures.plan tt c.requires.right served short asked seen watched asks stand ends are;
       roomy = c.in-Ok.ensures.room;
       fits = c.in-Ok.ensures.fits;
-      keeps = c.plan_reading.ensures.keeps;
+      keeps = keeps_with _ _ c.plan_reading.ensures.keeps c.plan_reading.ensures.waits;
       became = c.in-Ok.ensures.ok;
       read = reads.0;
       reads = read_places c.plan_laws.ensures.plans.reads c.count-count.result c.count-count.result c.in-Ok.planned.writes _ _ c.args.log.now.device reads.0 c.plan_reading.new.device reads.1 reads.2 c.in-Ok.ensures.no_fault;
@@ -39,7 +40,7 @@ returns-in-Err-clause-full c =
     (λ i met. met_is c.args.log.now c.count-count.result c.act_for.new.self c.args.client c.args.call.now i c.plan_reading.new.parts c.plan_reading.new.device c.act_for.ensures
     (some_of_them c.args.log.now.stripes c.act_for.new.self c.count-count.result c.args.client c.act_for.ensures c.count-count.ensures)
     (record {
-      keeps = c.plan_reading.ensures.keeps;
+      keeps = keeps_with _ _ c.plan_reading.ensures.keeps c.plan_reading.ensures.waits;
       became = c.in-Err.ensures.err;
       read = met.0;
       reads = met.1;

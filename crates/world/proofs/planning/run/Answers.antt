@@ -4,7 +4,7 @@ use Rattle.transact.specs.Calls.{call_keys}
 use Rattle.transact.specs.Plans.{keys_ended}
 use Rattle.world_log.specs.Stripes.{acts_for, lent}
 use Rattle.world.proofs.Beginning.{none_right}
-use Rattle.world.proofs.Installing.{ended_there, there_after}
+use Rattle.world.proofs.Installing.{ended_there, keeps_with, there_after}
 use Rattle.world.proofs.Putting.{lent_all, none_in, ran_is, there_of}
 use Rattle.world.proofs.planning.run.Goals as goal
 
@@ -30,8 +30,8 @@ returns c =
             due = λ short asked seen watched asks stand ends are.
                 c.in-Ok.ensures.plan tt (subst AreRight (sym c.new-staged.ensures) none_right) short asked seen watched asks stand ends are;
             begun = c.in-Ok.ensures.ok;
-            keeps = c.plan.ensures.keeps;
+            keeps = keeps_with _ _ c.plan.ensures.keeps c.plan.ensures.waits;
             makes = c.in-Ok.ensures.made;
-            put = record { became = c.install.ensures.became; grown = c.install.ensures.grown; keeps = c.install.ensures.keeps };
+            put = record { became = c.install.ensures.became; grown = c.install.ensures.grown; keeps = keeps_with _ _ c.install.ensures.keeps c.install.ensures.waits };
           });
     }

@@ -11,7 +11,7 @@ pub loop-receipt-preserved : goal.loop-receipt-preserved
 loop-receipt-preserved c =
     let inv = c.loop-receipt.invariant in
     let parts = last_off_of (IsColdIn c.args.log.now) c.loop-receipt.receipts c.pop.new.self (view c.in-Some.receipt) c.in-Some.ensures.some inv.cold in
-    let keeper = c.in-Some-keeper_of.ensures in
+    let keeper = c.in-Some-keeper_of.ensures.kept in
     let read = read_for c.args.log.now c.args.log.now c.args.client c.place.result c.in-Some-keeper_of.stripe (view c.in-Some.receipt) c.in-Some.receipt parts.1 refl refl c.place.ensures.place keeper in
     let count = length_more c.loop-receipt.due.items (c.in-Some-keeper_of.stripe, c.in-Some.receipt) in
     let fewer = ap length c.in-Some.ensures.some ∙ length_more c.pop.new.self (view c.in-Some.receipt) in

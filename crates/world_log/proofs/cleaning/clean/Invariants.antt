@@ -5,14 +5,13 @@ use Rattle.world_log.specs.Cleaning.{AreServed}
 use Rattle.world_log.specs.Places.{SamePlaces}
 use Rattle.world_log.proofs.cleaning.clean.Given as goal
 
-abbrev pub invariant-loop-receipt : goal.invariant-loop-receipt
-invariant-loop-receipt l = record {
-  stripe : l.stripe ≡ l.fn.stripe;
-  queues : l.queues ≡ l.fn.queues;
+abbrev pub invariant-loop-number : goal.invariant-loop-number
+invariant-loop-number l = record {
+  log : l.log ≡ l.fn.log;
   right : AreRight l.staged;
-  served : AreServed l.stripe l.device;
+  served : AreServed l.log.log l.device;
   places : SamePlaces l.fn.device l.device;
 }
 
-abbrev pub decreases-loop-receipt : goal.decreases-loop-receipt
-decreases-loop-receipt l = unread l.stripe l.staged
+abbrev pub decreases-loop-number : goal.decreases-loop-number
+decreases-loop-number l = unread l.log.log l.staged

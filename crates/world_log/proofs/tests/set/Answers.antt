@@ -1,4 +1,4 @@
-use Rattle.std.proofs.Common.{length, refl, arith}
+use Rattle.std.proofs.Common.{◌∙◌, length, refl, arith}
 use Rattle.std.proofs.lemmas.Option.{slice_get_read}
 use Rattle.plans.specs.Shards.{shard_log}
 use Rattle.world_log.proofs.Setting.{set_right}
@@ -11,5 +11,6 @@ returns c =
     record {
       log =
           set_right c.args.log.now 0 c.index_mut-lane.result.now (record { shard = c.set.new.self; queues = c.index_mut-lane.result.now.queues })
-          (shard_log c.reserve.new.self) c.reserve.new.device _ c.requires.log there (c.in-Ok.ensures.shed c.in-Ok.ensures.no_fault) c.set.ensures.grown refl;
+          (shard_log c.reserve.new.self) c.reserve.new.device _ c.requires.log there (c.reserve.ensures.shed c.in-Ok.ensures.no_fault) c.set.ensures.grown refl
+          (c.set.ensures.waits ∙ c.reserve.ensures.waits);
     }

@@ -7,6 +7,7 @@ use Rattle.transact.specs.Plans.{keys_ended}
 use Rattle.plans.proofs.Become.{there_after}
 use Rattle.plans.proofs.Begun.{touched_cleared}
 use Rattle.plans.proofs.Grown.{grown_as}
+use Rattle.plans.proofs.Waits.{waits_both}
 use Rattle.plans.proofs.plan.Planned.install.Goals as goal
 
 pub end_watches-requires-clause-there : goal.end_watches-requires-clause-there
@@ -22,3 +23,7 @@ pub returns-clause-grown : goal.returns-clause-grown
 returns-clause-grown g c =
     grown_as c.args.stripes c.args.self.writes (logs_of (g.P.Parts.part_of c.args.parts.now)) (logs_of (g.P.Parts.part_of c.make_writes.new.parts)) (logs_of (g.P.Parts.part_of c.end_watches.new.parts))
     (subst (λ (ws : List Write). HaveGrown c.args.stripes ws (logs_of (g.P.Parts.part_of c.args.parts.now)) (logs_of (g.P.Parts.part_of c.make_writes.new.parts))) c.as_slice.ensures c.make_writes.ensures.grown) c.end_watches.ensures.logs
+
+pub returns-clause-waits : goal.returns-clause-waits
+returns-clause-waits g c =
+    waits_both (g.P.Parts.part_of c.args.parts.now) (g.P.Parts.part_of c.make_writes.new.parts) (g.P.Parts.part_of c.end_watches.new.parts) c.make_writes.ensures.waits c.end_watches.ensures.waits

@@ -1,5 +1,4 @@
 use Rattle.std.proofs.Common.{arith}
-use Rattle.plans.specs.Shards.{shard_log}
 use Rattle.plans.proofs.Hand.{short_value}
 use Rattle.plans.proofs.shard.Shard.find.Goals as goal
 
@@ -8,5 +7,5 @@ returns-else-value-le-VALUE_BYTES_MAX-clause-contents g c = λ honest right.
     absurd (omega (
       arith,
       c.if-value-le-VALUE_BYTES_MAX.false,
-      short_value (shard_log c.args.self.now) c.as_slice.result.now c.in-Found.value.now c.oldest.ensures.log (c.in-Found.ensures.contents honest right),
+      short_value c.stripe-log.result.now c.as_slice.result.now c.in-Found.value.now c.oldest.ensures.log (c.in-Found.ensures.contents honest right),
     ))

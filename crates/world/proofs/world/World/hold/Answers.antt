@@ -1,6 +1,6 @@
 use Rattle.std.proofs.Common.{◌∙◌, ap, ap₂, ℕ}
 use Rattle.std.specs.Vec.{with_item}
-use Rattle.world_log.specs.declared.stripes.Stripes.{Stripes}
+use Rattle.world_log.specs.Types.{Stripes}
 use Rattle.world_model.specs.Planning.{stay_begun}
 use Rattle.world.specs.declared.desk.Desk.{Desk}
 use Rattle.world.specs.declared.world.World.{World}

@@ -30,13 +30,13 @@ returns-in-Write-clause-world c =
 
 pub returns-in-Install-clause-turn : goal.returns-in-Install-clause-turn
 returns-in-Install-clause-turn c =
-    ok_then c.install.result (turn_of c.args.self.now c.install.new.self (event.Install c.in-Install.i) c.args.event.now c.in-Install.is refl)
-    (ok_worked c.install.result c.args.self.now c.install.new.self (event.Install c.in-Install.i) c.install.ensures.took c.install.ensures.log c.install.ensures.given c.install.ensures.held)
+    turn_of c.args.self.now c.install.new.self (event.Install c.in-Install.i) c.args.event.now c.in-Install.is refl
+    (worked_by c.args.self.now c.install.new.self (event.Install c.in-Install.i) (c.install.ensures.took (rest_of c.args.self.now)) c.install.ensures.log c.install.ensures.given c.install.ensures.held)
 
 pub returns-in-Install-clause-world : goal.returns-in-Install-clause-world
 returns-in-Install-clause-world c =
-    ok_then c.install.result (λ worked. world_of c.laws.ensures.turns c.args.self.now c.install.new.self (event.Install c.in-Install.i) refl worked c.requires.world)
-    (ok_worked c.install.result c.args.self.now c.install.new.self (event.Install c.in-Install.i) c.install.ensures.took c.install.ensures.log c.install.ensures.given c.install.ensures.held)
+    world_of c.laws.ensures.turns c.args.self.now c.install.new.self (event.Install c.in-Install.i) refl
+    (worked_by c.args.self.now c.install.new.self (event.Install c.in-Install.i) (c.install.ensures.took (rest_of c.args.self.now)) c.install.ensures.log c.install.ensures.given c.install.ensures.held) c.requires.world
 
 pub returns-in-Drop-clause-turn : goal.returns-in-Drop-clause-turn
 returns-in-Drop-clause-turn c =

@@ -1,7 +1,7 @@
 use Rattle.std.proofs.Common.{◌∙◌, length, refl, arith, sym, subst}
 use Rattle.std.proofs.lemmas.Option.{slice_get_read}
 use Rattle.world_log.specs.WorldLogs.{IsOldest, with_values}
-use Rattle.world_log.specs.declared.lanes.Lane.{Lane}
+use Rattle.world_log.specs.Types.{Lane}
 use Rattle.world_log.proofs.LaneSteps.{reached, same_lane, took_drain_by, took_drain_held, store_drained_by, with_lane}
 use Rattle.world_log.proofs.Values.{beside_values, no_values, took_values_with}
 use Rattle.world_events.specs.declared.event.Event.TheVariants as event
@@ -31,8 +31,8 @@ returns-clause-log c =
     (omega (arith, c.if-i-len.false, c.len.ensures)) c.index.ensures in
     let oldest : IsOldest c.index_mut-lane.result.now.queues c.in-Some.epoch =
     subst (λ (lane : Lane). IsOldest lane.queues c.in-Some.epoch) (same_lane c.args.self.now c.args.i c.index.result.now c.index_mut-lane.result.now here there) c.in-Some.ensures.some in
-    store_drained_by c.args.self.now c.args.i c.index_mut-lane.result.now (record { shard = c.index_mut-lane.result.now.shard; queues = c.drain.new.queues }) c.in-Some.epoch
-    c.in_ok-_done._done c.requires.log there refl oldest c.in_ok-_done.ensures.does
+    store_drained_by c.args.self.now c.args.i c.index_mut-lane.result.now c.drain.new.queues c.in-Some.epoch c.in_ok-_done._done c.requires.log there oldest
+    c.in_ok-_done.ensures.does
 
 pub returns-then-not-are_past-clause-took : goal.returns-then-not-are_past-clause-took
 returns-then-not-are_past-clause-took c rest stays =

@@ -11,7 +11,7 @@ evict-done-requires c =
     let there = slice_get_read c.args.self.now.stripes.lanes.items (length c.args.self.now.stripes.lanes.items) c.args.i c.index_mut-lane.result.now refl
     (omega (arith, c.if-i-len.false, c.len.ensures)) c.index_mut-lane.ensures.value in
     let agrees = (lane_of c.args.self.now c.args.i c.index_mut-lane.result.now c.requires.log there).agrees in
-    record { agrees = record { counted = agrees.counted; faithful = agrees.faithful } }
+    record { agrees = record { counted = agrees.counted; in_flight = agrees.in_flight; retired = agrees.retired; drained = agrees.drained; faithful = agrees.faithful } }
 
 pub returns-clause-took : goal.returns-clause-took
 returns-clause-took c rest =

@@ -6,12 +6,12 @@ use Rattle.world_events.specs.declared.event.Event.TheVariants as event
 use Rattle.world_log.proofs.Held.{held_free}
 use Rattle.world_log.proofs.logs.WorldLog.install.Goals as goal
 
-pub install-requires : goal.install-requires
-install-requires c =
+pub install-done-requires : goal.install-done-requires
+install-done-requires c =
     let there = slice_get_read c.args.self.now.stripes.lanes.items (length c.args.self.now.stripes.lanes.items) c.args.i c.index_mut-lane.result.now refl
     (omega (arith, c.if-i-len.false, c.len.ensures)) c.index_mut-lane.ensures.value in
     let agrees = (lane_of c.args.self.now c.args.i c.index_mut-lane.result.now c.requires.log there).agrees in
-    record { agrees = record { counted = agrees.counted; faithful = agrees.faithful } }
+    record { agrees = record { counted = agrees.counted; in_flight = agrees.in_flight; retired = agrees.retired; drained = agrees.drained; faithful = agrees.faithful } }
 
 pub returns-clause-took : goal.returns-clause-took
 returns-clause-took c rest =
@@ -19,23 +19,23 @@ returns-clause-took c rest =
     (omega (arith, c.if-i-len.false, c.len.ensures)) c.index_mut-lane.ensures.value in
     let held = slice_get_read c.args.self.now.stripes.holders.items (length c.args.self.now.stripes.holders.items) c.args.i c.index.result.now refl
     (omega (arith, c.if-i-len.false, c.len.ensures, c.requires.log.even.lanes)) c.index.ensures in
-    took_values rest (event.Install c.args.i) c.args.self.now (with_lane c.args.self.now c.args.i c.install.new.self)
-    (lane_values c.args.self.now c.args.i c.index_mut-lane.result.now c.install.new.self there (record { store = c.in_ok-_done.ensures.right.store; marks = c.in_ok-_done.ensures.right.marks }))
-    (λ other. took_install other c.args.self.now c.args.i c.index_mut-lane.result.now c.install.new.self c.in_ok-_done._done
+    took_values rest (event.Install c.args.i) c.args.self.now (with_lane c.args.self.now c.args.i c.install-done.new.self)
+    (lane_values c.args.self.now c.args.i c.index_mut-lane.result.now c.install-done.new.self there (record { store = c.install-done.ensures.right.store; marks = c.install-done.ensures.right.marks }))
+    (λ other. took_install other c.args.self.now c.args.i c.index_mut-lane.result.now c.install-done.new.self c.install-done.result
     c.requires.log (reached c.args.self.now c.args.i c.index_mut-lane.result.now c.requires.log there)
-    (free_is c.args.self.now c.args.i c.index.result.now held (rw c.is_some.ensures at c.if-is_some.false)) c.in_ok-_done.ensures.does)
+    (free_is c.args.self.now c.args.i c.index.result.now held (rw c.is_some.ensures at c.if-is_some.false)) c.install-done.ensures.does)
 
 pub returns-clause-log : goal.returns-clause-log
 returns-clause-log c =
     let there = slice_get_read c.args.self.now.stripes.lanes.items (length c.args.self.now.stripes.lanes.items) c.args.i c.index_mut-lane.result.now refl
     (omega (arith, c.if-i-len.false, c.len.ensures)) c.index_mut-lane.ensures.value in
-    let right = c.in_ok-_done.ensures.right in
-    store_with c.args.self.now c.args.i c.index_mut-lane.result.now c.install.new.self c.requires.log there right.alike right.agrees right.numbered
-    (c.in_ok-_done.ensures.given c.args.self.now.device (lane_of c.args.self.now c.args.i c.index_mut-lane.result.now c.requires.log there).given)
+    let right = c.install-done.ensures.right in
+    store_with c.args.self.now c.args.i c.index_mut-lane.result.now c.install-done.new.self c.requires.log there right.alike right.agrees right.numbered
+    (c.install-done.ensures.given c.args.self.now.device (lane_of c.args.self.now c.args.i c.index_mut-lane.result.now c.requires.log there).given)
 
 pub returns-clause-held : goal.returns-clause-held
 returns-clause-held c =
     let held = slice_get_read c.args.self.now.stripes.holders.items (length c.args.self.now.stripes.holders.items) c.args.i c.index.result.now refl
     (omega (arith, c.if-i-len.false, c.len.ensures, c.requires.log.even.lanes)) c.index.ensures in
-    held_free c.args.self.now c.args.i c.index_mut-lane.result.now c.install.new.self
+    held_free c.args.self.now c.args.i c.index_mut-lane.result.now c.install-done.new.self
     (free_is c.args.self.now c.args.i c.index.result.now held (rw c.is_some.ensures at c.if-is_some.false))

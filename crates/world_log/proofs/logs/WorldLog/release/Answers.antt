@@ -1,5 +1,5 @@
 use Rattle.std.proofs.Common.{◌∙◌, length, refl, arith, subst}
-use Rattle.world_log.specs.Stripes.{lane_log}
+use Rattle.world_log.specs.Stripes.{lane_beside, lane_log}
 use Rattle.std.proofs.lemmas.Option.{slice_get_read}
 use Rattle.words.specs.Store.{Bytes}
 use Rattle.world_log.specs.Beside.{DoesRelease}
@@ -16,7 +16,7 @@ release-done-requires-clause-agrees c =
     let there = slice_get_read c.args.self.now.stripes.lanes.items (length c.args.self.now.stripes.lanes.items) c.args.i c.index_mut-lane.result.now refl
     (omega (arith, c.if-i-len.false, c.len.ensures)) c.index_mut-lane.ensures.value in
     let agrees = (lane_of c.args.self.now c.args.i c.index_mut-lane.result.now c.requires.log there).agrees in
-    record { counted = agrees.counted; faithful = agrees.faithful }
+    record { counted = agrees.counted; in_flight = agrees.in_flight; retired = agrees.retired; drained = agrees.drained; faithful = agrees.faithful }
 
 pub release-done-requires-clause-given : goal.release-done-requires-clause-given
 release-done-requires-clause-given c =
@@ -33,8 +33,8 @@ returns-clause-took c rest =
     (record { store = c.release-done.ensures.right.store; marks = c.release-done.ensures.right.marks }))
     (λ other. took_release other c.args.self.now c.args.i c.index_mut-lane.result.now c.release-done.new.self c.release-done.new.device c.args.page.now c.release-done.result
     (reached c.args.self.now c.args.i c.index_mut-lane.result.now c.requires.log there)
-    (subst (λ (p : Bytes). DoesRelease c.release-done.result p (lane_log c.index_mut-lane.result.now) c.index_mut-lane.result.now.queues c.args.self.now.device
-    (lane_log c.release-done.new.self) c.release-done.new.self.queues c.release-done.new.device) (c.in_ok-page.ensures ∙ c.page.ensures) c.release-done.ensures.does))
+    (subst (λ (p : Bytes). DoesRelease c.release-done.result p (lane_log c.index_mut-lane.result.now) (lane_beside c.index_mut-lane.result.now) c.args.self.now.device
+    (lane_log c.release-done.new.self) (lane_beside c.release-done.new.self) c.release-done.new.device) (c.in_ok-page.ensures ∙ c.page.ensures) c.release-done.ensures.does))
 
 pub returns-clause-log : goal.returns-clause-log
 returns-clause-log c =
@@ -43,19 +43,19 @@ returns-clause-log c =
     let right = c.release-done.ensures.right in
     store_with (record c.args.self.now { device = c.release-done.new.device }) c.args.i c.index_mut-lane.result.now c.release-done.new.self
     (store_device c.args.self.now c.release-done.new.device
-    (release_stays c.release-done.result _ _ c.index_mut-lane.result.now.queues c.args.self.now.device _ _ _ c.release-done.ensures.does) c.requires.log)
+    (release_stays c.release-done.result _ _ (lane_beside c.index_mut-lane.result.now) c.args.self.now.device _ _ _ c.release-done.ensures.does) c.requires.log)
     there right.alike right.agrees right.numbered
-    (release_given c.release-done.result _ _ c.index_mut-lane.result.now.queues c.args.self.now.device _ _ _ c.release-done.ensures.does
+    (release_given c.release-done.result _ _ (lane_beside c.index_mut-lane.result.now) c.args.self.now.device _ _ _ c.release-done.ensures.does
     (lane_of c.args.self.now c.args.i c.index_mut-lane.result.now c.requires.log there).given)
 
 pub returns-clause-given : goal.returns-clause-given
 returns-clause-given c =
-    release_stays c.release-done.result _ _ c.index_mut-lane.result.now.queues c.args.self.now.device _ _ _ c.release-done.ensures.does
+    release_stays c.release-done.result _ _ (lane_beside c.index_mut-lane.result.now) c.args.self.now.device _ _ _ c.release-done.ensures.does
 
 pub returns-clause-held : goal.returns-clause-held
 returns-clause-held c =
     let there = slice_get_read c.args.self.now.stripes.lanes.items (length c.args.self.now.stripes.lanes.items) c.args.i c.index_mut-lane.result.now refl
     (omega (arith, c.if-i-len.false, c.len.ensures)) c.index_mut-lane.ensures.value in
     let keeps = held_with c.args.self.now c.args.i c.index_mut-lane.result.now c.release-done.new.self there
-    (held_release c.release-done.result _ _ _ c.index_mut-lane.result.now.queues _ c.args.self.now.device _ c.release-done.ensures.does) in
+    (held_release c.release-done.result _ _ _ (lane_beside c.index_mut-lane.result.now) _ c.args.self.now.device _ c.release-done.ensures.does) in
     record { holders = keeps.holders; rooms = keeps.rooms }

@@ -1,8 +1,9 @@
-use Rattle.std.proofs.Common.{◌≡◌, ◌∙◌, length, nat_lt, true, refl, arith, sym, subst}
+use Rattle.std.proofs.Common.{◌≡◌, ◌∙◌, length, nat_lt, true, ap, refl, arith, sym, subst}
 use Rattle.std.proofs.lemmas.Option.{slice_get_read}
 use Rattle.hybrid.specs.HybridLog.{HybridLog}
+use Rattle.plans.specs.Counted.{Counted}
 use Rattle.world_log.specs.Stripes.{lane_log}
-use Rattle.world_log.specs.declared.lanes.Lane.{Lane}
+use Rattle.world_log.specs.Types.{Lane}
 use Rattle.world_log.proofs.LaneSteps.{lane_of, reached, free_is, store_with, store_device, same_lane, with_both}
 use Rattle.world_log.proofs.RoomSteps.{took_unlink, served_at}
 use Rattle.world_log.proofs.Values.{both_values, took_values}
@@ -15,7 +16,7 @@ unlink-requires-clause-agrees c =
     let there = slice_get_read c.args.self.now.stripes.lanes.items (length c.args.self.now.stripes.lanes.items) c.args.i c.index_mut-lane.result.now refl
     (omega (arith, c.if-i-len.false, c.len.ensures)) c.index_mut-lane.ensures.value in
     let agrees = (lane_of c.args.self.now c.args.i c.index_mut-lane.result.now c.requires.log there).agrees in
-    record { counted = agrees.counted; faithful = agrees.faithful }
+    record { counted = agrees.counted; in_flight = agrees.in_flight; retired = agrees.retired; drained = agrees.drained; faithful = agrees.faithful }
 
 pub unlink-requires-clause-served : goal.unlink-requires-clause-served
 unlink-requires-clause-served c =
@@ -34,7 +35,7 @@ returns-clause-took c rest =
     let cold : nat_lt (lane_log c.index_mut-lane.result.now).oldest (lane_log c.index_mut-lane.result.now).resident.oldest ≡ true =
     subst (λ (lane : Lane). nat_lt (lane_log lane).oldest (lane_log lane).resident.oldest ≡ true)
     (same_lane c.args.self.now c.args.i c.index-2.result.now c.index_mut-lane.result.now here there)
-    (subst (λ (p : HybridLog). nat_lt p.oldest p.resident.oldest ≡ true) c.log.ensures (sym c.is_cold.ensures ∙ c.if-not-is_cold.false)) in
+    (subst (λ (p : HybridLog). nat_lt p.oldest p.resident.oldest ≡ true) (c.stripe.ensures.log ∙ ap (λ (x : Counted). x.log) c.counted.ensures) (sym c.is_cold.ensures ∙ c.if-not-is_cold.false)) in
     let right = c.in_ok-_done.ensures.right in
     took_values rest (event.Unlink c.args.i) c.args.self.now (with_both c.args.self.now c.args.i c.unlink.new.self c.unlink.new.device)
     (both_values c.args.self.now c.args.i c.index_mut-lane.result.now c.unlink.new.self c.unlink.new.device there (record { store = right.store; marks = right.marks }))

@@ -21,8 +21,8 @@ pub returns-clause-log : goal.returns-clause-log
 returns-clause-log c =
     let there = slice_get_read c.args.self.now.stripes.lanes.items (length c.args.self.now.stripes.lanes.items) c.args.i c.index_mut-lane.result.now refl
     (omega (arith, c.if-i-len.false, c.len.ensures)) c.index_mut-lane.ensures.value in
-    store_written c.args.self.now c.args.i c.index_mut-lane.result.now (record { shard = c.index_mut-lane.result.now.shard; queues = c.write.new.queues })
-    c.write.new.device c.in_ok-_done._done c.requires.log there refl c.in_ok-_done.ensures.does
+    store_written c.args.self.now c.args.i c.index_mut-lane.result.now c.write.new.queues c.write.new.device c.in_ok-_done._done c.requires.log there
+    c.in_ok-_done.ensures.does
 
 pub returns-clause-given : goal.returns-clause-given
 returns-clause-given c =

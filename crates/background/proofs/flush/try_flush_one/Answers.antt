@@ -1,0 +1,53 @@
+use Rattle.std.proofs.Common.{◌∙◌, ap, rules}
+use Rattle.gates.specs.Sets.{part_at}
+use Rattle.gates.specs.Background.{IsIdle, IsStep}
+use Rattle.gates.specs.declared.view.Work.TheVariants.{Flush}
+use Rattle.gates.proofs.Trying.{taken_at_once}
+use Rattle.plans.specs.Shards.{shard_meaning, shard_pages}
+use Rattle.background.proofs.Visiting.{fit_held, on_false, on_true, one_of}
+use Rattle.background.proofs.flush.try_flush_one.Goals as goal
+
+pub give-requires-clause-told : goal.give-requires-clause-told
+give-requires-clause-told g c =
+    let s = c.in-Ok-true.ensures.stepped in
+    let lent = (taken_at_once _ _ _ _ _ _ c.in-Ok.ensures.ok c.hold-held.ensures).lent c.args.stripe s.old s.was in
+    record {
+      part = s.new;
+      there = s.is;
+      is = ((lent.0, s.old), ap (λ took. part_at took c.args.stripe) c.flush_at.ensures.keeps.taken ∙ lent.1, on_true (IsStep Flush (shard_pages s.old) (shard_pages s.new)) c.in-Ok-true.field-0 c.in-Ok-true.field-0-test s.says.0);
+    }
+
+pub give-requires-clause-fit : goal.give-requires-clause-fit
+give-requires-clause-fit g c =
+    fit_held (shard_meaning g.R.Shows.is_steady) c.args.gates.now c.args.stripe _ c.hold-held.result c.flush_at.new.parts (taken_at_once _ _ _ _ _ _ c.in-Ok.ensures.ok c.hold-held.ensures).gates_are c.flush_at.ensures.keeps c.flush_at.ensures.stepped (taken_at_once _ _ _ _ _ _ c.in-Ok.ensures.ok c.hold-held.ensures).fit
+
+pub give-requires-in-Ok-false-clause-told : goal.give-requires-in-Ok-false-clause-told
+give-requires-in-Ok-false-clause-told g c =
+    let s = c.in-Ok-false.ensures.stepped in
+    let lent = (taken_at_once _ _ _ _ _ _ c.in-Ok.ensures.ok c.hold-held.ensures).lent c.args.stripe s.old s.was in
+    record {
+      part = s.new;
+      there = s.is;
+      is = (on_false (IsIdle Flush (shard_pages s.new)) c.in-Ok-false.field-0 c.in-Ok-false.field-0-test s.says.1, (lent.0, s.old), ap (λ took. part_at took c.args.stripe) c.flush_at.ensures.keeps.taken ∙ lent.1, tt);
+    }
+
+pub give-requires-in-Ok-false-clause-fit : goal.give-requires-in-Ok-false-clause-fit
+give-requires-in-Ok-false-clause-fit g c =
+    fit_held (shard_meaning g.R.Shows.is_steady) c.args.gates.now c.args.stripe _ c.hold-held.result c.flush_at.new.parts (taken_at_once _ _ _ _ _ _ c.in-Ok.ensures.ok c.hold-held.ensures).gates_are c.flush_at.ensures.keeps c.flush_at.ensures.stepped (taken_at_once _ _ _ _ _ _ c.in-Ok.ensures.ok c.hold-held.ensures).fit
+
+pub give-requires-in-Err-StoreFull-clause-fit : goal.give-requires-in-Err-StoreFull-clause-fit
+give-requires-in-Err-StoreFull-clause-fit g c =
+    fit_held (shard_meaning g.R.Shows.is_steady) c.args.gates.now c.args.stripe _ c.hold-held.result c.flush_at.new.parts (taken_at_once _ _ _ _ _ _ c.in-Ok.ensures.ok c.hold-held.ensures).gates_are c.flush_at.ensures.keeps c.flush_at.ensures.stepped (taken_at_once _ _ _ _ _ _ c.in-Ok.ensures.ok c.hold-held.ensures).fit
+
+pub give-requires-in-Err-DeviceFault-clause-fit : goal.give-requires-in-Err-DeviceFault-clause-fit
+give-requires-in-Err-DeviceFault-clause-fit g c =
+    fit_held (shard_meaning g.R.Shows.is_steady) c.args.gates.now c.args.stripe _ c.hold-held.result c.flush_at.new.parts (taken_at_once _ _ _ _ _ _ c.in-Ok.ensures.ok c.hold-held.ensures).gates_are c.flush_at.ensures.keeps c.flush_at.ensures.stepped (taken_at_once _ _ _ _ _ _ c.in-Ok.ensures.ok c.hold-held.ensures).fit
+
+pub returns-in-Err-clause-own : goal.returns-in-Err-clause-own
+returns-in-Err-clause-own g c = search rules
+
+pub returns-in-Err-clause-busy : goal.returns-in-Err-clause-busy
+returns-in-Err-clause-busy g c = search rules
+
+pub returns-in-Err-clause-stripe : goal.returns-in-Err-clause-stripe
+returns-in-Err-clause-stripe g c = one_of c.in-Err.stripe c.args.stripe c.none.result c.with-wanted.result c.none.ensures (c.with-wanted.ensures.numbers c.in-Err.stripe).0 c.in-Err.ensures.busy.1

@@ -1,0 +1,182 @@
+//! The flusher's step: a read-only page is written to the device, and the log keeps its receipt.
+
+ghost use Rattle.std.specs.Prelude.{◌≡◌, ◌<◌, [], ◌∷◌, IfOk, IfErr};
+ghost use Rattle.gates.specs.Passes.{IsResting, WasBusy, known, stripes_of};
+ghost use Rattle.background.specs.Visits.{HasFlushed, Visited, told_at_begin, told_at_end};
+
+use crate::cells::{begin_at, end_at, fail_at, flush_at};
+use device::{Device, Shows};
+use gates::{Gates, Pass, Report, Sorted, Work};
+use plans::counted::Begun;
+use plans::shard::Shard;
+use records::Page;
+use std::sync::Wait;
+use transact::call::Busy;
+use words::reply::Fault;
+
+/// Copies the oldest page of a stripe that waits to be written, and counts a place for it.
+fn begin<R: Shows, W: Wait>(
+    rt: &W,
+    gates: &Gates<Shard<R>>,
+    pass: &mut Pass<Shard<R>>,
+    stripe: usize,
+    page: &mut Page,
+) -> Begun
+    requires own { IsResting R.is_steady gates.now pass.old }
+    requires below { stripe < stripes_of gates.now }
+    ensures own { IsResting R.is_steady gates.now pass.new }
+    ensures told { Visited (stripe ∷ []) (told_at_begin stripe result) (known pass.old) (known pass.new) }
+{
+    let _stripes = gates.stripes();
+    let wanted = Sorted::none().with(stripe);
+    let mut held = gates.take(rt, pass, &wanted);
+    match begin_at(&mut held, stripe, page) {
+        Begun::Idle => {
+            held.give(&Report::Idle(stripe as u64, Work::Flush));
+            Begun::Idle
+        }
+        Begun::Full => {
+            held.give(&Report::Full(stripe as u64));
+            Begun::Full
+        }
+        Begun::Sealed(number) => {
+            held.give(&Report::Nothing);
+            Begun::Sealed(number)
+        }
+    }
+}
+
+/// Keeps the receipt of a page that was written, or counts its place as unlinked.
+fn end<R: Shows, W: Wait>(
+    rt: &W,
+    gates: &Gates<Shard<R>>,
+    pass: &mut Pass<Shard<R>>,
+    stripe: usize,
+    number: u64,
+    page: &Page,
+    receipt: R,
+) -> bool
+    requires own { IsResting R.is_steady gates.now pass.old }
+    requires below { stripe < stripes_of gates.now }
+    requires shown { R.shown receipt ≡ page.now }
+    ensures own { IsResting R.is_steady gates.now pass.new }
+    ensures told { Visited (stripe ∷ []) (told_at_end stripe result) (known pass.old) (known pass.new) }
+{
+    let _stripes = gates.stripes();
+    let wanted = Sorted::none().with(stripe);
+    let mut held = gates.take(rt, pass, &wanted);
+    if end_at(&mut held, stripe, number, page, receipt) {
+        held.give(&Report::Done(stripe as u64, Work::Flush));
+        true
+    } else {
+        held.give(&Report::Full(stripe as u64));
+        false
+    }
+}
+
+/// Counts a place off whose page could not be written.
+fn fail<R: Shows, W: Wait>(
+    rt: &W,
+    gates: &Gates<Shard<R>>,
+    pass: &mut Pass<Shard<R>>,
+    stripe: usize,
+)
+    requires own { IsResting R.is_steady gates.now pass.old }
+    requires below { stripe < stripes_of gates.now }
+    ensures own { IsResting R.is_steady gates.now pass.new }
+    ensures told { Visited (stripe ∷ []) [] (known pass.old) (known pass.new) }
+{
+    let _stripes = gates.stripes();
+    let wanted = Sorted::none().with(stripe);
+    let mut held = gates.take(rt, pass, &wanted);
+    fail_at(&mut held, stripe);
+    held.give(&Report::Nothing);
+}
+
+/// Writes the oldest page of a stripe that waits for it to the device, while nobody waits for the stripe, and then keeps
+/// its receipt. A page that has changed meanwhile, or has another receipt, keeps none: the place then counts as unlinked.
+/// False where no page waits. It waits where another pass holds the stripe. It takes no memory but what the device takes,
+/// makes no entry, and no key and no mark changes.
+///
+/// # Errors
+///
+/// [`Fault::DeviceFault`] where the write failed: the place is counted off again. [`Fault::StoreFull`] where no place may
+/// be taken for the page.
+pub fn flush_one<R: Shows, D: Device<Receipt = R>, W: Wait>(
+    rt: &W,
+    gates: &Gates<Shard<R>>,
+    pass: &mut Pass<Shard<R>>,
+    device: &mut D,
+    stripe: usize,
+) -> Result<bool, Fault>
+    requires own { IsResting R.is_steady gates.now pass.old }
+    requires below { stripe < stripes_of gates.now }
+    ensures own { IsResting R.is_steady gates.now pass.new }
+    ensures flushed { HasFlushed (stripe ∷ []) stripe result (D.failures device.old) (D.failures device.new) (known pass.old) (known pass.new) }
+{
+    let mut page = Page::new(0);
+    let number = match begin(rt, gates, pass, stripe, &mut page) {
+        Begun::Idle => return Ok(false),
+        Begun::Full => return Err(Fault::StoreFull),
+        Begun::Sealed(number) => number,
+    };
+    let Ok(receipt) = device.write(&page) else {
+        fail(rt, gates, pass, stripe);
+        return Err(Fault::DeviceFault);
+    };
+    if end(rt, gates, pass, stripe, number, &page, receipt) {
+        Ok(true)
+    } else {
+        Err(Fault::StoreFull)
+    }
+}
+
+/// The same as [`flush_one`], with one try of the stripe in place of waiting. The page is written while the stripe is
+/// held, so it cannot change meanwhile.
+///
+/// # Errors
+///
+/// [`Busy`] where the stripe's word was read as another pass's. Nothing was changed then, and the device was not asked;
+/// what the pass has seen may have grown. Else the faults of [`flush_one`].
+pub fn try_flush_one<R: Shows, D: Device<Receipt = R>>(
+    gates: &Gates<Shard<R>>,
+    pass: &mut Pass<Shard<R>>,
+    device: &mut D,
+    stripe: usize,
+) -> Result<Result<bool, Fault>, Busy>
+    requires own { IsResting R.is_steady gates.now pass.old }
+    requires below { stripe < stripes_of gates.now }
+    ensures own { IsResting R.is_steady gates.now pass.new }
+    ensures flushed { IfOk result (λ done. HasFlushed [] stripe done (D.failures device.old) (D.failures device.new) (known pass.old) (known pass.new)) }
+    ensures stripe { IfErr result (λ busy. busy.stripe ≡ stripe) }
+    ensures busy { IfErr result (λ busy. WasBusy busy.stripe (known pass.old) (known pass.new)) }
+    ensures not_asked { IfErr result (λ busy. device.new ≡ device.old) }
+{
+    let _stripes = gates.stripes();
+    let wanted = Sorted::none().with(stripe);
+    match gates.try_take(pass, &wanted) {
+        Ok(()) => {
+            let mut held = gates.hold(pass, &wanted);
+            let mut page = Page::new(0);
+            match flush_at(&mut held, stripe, &mut page, device) {
+                Ok(true) => {
+                    held.give(&Report::Done(stripe as u64, Work::Flush));
+                    Ok(Ok(true))
+                }
+                Ok(false) => {
+                    held.give(&Report::Idle(stripe as u64, Work::Flush));
+                    Ok(Ok(false))
+                }
+                Err(hybrid::Fault::StoreFull) => {
+                    held.give(&Report::Full(stripe as u64));
+                    Ok(Err(Fault::StoreFull))
+                }
+                Err(hybrid::Fault::DeviceFault) => {
+                    held.give(&Report::Nothing);
+                    Ok(Err(Fault::DeviceFault))
+                }
+            }
+        }
+        Err(stripe) => Err(Busy { stripe }),
+    }
+}

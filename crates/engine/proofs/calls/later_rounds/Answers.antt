@@ -1,0 +1,55 @@
+use Rattle.std.proofs.Common.{◌≡◌, ◌∙◌, ◌+◌, ◌≤◌, ℕ, List, false, nat_eq, refl, sym, ap, subst, arith}
+use Rattle.words.specs.History.{Pair}
+use Rattle.gates.specs.Passes.{known, stripes_of}
+use Rattle.transact.specs.Calls.{asked_of}
+use Rattle.transact.specs.Plans.{EndsAll}
+use Rattle.transact.specs.Submits.{IfFault, IfReply, stripes_asked}
+use Rattle.engine.specs.Calls.{HasItsPlace, IsDone, IsUndone, promises_of}
+use Rattle.engine.specs.Passes.{know}
+use Rattle.engine.proofs.Behind.{answer_later, fault_later}
+use Rattle.engine.proofs.Rounds.{few, learned_both, learned_none, told_both, told_none}
+use Rattle.engine.proofs.calls.later_rounds.Goals as goal
+
+pub rounds-init : goal.rounds-init
+rounds-init g c = record {
+  rests = c.requires.rests;
+  right = c.requires.right;
+  few = omega arith;
+  learned = learned_none (known c.args.pass.now);
+  told = told_none (stripes_asked (stripes_of c.args.gates.now) c.args.call.now) (known c.args.pass.now);
+  failures = refl;
+}
+
+pub later_round-requires-clause-place : goal.later_round-requires-clause-place
+later_round-requires-clause-place g c = subst (λ (w : List Pair). HasItsPlace w (asked_of c.args.call.now)) (sym c.rounds.invariant.learned.watched) c.requires.place
+
+pub later_round-requires-clause-ends : goal.later_round-requires-clause-ends
+later_round-requires-clause-ends g c = subst (λ (w : List Pair). EndsAll c.args.call.now w) (sym c.rounds.invariant.learned.watched) c.requires.ends
+
+pub returns-in-Some-clause-done : goal.returns-in-Some-clause-done
+returns-in-Some-clause-done g c =
+    let stripes : List ℕ = stripes_asked (stripes_of c.args.gates.now) c.args.call.now in
+    let now = know (known c.later_round.new.pass) (g.D.Device.failures c.later_round.new.device) in
+    answer_later stripes (known c.args.pass.now) (known c.rounds.pass) (g.D.Device.failures c.args.device.now) now c.rounds.invariant.learned c.rounds.invariant.told (c.in-Some.answer) (asked_of c.args.call.now)
+    (subst (λ (f : ℕ). IfReply (c.in-Some.answer) (λ reply. IsDone stripes (asked_of c.args.call.now) reply (know (known c.rounds.pass) f) now)) c.rounds.invariant.failures c.in-Some.ensures.done)
+
+pub returns-in-Some-clause-undone : goal.returns-in-Some-clause-undone
+returns-in-Some-clause-undone g c =
+    let stripes : List ℕ = stripes_asked (stripes_of c.args.gates.now) c.args.call.now in
+    let promises = promises_of g.R.Shows.is_steady g.R.Shows.lends in
+    let now = know (known c.later_round.new.pass) (g.D.Device.failures c.later_round.new.device) in
+    fault_later stripes (known c.args.pass.now) (known c.rounds.pass) (g.D.Device.failures c.args.device.now) now c.rounds.invariant.learned c.rounds.invariant.told promises (c.in-Some.answer) (asked_of c.args.call.now)
+    (subst (λ (f : ℕ). IfFault (c.in-Some.answer) (λ fault. IsUndone promises stripes (asked_of c.args.call.now) fault (know (known c.rounds.pass) f) now)) c.rounds.invariant.failures c.in-Some.ensures.undone)
+
+pub rounds-preserved : goal.rounds-preserved
+rounds-preserved g c =
+    let stripes : List ℕ = stripes_asked (stripes_of c.args.gates.now) c.args.call.now in
+    let i = c.rounds.invariant in
+    record {
+      rests = c.later_round.ensures.rests;
+      right = c.later_round.ensures.right;
+      few = few c.rounds.round c.in_default.ensures.outside i.few;
+      learned = learned_both (known c.args.pass.now) (known c.rounds.pass) (known c.later_round.new.pass) i.learned c.in_default.ensures.learned;
+      told = told_both stripes (known c.args.pass.now) (known c.rounds.pass) (known c.later_round.new.pass) i.told c.in_default.ensures.told;
+      failures = c.in_default.ensures.no_fault ∙ i.failures;
+    }

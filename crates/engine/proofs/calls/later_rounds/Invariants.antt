@@ -1,0 +1,19 @@
+use Rattle.std.proofs.Common.{◌≡◌, ◌-◌, ◌≤◌}
+use Rattle.gates.specs.Passes.{IsResting, Learned, ToldBusy, known, stripes_of}
+use Rattle.hybrid.specs.Staging.{AreRight}
+use Rattle.transact.specs.Submits.{stripes_asked}
+use Rattle.engine.specs.declared.outside.TheConstants.{ROUNDS}
+use Rattle.engine.proofs.calls.later_rounds.Given as goal
+
+abbrev pub invariant-rounds : goal.invariant-rounds
+invariant-rounds g l = record {
+  rests : IsResting g.R.Shows.is_steady l.gates l.pass;
+  right : g.R.Shows.is_steady → AreRight l.staged;
+  few : l.round ≤ ROUNDS;
+  learned : Learned (known l.fn.pass) (known l.pass);
+  told : ToldBusy (stripes_asked (stripes_of l.gates) l.call) (known l.fn.pass) (known l.pass);
+  failures : g.D.Device.failures l.device ≡ g.D.Device.failures l.fn.device;
+}
+
+abbrev pub decreases-rounds : goal.decreases-rounds
+decreases-rounds g l = ROUNDS - l.round

@@ -1,0 +1,219 @@
+//! The steps of the threads that work in the background: at one stripe each, by a pass, which is told what a step came to.
+//! None makes an entry in the history, and no key and no mark changes.
+
+ghost use Rattle.std.specs.Prelude.{◌≡◌, ◌<◌, [], ◌∷◌, Some, IfErr, IfOk};
+ghost use Rattle.epoch.specs.Seats as seats;
+ghost use Rattle.epoch.specs.declared.epochs.EpochSeat.{EpochSeat};
+ghost use Rattle.gates.specs.Passes.{WasBusy, known};
+ghost use Rattle.gates.specs.declared.view.Work.TheVariants.{Evict};
+ghost use Rattle.background.specs.Visits.{HasCleaned, HasFlushed, Visited, told};
+ghost use Rattle.engine.specs.Passes.{Rests, stripe_count};
+
+use crate::{Engine, Pass};
+use background::clean::{clean_one, try_clean_one};
+use background::evict::{evict_one, try_evict_one};
+use background::flush::{flush_one, try_flush_one};
+use background::look::{is_half_used, is_short_of_frames, used_places};
+use device::Device;
+use std::sync::Wait;
+use transact::call::Busy;
+use words::reply::Fault;
+
+impl<D: Device> Engine<D> {
+    /// How many stripes the store has.
+    pub fn stripes(&self) -> usize
+        ensures { result ≡ stripe_count self.now }
+    {
+        self.gates.stripes()
+    }
+
+    /// The flusher's step at a stripe: its oldest read-only page without a receipt is written to the device while nobody
+    /// waits for the stripe, and its receipt is kept. False where no page waits for that. It may wait for calls of other passes.
+    ///
+    /// # Errors
+    ///
+    /// [`Fault::DeviceFault`] where the write failed, [`Fault::StoreFull`] where no place may be taken for the page.
+    pub fn flush_one<T: Wait>(
+        &self,
+        rt: &T,
+        pass: &mut Pass<D>,
+        stripe: usize,
+    ) -> Result<bool, Fault>
+        requires rests { Rests D.Receipt.is_steady self.now pass.old }
+        requires below { stripe < stripe_count self.now }
+        ensures rests { Rests D.Receipt.is_steady self.now pass.new }
+        ensures flushed { HasFlushed (stripe ∷ []) stripe result (D.failures pass.old.device) (D.failures pass.new.device) (known pass.old.gates) (known pass.new.gates) }
+    {
+        flush_one(rt, &self.gates, &mut pass.gates, &mut pass.device, stripe)
+    }
+
+    /// The same as [`flush_one`](Engine::flush_one) without waiting. The page is written while the stripe is held.
+    ///
+    /// # Errors
+    ///
+    /// [`Busy`] where the stripe's word was read as another pass's: nothing was changed then. Else the faults of `flush_one`.
+    pub fn try_flush_one(
+        &self,
+        pass: &mut Pass<D>,
+        stripe: usize,
+    ) -> Result<Result<bool, Fault>, Busy>
+        requires rests { Rests D.Receipt.is_steady self.now pass.old }
+        requires below { stripe < stripe_count self.now }
+        ensures rests { Rests D.Receipt.is_steady self.now pass.new }
+        ensures flushed { IfOk result (λ done. HasFlushed [] stripe done (D.failures pass.old.device) (D.failures pass.new.device) (known pass.old.gates) (known pass.new.gates)) }
+        ensures busy { IfErr result (λ busy. (busy.stripe ≡ stripe) × WasBusy stripe (known pass.old.gates) (known pass.new.gates)) }
+        ensures not_asked { IfErr result (λ busy. pass.new.device ≡ pass.old.device) }
+    {
+        try_flush_one(&self.gates, &mut pass.gates, &mut pass.device, stripe)
+    }
+
+    /// The evictor's step at a stripe: its oldest resident page leaves its frame, where its receipt is kept; false where none
+    /// is. It may wait for calls of other passes. It has no fault.
+    ///
+    /// # Errors
+    ///
+    /// None.
+    pub fn evict_one<T: Wait>(
+        &self,
+        rt: &T,
+        pass: &mut Pass<D>,
+        stripe: usize,
+    ) -> Result<bool, Fault>
+        requires rests { Rests D.Receipt.is_steady self.now pass.old }
+        requires below { stripe < stripe_count self.now }
+        ensures rests { Rests D.Receipt.is_steady self.now pass.new }
+        ensures evicted { (done : _) × (result ≡ Ok done) × Visited (stripe ∷ []) (told Evict stripe done) (known pass.old.gates) (known pass.new.gates) }
+        ensures device { pass.new.device ≡ pass.old.device }
+    {
+        Ok(evict_one(rt, &self.gates, &mut pass.gates, stripe))
+    }
+
+    /// The same as [`evict_one`](Engine::evict_one) without waiting.
+    ///
+    /// # Errors
+    ///
+    /// [`Busy`] where the stripe's word was read as another pass's: nothing was changed then.
+    pub fn try_evict_one(
+        &self,
+        pass: &mut Pass<D>,
+        stripe: usize,
+    ) -> Result<Result<bool, Fault>, Busy>
+        requires rests { Rests D.Receipt.is_steady self.now pass.old }
+        requires below { stripe < stripe_count self.now }
+        ensures rests { Rests D.Receipt.is_steady self.now pass.new }
+        ensures evicted { IfOk result (λ step. (done : _) × (step ≡ Ok done) × Visited [] (told Evict stripe done) (known pass.old.gates) (known pass.new.gates)) }
+        ensures busy { IfErr result (λ busy. (busy.stripe ≡ stripe) × WasBusy stripe (known pass.old.gates) (known pass.new.gates)) }
+        ensures device { pass.new.device ≡ pass.old.device }
+    {
+        match try_evict_one(&self.gates, &mut pass.gates, stripe) {
+            Ok(done) => Ok(Ok(done)),
+            Err(busy) => Err(busy),
+        }
+    }
+
+    /// The cleaner's step at a stripe, the first of these that can be done: the oldest drained place is released, the oldest
+    /// retired one is drained, the oldest unlinked one is retired, or the oldest page leaves the log, once its live records
+    /// were copied to the tail. False where nothing can be done. It may wait for calls of other passes.
+    ///
+    /// # Errors
+    ///
+    /// [`Fault::OutOfMemory`] where there is no memory for a page that is read, so not where receipts lend their pages;
+    /// [`Fault::DeviceFault`] where a call of the device failed; [`Fault::StoreFull`] where what lives in the oldest page has no room.
+    pub fn clean_one<T: Wait>(
+        &self,
+        rt: &T,
+        pass: &mut Pass<D>,
+        stripe: usize,
+    ) -> Result<bool, Fault>
+        requires rests { Rests D.Receipt.is_steady self.now pass.old }
+        requires below { stripe < stripe_count self.now }
+        ensures rests { Rests D.Receipt.is_steady self.now pass.new }
+        ensures cleaned { (was now : EpochSeat) → pass.old.seat ≡ Some was → pass.new.seat ≡ Some now → HasCleaned D.Receipt.lends (stripe ∷ []) stripe result (D.failures pass.old.device) (D.failures pass.new.device) (known pass.old.gates) (known pass.new.gates) (seats.known was) (seats.known now) }
+    {
+        let Some(seat) = pass.seat.take() else {
+            unreachable!()
+        };
+        let (result, seat) = clean_one(
+            rt,
+            &self.gates,
+            &mut pass.gates,
+            &mut pass.device,
+            &self.epochs,
+            seat,
+            &mut pass.staged,
+            stripe,
+        );
+        pass.seat = Some(seat);
+        pass.staged.clear();
+        result
+    }
+
+    /// The same as [`clean_one`](Engine::clean_one) without waiting. Pages that are wanted are read while the stripe is held.
+    ///
+    /// # Errors
+    ///
+    /// [`Busy`] where the stripe's word was read as another pass's: nothing was changed then. Else the faults of `clean_one`.
+    pub fn try_clean_one(
+        &self,
+        pass: &mut Pass<D>,
+        stripe: usize,
+    ) -> Result<Result<bool, Fault>, Busy>
+        requires rests { Rests D.Receipt.is_steady self.now pass.old }
+        requires below { stripe < stripe_count self.now }
+        ensures rests { Rests D.Receipt.is_steady self.now pass.new }
+        ensures cleaned { (was now : EpochSeat) → pass.old.seat ≡ Some was → pass.new.seat ≡ Some now → IfOk result (λ done. HasCleaned D.Receipt.lends [] stripe done (D.failures pass.old.device) (D.failures pass.new.device) (known pass.old.gates) (known pass.new.gates) (seats.known was) (seats.known now)) }
+        ensures busy { IfErr result (λ busy. (busy.stripe ≡ stripe) × WasBusy stripe (known pass.old.gates) (known pass.new.gates)) }
+        ensures not_asked { IfErr result (λ busy. pass.new.device ≡ pass.old.device) }
+    {
+        let Some(mut seat) = pass.seat.take() else {
+            unreachable!()
+        };
+        let result = try_clean_one(
+            &self.gates,
+            &mut pass.gates,
+            &mut pass.device,
+            &self.epochs,
+            &mut seat,
+            &mut pass.staged,
+            stripe,
+        );
+        pass.seat = Some(seat);
+        pass.staged.clear();
+        result
+    }
+
+    /// Whether at least half of a stripe's places on the device are taken and not released: the cleaner works there. It may
+    /// wait for calls of other passes.
+    pub fn half_used<T: Wait>(&self, rt: &T, pass: &mut Pass<D>, stripe: usize) -> bool
+        requires rests { Rests D.Receipt.is_steady self.now pass.old }
+        requires below { stripe < stripe_count self.now }
+        ensures rests { Rests D.Receipt.is_steady self.now pass.new }
+        ensures told { Visited (stripe ∷ []) [] (known pass.old.gates) (known pass.new.gates) }
+        ensures device { pass.new.device ≡ pass.old.device }
+    {
+        is_half_used(rt, &self.gates, &mut pass.gates, stripe)
+    }
+
+    /// How many of a stripe's places on the device are taken and not released. It may wait for calls of other passes.
+    pub fn used_places<T: Wait>(&self, rt: &T, pass: &mut Pass<D>, stripe: usize) -> usize
+        requires rests { Rests D.Receipt.is_steady self.now pass.old }
+        requires below { stripe < stripe_count self.now }
+        ensures rests { Rests D.Receipt.is_steady self.now pass.new }
+        ensures told { Visited (stripe ∷ []) [] (known pass.old.gates) (known pass.new.gates) }
+        ensures device { pass.new.device ≡ pass.old.device }
+    {
+        used_places(rt, &self.gates, &mut pass.gates, stripe)
+    }
+
+    /// Whether fewer frames of a stripe are free than pages that a call can open: the evictor works there. It may wait for
+    /// calls of other passes.
+    pub fn short_of_frames<T: Wait>(&self, rt: &T, pass: &mut Pass<D>, stripe: usize) -> bool
+        requires rests { Rests D.Receipt.is_steady self.now pass.old }
+        requires below { stripe < stripe_count self.now }
+        ensures rests { Rests D.Receipt.is_steady self.now pass.new }
+        ensures told { Visited (stripe ∷ []) [] (known pass.old.gates) (known pass.new.gates) }
+        ensures device { pass.new.device ≡ pass.old.device }
+    {
+        is_short_of_frames(rt, &self.gates, &mut pass.gates, stripe)
+    }
+}

@@ -1,0 +1,218 @@
+//! The threads that work in the background: one writes pages to the device, one drops them from their frames, one gives
+//! places on the device back.
+//!
+//! Each goes over all stripes again and again, with a few steps at each. Where it finds nothing to do anywhere, it rests. It
+//! ends once serving is over.
+
+ghost use Rattle.std.specs.Prelude.{◌<◌};
+ghost use Rattle.engine.specs.Passes.{Rests, stripe_count};
+
+use crate::laps::Laps;
+use crate::serving::Serving;
+use device::Device;
+use engine::{Engine, Pass};
+use std::alloc::{AllocError, Global};
+use std::rt::Clock;
+use std::sync::Wait;
+use std::thread;
+use std::time::Duration;
+
+/// How long a thread rests that found nothing to do: 10 milliseconds while connections are served, else 50.
+const REST_MILLISECONDS: u64 = 10;
+
+const IDLE_MILLISECONDS: u64 = 50;
+/// How many steps a thread does at a stripe before it goes on to the next.
+const STEPS: usize = 16;
+
+/// What a thread does at a stripe.
+#[derive(Clone, Copy, Debug, PartialEq, Eq)]
+pub(crate) enum Duty {
+    /// It writes pages that wait for that to the device.
+    Flush,
+    /// It drops pages that were written from their frames, where frames are short.
+    Evict,
+    /// It brings places nearer to their release, where half of them are used.
+    Clean,
+}
+
+/// What a thread does, and what it knows of the stripes.
+#[derive(Drop)]
+pub(crate) struct Chores {
+    duty: Duty,
+    /// The cleaner's laps, of each stripe. Others have none.
+    laps: Vec<Laps>,
+    /// How many places a stripe has on the device.
+    places: usize,
+}
+
+impl Chores {
+    /// The chores of a thread that writes pages, or drops them.
+    pub(crate) fn of(alloc: Global, duty: Duty) -> Chores {
+        Chores {
+            duty,
+            laps: Vec::new(alloc),
+            places: 0,
+        }
+    }
+
+    /// The cleaner's chores, at so many stripes of so many places.
+    ///
+    /// # Errors
+    ///
+    /// [`AllocError`] where there is no memory for what it knows of the stripes.
+    pub(crate) fn of_cleaner(
+        alloc: Global,
+        stripes: usize,
+        places: usize,
+    ) -> Result<Chores, AllocError> {
+        Ok(Chores {
+            duty: Duty::Clean,
+            laps: vec![in alloc; Laps::new(); stripes]?,
+            places,
+        })
+    }
+}
+
+/// Works at all stripes until serving is over.
+pub(crate) fn work_in_background<R: Clock + Wait, D: Device>(
+    rt: &R,
+    engine: &Engine<D>,
+    pass: Pass<D>,
+    chores: Chores,
+    serving: &Serving,
+)
+    requires rests { Rests D.Receipt.is_steady engine.now pass }
+{
+    let mut pass = pass;
+    let mut chores = chores;
+    for _ in rt.forever() {
+        let done = sweep(rt, engine, &mut pass, &mut chores);
+        if has_ended(rt, serving, done) {
+            return;
+        }
+    }
+}
+
+/// Some steps at each stripe, and whether any was done.
+fn sweep<R: Wait, D: Device>(
+    rt: &R,
+    engine: &Engine<D>,
+    pass: &mut Pass<D>,
+    chores: &mut Chores,
+) -> bool
+    requires rests { Rests D.Receipt.is_steady engine.now pass.old }
+    ensures rests { Rests D.Receipt.is_steady engine.now pass.new }
+{
+    let mut done = false;
+    for stripe in 0..engine.stripes() {
+        if some_steps(rt, engine, pass, chores, stripe) {
+            done = true;
+        }
+    }
+    done
+}
+
+/// Some steps at a stripe, until one is not done, and whether any was.
+fn some_steps<R: Wait, D: Device>(
+    rt: &R,
+    engine: &Engine<D>,
+    pass: &mut Pass<D>,
+    chores: &mut Chores,
+    stripe: usize,
+) -> bool
+    requires rests { Rests D.Receipt.is_steady engine.now pass.old }
+    requires below { stripe < stripe_count engine.now }
+    ensures rests { Rests D.Receipt.is_steady engine.now pass.new }
+{
+    for count in 0..STEPS {
+        if !step(rt, engine, pass, chores, stripe) {
+            return count > 0;
+        }
+    }
+    true
+}
+
+/// One step at a stripe, and whether it was done. One that meets a fault was not, and is tried again later.
+fn step<R: Wait, D: Device>(
+    rt: &R,
+    engine: &Engine<D>,
+    pass: &mut Pass<D>,
+    chores: &mut Chores,
+    stripe: usize,
+) -> bool
+    requires rests { Rests D.Receipt.is_steady engine.now pass.old }
+    requires below { stripe < stripe_count engine.now }
+    ensures rests { Rests D.Receipt.is_steady engine.now pass.new }
+{
+    match chores.duty {
+        Duty::Flush => matches!(engine.flush_one(rt, pass, stripe), Ok(true)),
+        Duty::Evict => {
+            engine.short_of_frames(rt, pass, stripe)
+                && matches!(engine.evict_one(rt, pass, stripe), Ok(true))
+        }
+        Duty::Clean => {
+            engine.half_used(rt, pass, stripe)
+                && goes_on(rt, engine, pass, chores, stripe)
+                && clean(rt, engine, pass, chores, stripe)
+        }
+    }
+}
+
+/// One step of the cleaner, and whether it was done. A fault ends its lap.
+fn clean<R: Wait, D: Device>(
+    rt: &R,
+    engine: &Engine<D>,
+    pass: &mut Pass<D>,
+    chores: &mut Chores,
+    stripe: usize,
+) -> bool
+    requires rests { Rests D.Receipt.is_steady engine.now pass.old }
+    requires below { stripe < stripe_count engine.now }
+    ensures rests { Rests D.Receipt.is_steady engine.now pass.new }
+{
+    match engine.clean_one(rt, pass, stripe) {
+        Ok(done) => done,
+        Err(_) => {
+            if let Some(laps) = chores.laps.get_mut(stripe) {
+                laps.stop();
+            }
+            false
+        }
+    }
+}
+
+/// Whether the cleaner does a step at a stripe that is half used: one more of its lap, or the first of a new one.
+fn goes_on<R: Wait, D: Device>(
+    rt: &R,
+    engine: &Engine<D>,
+    pass: &mut Pass<D>,
+    chores: &mut Chores,
+    stripe: usize,
+) -> bool
+    requires rests { Rests D.Receipt.is_steady engine.now pass.old }
+    requires below { stripe < stripe_count engine.now }
+    ensures rests { Rests D.Receipt.is_steady engine.now pass.new }
+{
+    let Some(laps) = chores.laps.get_mut(stripe) else {
+        return false;
+    };
+    if laps.goes_on() {
+        return true;
+    }
+    let used = engine.used_places(rt, pass, stripe);
+    laps.begins(used, chores.places) && laps.goes_on()
+}
+
+/// Whether serving is over. Where there was nothing to do, it rests before.
+fn has_ended<R: Clock + Wait>(rt: &R, serving: &Serving, busy: bool) -> bool {
+    if busy {
+        return serving.is_over();
+    }
+    let rest = if serving.is_idle() {
+        IDLE_MILLISECONDS
+    } else {
+        REST_MILLISECONDS
+    };
+    thread::sleep(rt, Duration::from_millis(rest));
+    serving.is_over()
+}

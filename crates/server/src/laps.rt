@@ -1,0 +1,94 @@
+//! When the cleaner works at a stripe.
+
+/// How many steps a place takes from its page to its release: unlinked, retired, drained, released.
+const STEPS_EACH: usize = 4;
+/// A lap that gave back fewer places than this part of those that were used is in vain.
+const GAIN_PART: usize = 32;
+/// After how many looks the cleaner tries a full stripe again, at first and at most. Looks are a rest apart where no other
+/// stripe has work.
+const LOOKS_MIN: usize = 10;
+
+const LOOKS_MAX: usize = 1_000;
+
+/// The cleaner's laps over the places of a stripe. A lap has as many steps as it takes to come by each used place once. Where
+/// one was in vain, since nearly all that it copied still lives, the cleaner leaves the stripe alone until more places are
+/// used; a full stripe, where keys may be deleted meanwhile, it tries again after a while.
+#[derive(Clone, Copy, Drop)]
+pub(crate) struct Laps {
+    /// The steps that are left of this lap.
+    left: usize,
+    /// The places that were used when it began; 0 where there is none.
+    began: usize,
+    /// The places that were used when the last one ended in vain; 0 where it did not.
+    vain: usize,
+    /// How often the cleaner has looked since.
+    looks: usize,
+    /// After how many looks it tries a full stripe again.
+    patience: usize,
+}
+
+impl Laps {
+    /// No lap has begun.
+    pub(crate) fn new() -> Laps {
+        Laps {
+            left: 0,
+            began: 0,
+            vain: 0,
+            looks: 0,
+            patience: LOOKS_MIN,
+        }
+    }
+
+    /// Whether the lap goes on: it has a step left, which is taken.
+    pub(crate) fn goes_on(&mut self) -> bool {
+        if self.left == 0 {
+            return false;
+        }
+        self.left -= 1;
+        true
+    }
+
+    /// Ends the lap before its last step, since a step met a fault.
+    pub(crate) fn stop(&mut self) {
+        self.left = 0;
+    }
+
+    /// Whether a new lap begins, at a stripe of so many places, of which so many are used.
+    pub(crate) fn begins(&mut self, used: usize, places: usize) -> bool {
+        if self.began > 0 {
+            self.end(used);
+        }
+        if self.vain > 0 && !self.is_worth(used, places) {
+            return false;
+        }
+        self.began = used;
+        self.vain = 0;
+        self.looks = 0;
+        self.left = used.saturating_mul(STEPS_EACH);
+        true
+    }
+
+    /// Ends a lap.
+    fn end(&mut self, used: usize) {
+        let gained = self.began.saturating_sub(used);
+        if gained < self.began / GAIN_PART + 1 {
+            self.vain = used;
+        } else {
+            self.patience = LOOKS_MIN;
+        }
+        self.began = 0;
+    }
+
+    /// Whether a lap is worth another try after one in vain.
+    fn is_worth(&mut self, used: usize, places: usize) -> bool {
+        if used > self.vain.saturating_add(places / GAIN_PART) {
+            return true;
+        }
+        self.looks = self.looks.saturating_add(1);
+        if used < places || self.looks < self.patience {
+            return false;
+        }
+        self.patience = self.patience.saturating_mul(2).min(LOOKS_MAX);
+        true
+    }
+}

@@ -1,5 +1,0 @@
-use Rattle.std.proofs.Common.{length}
-use Rattle.transact.proofs.watches.+take_back_all.Given as goal
-
-abbrev pub decreases-take_back_all : goal.decreases-take_back_all
-decreases-take_back_all g l = length l.keys.now

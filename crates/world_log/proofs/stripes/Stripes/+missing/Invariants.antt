@@ -1,5 +1,0 @@
-use Rattle.std.proofs.Common.{length}
-use Rattle.world_log.proofs.stripes.Stripes.+missing.Given as goal
-
-abbrev pub decreases-missing : goal.decreases-missing
-decreases-missing l = length l.stripes
