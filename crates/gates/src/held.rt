@@ -26,7 +26,7 @@ impl<T: Part> Gates<T> {
     ghost use Rattle.gates.specs.declared.view.Note.TheVariants as note;
     ghost use Rattle.gates.specs.Sets.{times, AreBelow, part_at};
     ghost use Rattle.gates.specs.Passes.{stripes_of, known, parts_in, taken_in, takes_in, stripes_in, AllFit, AreAsTaken, IsHolding, IsResting, Learned, MayEnd, ToldBusy, WasTold, WasBusy, Committed, KeysHeld};
-    ghost use Rattle.gates.specs.Helds.{IsOpen, held_parts, HasHeld, HasTaken, TookAll};
+    ghost use Rattle.gates.specs.Helds.{IsOpen, held_parts, HasHeld, HasTaken, TookAll, known_to};
     ghost use Rattle.atomic_table.specs.Table.{rest};
     ghost use Rattle.gates.specs.Plays.{kept};
     ghost use Rattle.gates.specs.Background.{notes_of};
@@ -140,7 +140,10 @@ impl<T: Part> Gates<T> {
     pub fn hold<'a>(&'a self, pass: &'a mut Pass<T>, stripes: &Sorted) -> Held<'a, T>
         requires holding { IsHolding T.meaning.trusted self.now pass.old }
         requires all { stripes_in pass.old ≡ stripes.now }
-        ensures { HasHeld T.meaning.trusted self.now pass.entry result }
+        ensures held { HasHeld T.meaning.trusted self.now pass.entry result }
+        // What was taken with one try each is taken from before the tries on, and the pass was told nothing.
+        ensures taken { (before : Pass T) → TookAll T.meaning self.now stripes.now before pass.old → HasTaken T.meaning self.now stripes.now (record pass.entry { now = before }) result }
+        ensures told { (before : Pass T) → TookAll T.meaning self.now stripes.now before pass.old → (known_to result).notes ≡ (known before).notes }
     {
         Held {
             gates: self,

@@ -6,7 +6,6 @@ use Rattle.gates.specs.Helds.{held_parts, held_taken, known_to}
 use Rattle.gates.specs.Passes.{known}
 use Rattle.gates.specs.Plays.{kept}
 use Rattle.gates.specs.Sets.{part_at}
-use Rattle.gates.proofs.Trying.{taken_at_once, told_none}
 use Rattle.plans.specs.Shards.{shard_meaning}
 use Rattle.background.specs.declared.clean.Round.TheVariants as round
 use Rattle.background.specs.Visits.{report_for, round_for}
@@ -17,21 +16,21 @@ use Rattle.background.proofs.clean.try_clean_one.Goals as goal
 pub give-requires-clause-told : goal.give-requires-clause-told
 give-requires-clause-told g c =
     let s = c.clean_at-came.ensures.stepped in
-    let lent = (taken_at_once _ _ _ _ _ _ c.in-Ok.ensures.ok c.hold-held.ensures).lent c.args.stripe s.old s.was in
+    let lent = (c.hold-held.ensures.taken _ c.in-Ok.ensures.ok).lent c.args.stripe s.old s.was in
     subst (λ (r : Report). IsToldOf (shard_meaning g.R.Shows.is_steady) (held_taken c.clean_at-came.new.parts) (held_parts c.clean_at-came.new.parts) r) (sym c.report_of.ensures)
     (may_be_told g.R.Shows.is_steady c.args.stripe c.clean_at-came.result (held_taken c.clean_at-came.new.parts) (held_parts c.clean_at-came.new.parts) s.old s.new lent.0
     (ap (λ took. part_at took c.args.stripe) c.clean_at-came.ensures.keeps.taken ∙ lent.1) s.is s.says.0)
 
 pub give-requires-clause-fit : goal.give-requires-clause-fit
 give-requires-clause-fit g c =
-    fit_held (shard_meaning g.R.Shows.is_steady) c.args.gates.now c.args.stripe _ c.hold-held.result c.clean_at-came.new.parts (taken_at_once _ _ _ _ _ _ c.in-Ok.ensures.ok c.hold-held.ensures).gates_are c.clean_at-came.ensures.keeps c.clean_at-came.ensures.stepped (taken_at_once _ _ _ _ _ _ c.in-Ok.ensures.ok c.hold-held.ensures).fit
+    fit_held (shard_meaning g.R.Shows.is_steady) c.args.gates.now c.args.stripe _ c.hold-held.result c.clean_at-came.new.parts (c.hold-held.ensures.taken _ c.in-Ok.ensures.ok).gates_are c.clean_at-came.ensures.keeps c.clean_at-came.ensures.stepped (c.hold-held.ensures.taken _ c.in-Ok.ensures.ok).fit
 
 pub returns-in-Ok-Ended-clause-cleaned : goal.returns-in-Ok-Ended-clause-cleaned
 returns-in-Ok-Ended-clause-cleaned g c =
     let last = c.give.ensures.known in
     round_is (round_for c.clean_at-came.result) (Ok (round.Ended c.in-Ok-Ended.done)) _ _ (sym c.round_of.ensures ∙ ok_is c.round_of.result c.in-Ok-Ended.field-0 (round.Ended c.in-Ok-Ended.done) c.in-Ok-Ended.is c.in-Ok-Ended.field-0-is)
     (settled g.R.Shows.lends [] c.args.stripe c.clean_at-came.result true (g.D.Device.failures c.args.device.now) (g.D.Device.failures c.clean_at-came.new.device)
-    (known c.args.pass.now) (known_to c.hold-held.result) _ (seats.known c.args.seat.now) (seats.known c.clean_at-came.new.seat) (taken_at_once _ _ _ _ _ _ c.in-Ok.ensures.ok c.hold-held.ensures).learned ([], (told_none _ _ _ _ _ _ c.in-Ok.ensures.ok c.hold-held.ensures), tt)
+    (known c.args.pass.now) (known_to c.hold-held.result) _ (seats.known c.args.seat.now) (seats.known c.clean_at-came.new.seat) (c.hold-held.ensures.taken _ c.in-Ok.ensures.ok).learned ([], (c.hold-held.ensures.told _ c.in-Ok.ensures.ok), tt)
     (search (rules, last) ∙ ap (λ (r : Report). kept false (notes_of r) (known_to c.clean_at-came.new.parts)) c.report_of.ensures ∙ ap (kept false (notes_of (report_for c.args.stripe c.clean_at-came.result))) c.clean_at-came.ensures.keeps.known)
     c.clean_at-came.ensures.fault c.clean_at-came.ensures.no_fault c.clean_at-came.ensures.worn c.clean_at-came.ensures.cold c.clean_at-came.ensures.tried)
 
@@ -40,7 +39,7 @@ returns-in-Err-round_of-clause-cleaned g c =
     let last = c.give.ensures.known in
     round_is (round_for c.clean_at-came.result) (Err c.in-Err-round_of.fault) _ _ (sym c.round_of.ensures ∙ c.in-Err-round_of.is)
     (settled g.R.Shows.lends [] c.args.stripe c.clean_at-came.result true (g.D.Device.failures c.args.device.now) (g.D.Device.failures c.clean_at-came.new.device)
-    (known c.args.pass.now) (known_to c.hold-held.result) _ (seats.known c.args.seat.now) (seats.known c.clean_at-came.new.seat) (taken_at_once _ _ _ _ _ _ c.in-Ok.ensures.ok c.hold-held.ensures).learned ([], (told_none _ _ _ _ _ _ c.in-Ok.ensures.ok c.hold-held.ensures), tt)
+    (known c.args.pass.now) (known_to c.hold-held.result) _ (seats.known c.args.seat.now) (seats.known c.clean_at-came.new.seat) (c.hold-held.ensures.taken _ c.in-Ok.ensures.ok).learned ([], (c.hold-held.ensures.told _ c.in-Ok.ensures.ok), tt)
     (search (rules, last) ∙ ap (λ (r : Report). kept false (notes_of r) (known_to c.clean_at-came.new.parts)) c.report_of.ensures ∙ ap (kept false (notes_of (report_for c.args.stripe c.clean_at-came.result))) c.clean_at-came.ensures.keeps.known)
     c.clean_at-came.ensures.fault c.clean_at-came.ensures.no_fault c.clean_at-came.ensures.worn c.clean_at-came.ensures.cold c.clean_at-came.ensures.tried)
 

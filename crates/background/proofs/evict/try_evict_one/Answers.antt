@@ -1,6 +1,5 @@
 use Rattle.std.proofs.Common.{◌∙◌, ap, rules}
 use Rattle.gates.specs.Sets.{part_at}
-use Rattle.gates.proofs.Trying.{taken_at_once}
 use Rattle.plans.specs.Shards.{shard_meaning}
 use Rattle.background.proofs.Visiting.{fit_held, one_of}
 use Rattle.background.proofs.evict.try_evict_one.Goals as goal
@@ -8,7 +7,7 @@ use Rattle.background.proofs.evict.try_evict_one.Goals as goal
 pub give-requires-clause-told : goal.give-requires-clause-told
 give-requires-clause-told g c =
     let s = c.if-evict_at.ensures.stepped in
-    let lent = (taken_at_once _ _ _ _ _ _ c.in-Ok.ensures.ok c.hold-held.ensures).lent c.args.stripe s.old s.was in
+    let lent = (c.hold-held.ensures.taken _ c.in-Ok.ensures.ok).lent c.args.stripe s.old s.was in
     record {
       part = s.new;
       there = s.is;
@@ -17,11 +16,11 @@ give-requires-clause-told g c =
 
 pub give-requires-clause-fit : goal.give-requires-clause-fit
 give-requires-clause-fit g c =
-    fit_held (shard_meaning g.R.Shows.is_steady) c.args.gates.now c.args.stripe _ c.hold-held.result c.evict_at.new.parts (taken_at_once _ _ _ _ _ _ c.in-Ok.ensures.ok c.hold-held.ensures).gates_are c.evict_at.ensures.keeps c.evict_at.ensures.stepped (taken_at_once _ _ _ _ _ _ c.in-Ok.ensures.ok c.hold-held.ensures).fit
+    fit_held (shard_meaning g.R.Shows.is_steady) c.args.gates.now c.args.stripe _ c.hold-held.result c.evict_at.new.parts (c.hold-held.ensures.taken _ c.in-Ok.ensures.ok).gates_are c.evict_at.ensures.keeps c.evict_at.ensures.stepped (c.hold-held.ensures.taken _ c.in-Ok.ensures.ok).fit
 
 pub give-requires-else-evict_at-clause-fit : goal.give-requires-else-evict_at-clause-fit
 give-requires-else-evict_at-clause-fit g c =
-    fit_held (shard_meaning g.R.Shows.is_steady) c.args.gates.now c.args.stripe _ c.hold-held.result c.evict_at.new.parts (taken_at_once _ _ _ _ _ _ c.in-Ok.ensures.ok c.hold-held.ensures).gates_are c.evict_at.ensures.keeps c.evict_at.ensures.stepped (taken_at_once _ _ _ _ _ _ c.in-Ok.ensures.ok c.hold-held.ensures).fit
+    fit_held (shard_meaning g.R.Shows.is_steady) c.args.gates.now c.args.stripe _ c.hold-held.result c.evict_at.new.parts (c.hold-held.ensures.taken _ c.in-Ok.ensures.ok).gates_are c.evict_at.ensures.keeps c.evict_at.ensures.stepped (c.hold-held.ensures.taken _ c.in-Ok.ensures.ok).fit
 
 pub returns-in-Err-clause-own : goal.returns-in-Err-clause-own
 returns-in-Err-clause-own g c = search rules
@@ -35,7 +34,7 @@ returns-in-Err-clause-stripe g c = one_of c.in-Err.stripe c.args.stripe c.none.r
 pub give-requires-else-evict_at-clause-told : goal.give-requires-else-evict_at-clause-told
 give-requires-else-evict_at-clause-told g c =
     let s = c.if-evict_at.ensures.stepped in
-    let lent = (taken_at_once _ _ _ _ _ _ c.in-Ok.ensures.ok c.hold-held.ensures).lent c.args.stripe s.old s.was in
+    let lent = (c.hold-held.ensures.taken _ c.in-Ok.ensures.ok).lent c.args.stripe s.old s.was in
     record {
       part = s.new;
       there = s.is;

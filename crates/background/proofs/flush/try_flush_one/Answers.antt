@@ -2,7 +2,6 @@ use Rattle.std.proofs.Common.{◌∙◌, ap, rules}
 use Rattle.gates.specs.Sets.{part_at}
 use Rattle.gates.specs.Background.{IsIdle, IsStep}
 use Rattle.gates.specs.declared.view.Work.TheVariants.{Flush}
-use Rattle.gates.proofs.Trying.{taken_at_once}
 use Rattle.plans.specs.Shards.{shard_meaning, shard_pages}
 use Rattle.background.proofs.Visiting.{fit_held, on_false, on_true, one_of}
 use Rattle.background.proofs.flush.try_flush_one.Goals as goal
@@ -10,7 +9,7 @@ use Rattle.background.proofs.flush.try_flush_one.Goals as goal
 pub give-requires-clause-told : goal.give-requires-clause-told
 give-requires-clause-told g c =
     let s = c.in-Ok-true.ensures.stepped in
-    let lent = (taken_at_once _ _ _ _ _ _ c.in-Ok.ensures.ok c.hold-held.ensures).lent c.args.stripe s.old s.was in
+    let lent = (c.hold-held.ensures.taken _ c.in-Ok.ensures.ok).lent c.args.stripe s.old s.was in
     record {
       part = s.new;
       there = s.is;
@@ -19,12 +18,12 @@ give-requires-clause-told g c =
 
 pub give-requires-clause-fit : goal.give-requires-clause-fit
 give-requires-clause-fit g c =
-    fit_held (shard_meaning g.R.Shows.is_steady) c.args.gates.now c.args.stripe _ c.hold-held.result c.flush_at.new.parts (taken_at_once _ _ _ _ _ _ c.in-Ok.ensures.ok c.hold-held.ensures).gates_are c.flush_at.ensures.keeps c.flush_at.ensures.stepped (taken_at_once _ _ _ _ _ _ c.in-Ok.ensures.ok c.hold-held.ensures).fit
+    fit_held (shard_meaning g.R.Shows.is_steady) c.args.gates.now c.args.stripe _ c.hold-held.result c.flush_at.new.parts (c.hold-held.ensures.taken _ c.in-Ok.ensures.ok).gates_are c.flush_at.ensures.keeps c.flush_at.ensures.stepped (c.hold-held.ensures.taken _ c.in-Ok.ensures.ok).fit
 
 pub give-requires-in-Ok-false-clause-told : goal.give-requires-in-Ok-false-clause-told
 give-requires-in-Ok-false-clause-told g c =
     let s = c.in-Ok-false.ensures.stepped in
-    let lent = (taken_at_once _ _ _ _ _ _ c.in-Ok.ensures.ok c.hold-held.ensures).lent c.args.stripe s.old s.was in
+    let lent = (c.hold-held.ensures.taken _ c.in-Ok.ensures.ok).lent c.args.stripe s.old s.was in
     record {
       part = s.new;
       there = s.is;
@@ -33,15 +32,15 @@ give-requires-in-Ok-false-clause-told g c =
 
 pub give-requires-in-Ok-false-clause-fit : goal.give-requires-in-Ok-false-clause-fit
 give-requires-in-Ok-false-clause-fit g c =
-    fit_held (shard_meaning g.R.Shows.is_steady) c.args.gates.now c.args.stripe _ c.hold-held.result c.flush_at.new.parts (taken_at_once _ _ _ _ _ _ c.in-Ok.ensures.ok c.hold-held.ensures).gates_are c.flush_at.ensures.keeps c.flush_at.ensures.stepped (taken_at_once _ _ _ _ _ _ c.in-Ok.ensures.ok c.hold-held.ensures).fit
+    fit_held (shard_meaning g.R.Shows.is_steady) c.args.gates.now c.args.stripe _ c.hold-held.result c.flush_at.new.parts (c.hold-held.ensures.taken _ c.in-Ok.ensures.ok).gates_are c.flush_at.ensures.keeps c.flush_at.ensures.stepped (c.hold-held.ensures.taken _ c.in-Ok.ensures.ok).fit
 
 pub give-requires-in-Err-StoreFull-clause-fit : goal.give-requires-in-Err-StoreFull-clause-fit
 give-requires-in-Err-StoreFull-clause-fit g c =
-    fit_held (shard_meaning g.R.Shows.is_steady) c.args.gates.now c.args.stripe _ c.hold-held.result c.flush_at.new.parts (taken_at_once _ _ _ _ _ _ c.in-Ok.ensures.ok c.hold-held.ensures).gates_are c.flush_at.ensures.keeps c.flush_at.ensures.stepped (taken_at_once _ _ _ _ _ _ c.in-Ok.ensures.ok c.hold-held.ensures).fit
+    fit_held (shard_meaning g.R.Shows.is_steady) c.args.gates.now c.args.stripe _ c.hold-held.result c.flush_at.new.parts (c.hold-held.ensures.taken _ c.in-Ok.ensures.ok).gates_are c.flush_at.ensures.keeps c.flush_at.ensures.stepped (c.hold-held.ensures.taken _ c.in-Ok.ensures.ok).fit
 
 pub give-requires-in-Err-DeviceFault-clause-fit : goal.give-requires-in-Err-DeviceFault-clause-fit
 give-requires-in-Err-DeviceFault-clause-fit g c =
-    fit_held (shard_meaning g.R.Shows.is_steady) c.args.gates.now c.args.stripe _ c.hold-held.result c.flush_at.new.parts (taken_at_once _ _ _ _ _ _ c.in-Ok.ensures.ok c.hold-held.ensures).gates_are c.flush_at.ensures.keeps c.flush_at.ensures.stepped (taken_at_once _ _ _ _ _ _ c.in-Ok.ensures.ok c.hold-held.ensures).fit
+    fit_held (shard_meaning g.R.Shows.is_steady) c.args.gates.now c.args.stripe _ c.hold-held.result c.flush_at.new.parts (c.hold-held.ensures.taken _ c.in-Ok.ensures.ok).gates_are c.flush_at.ensures.keeps c.flush_at.ensures.stepped (c.hold-held.ensures.taken _ c.in-Ok.ensures.ok).fit
 
 pub returns-in-Err-clause-own : goal.returns-in-Err-clause-own
 returns-in-Err-clause-own g c = search rules

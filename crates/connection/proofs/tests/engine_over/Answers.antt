@@ -1,8 +1,23 @@
-use Rattle.std.proofs.Common.{◌≡◌, ◌++◌, ◌∷◌, [], List, subst}
+use Rattle.std.proofs.Common.{◌≡◌, ◌<◌, ◌++◌, ◌∷◌, [], ℕ, zero, suc, List, length, slice_index_or, length-append, refl, subst, arith}
 use Rattle.std.specs.List.{All}
 use Rattle.engine.specs.Passes.{Rests, knows}
-use Rattle.engine.proofs.New.{all_before, all_last}
 use Rattle.connection.proofs.tests.engine_over.Goals as goal
+
+-- of a list that ends so, each of the others, and the last
+get_before : {A : Type 0} (xs : List A) (x : A) (place : ℕ) (other : A) → place < length xs → slice_index_or (xs ++ x ∷ []) place other ≡ slice_index_or xs place other
+get_before [] x place other below = absurd (omega (arith, below))
+get_before (y ∷ xs) x zero other below = refl
+get_before (y ∷ xs) x (suc place) other below = get_before xs x place other (omega (arith, below))
+
+get_last : {A : Type 0} (xs : List A) (x : A) → slice_index_or (xs ++ x ∷ []) (length xs) x ≡ x
+get_last [] x = refl
+get_last (y ∷ xs) x = get_last xs x
+
+all_before : {A : Type 0} (P : A → Type 0) (xs : List A) (x : A) → All P (xs ++ x ∷ []) → All P xs
+all_before P xs x all = λ place other below. subst P (get_before xs x place other below) (all place other (omega (arith, below, length-append xs (x ∷ []))))
+
+all_last : {A : Type 0} (P : A → Type 0) (xs : List A) (x : A) → All P (xs ++ x ∷ []) → P x
+all_last P xs x all = subst P (get_last xs x) (all (length xs) x (omega (arith, length-append xs (x ∷ []))))
 
 -- of two passes that are taken off the end of a list, what holds of all
 last_of : {A : Type 0} (P : A → Type 0) (all xs : List A) (x : A) → all ≡ xs ++ x ∷ [] → All P all → P x
