@@ -1,5 +1,5 @@
 -- What a pass has taken with one try each, and holds.
-use Rattle.std.proofs.Common.{◌≡◌, ◌↔◌, ◌<◌, ◌∙◌, ℕ, List, [], reverse, IsSome, sym, ap, subst}
+use Rattle.std.proofs.Common.{◌↔◌, ◌<◌, ◌∙◌, ℕ, List, [], IsSome, sym, ap, subst}
 use Rattle.std.specs.Borrow.{MutBor}
 use Rattle.gates.specs.Sets.{times, part_at}
 use Rattle.gates.specs.Rule.{Meaning}
@@ -24,8 +24,3 @@ taken_at_once {T} contents gates stripes before pass held took holds = record {
   rising = ap (λ (p : Pass T). takes_in p) holds.same ∙ took.rising;
   fresh = holds.fresh;
 }
-
--- and the pass was told nothing
-pub told_none : {T : Type 0} (contents : Meaning T) (gates : Gates T) (stripes : List ℕ) (before : Pass T) (pass : MutBor (Pass T)) (held : Held T)
-    → TookAll contents gates stripes before pass.now → HasHeld contents.trusted gates pass held → (known held.pass.now).notes ≡ (known before).notes
-told_none {T} contents gates stripes before pass held took holds = ap (λ (p : Pass T). (known p).notes) holds.same ∙ took.notes

@@ -145,10 +145,11 @@ impl<T: Part> Gates<T> {
         ensures taken { (before : Pass T) → TookAll T.meaning self.now stripes.now before pass.old → HasTaken T.meaning self.now stripes.now (record pass.entry { now = before }) result }
         ensures told { (before : Pass T) → TookAll T.meaning self.now stripes.now before pass.old → (known_to result).notes ≡ (known before).notes }
     {
+        let order = Order::of(stripes.again());
         Held {
             gates: self,
             pass,
-            order: Order::of(stripes.again()),
+            order,
             committed: false,
         }
     }
