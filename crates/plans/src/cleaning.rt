@@ -88,7 +88,7 @@ impl<R: Shows> Shard<R> {
     }
 
     /// Makes room for what lives in the oldest page, copies it to the tail and takes the page out of the log, where it is not
-    /// resident.
+    /// resident. Where there is room for all that a page can hold, what lives is not weighed first.
     fn clean<D: Device<Receipt = R>>(
         &mut self,
         staged: &mut Staged<R>,
@@ -104,6 +104,9 @@ impl<R: Shows> Shard<R> {
         ensures fault { IfErr result (λ fault. MatchFault fault ((R.lends → ⊥) × (D.failures device.new ≡ D.failures device.old)) (D.failures device.new ≡ D.failures device.old + 1) (pages.IsFull (shard_pages self.new) × (D.failures device.new ≡ D.failures device.old))) }
         ensures no_fault { OnOk result (D.failures device.new ≡ D.failures device.old) }
     {
+        if self.log.stripe().has_room(CLEAN_WEIGHT) {
+            return self.unlink(staged, reads, CLEAN_WEIGHT, device);
+        }
         let weight = match self.weigh(staged, reads, device)? {
             Weighed::Live(weight) => weight,
             Weighed::Cold(number) => return Ok(Cleaning::Cold(number)),

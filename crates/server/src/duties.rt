@@ -2,7 +2,7 @@
 //! places on the device back.
 //!
 //! Each goes over all stripes again and again, with a few steps at each. Where it finds nothing to do anywhere, it rests. It
-//! ends once serving is over.
+//! ends once serving is over. The cleaner says where it is behind, so that those who write wait for it.
 
 ghost use Rattle.std.specs.Prelude.{◌<◌};
 ghost use Rattle.engine.specs.Passes.{Rests, stripe_count};
@@ -86,30 +86,54 @@ pub(crate) fn work_in_background<R: Clock + Wait, D: Device>(
     let mut pass = pass;
     let mut chores = chores;
     for _ in rt.forever() {
-        let done = sweep(rt, engine, &mut pass, &mut chores);
+        let done = sweep(rt, engine, &mut pass, &mut chores, serving);
         if has_ended(rt, serving, done) {
             return;
         }
     }
 }
 
-/// Some steps at each stripe, and whether any was done.
+/// Some steps at each stripe, and whether any was done. The cleaner says whether it is behind at any.
 fn sweep<R: Wait, D: Device>(
     rt: &R,
     engine: &Engine<D>,
     pass: &mut Pass<D>,
     chores: &mut Chores,
+    serving: &Serving,
 ) -> bool
     requires rests { Rests D.Receipt.is_steady engine.now pass.old }
     ensures rests { Rests D.Receipt.is_steady engine.now pass.new }
 {
     let mut done = false;
+    let mut behind = false;
     for stripe in 0..engine.stripes() {
         if some_steps(rt, engine, pass, chores, stripe) {
             done = true;
+            behind = behind || is_behind(rt, engine, pass, chores, stripe);
         }
     }
+    if chores.duty == Duty::Clean {
+        serving.set_behind(behind);
+    }
     done
+}
+
+/// Whether the cleaner is at work at a stripe that has few places left.
+fn is_behind<R: Wait, D: Device>(
+    rt: &R,
+    engine: &Engine<D>,
+    pass: &mut Pass<D>,
+    chores: &Chores,
+    stripe: usize,
+) -> bool
+    requires rests { Rests D.Receipt.is_steady engine.now pass.old }
+    requires below { stripe < stripe_count engine.now }
+    ensures rests { Rests D.Receipt.is_steady engine.now pass.new }
+{
+    match chores.laps.get(stripe) {
+        Some(laps) => laps.is_behind(engine.used_places(rt, pass, stripe), chores.places),
+        None => false,
+    }
 }
 
 /// Some steps at a stripe, until one is not done, and whether any was.

@@ -9,6 +9,8 @@ const GAIN_PART: usize = 32;
 const LOOKS_MIN: usize = 10;
 
 const LOOKS_MAX: usize = 1_000;
+/// Those who write wait for a lap where fewer places than this part are left.
+const LEFT_PART: usize = 8;
 
 /// The cleaner's laps over the places of a stripe. A lap has as many steps as it takes to come by each used place once. Where
 /// one was in vain, since nearly all that it copied still lives, the cleaner leaves the stripe alone until more places are
@@ -46,6 +48,11 @@ impl Laps {
         }
         self.left -= 1;
         true
+    }
+
+    /// Whether a lap is under way at a stripe of so many places, of which so many are used, and few are left.
+    pub(crate) fn is_behind(&self, used: usize, places: usize) -> bool {
+        self.left > 0 && used >= places - places / LEFT_PART
     }
 
     /// Ends the lap before its last step, since a step met a fault.

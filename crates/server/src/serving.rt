@@ -1,4 +1,4 @@
-//! How many connections are served right now, and whether more may come.
+//! How many connections are served right now, whether more may come, and whether the cleaner keeps up with them.
 
 use std::sync::atomic::{AtomicBool, AtomicUsize, Ordering};
 
@@ -8,6 +8,7 @@ pub(crate) struct Serving {
     count: AtomicUsize,
     processors: usize,
     closed: AtomicBool,
+    behind: AtomicBool,
 }
 
 impl Serving {
@@ -17,6 +18,7 @@ impl Serving {
             count: AtomicUsize::new(0),
             processors,
             closed: AtomicBool::new(false),
+            behind: AtomicBool::new(false),
         }
     }
 
@@ -48,5 +50,15 @@ impl Serving {
     /// Whether there is a processor for each connection.
     pub(crate) fn is_few(&self) -> bool {
         self.count.load(Ordering::SeqCst) <= self.processors
+    }
+
+    /// The cleaner is behind those who write, or is not any more.
+    pub(crate) fn set_behind(&self, behind: bool) {
+        self.behind.store(behind, Ordering::SeqCst);
+    }
+
+    /// Whether the cleaner is behind those who write.
+    pub(crate) fn is_behind(&self) -> bool {
+        self.behind.load(Ordering::SeqCst)
     }
 }

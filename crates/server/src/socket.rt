@@ -7,6 +7,9 @@
 //! runs again: then it sleeps at once for a while, since who sleeps is let run sooner than who steps aside. With more
 //! connections than processors there is always another thread to run, and a reader sleeps at once.
 //!
+//! Where the cleaner of the store is behind those who write, a reader waits for it before it reads on, for some milliseconds at
+//! most. So a store that is overwritten for long is as fast as places come back, and is not full for that alone.
+//!
 //! While it is asked, the socket's calls must not wait, and reader and writer have the one socket: so it is kept
 //! whether its calls wait, and each call changes that only where it has to. A client that sends one request after
 //! the other, or more than is read at once, has it changed seldom.
@@ -19,7 +22,7 @@ use std::io;
 use std::io::{ErrorKind, Read, Write};
 use std::net::TcpStream;
 use std::rt::Clock;
-use std::thread::yield_now;
+use std::thread::{sleep, yield_now};
 use std::time::{Duration, Instant};
 use streams::ReadReady;
 
@@ -33,6 +36,9 @@ const LOOKS_MIN: u32 = 8;
 const RESTS_MAX: u32 = 63;
 /// How many reads in a row sleep at once where other programs had the processors.
 const CROWDED_RESTS: u32 = 255;
+
+/// For how many milliseconds a read waits at most for the cleaner, one at a time.
+const PAUSES_MAX: u32 = 20;
 
 /// A socket, and whether its calls wait. They do at first.
 #[derive(Drop)]
@@ -102,6 +108,16 @@ impl<'a, C: Clock> SocketReader<'a, C> {
         }
     }
 
+    /// Waits for the cleaner where it is behind.
+    fn pause(&self) {
+        for _ in 0..PAUSES_MAX {
+            if !self.serving.is_behind() {
+                return;
+            }
+            sleep(self.clock, Duration::from_millis(1));
+        }
+    }
+
     /// Whether the next read asks for input before it sleeps.
     fn takes_a_look(&mut self) -> bool {
         if self.rests > 0 {
@@ -157,6 +173,7 @@ impl<'a, C: Clock> SocketReader<'a, C> {
 
 impl<C: Clock> Read for SocketReader<'_, C> {
     fn read(&mut self, buffer: &mut [u8]) -> io::Result<usize> {
+        self.pause();
         if self.failed.is_none() && !buffer.is_empty() && self.takes_a_look() {
             if let Some(count) = self.look(buffer) {
                 return Ok(count);
@@ -173,7 +190,10 @@ impl<C: Clock> Read for SocketReader<'_, C> {
 
 impl<C: Clock> ReadReady for SocketReader<'_, C> {
     fn read_ready(&mut self, buffer: &mut [u8]) -> Option<usize> {
-        if self.failed.is_some() || self.socket.set_waiting(false).is_err() {
+        if self.serving.is_behind() || self.failed.is_some() {
+            return None;
+        }
+        if self.socket.set_waiting(false).is_err() {
             return None;
         }
         let mut stream = self.socket.stream;

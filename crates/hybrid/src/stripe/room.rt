@@ -71,6 +71,16 @@ impl<R: Shows> Stripe<R> {
         Ok(Room { weight })
     }
 
+    /// Whether there is room for writes of this weight in all, with no page leaving its frame for them.
+    pub fn has_room(&self, weight: usize) -> bool
+        requires { weight ≤ WEIGHT_MAX }
+        ensures exact { IsTrue result ↔ (pages_for self.now weight ≤ free self.now) × (0 < pages_for self.now weight → next_number self.now.resident ≤ LAST_PAGE) }
+        ensures room { OnTrue result (HasRoom self.now weight) }
+    {
+        let needed = self.pages_for(weight);
+        needed <= self.free() && (needed == 0 || self.next_number() <= LAST_PAGE)
+    }
+
     /// Drops the oldest resident page from its frame, where its receipt is kept, and says whether
     /// it did.
     pub fn drop_oldest(&mut self) -> bool
