@@ -1,4 +1,7 @@
 //! The command line of `garnetd`, in a crate of its own: to prove it takes a fraction of what the program takes.
+//!
+//! The options are a command of `clap`, one function an option. What words ask for is defined by the rules of `clap`'s
+//! parser (`specs/CommandLine.antt`), so the contract of [`options_of`] speaks of the words and not of the parser.
 #![tactic(auto)]
 
 ghost use Rattle.std.specs.Prelude.{ℕ, ◌≡◌, ◌<◌, ◌^◌, Some, IfErr, IfNone, IfOk, IfSome, codes, map, true};

@@ -1,5 +1,14 @@
 //! The shared store behind all sessions: calls of many passes over striped gates, which come one after
 //! another in one history. Each stripe is a hybrid log, whose old pages lie on a device.
+//!
+//! A call takes the stripes of its keys, plans (`plans`), commits, installs and gives the stripes back. Its place in the
+//! history is the commit. Where a plan wants pages that have to be read, nothing was done yet: the pass enters a stay of
+//! the epochs, gives the stripes back, reads the pages by its own opening of the device, and begins again with them. So
+//! nobody waits for its reads. After three such rounds it reads while it holds, so that it ends. The stay goes on until
+//! the call is answered, which keeps the places of these pages from being used anew.
+//!
+//! GET and a SET without an option have ways of their own ([`Engine::get`], [`Engine::set`]), with no plan made.
+//! Background threads make their steps by a [`Pass`] too.
 #![tactic(auto)]
 
 ghost use Rattle.std.specs.Prelude.{◌≡◌, ◌+◌, ◌<◌, [], ℕ, All, IfOk, IfErr, vec_len};

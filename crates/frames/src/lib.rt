@@ -1,4 +1,8 @@
 //! The ring of frames that holds the resident pages of one stripe's log.
+//!
+//! Resident pages are numbered without gaps. A new page is opened behind the newest one, in the next frame of the ring, and
+//! the oldest page is dropped, which frees its frame: so the ring turns, and no page moves. The newest third of the frames
+//! is the mutable part, from which nothing is dropped. Memory for all frames is taken once.
 
 #![tactic(auto)]
 

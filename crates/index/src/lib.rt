@@ -1,4 +1,7 @@
 //! The bucket heads of a hash index: where the newest record of each bucket stands.
+//!
+//! A hash belongs to the bucket that is its remainder by the number of buckets. A head is an address in the log, or 0. The
+//! index knows nothing of keys: older records of the bucket are found by the links of the records themselves.
 
 #![tactic(auto)]
 

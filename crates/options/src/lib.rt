@@ -1,4 +1,7 @@
 //! What a server is started with: the numbers and the device that its command line comes to.
+//!
+//! It stands below the server and the command line, so that neither has to wait for the other to be proved. Options outside
+//! their ranges cannot be made.
 #![tactic(auto)]
 
 ghost use Rattle.std.specs.Prelude.{◌≡◌, ◌≤◌, ◌↔◌, IsSome, IfSome};

@@ -1,4 +1,8 @@
 //! String commands, run on an overlay: what was found of their keys, and the writes made since.
+//!
+//! A command sees no store. Whoever runs it finds the values of its keys first, and hands them over as an
+//! [`Overlay`](overlay::Overlay). [`run`](run::run) gives the reply and notes each write on the overlay, where the next
+//! command of a transaction sees it. Nothing is installed: the writes are there to be weighed, and then done or dropped.
 #![tactic(auto)]
 
 mod counters;

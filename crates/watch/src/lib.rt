@@ -1,4 +1,8 @@
 //! What sessions watch: for a key and a seat whether the key was written since the seat began to watch it.
+//!
+//! Each stripe has marks of its own keys. A WATCH adds a mark, not written. Whoever writes a key touches it, which makes the
+//! marks of all seats of that key written; it has the stripe for its write anyway, so no word is shared for this. EXEC
+//! asks for its marks, and is null where one is written. A seat is the number of a pass.
 #![tactic(auto)]
 
 ghost use Rattle.std.specs.Prelude.{◌≡◌, ◌↔◌, ℕ, List, true, false, None, Some, nat_eq, is_none, IsTrue, IsSome, IsOk, IfOk, OnOk, OnErr};
