@@ -27,7 +27,7 @@ pub record LeavesOut (given : Option (List ℕ)) (default number : ℕ) : Type 0
 abbrev pub GivesOrDefault : Option (List ℕ) → (default number : ℕ) → Type 0
 GivesOrDefault given default number = Gives given number ⊎ LeavesOut given default number
 
--- The same where each text writes a number: the default stands where there is no text.
+-- The number that an option's text writes, where each text writes one: the default stands where there is no text.
 abbrev pub IsGivenOrDefault : Option (List ℕ) → (default number : ℕ) → Type 0
 IsGivenOrDefault given default number = Gives given number ⊎ ((given ≡ None) × (number ≡ default))
 

@@ -31,10 +31,10 @@ use words::limits::{
 /// version.
 pub fn options_of<'a, S: AsStr>(alloc: Global, words: &'a [S]) -> Result<Options, Error>
     ensures ok { IfOk result (AskFor (map S.text words.entry.now)) }
-    // Where the command takes the words, an error is for want of memory.
+    // Where the command takes the words, an error means out of memory.
     ensures taken { IfErr result (λ e. takes garnetd (map S.text words.entry.now) ≡ true → kind_of e ≡ ErrorKind.OutOfMemory) }
     // Options come only where no step of the parse fails, and else the kind of error of the first that does, or that of
-    // want of memory.
+    // out of memory.
     ensures kinds { FailsBy (fault_of garnetd (map S.text words.entry.now)) result }
 {
     let texts = HelpTexts::new(alloc)?;

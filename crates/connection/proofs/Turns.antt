@@ -47,7 +47,7 @@ watches_said (Tries said done faulty) watched reply after is = rw is.1 refl
 watches_said (Calls asked done faulty) watched reply after is = absurd is
 watches_said Never watched reply after is = absurd is
 
--- the line of want of memory goes on as the turn says, and watches the same
+-- the out-of-memory line goes on as the turn says, and watches the same
 follows_want : (session : ℕ) (t : Turn) (pairs : List Pair) (after : Standing) (later : List Placed) (more : List Reply) (rest : Rest)
     → IsOutOfMemory t (keys_of_pairs pairs) after → rest after.mode pairs later more
     → Follows session pairs t later (line_reply (line.Faulty fault.OutOfMemory) ∷ more) rest

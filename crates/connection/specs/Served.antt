@@ -61,7 +61,7 @@ pub data LacksMemory (bytes rest : Bytes) : Type 0 where
 -- What is left of the bytes, the mode of the session, and the text that was written, where a connection ended so. After the end of the
 -- input, or a read that failed, all complete requests are answered and all is written. After QUIT the requests up to it are answered and
 -- all is written. After a protocol fault all requests before it are answered, and its line is written last. After a write that failed, a
--- beginning of the text is written. After want of memory the requests before the one that found none are answered, and all is written.
+-- beginning of the text is written. Where it ended out of memory the requests before the one that found none are answered, and all is written.
 abbrev pub Ends : Ended → (bytes rest : Bytes) → Mode → List Reply → (text : Bytes) → Type 0
 Ends ended.EndOfInput bytes rest mode replies text = (front rest ≡ Part) × IsOpen mode × (text ≡ encodings replies)
 Ends ended.Quit bytes rest mode replies text = (mode ≡ Closed) × (text ≡ encodings replies)

@@ -20,7 +20,7 @@ pub enum Next {
     Input,
     /// It says a reply.
     Says(Reply),
-    /// It says the line of want of memory: there was none for a command that is to be queued, or for a
+    /// It says the out-of-memory line: there was no memory for a command that is to be queued, or for a
     /// key that is to be watched.
     SaysOutOfMemory,
     /// It calls the store, and waits for the answer.

@@ -41,7 +41,7 @@ pub fn says()
         → Answers session [] pairs pairs old new reply }
 {}
 
-/// The line of want of memory answers the request of a client that says it.
+/// The out-of-memory line answers the request of a client that says it.
 pub fn says_out_of_memory()
     ensures { (session : ℕ) (pairs : List Pair) (old new : Progress)
         → watched_of old.stage ≡ keys_of_pairs pairs → Gives old next.SaysOutOfMemory new

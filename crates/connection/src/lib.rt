@@ -11,7 +11,7 @@
 //! its calls to the store and brings back the answers. The world drives it too. A reply goes into the output buffer where
 //! there is room, else straight to the writer: nothing from a call's commit to its reply asks for memory.
 //!
-//! A connection ends in one of the six ways of [`Ended`], each where its cause came. For want of memory it ends where
+//! A connection ends in one of the six ways of [`Ended`], each where its cause came. Out of memory it ends where
 //! there was none for the output buffer, for the piece that was read last, or for the request at the front; all whole
 //! requests before that are answered. However it ends, what the session watches is forgotten.
 #![tactic(auto)]

@@ -804,7 +804,7 @@ fn watches_end_with_the_connection(rt: HostRuntime) -> Result<(), Fail> {
     Ok(())
 }
 
-/// What comes after the first reply of a text: that reply, or the line of want of memory.
+/// What comes after the first reply of a text: that reply, or the out-of-memory line.
 fn after_reply<'a>(text: &'a [u8], reply: &[u8]) -> Option<(bool, &'a [u8])> {
     if let Some(rest) = text.strip_prefix(reply) {
         return Some((true, rest));
@@ -815,7 +815,7 @@ fn after_reply<'a>(text: &'a [u8], reply: &[u8]) -> Option<(bool, &'a [u8])> {
     }
 }
 
-/// How many of the requests below are answered, each with its reply or the line of want of memory;
+/// How many of the requests below are answered, each with its reply or the out-of-memory line;
 /// `None` where a text is none of these.
 fn answered_below(text: &[u8]) -> Option<usize> {
     if text.is_empty() {
@@ -839,7 +839,7 @@ fn answered_below(text: &[u8]) -> Option<usize> {
 }
 
 /// Where an allocation is refused (`rt try --test --fail-alloc`), each request has its reply or the
-/// line of want of memory, in order, or the connection ends before it. No reply is lost or doubled.
+/// out-of-memory line, in order, or the connection ends before it. No reply is lost or doubled.
 #[test]
 fn a_refused_allocation(rt: HostRuntime) -> Result<(), Fail> {
     let alloc = rt.alloc();

@@ -183,7 +183,8 @@ fn each_call_of_the_device_fails_in_turn(rt: HostRuntime) -> Result<(), Fail> {
     Err(Fail::from("more calls"))
 }
 
-/// The same of some calls where 188 of 200 pages are written.
+/// Some calls of the device fail, where 188 of 200 pages are written: one request is answered by the fault of the
+/// device, and each other one as is due.
 #[test]
 fn calls_of_the_device_fail_where_pages_are_many(rt: HostRuntime) -> Result<(), Fail> {
     for call in [0, 1, 94, 187, 188, 300] {
@@ -238,7 +239,7 @@ fn gets_of_first(alloc: Global) -> io::Result<Vec<u8>> {
     repeated(alloc, &get(alloc, 0)?, 2, b"*1\r\n$4\r\nPING\r\n")
 }
 
-/// The same over a new file at this path.
+/// [`check_cut`] over a new file at this path.
 fn check_cut_file<R: Abort + Wait + Files<File = File>>(
     rt: &R,
     alloc: Global,

@@ -1,7 +1,7 @@
 //! Requests where an allocation is refused.
 //!
 //! Each of these is meant for runs with each allocation refused in turn (`bench/refused`). Then each request has its
-//! reply or the line of want of memory, and what follows goes by that.
+//! reply or the out-of-memory line, and what follows goes by that.
 
 use crate::keys::repeated;
 use crate::talks::{Outcome, Source, run};
@@ -13,7 +13,7 @@ use std::sync::Wait;
 use std::test::Fail;
 
 /// Whether a connection may have come to this: to one of the texts, or to a beginning of one where the connection ended
-/// for want of memory. All texts end so.
+/// out of memory. All texts end so.
 fn may_be(outcome: &Outcome, texts: &[&[u8]], ended: Ended) -> bool {
     let text = outcome.text.as_slice();
     match outcome.ended {

@@ -95,7 +95,7 @@ pub(crate) fn wide() -> Limits
     }
 }
 
-/// The same with places for 64 pages.
+/// A store of one stripe with 12 frames, places for 64 pages more, and two clients.
 pub(crate) fn narrow() -> Limits
     ensures { result.clients ≡ 2 }
 {

@@ -72,7 +72,7 @@ pub trait Shows: Drop {
     // The receipts hold their pages.
     ghost lends: { Type 0 };
 
-    /// A copy: it shows the same page, and has the same identity. `Err` only for want of memory.
+    /// A copy: it shows the same page, and has the same identity. `Err` only out of memory.
     fn again(&self) -> Result<Self, AllocError>
         ensures shown { IfOk result (λ r. shown r ≡ shown self.now) }
         ensures identity { IfOk result (λ r. identity r ≡ identity self.now) };

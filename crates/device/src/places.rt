@@ -106,7 +106,7 @@ impl Places {
         })
     }
 
-    /// The same, for several threads.
+    /// No place is taken, in a list that several threads share.
     pub(crate) fn shared(alloc: Global) -> Result<Arc<Mutex<Places>>, AllocError> {
         let places = Mutex::new(Places::new(alloc)?);
         match Arc::new(alloc, places) {

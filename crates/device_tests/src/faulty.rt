@@ -36,13 +36,13 @@ fn fails_at<D: Device>(alloc: Global, device: D, call: u64) -> Option<bool> {
     Some(is_counted && first == (call == 0, call == 1) && second == (call == 2, call == 3))
 }
 
-// The same in memory.
+// Whether of the calls of two pairs exactly this one fails, in memory.
 fn fails_in_memory(alloc: Global, call: u64) -> Option<bool> {
     let device = MemoryDevice::openings(alloc, 1).ok()?.pop()?;
     fails_at(alloc, device, call)
 }
 
-// The same in a file.
+// Whether of the calls of two pairs exactly this one fails, in a file.
 fn fails_in_file<R: Wait + Files<File = File>>(
     rt: &R,
     alloc: Global,
@@ -75,7 +75,7 @@ fn number_lent_through<D: Device>(alloc: Global, device: D) -> Option<Option<u64
     Some(number_lent(&receipt))
 }
 
-// The same in memory, where the receipt below lends its page.
+// The number of the page that a receipt of a device that fails at one call lends, over a receipt in memory, which lends.
 fn number_lent_through_memory(alloc: Global) -> Option<Option<u64>> {
     let device = MemoryDevice::openings(alloc, 1).ok()?.pop()?;
     number_lent_through(alloc, device)

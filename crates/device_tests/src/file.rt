@@ -93,14 +93,14 @@ fn given_across<D: Device>(writer: &mut D, reader: &mut D, pages: &[Page; 3]) ->
     ])
 }
 
-// The same between the first two of some openings.
+// What `given_across` says, between the first two of some openings.
 fn given_by_two<D: Device>(openings: &mut [D], pages: &[Page; 3]) -> Option<[bool; 3]> {
     let (one, others) = openings.split_first_mut()?;
     let two = others.first_mut()?;
     given_across(one, two, pages)
 }
 
-// The same in a file, and how many openings it has of the three that were asked for.
+// What `given_by_two` says of a file, and how many openings it has of the three that were asked for.
 fn given_in_file<R: Wait + Files<File = File>>(
     rt: &R,
     alloc: Global,
@@ -197,7 +197,7 @@ where
     Some(drained)
 }
 
-// The same with epochs of its own.
+// What `drained_inside` says, with epochs of its own.
 fn drained_in_own_epochs<R: Wait>(rt: &R, alloc: Global) -> Option<(bool, bool)> {
     let (epochs, seat) = epochs(alloc)?;
     drained_inside(rt, &epochs, seat, 7u64)
@@ -263,7 +263,7 @@ fn numbers_after<D: Device>(device: &mut D, before: &D::Receipt) -> Option<[Opti
     ])
 }
 
-// The same, where one of the two pages from before was released twice.
+// What `numbers_after` says, where one of the two pages from before was released twice.
 pub(crate) fn numbers_after_releases<D: Device>(
     alloc: Global,
     device: &mut D,
@@ -274,7 +274,7 @@ pub(crate) fn numbers_after_releases<D: Device>(
     numbers_after(device, &kept)
 }
 
-// The same in a file.
+// What `numbers_after_releases` says, of a file.
 fn numbers_in_file<R: Wait + Files<File = File>>(
     rt: &R,
     alloc: Global,
@@ -323,7 +323,7 @@ fn number_after<D: Device, R: Files<File = File>>(
     number_read(device, &receipt)
 }
 
-// The same, where the device is in that file.
+// What `number_after` says, where the device is in that file.
 fn number_after_change<R: Wait + Files<File = File>>(
     rt: &R,
     alloc: Global,

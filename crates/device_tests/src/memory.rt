@@ -67,7 +67,7 @@ fn page_for<'a, R: Shows>(read_by: &R, page: &'a Page, wanted: &R) -> Option<&'a
     }
 }
 
-// The same at the device in memory.
+// Whether a page is read as it was written, at the device in memory.
 fn is_written_and_read(device: &mut MemoryDevice, page: &Page, seen: &mut Page) -> bool
     ensures { IsTrue result → seen.new ≡ page.now }
 {
@@ -125,7 +125,7 @@ fn sames<R: Shows>(receipt: &R, other: &R) -> Result<[bool; 4], AllocError> {
     ])
 }
 
-// The same for two receipts in memory.
+// The four answers of `sames` for two receipts in memory.
 fn sames_in_memory(device: &mut MemoryDevice) -> Option<[bool; 4]> {
     let receipt = written(device, &Page::new(5)).ok()?;
     let other = written(device, &Page::new(6)).ok()?;
@@ -144,7 +144,7 @@ pub(crate) fn number_lent<R: Shows>(receipt: &R) -> Option<u64> {
     Some(receipt.page()?.number())
 }
 
-// The same, where receipts hold their pages.
+// The number of the page that a receipt lends, where receipts hold their pages.
 fn number_held<R: Shows>(receipt: &R) -> u64
     requires { R.lends }
     ensures { result ≡ number_of (R.shown receipt.now) }
@@ -155,7 +155,7 @@ fn number_held<R: Shows>(receipt: &R) -> u64
     }
 }
 
-// The same of a receipt in memory, which always lends its page.
+// The number of the page that a receipt in memory lends, which it always does.
 fn number_in_memory(receipt: &MemoryReceipt) -> u64
     ensures { result ≡ number_of receipt.now }
 {

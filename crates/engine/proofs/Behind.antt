@@ -140,7 +140,7 @@ module _ (stripes : List ℕ) (was mid : Knowledge) (f : ℕ) (now : Known) (lea
   fault_behind promises (answer.Reply reply) asked undone = tt
   fault_behind promises (answer.Fault fault) asked undone = undone_behind promises asked fault undone
 
-  -- The same of a call that was told of busy stripes in between.
+  -- A call that was told of busy stripes in between came to the same from before these.
   pub answer_later : (a : Answer) (asked : Option Asked) → IfReply a (λ reply. IsDone stripes asked reply (know mid f) now) → IfReply a (λ reply. IsDone stripes asked reply (know was f) now)
   answer_later (answer.Reply reply) asked done = done_later asked reply done
   answer_later (answer.Fault fault) asked done = tt

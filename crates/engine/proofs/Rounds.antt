@@ -91,7 +91,7 @@ failed_outside {R} promises call wanted stripes s before mid outside taken last 
     promises (asked_of call) (fault_of s)
     (read_stopped promises call s taken last f0 f1 entry is cold full failures (wants_memory promises (after taken.seen) call other unlent))
 
--- The same of a GET, whose stripe is not taken again.
+-- A GET could not read a page outside: its stripe is not taken again.
 pub get_failed_outside : {R : Type 0} (promises : Promises) (key : Bytes) (stripes : List ℕ) (s : Stop R) (fault : Fault) (before mid outside : Knowledge) (f0 f1 : ℕ) → fault ≡ fault_of s
     → (promises.lends → ⊥) → Learned before mid → ToldBusy stripes before mid → outside ≡ mid → IfCold s (λ receipts. ⊥) → IfFull s (λ stripe. ⊥) → f1 ≡ f0 + faults s
     → IsUndone promises stripes (asked_of (get_call key)) fault (know before f0) (know outside f1)

@@ -285,8 +285,8 @@ fn abandon<T: Wait, R: Shows>(
     answer
 }
 
-/// The same as [`submit`], with one try of each stripe in place of waiting. Where all are free, the pass is
-/// told of none that it was another's.
+/// Does a call as [`submit`] does, with one try of each stripe in place of waiting. Where all are free, the
+/// pass is told of none that it was another's.
 ///
 /// # Errors
 ///

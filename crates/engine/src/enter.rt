@@ -94,7 +94,7 @@ pub(crate) fn enter_call<L: Latch, R: Shows, D: Device<Receipt = R>>(
     }
 }
 
-/// The same as [`enter_call`], where pages that are wanted are read meanwhile.
+/// Enters a call as [`enter_call`] does, and reads the pages that it wants while its stripes are held.
 pub(crate) fn enter_at_once<R: Shows, D: Device<Receipt = R>>(
     alloc: Global,
     held: &mut Held<'_, Shard<R>>,

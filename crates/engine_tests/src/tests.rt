@@ -46,7 +46,7 @@ struct Exchange<'a> {
 enum Outcome {
     /// With what is due.
     Due,
-    /// With want of memory.
+    /// With `-OOM out of memory`.
     OutOfMemory,
     /// With something else.
     Other,
@@ -121,7 +121,7 @@ fn are_items(items: &[Item], texts: &str) -> bool {
     others.is_empty()
 }
 
-/// Whether an answer is the one that is due, or want of memory.
+/// Whether an answer is the one that is due, or out of memory.
 fn compare(answer: &Answer, due: &str) -> Outcome {
     let is_due = match answer {
         Answer::Fault(Fault::OutOfMemory) => return Outcome::OutOfMemory,
@@ -151,7 +151,7 @@ struct Client {
     alloc: Global,
     engine: Engine<MemoryDevice>,
     pass: Pass<MemoryDevice>,
-    /// How often want of memory was answered.
+    /// How often out of memory was answered.
     refusals: u64,
 }
 
@@ -170,7 +170,7 @@ impl Client {
         })
     }
 
-    /// The same, made again where there was no memory for it.
+    /// A client of a new engine, made again where there was no memory for it.
     fn new(alloc: Global) -> Option<Client>
         ensures { IfSome result (λ client. Rests ⊤ client.engine client.pass) }
     {
@@ -299,7 +299,7 @@ fn reading_of(text: &str) -> Option<(Exchange<'_>, &str)> {
 }
 
 /// Makes the requests of a text, one after the other, below the line that reads their keys. Meant for runs
-/// in which one growth is refused: then want of memory is answered once at most.
+/// in which one growth is refused: then out of memory is answered once at most.
 fn all_answered<R: Abort + Wait>(rt: &R, alloc: Global, text: &str) -> Result<(), Fail> {
     let (reading, lines) = reading_of(text).ok_or("no reading")?;
     let mut client = Client::new(alloc).ok_or("no engine")?;
@@ -1035,7 +1035,7 @@ fn null_after<R: Wait>(
     }
 }
 
-/// The same, over a new engine and the key `k`.
+/// [`null_after`], over a new engine and the key `k`.
 fn null_of_new<R: Wait>(rt: &R, alloc: Global, exchange: Exchange<'_>) -> Option<bool> {
     let key = Word::from_slice(alloc, b"k").ok()?;
     let (engine, mut first, mut second) = with_two(alloc).ok()?;
@@ -1049,7 +1049,7 @@ fn exec_is_null_where_another_pass_wrote_the_watched_key(rt: HostRuntime) {
     assert!(rt; null_of_new(&rt, rt.alloc(), Exchange { request, due }) == Some(true));
 }
 
-/// The same, where the second pass made a call before the watch began.
+/// [`null_of_new`], where the second pass made a call before the watch began.
 fn null_after_two<R: Wait>(
     rt: &R,
     alloc: Global,

@@ -51,7 +51,7 @@ fn keep(own: Box<Arc<EpochWords>>) -> &'static EpochWords
 impl Handles {
     ghost use Rattle.epoch.specs.Words.{words_by, words_from};
 
-    /// Makes handles of these words. `Err` only for want of memory.
+    /// Makes handles of these words. `Err` only out of memory.
     pub(crate) fn of(alloc: Global, words: &Arc<EpochWords>) -> Result<Handles, AllocError>
         ensures { IfOk result (λ handles. words_from handles ≡ arc_value words.now) }
     {

@@ -53,7 +53,7 @@ impl<T: Part> Gates<T> {
         }
     }
 
-    /// The same, of a stripe that another has had.
+    /// Takes a stripe that another pass was seen to have, once that pass has given it back.
     #[cold]
     fn wait_stripe<R: Wait>(&self, rt: &R, pass: &mut Pass<T>, stripe: usize)
         requires holding { IsHolding T.meaning.trusted self.now pass.old }

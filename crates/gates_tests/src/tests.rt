@@ -353,7 +353,7 @@ fn turns_out<R: Wait>(
     }
 }
 
-/// The same, over gates of its own.
+/// Whether the trial turns out as it has to, over gates of its own.
 fn is_as_it_has_to_be<R: Wait>(rt: &R, alloc: Global, trial: Trial) -> Result<bool, OutOfMemory> {
     let Some((gates, mut first, mut second)) = opened(alloc, 64)? else {
         return Ok(false);

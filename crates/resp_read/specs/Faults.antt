@@ -8,7 +8,7 @@ use Rattle.resp_read.specs.Unread.{Held, IsLeftOver}
 use Rattle.resp_read.specs.declared.reader.ReadFault.{ReadFault}
 use Rattle.resp_read.specs.declared.reader.ReadFault.TheVariants.{Protocol, OutOfMemory}
 
--- a protocol fault only where it stands at the front of the bytes, and want of memory only where a whole request stands there that
+-- a protocol fault only where it stands at the front of the bytes, and out of memory only where a whole request stands there that
 -- needs some
 abbrev pub TellsFault : Bytes → ReadFault → Type 0
 TellsFault bytes (Protocol fault) = stream.front bytes ≡ stream.Faulty fault

@@ -194,8 +194,8 @@ impl Reader {
     }
 
     /// Takes the first request as [`next`] does, into the words of the caller, which serve from request to
-    /// request, and answers true; or false where more bytes are due. With false or a fault the words are
-    /// then not told.
+    /// request, and answers true; or false where more bytes are due. On false or a fault, `words` is
+    /// unspecified.
     ///
     /// [`next`]: Reader::next
     #[inline]
@@ -277,7 +277,7 @@ impl Reader {
     }
 
     /// Takes the first request, if nothing of it has been taken off, it stands whole in the oldest piece
-    /// and there is memory for its words. It says whether it did; else the words are not told.
+    /// and there is memory for its words. It says whether it did. On false, `words` is unspecified.
     #[inline(always)]
     fn take_whole(&mut self, words: &mut Words) -> bool
         ensures { TakesWhole self.old result words.new self.new }

@@ -10,8 +10,8 @@ use words::limits::WORDS_MAX;
 use words::word::{Word, Words};
 
 /// Takes the words of the request at the front of some bytes, of which `at` then tells how many bytes its
-/// spelling has. It says whether it stands there whole, and there was memory for its words; else they are
-/// not told.
+/// spelling has. It says whether it stands there whole, and there was memory for its words. On false,
+/// `words` and `at` are unspecified.
 #[inline(always)]
 pub(crate) fn request_in(alloc: Global, bytes: &[u8], at: &mut usize, words: &mut Words) -> bool
     ensures { IsTrue result → BeginsWithRequest bytes.now words.new at.new }

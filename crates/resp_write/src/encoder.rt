@@ -55,7 +55,7 @@ pub fn encode_within(reply: &Reply, out: &mut Vec<u8>) -> bool
     }
 }
 
-/// The same as [`encode_within`] of a reply of one line.
+/// Appends the bytes of a reply of one line, where there is room, as [`encode_within`] does.
 #[inline]
 #[tactic(auto, unfolding(words::specs::Encoding::encoding, words::specs::Encoding::command_reply_encoding, words::specs::Encoding::item_encoding))]
 pub fn encode_line_within(line: Line, out: &mut Vec<u8>) -> bool
@@ -74,7 +74,7 @@ pub fn encode_line_within(line: Line, out: &mut Vec<u8>) -> bool
     true
 }
 
-/// The same as [`encode_within`] of a reply of one byte string, or of the null bulk string.
+/// Appends the bytes of a bulk string, or of the null bulk string, where there is room, as [`encode_within`] does.
 #[inline]
 pub fn encode_value_within(value: &Option<Word>, out: &mut Vec<u8>) -> bool
     ensures fits { IsTrue result ↔ (vec_len out.old + length (encoding (value_reply value.now))

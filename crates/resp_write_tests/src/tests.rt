@@ -51,7 +51,7 @@ fn encodes_within(alloc: Global, reply: &Reply, text: &[u8]) -> Result<bool, All
     Ok(first && !second && out.as_slice() == text)
 }
 
-/// The same of a line.
+/// Whether a line is encoded so into a buffer with just the room for it, and then no more.
 fn line_goes_within(alloc: Global, line: Line, text: &[u8]) -> Result<bool, AllocError> {
     let mut out = Vec::with_capacity(alloc, text.len())?;
     let first = encode_line_within(line, &mut out);
@@ -59,7 +59,7 @@ fn line_goes_within(alloc: Global, line: Line, text: &[u8]) -> Result<bool, Allo
     Ok(first && !second && out.as_slice() == text)
 }
 
-/// The same of what a GET found.
+/// Whether what a GET found is encoded so into a buffer with just the room for it, and then no more.
 fn value_goes_within(alloc: Global, value: &Option<Word>, text: &[u8]) -> Result<bool, AllocError> {
     let mut out = Vec::with_capacity(alloc, text.len())?;
     let first = encode_value_within(value, &mut out);

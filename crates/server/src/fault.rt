@@ -47,7 +47,7 @@ impl From<OpenFault> for ServerFault {
     }
 }
 
-/// A thread that can't be made is want of memory.
+/// A thread that can't be made counts as out of memory.
 impl<F: Drop> From<SpawnError<F>> for ServerFault {
     ghost use Rattle.server.specs.declared.fault.ServerFault.{ServerFault};
 

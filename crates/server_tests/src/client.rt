@@ -159,7 +159,7 @@ where
     Some(served && told == Some(true))
 }
 
-/// The same over a device in memory. `None` too where there are no such options, or no memory.
+/// [`end_well`] over a device in memory. `None` too where there are no such options, or no memory.
 fn end_well_in_memory<R, L: Latch + Sync, F: FnOnce(&R, u16) -> Option<bool>>(
     rt: &R,
     options: Option<Options>,
@@ -181,7 +181,7 @@ where
     end_well(rt, options, openings, latch, endings, talk)
 }
 
-/// The same over a device in the file at this path. `None` too where it can't be opened.
+/// [`end_well`] over a device in the file at this path. `None` too where it can't be opened.
 fn end_well_on_file<R, F: FnOnce(&R, u16) -> Option<bool>>(
     rt: &R,
     options: Option<Options>,
@@ -225,7 +225,7 @@ where
     with_latch(rt, &Open, accept, stripes, workers, talk)
 }
 
-/// The same server, which tells this latch where its calls are.
+/// The server of [`with_server`], which tells this latch where its calls are.
 pub(crate) fn with_latch<R, L: Latch + Sync, F: FnOnce(&R, u16) -> Option<bool>>(
     rt: &R,
     latch: &L,

@@ -94,7 +94,7 @@ pub enum Step {
     /// It is answered, and the session has ended.
     Closes(Reply, Session<Closed>),
     /// There was no memory for a command to be queued or for a key to be watched. The session says the
-    /// line of want of memory, and goes on.
+    /// out-of-memory line, and goes on.
     OutOfMemory(AnySession),
     /// It makes a call, whose answer is handed to [`Called::resume`].
     Calls(Call, Called),

@@ -1,5 +1,5 @@
 //! Sessions whose calls are answered by hand: each line of the table of modes, the limits of transactions
-//! and watches, and want of memory.
+//! and watches, and what is answered out of memory.
 
 ghost use Rattle.std.specs.Prelude.{◌≡◌, IfOk, IfSome, true};
 ghost use Rattle.words.specs.Bounds.{IsBounded};

@@ -275,7 +275,7 @@ fault_at_exec :
     (ok ∷ ok ∷ ok ∷ queued ∷ line_reply (Faulty StoreFull) ∷ misplaced ExecWithoutMulti ∷ ok ∷ queued ∷ Array (text "v" ∷ []) ∷ [])
 fault_at_exec = inl (refl, inl (refl, (refl, inl (refl, inr (StoreFull, refl, (refl, (refl, inl (refl, inl (refl, (refl, refl))))))))))
 
--- want of memory where a command is to be queued spoils the transaction; where a text is to be answered it changes nothing
+-- out of memory where a command is to be queued spoils the transaction; where a text is to be answered it changes nothing
 abbrev no_memory_to_queue_history : History
 no_memory_to_queue_history =
     ran 1 "GET a" null ∷ []

@@ -28,7 +28,7 @@ pub fn stripe_of(key: &[u8], count: usize) -> usize
     ensures below { result < count }
 {
     let hash = hash_of(key);
-    // A remainder by the number that is usual here is a mask; one by a number that is read is a division.
+    // The default count compiles to a mask, others to a division.
     let stripe = if count == STRIPES_DEFAULT {
         hash % STRIPES_DEFAULT as u64
     } else {

@@ -30,7 +30,7 @@ pub(crate) fn order(a: &[u8], b: &[u8]) -> Ordering
     a.len().cmp(&b.len())
 }
 
-/// The same, where one has less than eight bytes, and both have this many.
+/// The order of two byte strings of which one has less than eight bytes, and both have this many.
 fn order_short(a: &[u8], b: &[u8], both: usize) -> Ordering
     requires both { both ≡ min (length a.now) (length b.now) }
     requires short { both < 8 }
@@ -50,7 +50,7 @@ fn order_short(a: &[u8], b: &[u8], both: usize) -> Ordering
     a.len().cmp(&b.len())
 }
 
-/// The same, byte by byte.
+/// The order of two byte strings, byte by byte.
 fn order_by_one(mut a: &[u8], mut b: &[u8]) -> Ordering
     ensures { result ≡ slice_cmp nat_cmp a.now b.now }
 {
@@ -72,7 +72,7 @@ fn order_of_eight(x: &[u8; 8], y: &[u8; 8]) -> Ordering
     u64::from_be_bytes(*x).cmp(&u64::from_be_bytes(*y))
 }
 
-/// The same, at another length.
+/// Which of two strings of four bytes comes first, as [`order_of_eight`] says it of eight.
 fn order_of_four(x: &[u8; 4], y: &[u8; 4]) -> Ordering
     ensures { result ≡ slice_cmp nat_cmp x.now y.now }
 {

@@ -122,7 +122,7 @@ impl Shape {
         }
     }
 
-    /// The same, for any shape.
+    /// What [`read`](Shape::read) says, for any shape.
     #[inline(never)]
     fn read_seldom(
         self,

@@ -486,7 +486,8 @@ fn differ_at(
     Ok(stand_alike(alloc, &a[..length], &b[..length])? && stand_alike(alloc, &a, &b[..length])?)
 }
 
-/// The same at each place of this length, and where one text is the beginning of the other.
+/// Whether words of this length differ as their texts do, at each place, and where one text is the beginning of the
+/// other.
 fn differ_within(alloc: Global, length: usize) -> Result<bool, Fail>
     requires { length ≤ 24 }
 {

@@ -26,7 +26,7 @@ fn wide() -> Limits
     }
 }
 
-/// The same with places for 64 pages.
+/// A store of one stripe with 12 frames, and places for 64 pages more.
 fn narrow() -> Limits
     ensures { result.clients ≡ 2 }
 {

@@ -129,7 +129,7 @@ fn requests_that_end_where_a_piece_ends(rt: HostRuntime) -> Result<(), Fail> {
     Ok(())
 }
 
-/// How many requests are answered, each by OK or by the line of want of memory; `None` where the text is
+/// How many requests are answered, each by OK or by the out-of-memory line; `None` where the text is
 /// none of these.
 fn answered_in(text: &[u8]) -> Option<usize> {
     let mut rest = text;
@@ -143,7 +143,7 @@ fn answered_in(text: &[u8]) -> Option<usize> {
     None
 }
 
-/// Whether the replies to ten requests are all there, or want of memory ended the connection, and all of them
+/// Whether the replies to ten requests are all there, or it ended the connection that memory was refused, and all of them
 /// were passed on.
 fn ended_rightly(outcome: &Outcome) -> bool {
     let ended = match answered_in(&outcome.text) {

@@ -11,7 +11,7 @@ use crate::serving::forget;
 use bytes::Bytes;
 
 /// Requests of transactions and watches, and what may be said to them where one allocation is refused at
-/// most: each request has its reply or the line of want of memory, and what follows goes by that. A command
+/// most: each request has its reply or the out-of-memory line, and what follows goes by that. A command
 /// that could not be queued spoils its transaction; one that was not done left nothing.
 const ROWS: &[(&[u8], &[&[u8]])] = &[
     // A transaction, and then what it left.
@@ -50,7 +50,7 @@ const ROWS: &[(&[u8], &[&[u8]])] = &[
             b"+OK\r\n+OK\r\n+OK\r\n+OK\r\n+QUEUED\r\n*-1\r\n+OK\r\n+QUEUED\r\n-OOM out of memory\r\n",
         ],
     ),
-    // The same of a key and a value that are not held inline.
+    // A transaction over a key and a value that are not held inline.
     (
         b"*1\r\n$5\r\nMULTI\r\n*3\r\n$3\r\nSET\r\n$24\r\nkkkkkkkkkkkkkkkkkkkkkkkk\r\n$30\r\nvvvvvvvvvvvvvvvvvvvvvvvvvvvvvv\r\n*2\r\n$3\r\nGET\r\n$24\r\nkkkkkkkkkkkkkkkkkkkkkkkk\r\n*1\r\n$4\r\nEXEC\r\n*2\r\n$3\r\nGET\r\n$24\r\nkkkkkkkkkkkkkkkkkkkkkkkk\r\n",
         &[
@@ -75,7 +75,7 @@ const ROWS: &[(&[u8], &[&[u8]])] = &[
 ];
 
 /// Whether a connection may have come to this: to one of the texts, or to a beginning of one where the
-/// connection ended for want of memory.
+/// connection ended out of memory.
 fn may_be(outcome: &Outcome, texts: &[&[u8]]) -> bool {
     let text = outcome.text.as_slice();
     match outcome.ended {
@@ -144,7 +144,7 @@ fn say<R: Wait, D: Device>(
     conclude::<Sink, D>(paused, &mut out, writer)
 }
 
-/// Whether one of these texts was said, or a beginning of one where the connection ended for want of memory.
+/// Whether one of these texts was said, or a beginning of one where the connection ended out of memory.
 fn was_said(writer: Noted<Sink>, ended: Option<Ended>, texts: &[&[u8]]) -> bool {
     let sink = writer.into_inner();
     let text = sink.text.as_slice();
@@ -226,7 +226,7 @@ fn both_are_answered<R: Wait, D: Device>(
     was_said(to_watcher, ended, WATCHER) && was_said(to_deleter, other, DELETER)
 }
 
-/// The same of a new engine.
+/// Whether each of the two is answered as it may be, of a new engine.
 fn are_answered<R: Wait>(rt: &R, alloc: Global) -> Result<bool, AllocError> {
     let sinks = (Sink::new(alloc, 16_384)?, Sink::new(alloc, 16_384)?);
     let limits = small();

@@ -112,7 +112,7 @@ fn is_back(answer: &Result<Answer, (usize, Command)>, key: &str, stripe: usize) 
     }
 }
 
-/// The same of a GET of this word.
+/// Whether a GET of this word was handed back, since this stripe was another pass's.
 fn command_is_busy(
     engine: &Engine<MemoryDevice>,
     pass: &mut Pass<MemoryDevice>,
