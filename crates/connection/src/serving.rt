@@ -153,6 +153,7 @@ pub(crate) fn forget<T: Wait, L: Latch, D: Device>(
     ensures no_failure { (knows D.failures pass.new).failures ≡ (knows D.failures pass.old).failures }
 {
     if let Some(call) = client.close() {
+        // A call that ends watches cannot fail, and is told nothing.
         let _ = engine.submit_with(rt, pass, call, latch);
     }
 }

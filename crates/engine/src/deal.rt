@@ -33,6 +33,7 @@ pub(crate) fn deal<R: Shows, D: Device<Receipt = R>>(
     requires outside { All (IsOutside epochs.now) seats.items }
     ensures { IfOk result (λ dealt. AreDealt R.is_steady gates.now epochs.now 0 dealt.items openings.items) }
 {
+    // Only the clauses name these.
     let _ = gates;
     let _ = epochs;
     let mut passes = passes;

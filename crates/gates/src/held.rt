@@ -92,6 +92,7 @@ impl<T: Part> Gates<T> {
         ensures others { parts_in pass.new ≡ rest (parts_in pass.old) }
         ensures fit { AllFit T.meaning (stripes_of self.now) (known pass.new) (taken_in pass.new) (parts_in pass.new) }
     {
+        // It is for contracts alone.
         let _ = report;
         self.give_first::<E>(pass, stripe);
     }

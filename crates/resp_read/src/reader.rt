@@ -153,7 +153,7 @@ impl Reader {
     }
 
     /// Whether the reader waits with a whole word at the front of its pieces, since memory was refused for it
-    /// when it was last asked. It asks for it again when it is asked again.
+    /// when it was last asked. If allocation fails, the word stays buffered and is retried.
     pub fn lacks_memory(&self) -> bool
         ensures { result ≡ self.now.lacks_memory }
     {

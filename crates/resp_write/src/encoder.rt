@@ -70,6 +70,7 @@ pub fn encode_line_within(line: Line, out: &mut Vec<u8>) -> bool
     if text.len() + 2 > out.capacity() - out.len() {
         return false;
     }
+    // There is room, so it cannot fail.
     let _ = put_line(text, out);
     true
 }
@@ -87,6 +88,7 @@ pub fn encode_value_within(value: &Option<Word>, out: &mut Vec<u8>) -> bool
     let mut length = Length { bytes: 0 };
     match put_value(value, &mut length) {
         Ok(()) if length.bytes <= out.capacity() - out.len() => {
+            // There is room, so it cannot fail.
             let _ = put_value(value, out);
             true
         }
@@ -126,5 +128,6 @@ fn append(reply: &Reply, out: &mut Vec<u8>)
     ensures items { out.new.items ≡ out.old.items ++ encoding reply.now }
     ensures capacity { vec_capacity out.old ≤ vec_capacity out.new }
 {
+    // There is room, so it cannot fail.
     let _ = put_reply(reply, out);
 }

@@ -326,6 +326,7 @@ where
             requires rests { Rests D.Receipt.is_steady engine.now pass }
             requires watches { (knows D.failures pass).watched ≡ [] }
         {
+            // It gives its pass back, which nobody wants any more.
             let _ = work(rt, latch, endings, serving, engine, pass, handed, &closer);
         },
     )?;

@@ -43,6 +43,7 @@ pub(crate) fn work<R: AllocGlobal + Clock + Wait, L: Latch, D: Device>(
         let (back, ended) = serve_stream(rt, latch, &stream, serving, engine, pass);
         serving.end();
         pass = back;
+        // Without memory for it, the ending is not listed.
         let _ = endings.push(rt, ended);
         close(rt, stream, ended, closer);
     }

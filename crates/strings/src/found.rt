@@ -48,6 +48,7 @@ impl<'a> MadeWith<Global> for Finding<'a> {
     ghost is_made_with = { λ finding. finding ≡ ([], None) };
 
     fn made_with(alloc: Global) -> Finding<'a> {
+        // An empty one keeps nothing.
         let _ = alloc;
         Finding {
             key: &[],
