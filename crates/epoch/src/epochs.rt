@@ -316,8 +316,8 @@ impl Epochs {
         self.stamp(seat, value)
     }
 
-    /// That an epoch is drained, by a seat of these epochs. `None` where a stay at it or below, or the epoch word, was
-    /// read as standing in the way.
+    /// Shows that an epoch is drained, by a seat of these epochs; `None` where a stay at it or below, or the epoch word,
+    /// was read as standing in the way.
     fn drain(&self, seat: &mut EpochSeat, e: u64) -> Option<Drained>
         requires { IsSeatOf self.now seat.old }
         ensures seat { IsSeatOf self.now seat.new }
