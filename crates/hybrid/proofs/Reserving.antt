@@ -136,12 +136,3 @@ room-reserved old now weight before failures light h enough = elim (cases_lt (PA
       let same : now ≡ old = h.still (omega (arith, pages)) in
       subst (λ (q : HybridLog). HasRoom q weight) (sym same) (record { room = inl (omega (arith, le)) })
 ]
-
--- there is room at once where frames are free for the pages, and pages may be opened
-pub room-at-once : (p : HybridLog) (weight : ℕ) → weight ≤ WEIGHT_MAX → pages_for p weight ≤ free p → (0 < pages_for p weight → next_number p.resident ≤ LAST_PAGE) → HasRoom p weight
-room-at-once p weight light enough numbers = elim (cases_lt (PAGE_SIZE - HEADER_SIZE) (weight + tail_bytes p)) [
-  | inl lt ↦
-      let pages = pages-some p weight lt in
-      record { room = inr (record { frames = inr (omega (arith, pages, enough)); numbers = omega (arith, numbers (omega (arith, pages)), light) }) }
-  | inr le ↦ record { room = inl (omega (arith, le)) }
-]
