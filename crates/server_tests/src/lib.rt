@@ -13,6 +13,8 @@ mod crowds;
 #[cfg(test)]
 mod files;
 #[cfg(test)]
+mod filling;
+#[cfg(test)]
 mod holding;
 #[cfg(test)]
 mod overwriting;

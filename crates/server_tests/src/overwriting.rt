@@ -24,7 +24,7 @@ const FULL: &[u8] = b"-FULL store is full";
 
 /// How 30 requests were answered.
 #[derive(Clone, Copy, Debug, PartialEq, Eq)]
-enum Answered {
+pub(crate) enum Answered {
     /// None by an error.
     Well,
     /// Some by want of a place.
@@ -34,7 +34,7 @@ enum Answered {
 }
 
 /// How the next 30 lines answer.
-fn thirty_lines(alloc: Global, stream: &TcpStream) -> Option<Answered> {
+pub(crate) fn thirty_lines(alloc: Global, stream: &TcpStream) -> Option<Answered> {
     let mut answered = Answered::Well;
     for _ in 0..30 {
         let line = reads_line(alloc, stream)?;
@@ -48,7 +48,7 @@ fn thirty_lines(alloc: Global, stream: &TcpStream) -> Option<Answered> {
 }
 
 /// Sends 30 requests until none of them finds the store full, and says whether that came.
-fn comes_to_room<R: AllocGlobal + Clock + Wait>(
+pub(crate) fn comes_to_room<R: AllocGlobal + Clock + Wait>(
     rt: &R,
     stream: &TcpStream,
     requests: &[u8],

@@ -1,0 +1,92 @@
+//! A stripe of 12 frames and 64 places that is full of values, over a socket. It serves again once keys are deleted.
+
+use crate::client::{connect, sends, with_options};
+use crate::overwriting::{Answered, comes_to_room, thirty_lines};
+use crate::pages::{FIRST, get_is_answered, has_thirty, options, thirty_sets};
+use gates::Open;
+use std::alloc::Global;
+use std::io;
+use std::io::Write;
+use std::net::{Net, TcpStream};
+use std::rt::Clock;
+use std::sync::Wait;
+use std::test::Fail;
+
+/// More pieces of thirty keys than there is room for: values of 1,000 bytes take 80 pages.
+const PIECES: u32 = 40;
+
+/// How many of them are deleted.
+const DELETED: u32 = 4;
+
+/// DELs of 30 keys of four digits, from this one on.
+fn thirty_dels(alloc: Global, first: u32) -> io::Result<Vec<u8>> {
+    let mut all = Vec::new(alloc);
+    for key in first..first.saturating_add(30) {
+        write!(all, "*2\r\n$3\r\nDEL\r\n$4\r\n{key}\r\n")?;
+    }
+    Ok(all)
+}
+
+/// Stores pieces of thirty keys until one finds the store full, and says how many were stored before.
+fn fills(alloc: Global, stream: &TcpStream) -> Option<u32> {
+    for piece in 0..PIECES {
+        let sets = thirty_sets(alloc, FIRST + piece * 30).ok()?;
+        if !sends(stream, sets.as_slice()) {
+            return None;
+        }
+        match thirty_lines(alloc, stream)? {
+            Answered::Well => {}
+            Answered::Full => return Some(piece),
+            Answered::Other => return None,
+        }
+    }
+    None
+}
+
+/// Deletes the first pieces, and says whether that came to an end.
+fn deletes<R: AllocGlobal + Clock + Wait>(rt: &R, stream: &TcpStream) -> Option<bool> {
+    for piece in 0..DELETED {
+        let dels = thirty_dels(rt.alloc(), FIRST + piece * 30).ok()?;
+        if !comes_to_room(rt, stream, dels.as_slice())? {
+            return Some(false);
+        }
+    }
+    Some(true)
+}
+
+/// Whether the pieces that were stored and not deleted have their values.
+fn has_others(alloc: Global, stream: &TcpStream, stored: u32) -> Option<bool> {
+    for piece in DELETED..stored {
+        if !has_thirty(alloc, stream, FIRST + piece * 30)? {
+            return Some(false);
+        }
+    }
+    Some(true)
+}
+
+/// Fills the store, deletes keys, and stores others in their place.
+fn fills_and_deletes<R>(rt: &R, port: u16) -> Option<bool>
+where
+    R: AllocGlobal + Clock + Net<Stream = TcpStream> + Wait,
+{
+    let alloc = rt.alloc();
+    let stream = connect(rt, port)?;
+    let stored = fills(alloc, &stream)?;
+    if !deletes(rt, &stream)? {
+        return Some(false);
+    }
+    let sets = thirty_sets(alloc, FIRST + PIECES * 30).ok()?;
+    Some(
+        comes_to_room(rt, &stream, sets.as_slice())?
+            && has_thirty(alloc, &stream, FIRST + PIECES * 30)?
+            && get_is_answered(alloc, &stream, FIRST, b"$-1\r\n")?
+            && has_others(alloc, &stream, stored)?,
+    )
+}
+
+#[test]
+fn a_full_store_serves_again_once_keys_are_deleted(rt: HostRuntime) -> Result<(), Fail> {
+    let outcome = with_options(&rt, &Open, options(64, 1, 1), fills_and_deletes)?;
+    assert!(rt; outcome.is_well(1));
+    Ok(())
+}
