@@ -1,6 +1,6 @@
 //! Why a plan was not made.
 
-ghost use Rattle.std.specs.Prelude.{◌≡◌, [], ◌∷◌, ◌++◌, length, nat_eq, OnOk, OnErr, IfSome, IfNone};
+ghost use Rattle.std.specs.Prelude.{◌≡◌, [], ◌∷◌, ◌++◌, length, nat_eq, IsOk, OnOk, OnErr, IfSome, IfNone};
 ghost use Rattle.plans.specs.Receipts.{kept_by};
 
 use device::Shows;
@@ -25,17 +25,22 @@ pub enum Stop<R: Shows> {
 /// Receipts of pages. Contracts see of each what it has in common with its copies, and the page that it shows.
 #[derive(Drop)]
 pub struct Receipts<R: Shows> {
-    items: Vec<R>,
+    /// The first, which takes no memory of its own.
+    first: Option<R>,
+    /// Those after it.
+    others: Vec<R>,
 }
 
 impl<R: Shows> Model for Receipts<R> {
-    ghost use Rattle.std.specs.Prelude.{List, map};
+    ghost use Rattle.std.specs.Prelude.{List, IfNone, ◌≡◌, []};
     ghost use Rattle.hybrid.specs.HybridLog.{Kept};
-    ghost use Rattle.plans.specs.Receipts.{kept_by};
+    ghost use Rattle.plans.specs.Receipts.{listed};
 
     ghost Value = { List Kept };
 
-    ghost view = { λ receipts. map (kept_by R.identity R.shown) receipts.items.items };
+    ghost view = { λ receipts. listed R.identity R.shown receipts.first receipts.others.items };
+
+    ghost invariant = { λ receipts. IfNone receipts.first (receipts.others.items ≡ []) };
 }
 
 impl<R: Shows> Receipts<R> {
@@ -44,11 +49,12 @@ impl<R: Shows> Receipts<R> {
         ensures { result ≡ [] }
     {
         Receipts {
-            items: Vec::new(alloc),
+            first: None,
+            others: Vec::new(alloc),
         }
     }
 
-    /// One receipt more.
+    /// One receipt more. The first takes no memory.
     ///
     /// # Errors
     ///
@@ -56,9 +62,14 @@ impl<R: Shows> Receipts<R> {
     pub fn push(&mut self, receipt: R) -> Result<(), OutOfMemory>
         ensures ok { OnOk result (self.new ≡ self.old ++ kept_by R.identity R.shown receipt ∷ []) }
         ensures err { OnErr result (self.new ≡ self.old) }
+        ensures first { self.old ≡ [] → IsOk result }
     {
-        self.items.reserve(1)?;
-        self.items.push_reserved(receipt);
+        if self.first.is_none() {
+            self.first = Some(receipt);
+            return Ok(());
+        }
+        self.others.reserve(1)?;
+        self.others.push_reserved(receipt);
         Ok(())
     }
 
@@ -67,20 +78,26 @@ impl<R: Shows> Receipts<R> {
         ensures some { IfSome result (λ receipt. self.old ≡ self.new ++ kept_by R.identity R.shown receipt ∷ []) }
         ensures none { IfNone result ((self.old ≡ []) × (self.new ≡ self.old)) }
     {
-        self.items.pop()
+        match self.others.pop() {
+            Some(last) => Some(last),
+            None => self.first.take(),
+        }
     }
 
     /// Whether there is none.
     pub fn is_empty(&self) -> bool
         ensures { result ≡ nat_eq (length self.now) 0 }
     {
-        self.items.is_empty()
+        self.len() == 0
     }
 
     /// How many there are.
     pub fn len(&self) -> usize
         ensures { result ≡ length self.now }
     {
-        self.items.len()
+        match self.first {
+            Some(_) => self.others.len() + 1,
+            None => 0,
+        }
     }
 }
