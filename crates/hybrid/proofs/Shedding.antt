@@ -1,14 +1,9 @@
 -- What is kept of the pages that leave their frames.
-use Rattle.std.proofs.Common.{◌≡◌, ℕ, suc, ◌+◌, ◌<◌, ◌≤◌, List, length, sym, subst, ◌∙◌, arith}
-use Rattle.words.specs.declared.limits.TheConstants.{FRAMES_MIN}
-use Rattle.frames.specs.Resident.{Resident, first_mutable, next_number}
-use Rattle.hybrid.specs.declared.stripe.TheConstants.{LAST_PAGE, CALL_PAGES}
+use Rattle.std.proofs.Common.{◌≡◌, ℕ, suc, ◌<◌, ◌≤◌, List, sym, subst, ◌∙◌}
+use Rattle.frames.specs.Resident.{first_mutable, next_number}
+use Rattle.hybrid.specs.declared.stripe.TheConstants.{LAST_PAGE}
 use Rattle.hybrid.specs.HybridLog.{HybridLog, Kept, with_dropped}
 use Rattle.hybrid.specs.Shedding.{HasShed, IsFlushedBy}
-
--- where so few frames are free, the oldest resident page is read-only
-pub read-only : (r : Resident) → r.frames < length r.pages + CALL_PAGES → FRAMES_MIN ≤ r.frames → r.oldest < first_mutable r
-read-only r few enough = omega (arith, few, enough)
 
 pub shed-more : {D R : Type 0} (wrote : D → List ℕ → R → D → Type 0) (view : R → Kept) (first old mid new : HybridLog) (begin before after : D)
     → HasShed wrote view first begin old before → old.resident.oldest < first_mutable old.resident → next_number old.resident ≤ LAST_PAGE → IsFlushedBy wrote view old before mid after

@@ -1,8 +1,8 @@
 -- The number of each size of a stripe's log.
 use Rattle.std.specs.Prelude.{◌≡◌, [], ◌∷◌, refl}
-use Rattle.hybrid.specs.declared.stripe.TheConstants.{RECORD_MAX, CLEAN_WEIGHT, CLOSED_MIN, CALL_PAGES, LAST_PAGE}
+use Rattle.hybrid.specs.declared.stripe.TheConstants.{RECORD_MAX, CLEAN_WEIGHT, CLOSED_MIN, CLEAN_PAGES, CALL_PAGES, LAST_PAGE}
 
-sizes : RECORD_MAX ∷ CLEAN_WEIGHT ∷ CLOSED_MIN ∷ CALL_PAGES ∷ [] ≡ 8728 ∷ 32736 ∷ 7640 ∷ 7 ∷ []
+sizes : RECORD_MAX ∷ CLEAN_WEIGHT ∷ CLOSED_MIN ∷ CLEAN_PAGES ∷ CALL_PAGES ∷ [] ≡ 8728 ∷ 32736 ∷ 7640 ∷ 5 ∷ 7 ∷ []
 sizes = refl
 
 last_page : LAST_PAGE ≡ 70368744177664

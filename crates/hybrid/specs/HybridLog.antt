@@ -1,5 +1,5 @@
 -- What a stripe is seen as: a hybrid log (FASTER, "HybridLog") whose oldest pages are on a device, and its index.
-use Rattle.std.specs.Prelude.{◌≡◌, ◌⊎◌, ℕ, suc, ◌+◌, ◌-◌, ◌*◌, ◌/◌, ◌%◌, ◌^◌, ◌<◌, ◌≤◌, List, [], ◌∷◌, ◌++◌, length, map, take, drop, replicate, slice_index, slice_index_or, slice_set, nat_lt, if◌then◌else◌, Option, Some, None, IsSome}
+use Rattle.std.specs.Prelude.{◌≡◌, ◌⊎◌, ℕ, suc, ◌+◌, ◌-◌, ◌*◌, ◌/◌, ◌%◌, ◌^◌, ◌<◌, ◌≤◌, List, [], ◌∷◌, ◌++◌, length, map, take, drop, replicate, slice_index, slice_index_or, slice_set, nat_lt, ◌&&◌, if◌then◌else◌, Option, Some, None, IsSome}
 use Rattle.std.specs.List.{All, Contains}
 use Rattle.records.specs.Records.{Stored, records_of, IsLaidOut}
 use Rattle.records.specs.declared.pages.TheConstants.{PAGE_SIZE, HEADER_SIZE}
@@ -127,6 +127,16 @@ tail_with tail size =
 -- each page that they close, which holds more than CLOSED_MIN bytes of them
 abbrev pub pages_for : HybridLog → ℕ → ℕ
 pages_for p weight = if nat_lt (PAGE_SIZE - HEADER_SIZE) (weight + tail_bytes p) then weight / CLOSED_MIN + 1 else 0
+
+-- the frames that are free or may become so: one for each place on the device that may still be taken
+abbrev pub available : HybridLog → ℕ
+available p = free p + (p.places - p.unreleased)
+
+-- the frames that have to be free for writes of this weight: one for each page that they can open, and, where a page is opened and
+-- fewer frames are available than these pages and so many `beside` them, also those
+abbrev pub frames_for : HybridLog → (weight beside : ℕ) → ℕ
+frames_for p weight beside =
+    if nat_lt 0 (pages_for p weight) && nat_lt (available p) (pages_for p weight + beside) then pages_for p weight + beside else pages_for p weight
 
 -- frames for the pages that writes of this weight can open, and numbers for these pages
 pub record HasFrames (p : HybridLog) (weight : ℕ) : Type 0 where

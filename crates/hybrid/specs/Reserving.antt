@@ -3,8 +3,8 @@ use Rattle.std.specs.Prelude.{◌≡◌, ◌⊎◌, ℕ, ◌+◌, ◌<◌, ◌�
 use Rattle.hybrid.specs.declared.stripe.TheConstants.{LAST_PAGE}
 use Rattle.hybrid.specs.declared.stripe.room.Fault.{Fault}
 use Rattle.hybrid.specs.declared.stripe.room.Fault.TheVariants as fault
-use Rattle.frames.specs.Resident.{next_number}
-use Rattle.hybrid.specs.HybridLog.{HybridLog, Kept, count_kept, receipt_of, with_receipt}
+use Rattle.frames.specs.Resident.{first_mutable, next_number}
+use Rattle.hybrid.specs.HybridLog.{HybridLog, Kept, available, count_kept, receipt_of, with_receipt}
 
 abbrev pub MatchFault : Fault → Type 0 → Type 0 → Type 0
 MatchFault fault.DeviceFault P Q = P
@@ -29,6 +29,10 @@ pub record IsReserved (old new : HybridLog) (count : ℕ) : Type 0 where
   pub still : (number : ℕ) (k : Kept) → receipt_of old number ≡ Some k → receipt_of new number ≡ Some k
   pub others : (number : ℕ) → new.resident.oldest ≤ number → receipt_of new number ≡ receipt_of old number
   pub counted : new.unreleased + count_kept old.kept ≡ old.unreleased + count_kept new.kept
+
+-- so many pages may be opened, and so many frames `beside` them stay available; or no page is left that may leave its frame
+abbrev pub KeepsBack : HybridLog → (pages beside : ℕ) → Type 0
+KeepsBack p pages beside = (pages + beside ≤ available p) ⊎ (first_mutable p.resident ≤ p.resident.oldest)
 
 -- `serves` is the device's, and `view` shows a receipt.
 module _ {D R : Type 0} (serves : D → R → Type 0) (view : R → Kept) where

@@ -20,5 +20,7 @@ pub use staged::{ReadFault, Staged};
 pub use stripe::clean::{Cleaned, Weighed};
 pub use stripe::find::Lookup;
 pub use stripe::room::{Fault, Room};
-pub use stripe::{CALL_PAGES, CLEAN_WEIGHT, CLOSED_MIN, LAST_PAGE, RECORD_MAX, Stripe};
+pub use stripe::{
+    CALL_PAGES, CLEAN_PAGES, CLEAN_WEIGHT, CLOSED_MIN, LAST_PAGE, RECORD_MAX, Stripe,
+};
 pub use write::Write;

@@ -34,6 +34,9 @@ pub const CLEAN_WEIGHT: usize = 2 * (PAGE_SIZE - HEADER_SIZE);
 /// would still fit. 7,640.
 pub const CLOSED_MIN: usize = PAGE_SIZE - HEADER_SIZE - RECORD_MAX;
 
+/// The most pages that what lives in one page opens by its weight: 5.
+pub const CLEAN_PAGES: usize = CLEAN_WEIGHT / CLOSED_MIN + 1;
+
 /// The most pages that the writes of one call open: 7.
 pub const CALL_PAGES: usize = WEIGHT_MAX / CLOSED_MIN + 1;
 

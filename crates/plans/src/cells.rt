@@ -7,6 +7,7 @@ ghost use Rattle.words.specs.Answers as answering;
 ghost use Rattle.words.specs.Commands.{IsInline};
 ghost use Rattle.words.specs.Stripes as striping;
 ghost use Rattle.strings.specs.declared.writes.TheConstants.{WRITES_INLINE};
+ghost use Rattle.hybrid.specs.declared.stripe.TheConstants.{CLEAN_PAGES};
 ghost use Rattle.hybrid.specs.HybridLog.{Kept, IsGrown};
 ghost use Rattle.hybrid.specs.Reserving.{MatchFault};
 ghost use Rattle.hybrid.specs.Staging.{AreRight, IsMissing};
@@ -15,7 +16,7 @@ ghost use Rattle.transact.specs.Tables.{AreThere, Became, begins, clears, joined
 ghost use Rattle.plans.specs.Devices.{StillServes};
 ghost use Rattle.plans.specs.Memory.{AreAtHand, IsAtHand};
 ghost use Rattle.plans.specs.Receipts.{kept_by};
-ghost use Rattle.plans.specs.Rooms.{GrowsAt, IsFullAt, IsRoomyAt, LacksRoomAt, ShedsAt, ShedsFewAt};
+ghost use Rattle.plans.specs.Rooms.{GrowsAt, IsFullAt, IsRoomyAt, LacksRoomAt, LeavesFramesAt, ShedsAt, ShedsFewAt};
 ghost use Rattle.plans.specs.Shards.{SameLogs, SameWaits, logs_of, shard_log, shard_meaning, shard_store, weigh};
 ghost use Rattle.plans.specs.Stops.{AreCold, HasFound, IfCold, IfFull, IfNoMemory, IsNeeded, IsWanted, IsWantedFor, IsNotEmpty, Each, faults};
 
@@ -188,31 +189,34 @@ pub(crate) fn is_marked<R: Shows, P: Parts<Shard<R>>>(
     parts.part(stripe).mark(key, seat).unwrap_or(false)
 }
 
-/// Makes room in a stripe. What keys have and all marks stay, and so do the logs of other stripes.
+/// Makes room in a stripe for writes that leave so many frames `beside` their own. What keys have and all marks stay, and so do the logs of other stripes.
 pub(crate) fn reserve_at<R: Shows, D: Device<Receipt = R>, P: Parts<Shard<R>>>(
     parts: &mut P,
     stripes: usize,
     stripe: usize,
     weight: usize,
+    beside: usize,
     device: &mut D,
 ) -> Result<(), Fault>
     requires open { P.is_open parts.old }
     requires there { IsSome (P.part_of parts.old stripe) }
     requires light { weight ≤ WEIGHT_MAX }
+    requires few { beside ≤ CLEAN_PAGES + 1 }
     ensures became { Became (shard_meaning R.is_steady) stripes [] stays (P.part_of parts.old) (P.part_of parts.new) }
     ensures room { OnOk result (IsRoomyAt (logs_of (P.part_of parts.new)) stripe weight) }
     ensures shed { D.failures device.new ≡ D.failures device.old → ShedsAt D.wrote (kept_by R.identity R.shown) stripe (logs_of (P.part_of parts.old)) device.old (logs_of (P.part_of parts.new)) device.new }
     ensures others { (other : ℕ) → other ≢ stripe → logs_of (P.part_of parts.new) other ≡ logs_of (P.part_of parts.old) other }
     ensures fault { IfErr result (λ fault. MatchFault fault (D.failures device.new ≡ D.failures device.old + 1) (IsFullAt (logs_of (P.part_of parts.new)) stripe × (D.failures device.new ≡ D.failures device.old))) }
-    ensures few { ShedsFewAt stripe weight (logs_of (P.part_of parts.old)) (logs_of (P.part_of parts.new)) }
-    ensures lacks { OnErr result (LacksRoomAt stripe weight (logs_of (P.part_of parts.old)) (logs_of (P.part_of parts.new))) }
+    ensures few { ShedsFewAt stripe weight beside (logs_of (P.part_of parts.old)) (logs_of (P.part_of parts.new)) }
+    ensures lacks { OnErr result (LacksRoomAt stripe weight beside (logs_of (P.part_of parts.old)) (logs_of (P.part_of parts.new))) }
+    ensures kept { OnOk result (LeavesFramesAt stripe weight beside (logs_of (P.part_of parts.old)) (logs_of (P.part_of parts.new))) }
     ensures device { StillServes D.serves D.releases device.old device.new }
     ensures no_fault { OnOk result (D.failures device.new ≡ D.failures device.old) }
     ensures waits { SameWaits (P.part_of parts.old) (P.part_of parts.new) }
     ensures open { P.is_open parts.new }
     ensures keeps { P.keeps parts.old parts.new }
 {
-    parts.part(stripe).reserve(weight, device)
+    parts.part(stripe).reserve(weight, beside, device)
 }
 
 /// Writes a key for which there is room.

@@ -152,7 +152,7 @@ impl<R: Shows> Shard<R> {
         }
     }
 
-    /// Makes room for writes of this weight.
+    /// Makes room for writes of this weight. It may take the frames that calls leave beside their own.
     fn make_room<D: Device<Receipt = R>>(
         &mut self,
         weight: usize,
@@ -169,7 +169,7 @@ impl<R: Shows> Shard<R> {
         ensures fault { IfErr result (λ fault. MatchFault fault ⊥ (D.failures device.new ≡ D.failures device.old + 1) (pages.IsFull (shard_pages self.new) × (D.failures device.new ≡ D.failures device.old))) }
         ensures no_fault { OnOk result (D.failures device.new ≡ D.failures device.old) }
     {
-        match self.log.reserve(weight, device) {
+        match self.log.reserve(weight, 0, device) {
             Ok(()) => Ok(()),
             Err(hybrid::Fault::DeviceFault) => Err(Fault::DeviceFault),
             Err(hybrid::Fault::StoreFull) => Err(Fault::StoreFull),

@@ -19,7 +19,7 @@ ghost use Rattle.plans.specs.declared.stop.Stop.TheVariants.{OutOfMemory};
 ghost use Rattle.plans.specs.Devices.{StillServes};
 ghost use Rattle.plans.specs.Memory.{AreAtHand, IsBriefOn, IsPlannedInPlace, NeedsNoMemoryOn};
 ghost use Rattle.plans.specs.Receipts.{kept_by};
-ghost use Rattle.plans.specs.Rooms.{AreRoomy, HaveGrown, MakesRoom, MeetsFull, ShedFew};
+ghost use Rattle.plans.specs.Rooms.{AreRoomy, HaveGrown, LeaveFrames, MakesRoom, MeetsFull, ShedFew};
 ghost use Rattle.plans.specs.Shards.{SameLogs, SameWaits, logs_of, shard_meaning};
 ghost use Rattle.plans.specs.Sizes.{AllShort, AreSized, IsSized, IsPlaced};
 ghost use Rattle.plans.specs.Stops.{AreCold, Each, IfCold, IfFull, IfNoMemory, IsNeeded, faults, keys_looked_up};
@@ -92,6 +92,7 @@ pub fn plan<R: Shows, D: Device<Receipt = R>, P: Parts<Shard<R>>>(
     ensures full { IfErr result (λ stop. IfFull stop (λ stripe. MeetsFull D.wrote (kept_by R.identity R.shown) stripes stripe (λ writes. R.is_honest → AreRight staged.now → AllShort (joined (shard_meaning R.is_steady) stripes (P.part_of parts.old)) → (asked : Asked) (seen : History) (watched : List Pair) → asked_of call.now ≡ Some asked → Stand (shard_meaning R.is_steady) stripes (P.part_of parts.old) seen seat watched → EndsAll call.now watched → AreWatched watched watched → writes ≡ made seen (operation_of watched asked)) (logs_of (P.part_of parts.old)) device.old (logs_of (P.part_of parts.new)) device.new)) }
     ensures memory { R.is_honest → AreRight staged.now → AreAtHand R.lends stripes (logs_of (P.part_of parts.old)) (keys_looked_up call.now) staged.now → NeedsNoMemoryOn (joined (shard_meaning R.is_steady) stripes (P.part_of parts.old)) call.now → IfErr result (λ stop. IfNoMemory stop ⊥) }
     ensures few { IfOk result (λ planned. ShedFew stripes planned.writes (logs_of (P.part_of parts.old)) (logs_of (P.part_of parts.new))) }
+    ensures kept { IfOk result (λ planned. LeaveFrames stripes planned.writes (logs_of (P.part_of parts.old)) (logs_of (P.part_of parts.new))) }
     ensures device { StillServes D.serves D.releases device.old device.new }
     ensures spared { IfErr result (λ stop. IfNoMemory stop (SameLogs (P.part_of parts.old) (P.part_of parts.new) × (device.new ≡ device.old))) }
     ensures faults { IfErr result (λ stop. D.failures device.new ≡ D.failures device.old + faults stop) }
@@ -146,6 +147,7 @@ fn plan_one<R: Shows, D: Device<Receipt = R>, P: Parts<Shard<R>>>(
     ensures full { IfErr result (λ stop. IfFull stop (λ stripe. MeetsFull D.wrote (kept_by R.identity R.shown) stripes stripe (λ writes. R.is_honest → AreRight staged.now → (seen : History) → AllRead (shard_meaning R.is_steady) stripes (P.part_of parts.old) (after seen) → writes ≡ made seen (Run command.now)) (logs_of (P.part_of parts.old)) device.old (logs_of (P.part_of parts.new)) device.new)) }
     ensures memory { R.is_honest → AreRight staged.now → AreAtHand R.lends stripes (logs_of (P.part_of parts.old)) (keys_of command.now) staged.now → IsPlannedInPlace (joined (shard_meaning R.is_steady) stripes (P.part_of parts.old)) command.now → IfErr result (λ stop. IfNoMemory stop ⊥) }
     ensures few { IfOk result (λ planned. ShedFew stripes planned.writes (logs_of (P.part_of parts.old)) (logs_of (P.part_of parts.new))) }
+    ensures kept { IfOk result (λ planned. LeaveFrames stripes planned.writes (logs_of (P.part_of parts.old)) (logs_of (P.part_of parts.new))) }
     ensures device { StillServes D.serves D.releases device.old device.new }
     ensures spared { IfErr result (λ stop. IfNoMemory stop ((P.part_of parts.new ≡ P.part_of parts.old) × (device.new ≡ device.old))) }
     ensures faults { IfErr result (λ stop. D.failures device.new ≡ D.failures device.old + faults stop) }
@@ -218,6 +220,7 @@ fn plan_copied<R: Shows, D: Device<Receipt = R>, P: Parts<Shard<R>>>(
     ensures full { IfErr result (λ stop. IfFull stop (λ stripe. MeetsFull D.wrote (kept_by R.identity R.shown) stripes stripe (λ writes. R.is_honest → AreRight staged.now → (seen : History) → AllRead (shard_meaning R.is_steady) stripes (P.part_of parts.old) (after seen) → writes ≡ made seen (Run command.now)) (logs_of (P.part_of parts.old)) device.old (logs_of (P.part_of parts.new)) device.new)) }
     ensures memory { R.is_honest → AreRight staged.now → AreAtHand R.lends stripes (logs_of (P.part_of parts.old)) (keys_of command.now) staged.now → IsBriefOn (joined (shard_meaning R.is_steady) stripes (P.part_of parts.old)) command.now → IfErr result (λ stop. IfNoMemory stop ⊥) }
     ensures few { IfOk result (λ planned. ShedFew stripes planned.writes (logs_of (P.part_of parts.old)) (logs_of (P.part_of parts.new))) }
+    ensures kept { IfOk result (λ planned. LeaveFrames stripes planned.writes (logs_of (P.part_of parts.old)) (logs_of (P.part_of parts.new))) }
     ensures device { StillServes D.serves D.releases device.old device.new }
     ensures spared { IfErr result (λ stop. IfNoMemory stop ((P.part_of parts.new ≡ P.part_of parts.old) × (device.new ≡ device.old))) }
     ensures faults { IfErr result (λ stop. D.failures device.new ≡ D.failures device.old + faults stop) }
@@ -271,6 +274,7 @@ fn plan_all<R: Shows, D: Device<Receipt = R>, P: Parts<Shard<R>>>(
     ensures untouched { IfErr result (λ stop. IfCold stop (λ receipts. (P.part_of parts.new ≡ P.part_of parts.old) × (device.new ≡ device.old))) }
     ensures full { IfErr result (λ stop. IfFull stop (λ stripe. MeetsFull D.wrote (kept_by R.identity R.shown) stripes stripe (λ writes. R.is_honest → AreRight staged.now → (seen : History) (watched : List Pair) → AllRead (shard_meaning R.is_steady) stripes (P.part_of parts.old) (after seen) → is_dirty seen watched ≡ false → writes ≡ made seen (Exec commands.now watched)) (logs_of (P.part_of parts.old)) device.old (logs_of (P.part_of parts.new)) device.new)) }
     ensures few { IfOk result (λ planned. ShedFew stripes planned.writes (logs_of (P.part_of parts.old)) (logs_of (P.part_of parts.new))) }
+    ensures kept { IfOk result (λ planned. LeaveFrames stripes planned.writes (logs_of (P.part_of parts.old)) (logs_of (P.part_of parts.new))) }
     ensures device { StillServes D.serves D.releases device.old device.new }
     ensures spared { IfErr result (λ stop. IfNoMemory stop ((P.part_of parts.new ≡ P.part_of parts.old) × (device.new ≡ device.old))) }
     ensures faults { IfErr result (λ stop. D.failures device.new ≡ D.failures device.old + faults stop) }
@@ -328,6 +332,7 @@ fn plan_exec<R: Shows, D: Device<Receipt = R>, P: Parts<Shard<R>>>(
     ensures untouched { IfErr result (λ stop. IfCold stop (λ receipts. (P.part_of parts.new ≡ P.part_of parts.old) × (device.new ≡ device.old))) }
     ensures full { IfErr result (λ stop. IfFull stop (λ stripe. MeetsFull D.wrote (kept_by R.identity R.shown) stripes stripe (λ writes. R.is_honest → AreRight staged.now → (seen : History) (watched : List Pair) → Stand (shard_meaning R.is_steady) stripes (P.part_of parts.old) seen seat watched → watching.now ≡ keys_of_pairs watched → AreWatched watched watched → writes ≡ made seen (Exec commands.now watched)) (logs_of (P.part_of parts.old)) device.old (logs_of (P.part_of parts.new)) device.new)) }
     ensures few { IfOk result (λ planned. ShedFew stripes planned.writes (logs_of (P.part_of parts.old)) (logs_of (P.part_of parts.new))) }
+    ensures kept { IfOk result (λ planned. LeaveFrames stripes planned.writes (logs_of (P.part_of parts.old)) (logs_of (P.part_of parts.new))) }
     ensures device { StillServes D.serves D.releases device.old device.new }
     ensures spared { IfErr result (λ stop. IfNoMemory stop ((P.part_of parts.new ≡ P.part_of parts.old) × (device.new ≡ device.old))) }
     ensures faults { IfErr result (λ stop. D.failures device.new ≡ D.failures device.old + faults stop) }
@@ -380,6 +385,7 @@ fn settle<R: Shows, D: Device<Receipt = R>, P: Parts<Shard<R>>>(
     ensures never_cold { IfErr result (λ stop. IfCold stop (λ receipts. ⊥)) }
     ensures memory { IfErr result (λ stop. IfNoMemory stop ⊥) }
     ensures few { IfOk result (λ planned. ShedFew stripes planned.writes (logs_of (P.part_of parts.old)) (logs_of (P.part_of parts.new))) }
+    ensures kept { IfOk result (λ planned. LeaveFrames stripes planned.writes (logs_of (P.part_of parts.old)) (logs_of (P.part_of parts.new))) }
     ensures device { StillServes D.serves D.releases device.old device.new }
     ensures faults { IfErr result (λ stop. D.failures device.new ≡ D.failures device.old + faults stop) }
     ensures no_fault { OnOk result (D.failures device.new ≡ D.failures device.old) }

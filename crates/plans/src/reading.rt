@@ -18,7 +18,7 @@ ghost use Rattle.plans.specs.Devices.{IsReadAlone, StillServes};
 ghost use Rattle.plans.specs.Memory.{AreAtHand, NeedsNoMemoryOn};
 ghost use Rattle.plans.specs.Reading.{AreRead, HasMore, AreServed, IsServed, ServesEach};
 ghost use Rattle.plans.specs.Receipts.{kept_by};
-ghost use Rattle.plans.specs.Rooms.{AreRoomy, IsFullAt, MakesRoom, MeetsFull, ShedFew};
+ghost use Rattle.plans.specs.Rooms.{AreRoomy, IsFullAt, LeaveFrames, MakesRoom, MeetsFull, ShedFew};
 ghost use Rattle.plans.specs.Shards.{SameLogs, SameWaits, logs_of, shard_meaning};
 ghost use Rattle.plans.specs.Sizes.{AllShort, IsPlaced};
 ghost use Rattle.plans.specs.Stops.{IfCold, IfFull, IfNoMemory, faults, keys_looked_up};
@@ -162,6 +162,7 @@ pub fn plan_reading<R: Shows, D: Device<Receipt = R>, P: Parts<Shard<R>>>(
     ensures grows { HasMore staged.old staged.new }
     ensures device { StillServes D.serves D.releases device.old device.new }
     ensures few { IfOk result (λ planned. ShedFew stripes planned.writes (logs_of (P.part_of parts.old)) (logs_of (P.part_of parts.new))) }
+    ensures kept { IfOk result (λ planned. LeaveFrames stripes planned.writes (logs_of (P.part_of parts.old)) (logs_of (P.part_of parts.new))) }
     ensures spared { IfErr result (λ stop. IfNoMemory stop (SameLogs (P.part_of parts.old) (P.part_of parts.new))) }
     ensures reads { IfOk result (λ planned. (read : D) × IsReadAlone D.serves D.releases D.writes device.old read × MakesRoom D.wrote (kept_by R.identity R.shown) stripes stripes planned.writes (logs_of (P.part_of parts.old)) read (logs_of (P.part_of parts.new)) device.new) }
     ensures faults { IfErr result (λ stop. D.failures device.new ≡ D.failures device.old + faults stop) }

@@ -14,6 +14,7 @@ ghost use Rattle.gates.specs.Pages as pages;
 ghost use Rattle.gates.specs.declared.view.Work.TheVariants.{Clean, Evict, Flush};
 ghost use Rattle.gates.specs.declared.view.Refused.{Refused};
 ghost use Rattle.watch.specs.Marked.{are_these, begun_if, cleared};
+ghost use Rattle.hybrid.specs.declared.stripe.TheConstants.{CLEAN_PAGES};
 ghost use Rattle.hybrid.specs.HybridLog.{HasRoom, IsGrown, empty_log, receipt_at, IsSealed, receipt_of, with_dropped};
 ghost use Rattle.hybrid.specs.Lookups.{Leads, MatchLookup};
 ghost use Rattle.hybrid.specs.Reserving.{IsFull, MatchFault};
@@ -24,7 +25,7 @@ ghost use Rattle.plans.specs.Devices.{StillServes};
 ghost use Rattle.plans.specs.Counted.{HasDrained, HasFlushed, HasLanded, HasReleased, HasRetired, IsFirstSealed, MatchBegun, MatchMoved, WasRefused, claimed, with_flight, without_flight};
 ghost use Rattle.epoch.specs.Seats.{AdvancedPast, IsOutside, WasWorn, known};
 ghost use Rattle.plans.specs.Receipts.{kept_by};
-ghost use Rattle.plans.specs.Rooms.{LacksRoom, ShedsFew};
+ghost use Rattle.plans.specs.Rooms.{LacksRoom, LeavesFrames, ShedsFew};
 ghost use Rattle.plans.specs.Shards.{shard_log, shard_marks, shard_store, weigh, shard_counted, shard_pages, shard_waiting, with_counted};
 
 use crate::counted::{Begun, CountedLog, Moved};
@@ -145,7 +146,8 @@ impl<R: Shows> Shard<R> {
         self.log.stripe().receipt(number)
     }
 
-    /// Makes room for writes of this weight: flushes and drops pages. What keys have and marks stay.
+    /// Makes room for writes of this weight that leave so many frames `beside` their own: flushes and drops pages. What keys
+    /// have and marks stay.
     ///
     /// # Errors
     ///
@@ -154,21 +156,24 @@ impl<R: Shows> Shard<R> {
     pub fn reserve<D: Device<Receipt = R>>(
         &mut self,
         weight: usize,
+        beside: usize,
         device: &mut D,
     ) -> Result<(), Fault>
-        requires { weight ≤ WEIGHT_MAX }
+        requires light { weight ≤ WEIGHT_MAX }
+        requires few { beside ≤ CLEAN_PAGES + 1 }
         ensures store { shard_store self.new ≡ shard_store self.old }
         ensures marks { shard_marks self.new ≡ shard_marks self.old }
         ensures waits { shard_waiting self.new ≡ shard_waiting self.old }
         ensures room { OnOk result (HasRoom (shard_log self.new) weight) }
         ensures shed { D.failures device.new ≡ D.failures device.old → HasShed D.wrote (kept_by R.identity R.shown) (shard_log self.old) device.old (shard_log self.new) device.new }
         ensures fault { IfErr result (λ fault. MatchFault fault (D.failures device.new ≡ D.failures device.old + 1) (IsFull (shard_log self.new) × (D.failures device.new ≡ D.failures device.old))) }
-        ensures few { ShedsFew weight (shard_log self.old) (shard_log self.new) }
-        ensures lacks { OnErr result (LacksRoom weight (shard_log self.old) (shard_log self.new)) }
+        ensures few { ShedsFew weight beside (shard_log self.old) (shard_log self.new) }
+        ensures lacks { OnErr result (LacksRoom weight beside (shard_log self.old) (shard_log self.new)) }
+        ensures kept { OnOk result (LeavesFrames weight beside (shard_log self.old) (shard_log self.new)) }
         ensures device { StillServes D.serves D.releases device.old device.new }
         ensures no_fault { OnOk result (D.failures device.new ≡ D.failures device.old) }
     {
-        self.log.reserve(weight, device)
+        self.log.reserve(weight, beside, device)
     }
 
     /// Writes a key, for which there is room: its value is this, or none, and its marks are touched. It takes no

@@ -3,11 +3,11 @@
 ghost use Rattle.std.specs.Prelude.{◌≡◌, ◌↔◌, ◌+◌, ◌-◌, ◌<◌, ◌≤◌, ◌^◌, ◌⊎◌, ℕ, IsTrue, IsSome, IfOk, IfErr, OnOk, OnErr, None};
 ghost use Rattle.std.specs.Bool.{OnTrue, OnFalse};
 ghost use Rattle.frames.specs.Resident.{first_mutable, next_number};
-ghost use Rattle.hybrid.specs.HybridLog.{log_of, HasRoom, free, pages_for, with_dropped, receipt_of};
-ghost use Rattle.hybrid.specs.Reserving.{AreNewServed, IsFlushed, IsReserved, MatchFault, IsFull};
+ghost use Rattle.hybrid.specs.HybridLog.{log_of, HasRoom, IsHybridLog, frames_for, free, pages_for, with_dropped, receipt_of};
+ghost use Rattle.hybrid.specs.Reserving.{AreNewServed, IsFlushed, IsReserved, KeepsBack, MatchFault, IsFull};
 ghost use Rattle.hybrid.specs.Shedding.{HasShed, IsFlushedBy};
 
-use crate::stripe::{CALL_PAGES, CLOSED_MIN, LAST_PAGE, Stripe};
+use crate::stripe::{CALL_PAGES, CLEAN_PAGES, CLOSED_MIN, LAST_PAGE, Stripe};
 use device::{Device, Shows};
 use records::PAGE_SIZE;
 use words::limits::WEIGHT_MAX;
@@ -32,19 +32,25 @@ impl<R: Shows> Stripe<R> {
     /// Room for writes of this weight in all. Where fewer frames are free than pages that these writes
     /// can open, the oldest read-only pages are written to the device and dropped, no more than needed.
     /// After an `Err` some of that may have been done.
+    ///
+    /// Near the limit of places these writes leave so many frames `beside` their pages, for others that pass
+    /// less: as many stay free, or may be had for places that are not taken. Where a page would be opened and no
+    /// place is left for these, the store is full. Only where no read-only page is resident they may be fewer.
     pub fn reserve<D: Device<Receipt = R>>(
         &mut self,
         weight: usize,
+        beside: usize,
         device: &mut D,
     ) -> Result<Room, Fault>
-        requires { weight ≤ WEIGHT_MAX }
+        requires light { weight ≤ WEIGHT_MAX }
+        requires few { beside ≤ CLEAN_PAGES + 1 }
         ensures room { IfOk result (λ room. (room.weight ≡ weight) × HasRoom self.new weight) }
         ensures log { log_of self.new ≡ log_of self.old }
         // Each page that left its frame was read-only, and had a receipt or was written to this device.
         ensures shed { OnOk result (HasShed D.wrote (λ r. record { identity = R.identity r; shown = R.shown r }) self.old device.old self.new device.new) }
         ensures shed_full { OnErr result (D.failures device.new ≡ D.failures device.old → HasShed D.wrote (λ r. record { identity = R.identity r; shown = R.shown r }) self.old device.old self.new device.new) }
-        ensures reserved { (count : ℕ) × IsReserved self.old self.new count × (count ≤ pages_for self.old weight - free self.old) }
-        ensures needless { pages_for self.old weight ≤ free self.old → self.new ≡ self.old }
+        ensures reserved { (count : ℕ) × IsReserved self.old self.new count × (count ≤ frames_for self.old weight beside - free self.old) }
+        ensures needless { frames_for self.old weight beside ≤ free self.old → self.new ≡ self.old }
         ensures fault { IfErr result (λ fault. MatchFault fault (D.failures device.new ≡ D.failures device.old + 1) (IsFull self.new × (D.failures device.new ≡ D.failures device.old))) }
         ensures no_fault { OnOk result (D.failures device.new ≡ D.failures device.old) }
         ensures no_release { D.releases device.new ≡ D.releases device.old }
@@ -57,14 +63,15 @@ impl<R: Shows> Stripe<R> {
         ensures writes { OnOk result (D.writes device.new + self.old.unreleased ≡ D.writes device.old + self.new.unreleased) }
         ensures asked { IfErr result (λ fault. MatchFault fault (D.writes device.new + self.old.unreleased ≡ D.writes device.old + self.new.unreleased + 1) (D.writes device.new + self.old.unreleased ≡ D.writes device.old + self.new.unreleased)) }
         ensures needed { OnErr result (0 < pages_for self.old weight) }
-        ensures needful { OnErr result ((LAST_PAGE < next_number self.new.resident) ⊎ ((receipt_of self.new self.new.resident.oldest ≡ None) × (free self.new < pages_for self.old weight))) }
+        ensures needful { OnErr result ((LAST_PAGE < next_number self.new.resident) ⊎ ((receipt_of self.new self.new.resident.oldest ≡ None) × (free self.new < frames_for self.old weight beside))) }
+        ensures kept { OnOk result (0 < pages_for self.old weight → KeepsBack self.new (pages_for self.old weight) beside) }
         ensures last { OnOk result (0 < pages_for self.old weight → next_number self.new.resident ≤ LAST_PAGE) }
     {
-        let needed = self.pages_for(weight);
-        if needed > 0 && self.next_number() > LAST_PAGE {
+        let wanted = self.frames_for(weight, beside);
+        if wanted > 0 && self.next_number() > LAST_PAGE {
             return Err(Fault::StoreFull);
         }
-        while self.free() < needed {
+        while self.may_free(wanted) {
             self.flush_oldest(device)?;
             self.drop_oldest();
         }
@@ -107,6 +114,33 @@ impl<R: Shows> Stripe<R> {
         } else {
             weight / CLOSED_MIN + 1
         }
+    }
+
+    // The frames that have to be free for writes of this weight: for the pages that they can open and, near the limit
+    // of places, so many beside them.
+    fn frames_for(&self, weight: usize, beside: usize) -> usize
+        requires light { weight ≤ WEIGHT_MAX }
+        requires few { beside ≤ CLEAN_PAGES + 1 }
+        ensures frames { result ≡ frames_for self.now weight beside }
+        ensures some { 0 < result → 0 < pages_for self.now weight }
+        ensures pages { pages_for self.now weight ≤ CALL_PAGES }
+    {
+        let pages = self.pages_for(weight);
+        let lacking = (pages + beside).saturating_sub(self.free());
+        if pages > 0 && self.places - self.unreleased < lacking {
+            pages + beside
+        } else {
+            pages
+        }
+    }
+
+    // Whether fewer frames than this are free, and the oldest resident page, which is read-only, may leave its own.
+    fn may_free(&self, wanted: usize) -> bool
+        ensures lacks { OnTrue result ((free self.now < wanted) × (self.now.resident.oldest < first_mutable self.now.resident)) }
+        ensures enough { OnFalse result ((wanted ≤ free self.now) ⊎ (first_mutable self.now.resident ≤ self.now.resident.oldest)) }
+        ensures log { IsHybridLog self.now }
+    {
+        self.free() < wanted && self.frames.oldest() < self.frames.first_mutable()
     }
 
     // Drops the oldest resident page, whose receipt is kept.

@@ -1,24 +1,28 @@
-use Rattle.std.proofs.Common.{rules, ◌≡◌, ◌∙◌, refl, ap, arith}
-use Rattle.hybrid.specs.HybridLog.{HybridLog, pages_for, with_dropped}
+use Rattle.std.proofs.Common.{rules, ◌≡◌, ◌∙◌, ◌<◌, refl, ap, arith}
+use Rattle.hybrid.specs.HybridLog.{HybridLog, frames_for, free, with_dropped}
+use Rattle.frames.specs.Resident.{first_mutable}
 use Rattle.hybrid.proofs.Dropping.{on-true}
-use Rattle.hybrid.proofs.Reserving.{reserving-step, room-reserved}
+use Rattle.hybrid.proofs.Reserving.{ended, frames-least, kept-back, needful, on-err, reserving-step, room-enough, room-reserved}
 use Rattle.hybrid.proofs.Serving.{new-step, new-still}
-use Rattle.hybrid.proofs.Shedding.{shed-more, shed-full, read-only}
+use Rattle.hybrid.proofs.Shedding.{shed-more, shed-full}
 use Rattle.hybrid.proofs.stripe.Stripe.reserve.Goals as goal
 
 pub loop-self-preserved : goal.loop-self-preserved
 loop-self-preserved g c =
     let has = c.drop_oldest.ensures.exact.1 (c.in_ok-flush_oldest.ensures.receipt) in
     let dropped : c.drop_oldest.new.self ≡ with_dropped c.flush_oldest.new.self = on-true c.drop_oldest.result (c.drop_oldest.new.self ≡ with_dropped c.flush_oldest.new.self) has c.drop_oldest.ensures.dropped in
-    let reserving = reserving-step c.args.self.now c.loop-self.self c.flush_oldest.new.self c.drop_oldest.new.self (g.D.Device.failures c.args.device.now) (g.D.Device.failures c.loop-self.device) (g.D.Device.failures c.flush_oldest.new.device) (pages_for c.args.self.now c.args.weight)
-    c.loop-self.invariant.reserving (omega (arith, c.loop-self-test.true, c.free.ensures.free, c.pages_for-needed.ensures.pages)) c.in_ok-flush_oldest.ensures.no_fault c.free.ensures.live c.free.ensures.numbered c.free.ensures.enough.1 (omega (arith, c.free.ensures.frames))
+    let may : (free c.loop-self.self < c.frames_for-wanted.result) × (c.loop-self.self.resident.oldest < first_mutable c.loop-self.self.resident) =
+    on-true c.may_free.result _ c.loop-self-test.true c.may_free.ensures.lacks in
+    let is = c.may_free.ensures.log in
+    let lacks : free c.loop-self.self < frames_for c.args.self.now c.args.weight c.args.beside = omega (arith, may.0, c.frames_for-wanted.ensures.frames) in
+    let reserving = reserving-step c.args.self.now c.loop-self.self c.flush_oldest.new.self c.drop_oldest.new.self (g.D.Device.failures c.args.device.now) (g.D.Device.failures c.loop-self.device) (g.D.Device.failures c.flush_oldest.new.device) (frames_for c.args.self.now c.args.weight c.args.beside)
+    c.loop-self.invariant.reserving lacks c.in_ok-flush_oldest.ensures.no_fault is.live is.numbered is.tail is.fits
     c.in_ok-flush_oldest.ensures.flushed dropped c.flush_oldest.ensures.log c.drop_oldest.ensures.log in
     record {
       reserving = reserving;
       shed = shed-more g.D.Device.wrote (λ r. record { identity = g.R.Shows.identity r; shown = g.R.Shows.shown r }) c.args.self.now c.loop-self.self c.flush_oldest.new.self
           c.drop_oldest.new.self c.args.device.now c.loop-self.device c.flush_oldest.new.device c.loop-self.invariant.shed
-          (read-only c.loop-self.self.resident (omega (arith, c.free.ensures.frames, c.loop-self-test.true, c.pages_for-needed.ensures.few, c.free.ensures.enough.0)) c.free.ensures.enough.0)
-          (c.loop-self.invariant.reserving.numbers (omega (arith, c.loop-self-test.true, c.pages_for-needed.ensures.pages)))
+          may.1 (c.loop-self.invariant.reserving.numbers (omega (arith, lacks)))
           c.in_ok-flush_oldest.ensures.by_device dropped;
       served = λ r s. c.flush_oldest.ensures.still_served r (c.loop-self.invariant.served r s);
       new_served = λ honest.
@@ -37,13 +41,32 @@ pub returns-in_err-flush_oldest-clause-still_served : goal.returns-in_err-flush_
 returns-in_err-flush_oldest-clause-still_served g c = λ r s. c.flush_oldest.ensures.still_served r (c.loop-self.invariant.served r s)
 
 pub returns-clause-room : goal.returns-clause-room
-returns-clause-room g c = (refl, room-reserved c.args.self.now c.loop-self.self c.args.weight (g.D.Device.failures c.args.device.now) (g.D.Device.failures c.loop-self.device) c.requires c.loop-self.invariant.reserving (omega (arith, c.loop-self-test.false, c.free.ensures.free, c.pages_for-needed.ensures.pages)))
+returns-clause-room g c =
+    let is = c.may_free.ensures.log in
+    let over = ended c.may_free.result (frames_for c.args.self.now c.args.weight c.args.beside) c.frames_for-wanted.result c.loop-self.self c.frames_for-wanted.ensures.frames c.loop-self-test.false c.may_free.ensures.enough in (
+      refl,
+      room-reserved c.args.self.now c.loop-self.self c.args.weight c.args.beside (g.D.Device.failures c.args.device.now) (g.D.Device.failures c.loop-self.device) c.requires.light c.loop-self.invariant.reserving
+          (room-enough c.args.self.now c.loop-self.self c.args.weight c.args.beside is.enough c.frames_for-wanted.ensures.pages over),
+    )
+
+pub returns-clause-kept : goal.returns-clause-kept
+returns-clause-kept g c =
+    kept-back c.args.self.now c.loop-self.self c.args.weight c.args.beside (g.D.Device.failures c.args.device.now) (g.D.Device.failures c.loop-self.device) c.loop-self.invariant.reserving
+    (ended c.may_free.result (frames_for c.args.self.now c.args.weight c.args.beside) c.frames_for-wanted.result c.loop-self.self c.frames_for-wanted.ensures.frames c.loop-self-test.false c.may_free.ensures.enough)
 
 pub returns-in_err-flush_oldest-clause-needed : goal.returns-in_err-flush_oldest-clause-needed
-returns-in_err-flush_oldest-clause-needed g c = search rules
+returns-in_err-flush_oldest-clause-needed g c =
+    let may = on-true c.may_free.result _ c.loop-self-test.true c.may_free.ensures.lacks in
+    on-err c.from_residual.result _ (c.frames_for-wanted.ensures.some (omega (arith, may.0)))
+
+pub returns-in_err-flush_oldest-clause-needful : goal.returns-in_err-flush_oldest-clause-needful
+returns-in_err-flush_oldest-clause-needful g c =
+    let may = on-true c.may_free.result _ c.loop-self-test.true c.may_free.ensures.lacks in
+    on-err c.from_residual.result _ (needful c.loop-self.self c.flush_oldest.new.self (frames_for c.args.self.now c.args.weight c.args.beside)
+    c.in_err-flush_oldest.ensures.unchanged c.in_err-flush_oldest.ensures.bare (omega (arith, may.0, c.frames_for-wanted.ensures.frames)))
 
 pub returns-clause-last : goal.returns-clause-last
-returns-clause-last g c = c.loop-self.invariant.reserving.numbers
+returns-clause-last g c = λ some. c.loop-self.invariant.reserving.numbers (omega (arith, some, frames-least c.args.self.now c.args.weight c.args.beside))
 
 pub returns-clause-shed : goal.returns-clause-shed
 returns-clause-shed g c = c.loop-self.invariant.shed
