@@ -1,6 +1,6 @@
 -- No more pages leave their frames than are wanted, and what the device served it serves still.
-use Rattle.std.proofs.Common.{◌≡◌, ◌≢◌, ◌∙◌, ℕ, ◌+◌, ◌≤◌, List, [], ◌++◌, append-nil, append_assoc, Option, Some, Result, Ok, Err, IfErr, sym, ap, subst, refl, arith, ⊎_elim}
-use Rattle.std.specs.Prelude.{OnErr}
+use Rattle.std.proofs.Common.{◌≡◌, ◌≢◌, ◌∙◌, ℕ, ◌+◌, ◌<◌, ◌≤◌, List, [], ◌++◌, append-nil, append_assoc, Option, Some, Result, Ok, Err, IfErr, sym, ap, subst, refl, arith, ⊎_elim}
+use Rattle.std.specs.Prelude.{OnErr, OnOk}
 use Rattle.std.proofs.lemmas.Bool.{cases_eq}
 use Rattle.words.specs.Store.{Write}
 use Rattle.frames.specs.Resident.{Resident}
@@ -11,7 +11,7 @@ use Rattle.plans.specs.declared.stop.Stop.{Stop}
 use Rattle.plans.specs.declared.stop.Stop.TheVariants as stop
 use Rattle.plans.specs.Reading.{HasMore}
 use Rattle.plans.specs.Devices.{IsReadAlone, StillServes}
-use Rattle.plans.specs.Rooms.{LacksRoom, LacksRoomAt, ShedFew, ShedsFew, ShedsFewAt, share}
+use Rattle.plans.specs.Rooms.{LacksRoom, LacksRoomAt, LeaveFrames, LeavesFrames, LeavesFramesAt, ShedFew, ShedsFew, ShedsFewAt, kept_back, share}
 use Rattle.plans.specs.Shards.{logs_of, shard_log}
 use Rattle.plans.specs.Stops.{IfNoMemory}
 use Rattle.plans.proofs.Logs.{log_at}
@@ -21,8 +21,8 @@ all_pages : (r : Resident) (oldest : ℕ) → oldest ≡ r.oldest → r ≡ reco
 all_pages r oldest is = ap (λ (k : ℕ). record { oldest = k; pages = r.pages; frames = r.frames }) (sym is)
 
 -- no page has left its frame
-pub shed_none : (weight : ℕ) (p : HybridLog) → ShedsFew weight p p
-shed_none weight p = record {
+pub shed_none : (weight beside : ℕ) (p : HybridLog) → ShedsFew weight beside p p
+shed_none weight beside p = record {
   count = 0;
   reserved = record {
     oldest = refl;
@@ -38,47 +38,88 @@ shed_none weight p = record {
   few = omega arith;
 }
 
-pub few_same : (stripe weight : ℕ) (before later : ℕ → Option HybridLog) → later stripe ≡ before stripe → ShedsFewAt stripe weight before later
-few_same stripe weight before later same old new was is = subst (ShedsFew weight old) (some_is old new (before stripe) was (sym same ∙ is)) (shed_none weight old)
+pub few_same : (stripe weight beside : ℕ) (before later : ℕ → Option HybridLog) → later stripe ≡ before stripe → ShedsFewAt stripe weight beside before later
+few_same stripe weight beside before later same old new was is = subst (ShedsFew weight beside old) (some_is old new (before stripe) was (sym same ∙ is)) (shed_none weight beside old)
 
 pub few_none : (n : ℕ) (ws : List Write) (before later : ℕ → Option HybridLog) → ((i : ℕ) → later i ≡ before i) → ShedFew n ws before later
-few_none n ws before later same i = few_same i (share n i ws) before later (same i)
+few_none n ws before later same i = few_same i (share n i ws) (kept_back ws) before later (same i)
 
 -- from logs that are the same
 pub few_from : (n : ℕ) (ws : List Write) (old other new : ℕ → Option HybridLog) → ((i : ℕ) → other i ≡ old i) → ShedFew n ws other new → ShedFew n ws old new
 few_from n ws old other new same few i was is at there = few i was is (same i ∙ at) there
 
 -- one stripe more has shed
-pub few_more : (n i share_is : ℕ) (ws : List Write) (start before later : ℕ → Option HybridLog) → share_is ≡ share n i ws → ((j : ℕ) → i ≤ j → before j ≡ start j)
-    → ((j : ℕ) → j ≢ i → later j ≡ before j) → ShedFew n ws start before → ShedsFewAt i share_is before later → ShedFew n ws start later
-few_more n i share_is ws start before later is ahead others few one j was now at stands = ⊎_elim
+pub few_more : (n i share_is beside : ℕ) (ws : List Write) (start before later : ℕ → Option HybridLog) → share_is ≡ share n i ws → beside ≡ kept_back ws → ((j : ℕ) → i ≤ j → before j ≡ start j)
+    → ((j : ℕ) → j ≢ i → later j ≡ before j) → ShedFew n ws start before → ShedsFewAt i share_is beside before later → ShedFew n ws start later
+few_more n i share_is beside ws start before later is left ahead others few one j was now at stands = ⊎_elim
     (λ same.
     let here : before j ≡ start j = ahead j (omega (arith, same)) in
-    subst (λ (k : ℕ). ShedsFew k was now) (is ∙ ap (λ (k : ℕ). share n k ws) (sym same))
-    (one was now (sym (ap before same) ∙ here ∙ at) (sym (ap later same) ∙ stands)))
+    subst (λ (k : ℕ). ShedsFew (share n j ws) k was now) left
+    (subst (λ (k : ℕ). ShedsFew k beside was now) (is ∙ ap (λ (k : ℕ). share n k ws) (sym same))
+    (one was now (sym (ap before same) ∙ here ∙ at) (sym (ap later same) ∙ stands))))
     (λ ne. few j was now at (sym (others j ne) ∙ stands))
     (cases_eq j i)
 
 -- the log of one part
-pub few_at : {R : Type 0} (weight stripe : ℕ) (parts later : ℕ → Option (Shard R)) (old new : Shard R) → parts stripe ≡ Some old → later stripe ≡ Some new → ShedsFew weight (shard_log old) (shard_log new)
-    → ShedsFewAt stripe weight (logs_of parts) (logs_of later)
-few_at {R} weight stripe parts later old new there is few was now at stands =
-    subst (ShedsFew weight was) (some_is (shard_log new) now (logs_of later stripe) (log_at later stripe new is) stands)
-    (subst (λ (p : HybridLog). ShedsFew weight p (shard_log new)) (some_is (shard_log old) was (logs_of parts stripe) (log_at parts stripe old there) at) few)
+pub few_at : {R : Type 0} (weight beside stripe : ℕ) (parts later : ℕ → Option (Shard R)) (old new : Shard R) → parts stripe ≡ Some old → later stripe ≡ Some new → ShedsFew weight beside (shard_log old) (shard_log new)
+    → ShedsFewAt stripe weight beside (logs_of parts) (logs_of later)
+few_at {R} weight beside stripe parts later old new there is few was now at stands =
+    subst (ShedsFew weight beside was) (some_is (shard_log new) now (logs_of later stripe) (log_at later stripe new is) stands)
+    (subst (λ (p : HybridLog). ShedsFew weight beside p (shard_log new)) (some_is (shard_log old) was (logs_of parts stripe) (log_at parts stripe old there) at) few)
 
-pub lacks_at : {R : Type 0} (weight stripe : ℕ) (parts later : ℕ → Option (Shard R)) (old new : Shard R) → parts stripe ≡ Some old → later stripe ≡ Some new → LacksRoom weight (shard_log old) (shard_log new)
-    → LacksRoomAt stripe weight (logs_of parts) (logs_of later)
-lacks_at {R} weight stripe parts later old new there is lacks was now at stands =
-    subst (LacksRoom weight was) (some_is (shard_log new) now (logs_of later stripe) (log_at later stripe new is) stands)
-    (subst (λ (p : HybridLog). LacksRoom weight p (shard_log new)) (some_is (shard_log old) was (logs_of parts stripe) (log_at parts stripe old there) at) lacks)
+pub lacks_at : {R : Type 0} (weight beside stripe : ℕ) (parts later : ℕ → Option (Shard R)) (old new : Shard R) → parts stripe ≡ Some old → later stripe ≡ Some new → LacksRoom weight beside (shard_log old) (shard_log new)
+    → LacksRoomAt stripe weight beside (logs_of parts) (logs_of later)
+lacks_at {R} weight beside stripe parts later old new there is lacks was now at stands =
+    subst (LacksRoom weight beside was) (some_is (shard_log new) now (logs_of later stripe) (log_at later stripe new is) stands)
+    (subst (λ (p : HybridLog). LacksRoom weight beside p (shard_log new)) (some_is (shard_log old) was (logs_of parts stripe) (log_at parts stripe old there) at) lacks)
 
-pub lacks_as : (i j u w : ℕ) (before later : ℕ → Option HybridLog) → i ≡ j → u ≡ w → LacksRoomAt i u before later → LacksRoomAt j w before later
-lacks_as i j u w before later same is lacks =
-    subst (λ (k : ℕ). LacksRoomAt j k before later) is (subst (λ (k : ℕ). LacksRoomAt k u before later) same lacks)
+pub lacks_as : (i j u w beside : ℕ) (before later : ℕ → Option HybridLog) → i ≡ j → u ≡ w → LacksRoomAt i u beside before later → LacksRoomAt j w beside before later
+lacks_as i j u w beside before later same is lacks =
+    subst (λ (k : ℕ). LacksRoomAt j k beside before later) is (subst (λ (k : ℕ). LacksRoomAt k u beside before later) same lacks)
+
+-- the same of the frames that are left beside
+pub left_at : {R : Type 0} (weight beside stripe : ℕ) (parts later : ℕ → Option (Shard R)) (old new : Shard R) → parts stripe ≡ Some old → later stripe ≡ Some new → LeavesFrames weight beside (shard_log old) (shard_log new)
+    → LeavesFramesAt stripe weight beside (logs_of parts) (logs_of later)
+left_at {R} weight beside stripe parts later old new there is left was now at stands =
+    subst (LeavesFrames weight beside was) (some_is (shard_log new) now (logs_of later stripe) (log_at later stripe new is) stands)
+    (subst (λ (p : HybridLog). LeavesFrames weight beside p (shard_log new)) (some_is (shard_log old) was (logs_of parts stripe) (log_at parts stripe old there) at) left)
+
+pub left_as : (i j u w beside : ℕ) (before later : ℕ → Option HybridLog) → i ≡ j → u ≡ w → LeavesFramesAt i u beside before later → LeavesFramesAt j w beside before later
+left_as i j u w beside before later same is left =
+    subst (λ (k : ℕ). LeavesFramesAt j k beside before later) is (subst (λ (k : ℕ). LeavesFramesAt k u beside before later) same left)
+
+-- no writes leave any
+pub left_none : (n : ℕ) (ws : List Write) (before later : ℕ → Option HybridLog) → ws ≡ [] → LeaveFrames n ws before later
+left_none n ws before later none i some = absurd (omega (arith, some, ap (λ (l : List Write). share n i l) none))
+
+-- from logs that are the same
+pub left_from : (n : ℕ) (ws : List Write) (old other new : ℕ → Option HybridLog) → ((i : ℕ) → other i ≡ old i) → LeaveFrames n ws other new → LeaveFrames n ws old new
+left_from n ws old other new same left i some was is at there = left i some was is (same i ∙ at) there
+
+-- of so many stripes
+abbrev pub LeftBelow : (n count : ℕ) → List Write → (before later : ℕ → Option HybridLog) → Type 0
+LeftBelow n count ws before later = (i : ℕ) → i < count → 0 < share n i ws → LeavesFramesAt i (share n i ws) (kept_back ws) before later
+
+-- one stripe more has room
+pub left_more : (n i share_is beside : ℕ) (ws : List Write) (start before later : ℕ → Option HybridLog) → share_is ≡ share n i ws → beside ≡ kept_back ws → ((j : ℕ) → i ≤ j → before j ≡ start j)
+    → ((j : ℕ) → j ≢ i → later j ≡ before j) → LeftBelow n i ws start before → (0 < share_is → LeavesFramesAt i share_is beside before later) → LeftBelow n (i + 1) ws start later
+left_more n i share_is beside ws start before later is kept ahead others left one j below some was now at stands = ⊎_elim
+    (λ same.
+    let here : before j ≡ start j = ahead j (omega (arith, same)) in
+    let mine : share_is ≡ share n j ws = is ∙ ap (λ (k : ℕ). share n k ws) (sym same) in
+    subst (λ (k : ℕ). LeavesFrames (share n j ws) k was now) kept
+    (subst (λ (k : ℕ). LeavesFrames k beside was now) mine
+    (one (omega (arith, some, mine)) was now (sym (ap before same) ∙ here ∙ at) (sym (ap later same) ∙ stands))))
+    (λ ne. left j (omega (arith, below, ne)) some was now at (sym (others j ne) ∙ stands))
+    (cases_eq j i)
 
 pub err_then : {A E P Q : Type 0} (r : Result A E) → (P → Q) → OnErr r P → OnErr r Q
 err_then (Ok x) f p = tt
 err_then (Err e) f p = f p
+
+pub ok_then : {A E P Q : Type 0} (r : Result A E) → (P → Q) → OnOk r P → OnOk r Q
+ok_then (Ok x) f p = f p
+ok_then (Err e) f p = tt
 
 -- memory was not refused
 pub never_refused : {A R : Type 0} (r : Result A (Stop R)) (P : Type 0) → IfErr r (λ s. IfNoMemory s ⊥) → IfErr r (λ s. IfNoMemory s P)

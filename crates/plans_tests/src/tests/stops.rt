@@ -232,7 +232,11 @@ fn an_undone_watch_leaves_what_was_watched(rt: HostRuntime) -> Result<(), Fail> 
 
 /// What the command of a line is answered: nothing, where it is done, or the stripe that is full. `None` where something
 /// else happened.
-fn stripe_met(alloc: Global, both: &mut Away, line: &str) -> Option<Option<usize>> {
+fn stripe_met<D: Device>(
+    alloc: Global,
+    both: &mut Both<D>,
+    line: &str,
+) -> Option<Option<usize>> {
     let command = command_of(alloc, line)?;
     let call = Call::One(command);
     let told = submit(alloc, &mut both.store, 0, &call);
@@ -245,7 +249,11 @@ fn stripe_met(alloc: Global, both: &mut Away, line: &str) -> Option<Option<usize
 }
 
 /// Runs the command of a line, on the plain map too where no stripe is full.
-fn meets_full(alloc: Global, both: &mut Away, line: &str) -> Option<Option<usize>> {
+pub(super) fn meets_full<D: Device>(
+    alloc: Global,
+    both: &mut Both<D>,
+    line: &str,
+) -> Option<Option<usize>> {
     let met = stripe_met(alloc, both, line)?;
     if met.is_none() {
         drop(due_line(alloc, &mut both.plain, line)?);

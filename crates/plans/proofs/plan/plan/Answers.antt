@@ -11,7 +11,7 @@ use Rattle.plans.specs.Memory.{AreAtHand, NeedsNoMemoryOn}
 use Rattle.plans.specs.Stops.{keys_looked_up}
 use Rattle.plans.specs.Receipts.{kept_by}
 use Rattle.plans.specs.Shards.{logs_of, shard_meaning}
-use Rattle.plans.proofs.Few.{few_none, refused_any, refused_as}
+use Rattle.plans.proofs.Few.{few_none, left_none, refused_any, refused_as}
 use Rattle.plans.proofs.Logs.{logs_same}
 use Rattle.plans.proofs.Making.{full_as, made_nothing, no_room, refused_cold, refused_full}
 use Rattle.transact.specs.Calls.{asked_of, call_keys}
@@ -157,3 +157,9 @@ returns-in-One-clause-memory g c = λ honest right hand brief.
 
 pub returns-in-Watch-clause-lent : goal.returns-in-Watch-clause-lent
 returns-in-Watch-clause-lent g c = λ lent. refused_cold c.plan_watch.result _ c.plan_watch.ensures.stop
+
+pub returns-in-Watch-clause-kept : goal.returns-in-Watch-clause-kept
+returns-in-Watch-clause-kept g c =
+    ok_then_all c.plan_watch.result
+    (λ planned none. left_none c.args.stripes planned.writes (logs_of (g.P.Parts.part_of c.args.parts.now)) (logs_of (g.P.Parts.part_of c.plan_watch.new.parts)) none)
+    c.plan_watch.ensures.writes

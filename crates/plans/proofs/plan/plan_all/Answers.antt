@@ -10,7 +10,7 @@ use Rattle.hybrid.specs.Writing.{AreFit}
 use Rattle.transact.specs.Tables.{AreThere, joined}
 use Rattle.plans.specs.Receipts.{kept_by}
 use Rattle.plans.specs.Shards.{logs_of, shard_meaning}
-use Rattle.plans.proofs.Few.{few_from, never_refused}
+use Rattle.plans.proofs.Few.{few_from, left_from, never_refused}
 use Rattle.plans.proofs.Logs.{logs_same}
 use Rattle.plans.proofs.Making.{full_as, made_from}
 use Rattle.plans.specs.Stops.{IsNeeded, IsNotEmpty}
@@ -135,3 +135,10 @@ pub returns-clause-waits : goal.returns-clause-waits
 returns-clause-waits g c =
     waits_both (g.P.Parts.part_of c.args.parts.now) (g.P.Parts.part_of c.find_commands.new.parts) (g.P.Parts.part_of c.settle.new.parts)
     (waits_same (g.P.Parts.part_of c.args.parts.now) (g.P.Parts.part_of c.find_commands.new.parts) c.find_commands.ensures.same) c.settle.ensures.waits
+
+pub returns-clause-kept : goal.returns-clause-kept
+returns-clause-kept g c =
+    ok_then_all c.settle.result
+    (λ planned left. left_from c.args.stripes planned.writes (logs_of (g.P.Parts.part_of c.args.parts.now)) (logs_of (g.P.Parts.part_of c.find_commands.new.parts)) (logs_of (g.P.Parts.part_of c.settle.new.parts))
+    (logs_same (g.P.Parts.part_of c.args.parts.now) (g.P.Parts.part_of c.find_commands.new.parts) c.find_commands.ensures.same) left)
+    c.settle.ensures.kept

@@ -3,7 +3,7 @@ use Rattle.words.specs.History.{after}
 use Rattle.transact.specs.Tables.{AllRead}
 use Rattle.plans.specs.Receipts.{kept_by}
 use Rattle.plans.specs.Shards.{logs_of, shard_meaning}
-use Rattle.plans.proofs.Few.{few_from, few_none, refused_as}
+use Rattle.plans.proofs.Few.{few_from, few_none, left_from, left_none, refused_as}
 use Rattle.plans.proofs.Logs.{logs_same}
 use Rattle.plans.proofs.Making.{full_as, made_from, made_nothing}
 use Rattle.plans.proofs.Become.{became_same, became_twice}
@@ -85,3 +85,14 @@ pub returns-clause-waits : goal.returns-clause-waits
 returns-clause-waits g c =
     waits_both (g.P.Parts.part_of c.args.parts.now) (g.P.Parts.part_of c.any_marked.new.parts) (g.P.Parts.part_of c.plan_all.new.parts)
     (waits_same (g.P.Parts.part_of c.args.parts.now) (g.P.Parts.part_of c.any_marked.new.parts) c.any_marked.ensures.same) c.plan_all.ensures.waits
+
+pub returns-clause-kept : goal.returns-clause-kept
+returns-clause-kept g c =
+    ok_then_all c.plan_all.result
+    (λ planned left. left_from c.args.stripes planned.writes (logs_of (g.P.Parts.part_of c.args.parts.now)) (logs_of (g.P.Parts.part_of c.any_marked.new.parts)) (logs_of (g.P.Parts.part_of c.plan_all.new.parts))
+    (logs_same (g.P.Parts.part_of c.args.parts.now) (g.P.Parts.part_of c.any_marked.new.parts) c.any_marked.ensures.same) left)
+    c.plan_all.ensures.kept
+
+pub returns-then-any_marked-clause-kept : goal.returns-then-any_marked-clause-kept
+returns-then-any_marked-clause-kept g c =
+    left_none c.args.stripes c.answered.result.writes (logs_of (g.P.Parts.part_of c.args.parts.now)) (logs_of (g.P.Parts.part_of c.any_marked.new.parts)) c.answered.ensures.writes

@@ -6,7 +6,7 @@ use Rattle.plans.specs.Memory.{AreAtHand, IsPlannedInPlace}
 use Rattle.plans.specs.Receipts.{kept_by}
 use Rattle.plans.specs.Shards.{logs_of, shard_meaning}
 use Rattle.plans.proofs.Become.{became_same}
-use Rattle.plans.proofs.Few.{few_none, refused_any}
+use Rattle.plans.proofs.Few.{few_none, left_none, refused_any}
 use Rattle.plans.proofs.Logs.{logs_same}
 use Rattle.plans.proofs.Making.{made_nothing, never_met, no_room}
 use Rattle.plans.proofs.Stores.{ok_then_all}
@@ -52,3 +52,9 @@ returns-in-Get-clause-memory g c = λ honest right hand brief.
 
 pub returns-in-Get-clause-waits : goal.returns-in-Get-clause-waits
 returns-in-Get-clause-waits g c = waits_same (g.P.Parts.part_of c.args.parts.now) (g.P.Parts.part_of c.plan_get.new.parts) c.plan_get.ensures.same
+
+pub returns-in-Get-clause-kept : goal.returns-in-Get-clause-kept
+returns-in-Get-clause-kept g c =
+    ok_then_all c.plan_get.result
+    (λ planned none. left_none c.args.stripes planned.writes (logs_of (g.P.Parts.part_of c.args.parts.now)) (logs_of (g.P.Parts.part_of c.plan_get.new.parts)) none)
+    c.plan_get.ensures.writes

@@ -4,6 +4,7 @@ use Rattle.plans.specs.Receipts.{kept_by}
 use Rattle.plans.specs.Rooms.{MeetsFull}
 use Rattle.plans.specs.Stops.{IfFull}
 use Rattle.plans.specs.Shards.{logs_of}
+use Rattle.plans.proofs.Few.{left_none}
 use Rattle.plans.proofs.Making.{made_nothing}
 use Rattle.plans.proofs.plan.settle.Goals as goal
 
@@ -19,3 +20,8 @@ returns-in-Err-clause-full g c =
     subst (λ s. IfFull s (λ stripe. MeetsFull g.D.Device.wrote (kept_by g.R.Shows.identity g.R.Shows.shown) c.args.stripes stripe (λ due. due ≡ c.args.writes) old c.args.device.now new c.reserve_all.new.device)) (sym c.let_go.ensures)
     (subst (λ (l : List Write). IfFull c.in-Err.stop (λ stripe. MeetsFull g.D.Device.wrote (kept_by g.R.Shows.identity g.R.Shows.shown) c.args.stripes stripe (λ due. due ≡ l) old c.args.device.now new c.reserve_all.new.device)) c.as_slice.ensures
     c.in-Err.ensures.full)
+
+pub returns-then-is_none-clause-kept : goal.returns-then-is_none-clause-kept
+returns-then-is_none-clause-kept g c =
+    let logs = logs_of (g.P.Parts.part_of c.args.parts.now) in
+    left_none c.args.stripes c.refused.result.writes logs logs c.refused.ensures.writes

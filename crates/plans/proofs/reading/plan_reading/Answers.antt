@@ -12,7 +12,7 @@ use Rattle.plans.specs.Sizes.{AllShort}
 use Rattle.plans.specs.Stops.{faults, keys_looked_up}
 use Rattle.plans.proofs.Hand.{none_cold}
 use Rattle.plans.specs.Devices.{IsReadAlone}
-use Rattle.plans.proofs.Few.{few_from, more_both, more_none, read_both, read_same, still_both, refused_any, stop_spared}
+use Rattle.plans.proofs.Few.{few_from, left_from, more_both, more_none, read_both, read_same, still_both, refused_any, stop_spared}
 use Rattle.plans.proofs.Logs.{logs_both, logs_same}
 use Rattle.plans.proofs.Making.{full_read, made_from}
 use Rattle.plans.proofs.Unread.{are_cold_served, reads_fewer}
@@ -211,3 +211,8 @@ pub returns-in_err-read_all-in-Err-Cold-clause-waits : goal.returns-in_err-read_
 returns-in_err-read_all-in-Err-Cold-clause-waits g c =
     waits_both (g.P.Parts.part_of c.args.parts.now) (g.P.Parts.part_of c.loop-planned.parts) (g.P.Parts.part_of c.plan.new.parts)
     (waits_same (g.P.Parts.part_of c.args.parts.now) (g.P.Parts.part_of c.loop-planned.parts) c.loop-planned.invariant.same) c.plan.ensures.waits
+
+pub returns-in-Ok-clause-kept : goal.returns-in-Ok-clause-kept
+returns-in-Ok-clause-kept g c =
+    left_from c.args.stripes c.in-Ok.planned.writes (logs_of (g.P.Parts.part_of c.args.parts.now)) (logs_of (g.P.Parts.part_of c.loop-planned.parts)) (logs_of (g.P.Parts.part_of c.plan.new.parts))
+    (logs_same (g.P.Parts.part_of c.args.parts.now) (g.P.Parts.part_of c.loop-planned.parts) c.loop-planned.invariant.same) c.in-Ok.ensures.kept

@@ -4,6 +4,7 @@ use Rattle.plans.specs.Receipts.{kept_by}
 use Rattle.plans.specs.Rooms.{IsRoomyAt, MakesRoom, ShedFew, share}
 use Rattle.plans.specs.Devices.{StillServes}
 use Rattle.plans.specs.Shards.{SameWaits, logs_of, shard_meaning}
+use Rattle.plans.proofs.Few.{LeftBelow}
 use Rattle.plans.proofs.room.reserve_all.Given as goal
 
 abbrev pub invariant-loop-stripe : goal.invariant-loop-stripe
@@ -16,6 +17,7 @@ invariant-loop-stripe g l = record {
   device : StillServes g.D.Device.serves g.D.Device.releases l.fn.device l.device;
   ahead : (j : ℕ) → l.stripe ≤ j → logs_of (g.P.Parts.part_of l.parts) j ≡ logs_of (g.P.Parts.part_of l.fn.parts) j;
   few : ShedFew l.stripes l.writes (logs_of (g.P.Parts.part_of l.fn.parts)) (logs_of (g.P.Parts.part_of l.parts));
+  left : LeftBelow l.stripes l.stripe l.writes (logs_of (g.P.Parts.part_of l.fn.parts)) (logs_of (g.P.Parts.part_of l.parts));
   made : MakesRoom g.D.Device.wrote (kept_by g.R.Shows.identity g.R.Shows.shown) l.stripes l.stripe l.writes (logs_of (g.P.Parts.part_of l.fn.parts)) l.fn.device (logs_of (g.P.Parts.part_of l.parts)) l.device;
   roomy : (j : ℕ) → j < l.stripe → 0 < share l.stripes j l.writes → IsRoomyAt (logs_of (g.P.Parts.part_of l.parts)) j (share l.stripes j l.writes);
 }
