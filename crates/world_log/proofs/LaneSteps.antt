@@ -151,6 +151,11 @@ makes true may step old before new after does = (does.enabled, does.done)
 makes false may step old before new after does =
     (does.enabled, ap (λ (p : HybridLog). log_state p after) does.log ∙ ap (log_state old) does.beside)
 
+-- it says whether it was enabled
+told : (done may : Bool) (step : LogState → LogState) (log later : LogState) → Makes done may step log later → done ≡ may
+told true may step log later made = sym made.0
+told false may step log later made = sym made.0
+
 took : (rest : State) (e : Event) (store : WorldLog) (i : ℕ) (lane new : Lane) (done may : Bool) (step : LogState → LogState)
     → slice_get store.stripes.lanes.items i ≡ Some lane
     → is_enabled_in (state_beside rest store) e ≡ may
@@ -198,16 +203,30 @@ both_true false b m is _ = absurd (cc is)
 abbrev copy_test : ℕ → ℕ → LogState → Bool
 copy_test frames limit log = has_none log.flushing && (is_some (oldest_sealed frames log) && not (is_full limit log))
 
+copy_enabled : (rest : State) (store : WorldLog) (i : ℕ) (lane : Lane) → IsWorldLog store → IsReached store i lane
+    → is_none (get_or store.stripes.holders.items i None) ≡ true
+    → is_enabled_in (state_beside rest store) (event.Copy i) ≡ may_copy (lane_log lane) (lane_beside lane)
+copy_enabled rest store i lane is at free =
+    let one : IsLane store.device store.frames store.limit lane = is.lanes i lane at.there in
+    both_true _ _ (copy_test store.frames store.limit (log_of (state_beside rest store) i)) at.below free
+    ∙ ap (copy_test store.frames store.limit) (log_there store.stripes.lanes.items i lane at.there)
+    ∙ ap (λ (f : ℕ). copy_test f store.limit (lane_state lane)) (sym one.frames)
+    ∙ ap (λ (l : ℕ). copy_test (lane_log lane).resident.frames l (lane_state lane)) (sym one.places)
+
+pub told_copy : (rest : State) (store : WorldLog) (i : ℕ) (lane new : Lane) (done : Bool) → IsWorldLog store → IsReached store i lane
+    → is_none (get_or store.stripes.holders.items i None) ≡ true
+    → DoesCopy done (lane_log lane) (lane_beside lane) (lane_log new) (lane_beside new) → done ≡ is_enabled_in (state_beside rest store) (event.Copy i)
+told_copy rest store i lane new done is at free does =
+    told done _ _ _ _ (makes done _ _ (lane_log lane) (lane_beside lane) (lane_log new) (lane_beside new) does)
+    ∙ sym (copy_enabled rest store i lane is at free)
+
 pub took_copy : (rest : State) (store : WorldLog) (i : ℕ) (lane new : Lane) (done : Bool) → IsWorldLog store → IsReached store i lane
     → is_none (get_or store.stripes.holders.items i None) ≡ true
     → DoesCopy done (lane_log lane) (lane_beside lane) (lane_log new) (lane_beside new) → TookBeside rest (event.Copy i) store (with_lane store i new)
 took_copy rest store i lane new done is at free does =
     let one : IsLane store.device store.frames store.limit lane = is.lanes i lane at.there in
     took rest (event.Copy i) store i lane new done (may_copy (lane_log lane) (lane_beside lane)) (with_copy (lane_log lane).resident.frames) at.there
-    (both_true _ _ (copy_test store.frames store.limit (log_of (state_beside rest store) i)) at.below free
-    ∙ ap (copy_test store.frames store.limit) (log_there store.stripes.lanes.items i lane at.there)
-    ∙ ap (λ (f : ℕ). copy_test f store.limit (lane_state lane)) (sym one.frames)
-    ∙ ap (λ (l : ℕ). copy_test (lane_log lane).resident.frames l (lane_state lane)) (sym one.places))
+    (copy_enabled rest store i lane is at free)
     (λ after same. same ∙ ap (λ (f : ℕ). with_log (state_beside rest store) i (with_copy f (log_of (state_beside rest store) i))) one.frames)
     (makes done _ _ (lane_log lane) (lane_beside lane) (lane_log new) (lane_beside new) does)
 
@@ -216,25 +235,52 @@ written_is has.Nothing = refl
 written_is (has.Copied number page) = refl
 written_is (has.Wrote number page receipt) = refl
 
+install_enabled : (rest : State) (store : WorldLog) (i : ℕ) (lane : Lane) → IsReached store i lane
+    → is_none (get_or store.stripes.holders.items i None) ≡ true
+    → is_enabled_in (state_beside rest store) (event.Install i) ≡ has_receipt lane.queues.flushing
+install_enabled rest store i lane at free =
+    both_true _ _ (has_written (log_of (state_beside rest store) i).flushing) at.below free
+    ∙ ap (λ (log : LogState). has_written log.flushing) (log_there store.stripes.lanes.items i lane at.there)
+    ∙ written_is lane.queues.flushing
+
+pub told_install : (rest : State) (store : WorldLog) (i : ℕ) (lane new : Lane) (done : Bool) → IsReached store i lane
+    → is_none (get_or store.stripes.holders.items i None) ≡ true
+    → DoesInstall done (lane_log lane) (lane_beside lane) (lane_log new) (lane_beside new)
+    → done ≡ is_enabled_in (state_beside rest store) (event.Install i)
+told_install rest store i lane new done at free does =
+    told done _ _ _ _ (makes done _ _ (lane_log lane) (lane_beside lane) (lane_log new) (lane_beside new) does)
+    ∙ sym (install_enabled rest store i lane at free)
+
 pub took_install : (rest : State) (store : WorldLog) (i : ℕ) (lane new : Lane) (done : Bool) → IsWorldLog store → IsReached store i lane
     → is_none (get_or store.stripes.holders.items i None) ≡ true
     → DoesInstall done (lane_log lane) (lane_beside lane) (lane_log new) (lane_beside new) → TookBeside rest (event.Install i) store (with_lane store i new)
 took_install rest store i lane new done is at free does =
     let one : IsLane store.device store.frames store.limit lane = is.lanes i lane at.there in
     took rest (event.Install i) store i lane new done (has_receipt lane.queues.flushing) (with_installed (lane_log lane).resident.frames) at.there
-    (both_true _ _ (has_written (log_of (state_beside rest store) i).flushing) at.below free
-    ∙ ap (λ (log : LogState). has_written log.flushing) (log_there store.stripes.lanes.items i lane at.there)
-    ∙ written_is lane.queues.flushing)
+    (install_enabled rest store i lane at free)
     (λ after same. same ∙ ap (λ (f : ℕ). with_log (state_beside rest store) i (with_installed f (log_of (state_beside rest store) i))) one.frames)
     (makes done _ _ (lane_log lane) (lane_beside lane) (lane_log new) (lane_beside new) does)
+
+drop_enabled : (rest : State) (store : WorldLog) (i : ℕ) (lane : Lane) → IsReached store i lane
+    → is_none (get_or store.stripes.holders.items i None) ≡ true
+    → is_enabled_in (state_beside rest store) (event.Drop i) ≡ is_some (place_at (lane_state lane) (lane_state lane).first)
+drop_enabled rest store i lane at free =
+    both_true _ _ (is_some (place_at (log_of (state_beside rest store) i) (log_of (state_beside rest store) i).first)) at.below free
+    ∙ ap (λ (log : LogState). is_some (place_at log log.first)) (log_there store.stripes.lanes.items i lane at.there)
+
+pub told_drop : (rest : State) (store : WorldLog) (i : ℕ) (lane new : Lane) (done : Bool) → IsReached store i lane
+    → is_none (get_or store.stripes.holders.items i None) ≡ true
+    → DoesDrop done (lane_log lane) (lane_beside lane) (lane_log new) (lane_beside new) → done ≡ is_enabled_in (state_beside rest store) (event.Drop i)
+told_drop rest store i lane new done at free does =
+    told done _ _ _ _ (makes done _ _ (lane_log lane) (lane_beside lane) (lane_log new) (lane_beside new) does)
+    ∙ sym (drop_enabled rest store i lane at free)
 
 pub took_drop : (rest : State) (store : WorldLog) (i : ℕ) (lane new : Lane) (done : Bool) → IsWorldLog store → IsReached store i lane
     → is_none (get_or store.stripes.holders.items i None) ≡ true
     → DoesDrop done (lane_log lane) (lane_beside lane) (lane_log new) (lane_beside new) → TookBeside rest (event.Drop i) store (with_lane store i new)
 took_drop rest store i lane new done is at free does =
     took rest (event.Drop i) store i lane new done (is_some (place_at (lane_state lane) (lane_state lane).first)) dropped at.there
-    (both_true _ _ (is_some (place_at (log_of (state_beside rest store) i) (log_of (state_beside rest store) i).first)) at.below free
-    ∙ ap (λ (log : LogState). is_some (place_at log log.first)) (log_there store.stripes.lanes.items i lane at.there))
+    (drop_enabled rest store i lane at free)
     (λ after same. same)
     (makes done _ _ (lane_log lane) (lane_beside lane) (lane_log new) (lane_beside new) does)
 
@@ -288,6 +334,19 @@ true_left false b is = absurd (cc is)
 abbrev pub with_epoch : WorldLog → ℕ → Lane → ℕ → WorldLog
 with_epoch store i new epoch = record store { stripes = record (store.stripes) { lanes = with_item store.stripes.lanes i new }; epoch = epoch }
 
+retire_enabled : (rest : State) (store : WorldLog) (i : ℕ) (lane : Lane) → IsReached store i lane
+    → is_enabled_in (state_beside rest store) (event.Retire i) ≡ not (are_none (lane_state lane).unlinked)
+retire_enabled rest store i lane at =
+    true_left _ (not (are_none (log_of (state_beside rest store) i).unlinked)) at.below
+    ∙ ap (λ (l : LogState). not (are_none l.unlinked)) (log_there store.stripes.lanes.items i lane at.there)
+
+pub told_retire : (rest : State) (store : WorldLog) (i : ℕ) (lane new : Lane) (done : Bool) → IsReached store i lane
+    → DoesRetire done store.epoch (lane_beside lane) (lane_beside new) → done ≡ is_enabled_in (state_beside rest store) (event.Retire i)
+told_retire rest store i lane new true at does =
+    sym (retire_enabled rest store i lane at ∙ (retired_log (lane_log lane) (lane_beside lane) (lane_beside new) store.epoch does).0)
+told_retire rest store i lane new false at does =
+    sym (retire_enabled rest store i lane at ∙ ap (λ (l : List Kept). not (are_none (map place_of l))) does.0)
+
 pub took_retire : (rest : State) (store : WorldLog) (i : ℕ) (lane new : Lane) (next : ℕ) → IsReached store i lane
     → next ≡ store.epoch + 1 → (lane_log new) ≡ (lane_log lane)
     → DoesRetire true store.epoch (lane_beside lane) (lane_beside new) → TookBeside rest (event.Retire i) store (with_epoch store i new next)
@@ -300,17 +359,15 @@ took_retire rest store i lane new next at up same does =
     let logs : map lane_state (set store.stripes.lanes.items i new) ≡ set state.logs i (with_retired (log_of state i) store.epoch) =
     logs_with store i lane new _ at.there log in
     when_true (is_enabled_in state (event.Retire i)) _ _
-    (true_left _ (not (are_none (log_of state i).unlinked)) at.below ∙ ap (λ (l : LogState). not (are_none l.unlinked)) there ∙ done.0)
+    (retire_enabled rest store i lane at ∙ done.0)
     (λ j. let s : State = record state { logs = logs j; epoch = up j } in s)
 
 pub took_retire_not : (rest : State) (store : WorldLog) (i : ℕ) (lane new : Lane) → IsReached store i lane → (lane_log new) ≡ (lane_log lane)
     → DoesRetire false store.epoch (lane_beside lane) (lane_beside new) → TookBeside rest (event.Retire i) store (with_lane store i new)
 took_retire_not rest store i lane new at same does =
     let state : State = state_beside rest store in
-    let there = log_there store.stripes.lanes.items i lane at.there in
     when_false (is_enabled_in state (event.Retire i)) _ _
-    (true_left _ (not (are_none (log_of state i).unlinked)) at.below ∙ ap (λ (l : LogState). not (are_none l.unlinked)) there
-    ∙ ap (λ (l : List Kept). not (are_none (map place_of l))) does.0)
+    (sym (told_retire rest store i lane new false at does))
     (state_same rest store i lane new at.there
     (ap (λ (p : HybridLog). log_state p (lane_beside new)) same ∙ ap (log_state (lane_log lane)) does.1))
 
@@ -382,6 +439,25 @@ write_counts log place is = by_flushing log.flushing refl is
           ap (λ (f : logs.Flushing). count_copied (written_to f place)) same,
         )
 
+copy_is : (f : Flushing) → has_copied (flushing_of f) ≡ has_copy f
+copy_is has.Nothing = refl
+copy_is (has.Copied number page) = refl
+copy_is (has.Wrote number page receipt) = refl
+
+write_enabled : (rest : State) (store : WorldLog) (i : ℕ) (lane : Lane) → IsReached store i lane
+    → is_enabled_in (state_beside rest store) (event.Write i) ≡ has_copied (lane_state lane).flushing
+write_enabled rest store i lane at =
+    true_left _ (has_copied (log_of (state_beside rest store) i).flushing) at.below
+    ∙ ap (λ (l : LogState). has_copied l.flushing) (log_there store.stripes.lanes.items i lane at.there)
+
+pub told_write : (rest : State) (store : WorldLog) (i : ℕ) (lane : Lane) (queues : Queues) (device : Shelves) (done : Bool) → IsReached store i lane
+    → DoesWrite done lane.queues store.device queues device → done ≡ is_enabled_in (state_beside rest store) (event.Write i)
+told_write rest store i lane queues device true at does =
+    sym (write_enabled rest store i lane at
+    ∙ (written_log (lane_counted lane) lane.queues queues store.device device lane.queues.flushing refl does.0 does.1).0)
+told_write rest store i lane queues device false at does =
+    sym (write_enabled rest store i lane at ∙ copy_is lane.queues.flushing ∙ does.0)
+
 pub took_write : (rest : State) (store : WorldLog) (i : ℕ) (lane new : Lane) (device : Shelves) (done : Bool) → IsReached store i lane
     → new.shard ≡ lane.shard → DoesWrite done lane.queues store.device new.queues device
     → TookBeside rest (event.Write i) store (with_both store i new device)
@@ -395,23 +471,16 @@ took_write rest store i lane new device true at same does =
     let logs_now : map lane_state (set store.stripes.lanes.items i new) ≡ set state.logs i (with_written (log_of state i) (length state.places)) =
     logs_with store i lane new _ at.there log in
     when_true (is_enabled_in state (event.Write i)) _ _
-    (true_left _ (has_copied (log_of state i).flushing) at.below ∙ ap (λ (l : LogState). has_copied l.flushing) there ∙ done.0)
+    (write_enabled rest store i lane at ∙ done.0)
     (λ j. let s : State = record state { logs = logs_now j; places = done.2 j } in s)
 took_write rest store i lane new device false at same does =
     let state : State = state_beside rest store in
-    let there = log_there store.stripes.lanes.items i lane at.there in
     when_false (is_enabled_in state (event.Write i)) _ _
-    (true_left _ (has_copied (log_of state i).flushing) at.below ∙ ap (λ (l : LogState). has_copied l.flushing) there
-    ∙ copy_is lane.queues.flushing ∙ does.0)
+    (sym (told_write rest store i lane new.queues device false at does))
     (ap (λ (d : Shelves). let s : State = record (state_beside rest (with_lane store i new)) { places = places_of d } in s) does.2
     ∙ state_same rest store i lane new at.there
     (ap (λ (s : Shard Receipt). log_state (shard_log s) (beside_of (shard_counted s) new.queues)) same
     ∙ ap (λ (q : Queues). log_state (lane_log lane) (beside_of (lane_counted lane) q)) does.1))
-  where
-    copy_is : (f : Flushing) → has_copied (flushing_of f) ≡ has_copy f
-    copy_is has.Nothing = refl
-    copy_is (has.Copied number page) = refl
-    copy_is (has.Wrote number page receipt) = refl
 
 -- what the world has beside a log has changed, and its shard has not
 pub store_queues : (store : WorldLog) (i : ℕ) (lane : Lane) (queues : Queues) → IsWorldLog store → slice_get store.stripes.lanes.items i ≡ Some lane
@@ -493,6 +562,44 @@ may_some : (clients : List ClientState) (retired : List Stamped) (one : Stamped)
     → may_drain clients retired ≡ all_past clients one.epoch
 may_some clients retired one others is = ap (may_drain clients) is
 
+drain_enabled : (rest : State) (store : WorldLog) (i : ℕ) (lane : Lane) → IsReached store i lane
+    → is_enabled_in (state_beside rest store) (event.Drain i) ≡ may_drain rest.clients (lane_state lane).retired
+drain_enabled rest store i lane at =
+    true_left _ (may_drain rest.clients (log_of (state_beside rest store) i).retired) at.below
+    ∙ ap (λ (l : LogState). may_drain rest.clients l.retired) (log_there store.stripes.lanes.items i lane at.there)
+
+-- it is enabled where there is an oldest one that is past all stays
+drain_past : (rest : State) (store : WorldLog) (i : ℕ) (lane : Lane) (stays : List (Option ℕ)) (one : Receipt × ℕ) (others : List (Receipt × ℕ))
+    → IsReached store i lane → stays_of rest ≡ stays → lane.queues.retired.items ≡ one ∷ others
+    → is_enabled_in (state_beside rest store) (event.Drain i) ≡ all_stays_past stays one.1
+drain_past rest store i lane stays one others at same_stays is =
+    drain_enabled rest store i lane at
+    ∙ may_some rest.clients _ (place_stamped one) (map place_stamped others) (ap (map place_stamped) is)
+    ∙ past_same rest.clients one.1 ∙ ap (λ (l : List (Option ℕ)). all_stays_past l one.1) same_stays
+
+pub told_drain_none : (rest : State) (store : WorldLog) (i : ℕ) (lane : Lane) → IsReached store i lane → lane.queues.retired.items ≡ []
+    → false ≡ is_enabled_in (state_beside rest store) (event.Drain i)
+told_drain_none rest store i lane at none =
+    sym (drain_enabled rest store i lane at ∙ ap (λ (l : List (Receipt × ℕ)). may_drain rest.clients (map place_stamped l)) none)
+
+pub told_drain_held : (rest : State) (store : WorldLog) (i : ℕ) (lane : Lane) (stays : List (Option ℕ)) (epoch : ℕ) → IsReached store i lane
+    → stays_of rest ≡ stays → IsOldest lane.queues epoch → all_stays_past stays epoch ≡ false
+    → false ≡ is_enabled_in (state_beside rest store) (event.Drain i)
+told_drain_held rest store i lane stays epoch at same_stays oldest held =
+    sym (drain_past rest store i lane stays oldest.one oldest.others at same_stays oldest.items
+    ∙ ap (all_stays_past stays) oldest.stamp ∙ held)
+
+pub told_drain_by : (rest : State) (store : WorldLog) (i : ℕ) (lane : Lane) (queues : Queues) (stays : List (Option ℕ)) (epoch : ℕ) (done : Bool)
+    → IsReached store i lane → stays_of rest ≡ stays → IsOldest lane.queues epoch → all_stays_past stays epoch ≡ true
+    → DoesDrain done lane.queues queues → done ≡ is_enabled_in (state_beside rest store) (event.Drain i)
+told_drain_by rest store i lane queues stays epoch false at same_stays oldest past does = absurd (never (sym oldest.items ∙ does.0))
+  where
+    never : {one : Receipt × ℕ} {others : List (Receipt × ℕ)} → one ∷ others ≡ [] → ⊥
+    never is = cc is
+told_drain_by rest store i lane queues stays epoch true at same_stays oldest past does =
+    sym (drain_past rest store i lane stays oldest.one oldest.others at same_stays oldest.items
+    ∙ ap (all_stays_past stays) oldest.stamp ∙ past)
+
 pub took_drain : (rest : State) (store : WorldLog) (i : ℕ) (lane new : Lane) (stays : List (Option ℕ)) → IsReached store i lane
     → stays_of rest ≡ stays → new.shard ≡ lane.shard → (does : DoesDrain true lane.queues new.queues)
     → all_stays_past stays does.0.1 ≡ true → TookBeside rest (event.Drain i) store (with_lane store i new)
@@ -500,9 +607,7 @@ took_drain rest store i lane new stays at same_stays same does past =
     let state : State = state_beside rest store in
     let there = log_there store.stripes.lanes.items i lane at.there in
     when_true (is_enabled_in state (event.Drain i)) _ _
-    (true_left _ (may_drain rest.clients (log_of state i).retired) at.below ∙ ap (λ (l : LogState). may_drain rest.clients l.retired) there
-    ∙ may_some rest.clients _ (place_stamped does.0) (map place_stamped does.1) (ap (map place_stamped) does.2)
-    ∙ past_same rest.clients does.0.1 ∙ ap (λ (l : List (Option ℕ)). all_stays_past l does.0.1) same_stays ∙ past)
+    (drain_past rest store i lane stays does.0 does.1 at same_stays does.2 ∙ past)
     (state_with rest store i lane new _ at.there
     (ap (λ (s : Shard Receipt). log_state (shard_log s) (beside_of (shard_counted s) new.queues)) same
     ∙ drained_log (lane_counted lane) lane.queues new.queues does ∙ ap with_drained (sym there)))
@@ -511,24 +616,14 @@ took_drain rest store i lane new stays at same_stays same does past =
 pub took_drain_none : (rest : State) (store : WorldLog) (i : ℕ) (lane : Lane) → IsReached store i lane → lane.queues.retired.items ≡ []
     → TookBeside rest (event.Drain i) store store
 took_drain_none rest store i lane at none =
-    let state : State = state_beside rest store in
-    let there = log_there store.stripes.lanes.items i lane at.there in
-    when_false (is_enabled_in state (event.Drain i)) _ _
-    (true_left _ (may_drain rest.clients (log_of state i).retired) at.below ∙ ap (λ (l : LogState). may_drain rest.clients l.retired) there
-    ∙ ap (λ (l : List (Receipt × ℕ)). may_drain rest.clients (map place_stamped l)) none)
-    refl
+    when_false (is_enabled_in (state_beside rest store) (event.Drain i)) _ _ (sym (told_drain_none rest store i lane at none)) refl
 
 pub took_drain_held : (rest : State) (store : WorldLog) (i : ℕ) (lane : Lane) (stays : List (Option ℕ)) (one : Receipt × ℕ) (others : List (Receipt × ℕ))
     → IsReached store i lane → stays_of rest ≡ stays → lane.queues.retired.items ≡ one ∷ others → all_stays_past stays one.1 ≡ false
     → TookBeside rest (event.Drain i) store store
 took_drain_held rest store i lane stays one others at same_stays is held =
-    let state : State = state_beside rest store in
-    let there = log_there store.stripes.lanes.items i lane at.there in
-    when_false (is_enabled_in state (event.Drain i)) _ _
-    (true_left _ (may_drain rest.clients (log_of state i).retired) at.below ∙ ap (λ (l : LogState). may_drain rest.clients l.retired) there
-    ∙ may_some rest.clients _ (place_stamped one) (map place_stamped others) (ap (map place_stamped) is)
-    ∙ past_same rest.clients one.1 ∙ ap (λ (l : List (Option ℕ)). all_stays_past l one.1) same_stays ∙ held)
-    refl
+    when_false (is_enabled_in (state_beside rest store) (event.Drain i)) _ _
+    (drain_past rest store i lane stays one others at same_stays is ∙ held) refl
 
 pub store_drained : (store : WorldLog) (i : ℕ) (lane : Lane) (queues : Queues) → IsWorldLog store → slice_get store.stripes.lanes.items i ≡ Some lane
     → DoesDrain true lane.queues queues → IsWorldLog (with_lane store i (record { shard = lane.shard; queues = queues }))

@@ -164,16 +164,26 @@ unlinks rest store i lane new device true is at fit alike does =
     (subst (λ (l : LogState). place_at l l.oldest ≡ Some done.place) (sym there) done.there)
     done.few)
 
+unlink_enabled : (rest : State) (store : WorldLog) (i : ℕ) (lane : Lane) → IsReached store i lane
+    → is_none (get_or store.stripes.holders.items i None) ≡ true
+    → is_enabled_in (state_beside rest store) (event.Unlink i) ≡ nat_lt (lane_log lane).oldest (lane_log lane).resident.oldest
+unlink_enabled rest store i lane at free =
+    both_true _ _ (nat_lt (log_of (state_beside rest store) i).oldest (log_of (state_beside rest store) i).first) at.below free
+    ∙ ap (λ (l : LogState). nat_lt l.oldest l.first) (log_there store.stripes.lanes.items i lane at.there)
+
+-- it is enabled where the oldest page is not resident
+pub told_unlink : (rest : State) (store : WorldLog) (i : ℕ) (lane : Lane) (cold : Bool) → IsReached store i lane
+    → is_none (get_or store.stripes.holders.items i None) ≡ true → nat_lt (lane_log lane).oldest (lane_log lane).resident.oldest ≡ cold
+    → cold ≡ is_enabled_in (state_beside rest store) (event.Unlink i)
+told_unlink rest store i lane cold at free is = sym (unlink_enabled rest store i lane at free ∙ is)
+
 pub took_unlink : (rest : State) (store : WorldLog) (i : ℕ) (lane new : Lane) (device : Shelves) (what : Bool) → IsWorldLog store → IsReached store i lane
     → is_none (get_or store.stripes.holders.items i None) ≡ true → nat_lt (lane_log lane).oldest (lane_log lane).resident.oldest ≡ true
     → IsNumbered (lane_log new) → (lane_log new).places ≡ (lane_log lane).places
     → DoesUnlink what (lane_log lane) (lane_beside lane) store.device (lane_log new) (lane_beside new) device
     → TookBeside rest (event.Unlink i) store (with_both store i new device)
 took_unlink rest store i lane new device what is at free cold fit alike does =
-    let state : State = state_beside rest store in
-    when_true (is_enabled_in state (event.Unlink i)) _ _
-    (both_true _ _ (nat_lt (log_of state i).oldest (log_of state i).first) at.below free
-    ∙ ap (λ (l : LogState). nat_lt l.oldest l.first) (log_there store.stripes.lanes.items i lane at.there) ∙ cold)
+    when_true (is_enabled_in (state_beside rest store) (event.Unlink i)) _ _ (unlink_enabled rest store i lane at free ∙ cold)
     (unlinks rest store i lane new device what is at fit alike does)
 
 -- RELEASE
@@ -191,6 +201,22 @@ released_log p before old page new after shown does =
           ∙ sym (ap (λ (l : List Stamped). places_released (places_of old) l page) drained),
     )
 
+release_enabled : (rest : State) (store : WorldLog) (i : ℕ) (lane : Lane) (page : Bytes) → IsReached store i lane
+    → is_enabled_in (state_beside rest store) (event.Release i page) ≡ not (are_none (lane_state lane).drained)
+release_enabled rest store i lane page at =
+    true_left _ (not (are_none (log_of (state_beside rest store) i).drained)) at.below
+    ∙ ap (λ (l : LogState). not (are_none l.drained)) (log_there store.stripes.lanes.items i lane at.there)
+
+pub told_release : (rest : State) (store : WorldLog) (i : ℕ) (lane new : Lane) (device : Shelves) (page : Bytes) (done : Bool)
+    → IsReached store i lane
+    → DoesRelease done page (lane_log lane) (lane_beside lane) store.device (lane_log new) (lane_beside new) device
+    → done ≡ is_enabled_in (state_beside rest store) (event.Release i page)
+told_release rest store i lane new device page true at does =
+    sym (release_enabled rest store i lane page at
+    ∙ (released_log (lane_log lane) (lane_beside lane) store.device page (lane_log new) (lane_beside new) device does).0)
+told_release rest store i lane new device page false at does =
+    sym (release_enabled rest store i lane page at ∙ ap (λ (l : List (Receipt × ℕ)). not (are_none (map place_stamped l))) does.0)
+
 pub took_release : (rest : State) (store : WorldLog) (i : ℕ) (lane new : Lane) (device : Shelves) (page : Bytes) (done : Bool)
     → IsReached store i lane
     → DoesRelease done page (lane_log lane) (lane_beside lane) store.device (lane_log new) (lane_beside new) device
@@ -204,14 +230,12 @@ took_release rest store i lane new device page true at does =
     let places : places_of device ≡ places_released state.places (log_of state i).drained page =
     done.2 ∙ ap (λ (l : LogState). places_released state.places l.drained page) (sym there) in
     when_true (is_enabled_in state (event.Release i page)) _ _
-    (true_left _ (not (are_none (log_of state i).drained)) at.below ∙ ap (λ (l : LogState). not (are_none l.drained)) there ∙ done.0)
+    (release_enabled rest store i lane page at ∙ done.0)
     (λ j. let s : State = record state { logs = logs j; places = places j } in s)
 took_release rest store i lane new device page false at does =
     let state : State = state_beside rest store in
-    let there = log_there store.stripes.lanes.items i lane at.there in
     when_false (is_enabled_in state (event.Release i page)) _ _
-    (true_left _ (not (are_none (log_of state i).drained)) at.below ∙ ap (λ (l : LogState). not (are_none l.drained)) there
-    ∙ ap (λ (l : List (Receipt × ℕ)). not (are_none (map place_stamped l))) does.0)
+    (sym (told_release rest store i lane new device page false at does))
     (ap (λ (d : Shelves). let s : State = record (state_beside rest (with_lane store i new)) { places = places_of d } in s) does.3
     ∙ state_same rest store i lane new at.there
     (ap (λ (p : HybridLog). log_state p (lane_beside new)) does.2 ∙ ap (log_state (lane_log lane)) does.1))

@@ -5,6 +5,7 @@ ghost use Rattle.hybrid.specs.Reading.{HasStaged};
 ghost use Rattle.hybrid.specs.Staging.{AreRight};
 ghost use Rattle.plans.specs.Receipts.{kept_by};
 ghost use Rattle.world_events.specs.declared.event.Event.TheVariants as event;
+ghost use Rattle.world_model.specs.Enabled.{is_enabled_in};
 ghost use Rattle.world_model.specs.Places.{standing};
 ghost use Rattle.world_model.specs.States.{State};
 ghost use Rattle.world_log.specs.Given.{IsGiven, StaysGiven};
@@ -68,19 +69,20 @@ impl WorldLog {
     /// # Errors
     ///
     /// [`Stopped`] where there is no memory for the page.
-    pub fn copy(&mut self, alloc: Global, i: usize) -> Result<(), Stopped>
+    pub fn copy(&mut self, alloc: Global, i: usize) -> Result<bool, Stopped>
         requires log { IsWorldLog self.old }
         ensures took { OnOk result ((rest : State) → Took rest (event.Copy i) self.old self.new) }
+        ensures told { IfOk result (λ done. (rest : State) → done ≡ is_enabled_in (state_of rest self.old) (event.Copy i)) }
         ensures log { OnOk result (IsWorldLog self.new) }
         ensures given { OnOk result (StaysGiven self.old.device self.new.device) }
         ensures held { OnOk result (KeepsHeld self.old.stripes self.new.stripes) }
     {
         if i >= self.stripes.lanes.len() || self.stripes.holders[i].is_some() {
-            return Ok(());
+            return Ok(false);
         }
         let lane = &mut self.stripes.lanes[i];
-        let _done = lane.copy(alloc)?;
-        Ok(())
+        let done = lane.copy(alloc)?;
+        Ok(done)
     }
 
     /// The flusher writes the page that it copied of a stripe.
@@ -88,49 +90,52 @@ impl WorldLog {
     /// # Errors
     ///
     /// [`Stopped`] where the device has no memory for the page.
-    pub fn write(&mut self, i: usize) -> Result<(), Stopped>
+    pub fn write(&mut self, i: usize) -> Result<bool, Stopped>
         requires log { IsWorldLog self.old }
         ensures took { OnOk result ((rest : State) → Took rest (event.Write i) self.old self.new) }
+        ensures told { IfOk result (λ done. (rest : State) → done ≡ is_enabled_in (state_of rest self.old) (event.Write i)) }
         ensures log { OnOk result (IsWorldLog self.new) }
         ensures given { OnOk result (StaysGiven self.old.device self.new.device) }
         ensures held { OnOk result (KeepsHeld self.old.stripes self.new.stripes) }
     {
         if i >= self.stripes.lanes.len() {
-            return Ok(());
+            return Ok(false);
         }
         let lane = &mut self.stripes.lanes[i];
-        let _done = write(&mut lane.queues, &mut self.device)?;
-        Ok(())
+        let done = write(&mut lane.queues, &mut self.device)?;
+        Ok(done)
     }
 
     /// The flusher gives a stripe the receipt of the page that it wrote.
-    pub fn install(&mut self, i: usize)
+    pub fn install(&mut self, i: usize) -> bool
         requires log { IsWorldLog self.old }
         ensures took { (rest : State) → Took rest (event.Install i) self.old self.new }
+        ensures told { (rest : State) → result ≡ is_enabled_in (state_of rest self.old) (event.Install i) }
         ensures log { IsWorldLog self.new }
         ensures given { StaysGiven self.old.device self.new.device }
         ensures held { KeepsHeld self.old.stripes self.new.stripes }
     {
         if i >= self.stripes.lanes.len() || self.stripes.holders[i].is_some() {
-            return;
+            return false;
         }
         let lane = &mut self.stripes.lanes[i];
-        let _done = lane.install();
+        lane.install()
     }
 
     /// The evictor drops the oldest resident page of a stripe from its frame.
-    pub fn evict(&mut self, i: usize)
+    pub fn evict(&mut self, i: usize) -> bool
         requires log { IsWorldLog self.old }
         ensures took { (rest : State) → Took rest (event.Drop i) self.old self.new }
+        ensures told { (rest : State) → result ≡ is_enabled_in (state_of rest self.old) (event.Drop i) }
         ensures log { IsWorldLog self.new }
         ensures given { StaysGiven self.old.device self.new.device }
         ensures held { KeepsHeld self.old.stripes self.new.stripes }
     {
         if i >= self.stripes.lanes.len() || self.stripes.holders[i].is_some() {
-            return;
+            return false;
         }
         let lane = &mut self.stripes.lanes[i];
-        let _done = lane.evict();
+        lane.evict()
     }
 
     /// The cleaner unlinks the oldest page of a stripe, none of whose kept receipts is of a released place.
@@ -138,23 +143,24 @@ impl WorldLog {
     /// # Errors
     ///
     /// [`Stopped`] where there is no memory for the pages that are read or written for it.
-    pub fn unlink(&mut self, alloc: Global, i: usize) -> Result<(), Stopped>
+    pub fn unlink(&mut self, alloc: Global, i: usize) -> Result<bool, Stopped>
         requires log { IsWorldLog self.old }
         requires none { NoneReleasedAt self.old i }
         ensures took { OnOk result ((rest : State) → Took rest (event.Unlink i) self.old self.new) }
+        ensures told { IfOk result (λ done. (rest : State) → done ≡ is_enabled_in (state_of rest self.old) (event.Unlink i)) }
         ensures log { OnOk result (IsWorldLog self.new) }
         ensures given { OnOk result (StaysGiven self.old.device self.new.device) }
         ensures held { OnOk result (KeepsHeld self.old.stripes self.new.stripes) }
     {
         if i >= self.stripes.lanes.len() || self.stripes.holders[i].is_some() {
-            return Ok(());
+            return Ok(false);
         }
         if !is_cold(self.stripes.lanes[i].shard.counted().stripe()) {
-            return Ok(());
+            return Ok(false);
         }
         let lane = &mut self.stripes.lanes[i];
         let _done = lane.unlink(alloc, &mut self.device)?;
-        Ok(())
+        Ok(true)
     }
 
     /// The oldest unlinked place of a stripe is retired, and the next epoch begins.
@@ -162,24 +168,26 @@ impl WorldLog {
     /// # Errors
     ///
     /// [`Stopped`] where there is no memory for it, or no next epoch.
-    pub fn retire(&mut self, i: usize) -> Result<(), Stopped>
+    pub fn retire(&mut self, i: usize) -> Result<bool, Stopped>
         requires log { IsWorldLog self.old }
         ensures took { OnOk result ((rest : State) → Took rest (event.Retire i) self.old self.new) }
+        ensures told { IfOk result (λ done. (rest : State) → done ≡ is_enabled_in (state_of rest self.old) (event.Retire i)) }
         ensures log { OnOk result (IsWorldLog self.new) }
         ensures given { OnOk result (StaysGiven self.old.device self.new.device) }
         ensures held { OnOk result (KeepsHeld self.old.stripes self.new.stripes) }
     {
         if i >= self.stripes.lanes.len() {
-            return Ok(());
+            return Ok(false);
         }
         let Some(next) = self.epoch.checked_add(1) else {
             return Err(Stopped);
         };
         let lane = &mut self.stripes.lanes[i];
-        if lane.retire(self.epoch)? {
+        let done = lane.retire(self.epoch)?;
+        if done {
             self.epoch = next;
         }
-        Ok(())
+        Ok(done)
     }
 
     /// The oldest retired place of a stripe is drained, where no stay of a client is at its epoch or below.
@@ -187,25 +195,26 @@ impl WorldLog {
     /// # Errors
     ///
     /// [`Stopped`] where there is no memory for it.
-    pub fn drain(&mut self, i: usize, stays: &[Option<u64>]) -> Result<(), Stopped>
+    pub fn drain(&mut self, i: usize, stays: &[Option<u64>]) -> Result<bool, Stopped>
         requires log { IsWorldLog self.old }
         ensures took { OnOk result ((rest : State) → stays_of rest ≡ stays.now → Took rest (event.Drain i) self.old self.new) }
+        ensures told { IfOk result (λ done. (rest : State) → stays_of rest ≡ stays.now → done ≡ is_enabled_in (state_of rest self.old) (event.Drain i)) }
         ensures log { OnOk result (IsWorldLog self.new) }
         ensures given { OnOk result (StaysGiven self.old.device self.new.device) }
         ensures held { OnOk result (KeepsHeld self.old.stripes self.new.stripes) }
     {
         if i >= self.stripes.lanes.len() {
-            return Ok(());
+            return Ok(false);
         }
         let Some(epoch) = oldest_stamp(&self.stripes.lanes[i].queues) else {
-            return Ok(());
+            return Ok(false);
         };
         if !are_past(stays, epoch) {
-            return Ok(());
+            return Ok(false);
         }
         let lane = &mut self.stripes.lanes[i];
-        let _done = drain(&mut lane.queues)?;
-        Ok(())
+        let done = drain(&mut lane.queues)?;
+        Ok(done)
     }
 
     /// The oldest drained place of a stripe is released: from now on a read of it gives this page.
@@ -213,20 +222,20 @@ impl WorldLog {
     /// # Errors
     ///
     /// [`Stopped`] where there is no memory for the page.
-    pub fn release(&mut self, alloc: Global, i: usize, page: &ShownPage) -> Result<(), Stopped>
+    pub fn release(&mut self, alloc: Global, i: usize, page: &ShownPage) -> Result<bool, Stopped>
         requires log { IsWorldLog self.old }
         ensures took { OnOk result ((rest : State) → Took rest (event.Release i page.now) self.old self.new) }
+        ensures told { IfOk result (λ done. (rest : State) → done ≡ is_enabled_in (state_of rest self.old) (event.Release i page.now)) }
         ensures log { OnOk result (IsWorldLog self.new) }
         ensures given { OnOk result (StaysGiven self.old.device self.new.device) }
         ensures held { OnOk result (KeepsHeld self.old.stripes self.new.stripes) }
     {
         if i >= self.stripes.lanes.len() {
-            return Ok(());
+            return Ok(false);
         }
         let page = copied(alloc, page.page())?;
         let lane = &mut self.stripes.lanes[i];
-        let _done = lane.release(&mut self.device, page);
-        Ok(())
+        Ok(lane.release(&mut self.device, page))
     }
 
     /// Reads the page of a receipt that the device gave, whose place is not released, and stages it.

@@ -1,13 +1,14 @@
 use Rattle.std.proofs.Common.{length, refl, arith}
 use Rattle.std.proofs.lemmas.Option.{slice_get_read}
-use Rattle.world_log.proofs.LaneSteps.{lane_of, reached, free_is, took_drop, store_with, with_lane}
+use Rattle.world_log.proofs.LaneSteps.{lane_of, reached, free_is, took_drop, store_with, with_lane, told_drop}
 use Rattle.world_log.proofs.Values.{lane_values, took_values}
 use Rattle.world_events.specs.declared.event.Event.TheVariants as event
 use Rattle.world_log.proofs.Held.{held_free}
+use Rattle.world_log.specs.WorldLogs.{with_values}
 use Rattle.world_log.proofs.logs.WorldLog.evict.Goals as goal
 
-pub evict-done-requires : goal.evict-done-requires
-evict-done-requires c =
+pub evict-requires : goal.evict-requires
+evict-requires c =
     let there = slice_get_read c.args.self.now.stripes.lanes.items (length c.args.self.now.stripes.lanes.items) c.args.i c.index_mut-lane.result.now refl
     (omega (arith, c.if-i-len.false, c.len.ensures)) c.index_mut-lane.ensures.value in
     let agrees = (lane_of c.args.self.now c.args.i c.index_mut-lane.result.now c.requires.log there).agrees in
@@ -19,23 +20,33 @@ returns-clause-took c rest =
     (omega (arith, c.if-i-len.false, c.len.ensures)) c.index_mut-lane.ensures.value in
     let held = slice_get_read c.args.self.now.stripes.holders.items (length c.args.self.now.stripes.holders.items) c.args.i c.index.result.now refl
     (omega (arith, c.if-i-len.false, c.len.ensures, c.requires.log.even.lanes)) c.index.ensures in
-    took_values rest (event.Drop c.args.i) c.args.self.now (with_lane c.args.self.now c.args.i c.evict-done.new.self)
-    (lane_values c.args.self.now c.args.i c.index_mut-lane.result.now c.evict-done.new.self there (record { store = c.evict-done.ensures.right.store; marks = c.evict-done.ensures.right.marks }))
-    (λ other. took_drop other c.args.self.now c.args.i c.index_mut-lane.result.now c.evict-done.new.self c.evict-done.result
+    took_values rest (event.Drop c.args.i) c.args.self.now (with_lane c.args.self.now c.args.i c.evict.new.self)
+    (lane_values c.args.self.now c.args.i c.index_mut-lane.result.now c.evict.new.self there (record { store = c.evict.ensures.right.store; marks = c.evict.ensures.right.marks }))
+    (λ other. took_drop other c.args.self.now c.args.i c.index_mut-lane.result.now c.evict.new.self c.evict.result
     c.requires.log (reached c.args.self.now c.args.i c.index_mut-lane.result.now c.requires.log there)
-    (free_is c.args.self.now c.args.i c.index.result.now held (rw c.is_some.ensures at c.if-is_some.false)) c.evict-done.ensures.does)
+    (free_is c.args.self.now c.args.i c.index.result.now held (rw c.is_some.ensures at c.if-is_some.false)) c.evict.ensures.does)
 
 pub returns-clause-log : goal.returns-clause-log
 returns-clause-log c =
     let there = slice_get_read c.args.self.now.stripes.lanes.items (length c.args.self.now.stripes.lanes.items) c.args.i c.index_mut-lane.result.now refl
     (omega (arith, c.if-i-len.false, c.len.ensures)) c.index_mut-lane.ensures.value in
-    let right = c.evict-done.ensures.right in
-    store_with c.args.self.now c.args.i c.index_mut-lane.result.now c.evict-done.new.self c.requires.log there right.alike right.agrees right.numbered
-    (c.evict-done.ensures.given c.args.self.now.device (lane_of c.args.self.now c.args.i c.index_mut-lane.result.now c.requires.log there).given)
+    let right = c.evict.ensures.right in
+    store_with c.args.self.now c.args.i c.index_mut-lane.result.now c.evict.new.self c.requires.log there right.alike right.agrees right.numbered
+    (c.evict.ensures.given c.args.self.now.device (lane_of c.args.self.now c.args.i c.index_mut-lane.result.now c.requires.log there).given)
 
 pub returns-clause-held : goal.returns-clause-held
 returns-clause-held c =
     let held = slice_get_read c.args.self.now.stripes.holders.items (length c.args.self.now.stripes.holders.items) c.args.i c.index.result.now refl
     (omega (arith, c.if-i-len.false, c.len.ensures, c.requires.log.even.lanes)) c.index.ensures in
-    held_free c.args.self.now c.args.i c.index_mut-lane.result.now c.evict-done.new.self
+    held_free c.args.self.now c.args.i c.index_mut-lane.result.now c.evict.new.self
     (free_is c.args.self.now c.args.i c.index.result.now held (rw c.is_some.ensures at c.if-is_some.false))
+
+pub returns-clause-told : goal.returns-clause-told
+returns-clause-told c rest =
+    let there = slice_get_read c.args.self.now.stripes.lanes.items (length c.args.self.now.stripes.lanes.items) c.args.i c.index_mut-lane.result.now refl
+    (omega (arith, c.if-i-len.false, c.len.ensures)) c.index_mut-lane.ensures.value in
+    let held = slice_get_read c.args.self.now.stripes.holders.items (length c.args.self.now.stripes.holders.items) c.args.i c.index.result.now refl
+    (omega (arith, c.if-i-len.false, c.len.ensures, c.requires.log.even.lanes)) c.index.ensures in
+    told_drop (with_values rest c.args.self.now.stripes) c.args.self.now c.args.i c.index_mut-lane.result.now c.evict.new.self c.evict.result
+    (reached c.args.self.now c.args.i c.index_mut-lane.result.now c.requires.log there)
+    (free_is c.args.self.now c.args.i c.index.result.now held (rw c.is_some.ensures at c.if-is_some.false)) c.evict.ensures.does
