@@ -1,9 +1,9 @@
 //! Runs of `replay` beside the one that is stored with it, each on the words of a command line: what is
-//! printed, and then the exit status. The last is a schedule of some 20,000 events.
+//! printed, and then the exit status. One is traced. The last is a schedule of some 20,000 events.
 #![tactic(auto)]
 
 use anyhow::Result;
-use schedules::run_schedule;
+use schedules::{Shown, run_schedule};
 use std::alloc::{AllocError, Global};
 use std::io;
 use streams::Noted;
@@ -22,10 +22,12 @@ fn main(rt: HostRuntime) -> Result<()> {
         let code = replaying::answer(&rt, &["replay", word]);
         println!(rt; "{word}: {code:?}")?;
     }
+    let code = replaying::answer(&rt, &["replay", "--trace", "watched.schedule"]);
+    println!(rt; "traced: {code:?}")?;
     let schedule = long(rt.alloc(), 20_000)?;
     let mut reader = Noted::new(schedule.as_slice());
     let mut writer = Noted::new(io::writer(&rt));
-    let ran = run_schedule(rt.alloc(), &mut reader, &mut writer);
+    let ran = run_schedule(rt.alloc(), Shown::Report, &mut reader, &mut writer);
     println!(rt; "20,000 events: {ran:?}")?;
     Ok(())
 }

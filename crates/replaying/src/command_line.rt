@@ -3,20 +3,31 @@
 ghost use Rattle.std.specs.Prelude.{◌≡◌, IfErr, IfOk, map, option_map, true};
 ghost use Rattle.clap.specs.Words.{FailsBy, app_of, fault_of, kind_of, takes};
 ghost use Rattle.clap.specs.declared.error.kind.ErrorKind.TheVariants.{OutOfMemory};
-ghost use Rattle.replaying.specs.CommandLine.{file_named, replay};
+ghost use Rattle.replaying.specs.CommandLine.{file_named, replay, shown_by, shown_for};
 
-use clap::{Arg, Command, Error};
+use clap::{Arg, ArgAction, Command, Error};
+use schedules::Shown;
 use std::alloc::{AllocError, Global};
 use std::convert::AsStr;
 
-/// The file that a command line names, the program's name its first word; or `None` where it names none.
+/// What a command line asks for.
+#[derive(Clone, Copy)]
+pub struct Asked<'a> {
+    /// The file of the schedule, or `None` where none is named.
+    pub file: Option<&'a str>,
+    /// What is to be written of its run.
+    pub shown: Shown,
+}
+
+/// What a command line asks for, the program's name its first word.
 ///
 /// # Errors
 ///
 /// What the parser says of a command line that it refuses, and of one that asks for help or for the
 /// version.
-pub fn file_of<'a, S: AsStr>(alloc: Global, words: &'a [S]) -> Result<Option<&'a str>, Error>
-    ensures ok { IfOk result (λ file. option_map (λ name. name.now) file ≡ file_named (map S.text words.entry.now)) }
+pub fn asked_by<'a, S: AsStr>(alloc: Global, words: &'a [S]) -> Result<Asked<'a>, Error>
+    ensures file { IfOk result (λ asked. option_map (λ name. name.now) asked.file ≡ file_named (map S.text words.entry.now)) }
+    ensures shown { IfOk result (λ asked. asked.shown ≡ shown_for (map S.text words.entry.now)) }
     // Where the command takes the words, an error is for want of memory.
     ensures taken { IfErr result (λ e. takes replay (map S.text words.entry.now) ≡ true → kind_of e ≡ OutOfMemory) }
     // An answer comes only where no step of the parse fails, and else the kind of error of the first that does, or that of
@@ -25,19 +36,37 @@ pub fn file_of<'a, S: AsStr>(alloc: Global, words: &'a [S]) -> Result<Option<&'a
 {
     let command = command(alloc)?;
     let matches = command.try_get_matches_from(words)?;
-    Ok(matches.get_str("file"))
+    Ok(Asked {
+        file: matches.get_str("file"),
+        shown: shown_by(matches.get_str("trace")),
+    })
+}
+
+/// What is to be written where the flag for a trace has this value, if one.
+fn shown_by(flag: Option<&str>) -> Shown
+    ensures { result ≡ shown_by (option_map (λ value. value.now) flag) }
+{
+    match flag {
+        Some(value) if value == "true" => Shown::Trace,
+        _ => Shown::Report,
+    }
 }
 
 /// The command line that is parsed.
 fn command<'a>(alloc: Global) -> Result<Command<'a>, AllocError>
     ensures { IfOk result (λ command. app_of command ≡ replay) }
 {
+    let trace = Arg::new(alloc, "trace")
+        .long("trace")
+        .action(ArgAction::SetTrue)
+        .help("Print each event with what it did, and then the report");
     let file = Arg::new(alloc, "file")
         .value_name("FILE")
         .help("File of the schedule; standard input where none is named");
     Command::new(alloc, "replay")
         .version("0.1.0")
         .about("Runs a schedule of the simulated world, and prints what each client was told")
+        .arg(trace)?
         .arg(file)
 }
 
@@ -48,17 +77,39 @@ mod tests {
 
     #[test]
     fn a_file_is_named_or_none(rt: HostRuntime) -> Result<(), Fail> {
-        let none = file_of(rt.alloc(), ["replay"].as_slice())?;
-        assert_eq!(rt; none, None);
-        let one = file_of(rt.alloc(), ["replay", "a.schedule"].as_slice())?;
-        assert_eq!(rt; one, Some("a.schedule"));
+        let none = asked_by(rt.alloc(), ["replay"].as_slice())?;
+        assert_eq!(rt; none.file, None);
+        assert_eq!(rt; none.shown, Shown::Report);
+        let one = asked_by(rt.alloc(), ["replay", "a.schedule"].as_slice())?;
+        assert_eq!(rt; one.file, Some("a.schedule"));
+        assert_eq!(rt; one.shown, Shown::Report);
+        Ok(())
+    }
+
+    #[test]
+    fn a_trace_is_asked_for(rt: HostRuntime) -> Result<(), Fail> {
+        let none = asked_by(rt.alloc(), ["replay", "--trace"].as_slice())?;
+        assert_eq!(rt; none.file, None);
+        assert_eq!(rt; none.shown, Shown::Trace);
+        for words in [
+            ["replay", "--trace", "a.schedule"],
+            ["replay", "a.schedule", "--trace"],
+        ] {
+            let one = asked_by(rt.alloc(), words.as_slice())?;
+            assert_eq!(rt; one.file, Some("a.schedule"), "at {words:?}");
+            assert_eq!(rt; one.shown, Shown::Trace, "at {words:?}");
+        }
         Ok(())
     }
 
     #[test]
     fn other_command_lines_are_refused(rt: HostRuntime) -> Result<(), Fail> {
-        for words in [["replay", "--colour", "red"], ["replay", "one", "two"]] {
-            let refused = file_of(rt.alloc(), words.as_slice()).err().ok_or("taken")?;
+        for words in [
+            ["replay", "--colour", "red"],
+            ["replay", "one", "two"],
+            ["replay", "--trace", "--trace"],
+        ] {
+            let refused = asked_by(rt.alloc(), words.as_slice()).err().ok_or("taken")?;
             assert_eq!(rt; refused.exit_code(), 2, "at {words:?}");
             assert!(rt; refused.use_stderr(), "at {words:?}");
         }
@@ -66,13 +117,14 @@ mod tests {
     }
 
     #[test]
-    fn help_names_the_file(rt: HostRuntime) -> Result<(), Fail> {
-        let shown = file_of(rt.alloc(), ["replay", "--help"].as_slice())
+    fn help_names_the_file_and_the_trace(rt: HostRuntime) -> Result<(), Fail> {
+        let shown = asked_by(rt.alloc(), ["replay", "--help"].as_slice())
             .err()
             .ok_or("taken")?;
         assert_eq!(rt; shown.exit_code(), 0);
         let text = format!(in rt.alloc(); "{shown}")?;
         assert!(rt; text.contains("[FILE]"), "{text}");
+        assert!(rt; text.contains("--trace"), "{text}");
         Ok(())
     }
 }

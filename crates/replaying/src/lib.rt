@@ -8,5 +8,5 @@ mod program;
 #[cfg(test)]
 mod tests;
 
-pub use command_line::file_of;
+pub use command_line::{Asked, asked_by};
 pub use program::{answer, run};

@@ -1,8 +1,8 @@
 //! The program, from its command line to its exit status.
 
-use crate::command_line::file_of;
+use crate::command_line::{Asked, asked_by};
 use crate::ending::{ended, refused, stopped};
-use schedules::{ReplayFault, run_schedule};
+use schedules::{ReplayFault, Shown, run_schedule};
 use std::convert::AsStr;
 use std::io::Read;
 use std::process::ExitCode;
@@ -32,29 +32,33 @@ pub fn answer<R, S: AsStr>(rt: &R, words: &[S]) -> ExitCode
 where
     R: AllocGlobal + Files + Input + Print + Eprint,
 {
-    match file_of(rt.alloc(), words) {
-        Ok(file) => ended(rt, replayed(rt, file)),
+    match asked_by(rt.alloc(), words) {
+        Ok(asked) => ended(rt, replayed(rt, asked)),
         Err(error) => refused(rt, &error),
     }
 }
 
 /// Runs the schedule of a file, or of standard input where none is named.
-pub(crate) fn replayed<R>(rt: &R, file: Option<&str>) -> Result<(), ReplayFault>
+pub(crate) fn replayed<R>(rt: &R, asked: Asked<'_>) -> Result<(), ReplayFault>
 where
     R: AllocGlobal + Files + Input + Print,
 {
-    match file {
+    match asked.file {
         Some(path) => match fs::open(rt, path) {
-            Ok(file) => print(rt, file),
+            Ok(file) => print(rt, asked.shown, file),
             Err(_) => Err(ReplayFault::CannotRead),
         },
-        None => print(rt, rt.reader()),
+        None => print(rt, asked.shown, rt.reader()),
     }
 }
 
-/// Runs the schedule that a reader has, and prints its report.
-fn print<R: AllocGlobal + Print, I: Read + Drop>(rt: &R, input: I) -> Result<(), ReplayFault> {
+/// Runs the schedule that a reader has, and prints what is to be shown of it.
+fn print<R: AllocGlobal + Print, I: Read + Drop>(
+    rt: &R,
+    shown: Shown,
+    input: I,
+) -> Result<(), ReplayFault> {
     let mut reader = Noted::new(input);
     let mut writer = Noted::new(io::writer(rt));
-    run_schedule(rt.alloc(), &mut reader, &mut writer)
+    run_schedule(rt.alloc(), shown, &mut reader, &mut writer)
 }

@@ -1,8 +1,9 @@
 //! How the program ends, and what it says on standard error.
 
+use crate::command_line::Asked;
 use crate::ending::ended;
 use crate::program::replayed;
-use schedules::ReplayFault;
+use schedules::{ReplayFault, Shown};
 use std::alloc::Global;
 use std::cell::RefCell;
 use std::fmt::Display;
@@ -80,9 +81,11 @@ fn each_fault_has_its_status_and_text(rt: HostRuntime) {
 
 #[test]
 fn a_file_that_is_not_there_cannot_be_read(rt: HostRuntime) {
-    assert_eq!(rt;
-        replayed(&rt, Some("no/such/file")),
-        Err(ReplayFault::CannotRead)
-    );
-    assert_eq!(rt; replayed(&rt, Some(".")), Err(ReplayFault::CannotRead));
+    for path in ["no/such/file", "."] {
+        let asked = Asked {
+            file: Some(path),
+            shown: Shown::Report,
+        };
+        assert_eq!(rt; replayed(&rt, asked), Err(ReplayFault::CannotRead), "{path}");
+    }
 }

@@ -12,6 +12,9 @@ use Rattle.schedules.specs.declared.fault.ReplayFault.{ReplayFault}
 use Rattle.schedules.specs.declared.fault.ReplayFault.TheVariants.{CannotRead, BadLine, OutOfMemory, CannotWrite}
 use Rattle.schedules.specs.Schedules.{IsSchedule, IsBadLine}
 use Rattle.schedules.specs.Reports.{report_of}
+use Rattle.schedules.specs.Traces.{IsTraced}
+use Rattle.schedules.specs.declared.run.Shown.{Shown}
+use Rattle.schedules.specs.declared.run.Shown.TheVariants.{Report, Trace}
 
 -- The events, in order, lead a world of these limits from its beginning to a state of which the headline holds, and this is its report.
 pub record IsOutcome (limits : Limits) (events : List Event) (report : Bytes) : Type 0 where
@@ -27,6 +30,23 @@ pub record IsReport (text report : Bytes) : Type 0 where
   pub schedule : IsSchedule text limits events
   pub outcome : IsOutcome limits events report
 
+-- the text is a schedule, and this is the trace of its run
+pub record IsTraceOf (text trace : Bytes) : Type 0 where
+  pub limits : Limits
+  pub events : List Event
+  pub schedule : IsSchedule text limits events
+  pub traced : IsTraced limits events trace
+
+-- what is to be shown of a run of these events
+abbrev pub AreLinesOf : Shown → Limits → List Event → (lines : Bytes) → Type 0
+AreLinesOf Report limits events lines = IsOutcome limits events lines
+AreLinesOf Trace limits events lines = IsTraced limits events lines
+
+-- the text is a schedule, and this is what is to be shown of its run
+abbrev pub IsShown : Shown → (text lines : Bytes) → Type 0
+IsShown Report text lines = IsReport text lines
+IsShown Trace text lines = IsTraceOf text lines
+
 -- why a text has no report: its first bad line, or want of memory
 abbrev pub IsFault : Bytes → ReplayFault → Type 0
 IsFault text (BadLine number) = IsBadLine text number
@@ -34,13 +54,14 @@ IsFault text OutOfMemory = ⊤
 IsFault text CannotRead = ⊥
 IsFault text CannotWrite = ⊥
 
--- What was written of a text that was read: its report; at a failed write a beginning of that; at any other fault nothing.
-abbrev pub IsRun : Bytes → (written : Bytes) → Result ⊤ ReplayFault → Type 0
-IsRun text written (Ok done) = IsReport text written
-IsRun text written (Err (BadLine number)) = IsBadLine text number × (written ≡ [])
-IsRun text written (Err OutOfMemory) = written ≡ []
-IsRun text written (Err CannotRead) = written ≡ []
-IsRun text written (Err CannotWrite) = (more : Bytes) × IsReport text (written ++ more)
+-- What was written of a text that was read: what is to be shown of its run; at a failed write a beginning of that; at any other fault
+-- nothing.
+abbrev pub IsRun : Shown → Bytes → (written : Bytes) → Result ⊤ ReplayFault → Type 0
+IsRun shown text written (Ok done) = IsShown shown text written
+IsRun shown text written (Err (BadLine number)) = IsBadLine text number × (written ≡ [])
+IsRun shown text written (Err OutOfMemory) = written ≡ []
+IsRun shown text written (Err CannotRead) = written ≡ []
+IsRun shown text written (Err CannotWrite) = (more : Bytes) × IsShown shown text (written ++ more)
 
 -- All that the reader had left was read, but where it failed or memory was wanted.
 abbrev pub IsWhole : Result ⊤ ReplayFault → (at_end : Type 0) → Type 0

@@ -11,9 +11,11 @@ mod numbers;
 mod report;
 mod run;
 mod schedule;
+mod spelling;
+mod traces;
 mod verbs;
 
 pub use fault::ReplayFault;
 pub use lines::PIECE_BYTES_MAX;
-pub use run::{replay, run_schedule};
+pub use run::{Shown, replay, run_schedule, trace};
 pub use schedule::{ParseFault, Schedule, parse};

@@ -1,20 +1,13 @@
 //! What a run is reported as: what each client was told, and how many entries the history has.
 
-ghost use Rattle.std.specs.Prelude.{◌≡◌, ◌++◌, IfOk, OnOk, decimal};
+ghost use Rattle.std.specs.Prelude.{◌≡◌, ◌++◌, IfOk, OnOk};
 ghost use Rattle.world.specs.Tables.{state_of};
 ghost use Rattle.schedules.specs.Reports.{client_line, entries_line, report_of};
 
-use itoa::Buffer;
+use crate::spelling::{add_bytes, add_number};
 use std::alloc::Global;
 use words::word::OutOfMemory;
 use world::World;
-
-/// Adds a number to a text, in decimal.
-fn add_number(text: &mut Vec<u8>, number: usize) -> Result<(), OutOfMemory>
-    ensures { OnOk result (text.new.items ≡ text.old.items ++ decimal number) }
-{
-    text.extend_from_slice(Buffer::new().format(number).as_bytes())
-}
 
 /// Adds the line of a client to a report.
 fn add_client(
@@ -25,10 +18,9 @@ fn add_client(
 ) -> Result<(), OutOfMemory>
     ensures { OnOk result (report.new.items ≡ report.old.items ++ client_line client output.now) }
 {
-    let output = hex::encode(alloc, output)?;
     add_number(report, client)?;
     report.push(b':')?;
-    report.extend_from_slice(output.as_bytes())?;
+    add_bytes(alloc, report, output)?;
     Ok(report.push(b'\n')?)
 }
 

@@ -3,16 +3,26 @@
 ghost use Rattle.std.specs.Prelude.{◌≡◌, IfOk, IfErr, OnOk, List, ℕ, MatchResult};
 ghost use Rattle.std.specs.Io.KnownBytes.{Appends, Consumes, IsAtEnd};
 ghost use Rattle.streams.specs.Streams.{stream_of, told_of, IsSent};
-ghost use Rattle.schedules.specs.Runs.{IsFault, IsOutcome, IsReport, IsRun, IsWhole, ReadTold, ReaderTold, writer_told};
+ghost use Rattle.schedules.specs.Runs.{AreLinesOf, IsFault, IsOutcome, IsReport, IsRun, IsShown, IsTraceOf, IsWhole, ReadTold, ReaderTold, writer_told};
 
 use crate::fault::ReplayFault;
 use crate::report::report_of;
 use crate::schedule::{ParseFault, Schedule, parse};
+use crate::traces::traced;
 use std::alloc::{AllocError, Global};
 use std::io::{Read, Write};
 use streams::{Input, Noted};
 use words::word::OutOfMemory;
 use world::World;
+
+/// What is written of a run.
+#[derive(Clone, Copy, Debug, PartialEq, Eq)]
+pub enum Shown {
+    /// What each client was told, and how many entries the history has, as [`replay`] gives it.
+    Report,
+    /// A line for each event, and then the report, as [`trace`] gives it.
+    Trace,
+}
 
 /// How many bytes are read at a time.
 const ROOM: usize = 4_096;
@@ -64,15 +74,46 @@ fn outcome(alloc: Global, schedule: &Schedule) -> Result<Vec<u8>, OutOfMemory>
 pub fn replay(alloc: Global, text: &[u8]) -> Result<Vec<u8>, ReplayFault>
     ensures { MatchResult result (λ report. IsReport text.now report.items) (IsFault text.now) }
 {
+    show(alloc, Shown::Report, text)
+}
+
+/// Runs the schedule that a text is, and traces it: a line for each event, and then the report. The line of an event
+/// has the number of its line in the schedule, counted from 1, that line, and then, each after ` | `, whether the event
+/// was `enabled` or `not enabled`; where its client was told something by it, `told` and that in lower-case
+/// hexadecimal; and where it added an entry to the history, `entry` and the entry's position, counted from 0.
+///
+/// # Errors
+///
+/// As [`replay`].
+pub fn trace(alloc: Global, text: &[u8]) -> Result<Vec<u8>, ReplayFault>
+    ensures { MatchResult result (λ lines. IsTraceOf text.now lines.items) (IsFault text.now) }
+{
+    show(alloc, Shown::Trace, text)
+}
+
+/// Runs the schedule that a text is, and gives what is to be shown of it.
+fn show(alloc: Global, shown: Shown, text: &[u8]) -> Result<Vec<u8>, ReplayFault>
+    ensures { MatchResult result (λ lines. IsShown shown text.now lines.items) (IsFault text.now) }
+{
     match parse(alloc, text) {
-        Ok(schedule) => match outcome(alloc, &schedule) {
-            Ok(report) => Ok(report),
+        Ok(schedule) => match lines_of(alloc, shown, &schedule) {
+            Ok(lines) => Ok(lines),
             Err(_) => Err(ReplayFault::OutOfMemory),
         },
         Err(fault) => match fault {
             ParseFault::BadLine(number) => Err(ReplayFault::BadLine(number)),
             ParseFault::OutOfMemory => Err(ReplayFault::OutOfMemory),
         },
+    }
+}
+
+/// Runs a schedule, and gives what is to be shown of it.
+fn lines_of(alloc: Global, shown: Shown, schedule: &Schedule) -> Result<Vec<u8>, OutOfMemory>
+    ensures { IfOk result (λ lines. AreLinesOf shown schedule.now.limits schedule.now.events.items lines.items) }
+{
+    match shown {
+        Shown::Report => outcome(alloc, schedule),
+        Shown::Trace => traced(alloc, schedule),
     }
 }
 
@@ -88,8 +129,8 @@ fn send<W: Write>(writer: &mut Noted<W>, report: &[u8]) -> Result<(), ReplayFaul
     Ok(())
 }
 
-/// Reads a schedule to its end, runs it, and writes its report, as [`replay`] gives it. It is read whole
-/// before a line is judged.
+/// Reads a schedule to its end, runs it, and writes what is to be shown of it. It is read whole before a line is
+/// judged.
 ///
 /// # Errors
 ///
@@ -97,6 +138,7 @@ fn send<W: Write>(writer: &mut Noted<W>, report: &[u8]) -> Result<(), ReplayFaul
 /// before the last of these.
 pub fn run_schedule<R: Read, W: Write>(
     alloc: Global,
+    shown: Shown,
     reader: &mut Noted<R>,
     writer: &mut Noted<W>,
 ) -> Result<(), ReplayFault>
@@ -104,7 +146,7 @@ pub fn run_schedule<R: Read, W: Write>(
     ensures ran { (text written : List ℕ)
         × Consumes (R.remaining (stream_of reader.old)) (R.remaining (stream_of reader.new)) text
         × Appends (W.contents (stream_of writer.old)) (W.contents (stream_of writer.new)) written
-        × IsRun text written result }
+        × IsRun shown text written result }
     // The text is all that the reader had left.
     ensures whole { IsWhole result (IsAtEnd (R.remaining (stream_of reader.new))) }
     // A fault of a stream comes only where the stream told it, and always there.
@@ -112,7 +154,7 @@ pub fn run_schedule<R: Read, W: Write>(
     ensures writer_told { told_of writer.new ≡ writer_told result (told_of writer.old) }
 {
     let text = read_all(alloc, reader)?;
-    match replay(alloc, text.as_slice()) {
+    match show(alloc, shown, text.as_slice()) {
         Ok(report) => send(writer, report.as_slice()),
         Err(fault) => Err(fault),
     }

@@ -1,6 +1,6 @@
 //! Reading and running schedules, over streams in memory.
 
-use schedules::{PIECE_BYTES_MAX, ParseFault, ReplayFault, parse, replay, run_schedule};
+use schedules::{PIECE_BYTES_MAX, ParseFault, ReplayFault, Shown, parse, replay, run_schedule, trace};
 use std::alloc::{AllocError, Global};
 use std::io;
 use std::io::{ErrorKind, Read, Write};
@@ -71,6 +71,67 @@ give 0 12
 const WATCH_AND_EXEC_REPORT: &[u8] = b"0:2b4f4b0d0a2b4f4b0d0a2a2d310d0a
 1:2b4f4b0d0a
 entries 3
+";
+
+/// The same, traced, as it is written by hand.
+const SET_AND_GET_TRACE: &[u8] = b"\
+2 piece 0 2a330d0a24330d0a5345540d0a24310d0a610d0a24310d0a310d0a | enabled
+3 piece 1 2a320d0a24330d0a4745540d0a24310d0a610d0a | enabled
+4 take 0 12 | enabled
+5 take 1 12 | not enabled
+6 commit 0 | enabled | told 2b4f4b0d0a | entry 0
+7 give 0 12 | enabled
+8 take 1 12 | enabled
+9 commit 1 | enabled | told 24310d0a310d0a | entry 1
+10 give 1 12 | enabled
+0:2b4f4b0d0a
+1:24310d0a310d0a
+entries 2
+";
+
+/// The trace of the schedule with the watched key. `MULTI` is answered in the event that feeds it.
+const WATCH_AND_EXEC_TRACE: &[u8] = b"\
+2 piece 0 2a320d0a24350d0a57415443480d0a24310d0a610d0a | enabled
+3 take 0 12 | enabled
+4 commit 0 | enabled | told 2b4f4b0d0a | entry 0
+5 give 0 12 | enabled
+6 piece 1 2a330d0a24330d0a5345540d0a24310d0a610d0a24310d0a310d0a | enabled
+7 take 1 12 | enabled
+8 commit 1 | enabled | told 2b4f4b0d0a | entry 1
+9 give 1 12 | enabled
+10 piece 0 2a310d0a24350d0a4d554c54490d0a2a310d0a24340d0a455845430d0a | enabled | told 2b4f4b0d0a
+11 take 0 12 | enabled
+12 commit 0 | enabled | told 2a2d310d0a | entry 2
+13 give 0 12 | enabled
+0:2b4f4b0d0a2b4f4b0d0a2a2d310d0a
+1:2b4f4b0d0a
+entries 3
+";
+
+/// The trace of the schedule with an event of pages, places or the epoch before each line.
+const WITH_LATER_EVENTS_TRACE: &[u8] = b"\
+2 fetch 0 | not enabled
+3 piece 0 2a330d0a24330d0a5345540d0a24310d0a610d0a24310d0a310d0a | enabled
+4 copy 12 | not enabled
+5 piece 1 2a320d0a24330d0a4745540d0a24310d0a610d0a | enabled
+6 write 12 | not enabled
+7 take 0 12 | enabled
+8 install 12 | not enabled
+9 take 1 12 | not enabled
+10 drop 12 | not enabled
+11 commit 0 | enabled | told 2b4f4b0d0a | entry 0
+12 unlink 12 | not enabled
+13 give 0 12 | enabled
+14 retire 12 | not enabled
+15 take 1 12 | enabled
+16 drain 12 | not enabled
+17 commit 1 | enabled | told 24310d0a310d0a | entry 1
+18 release 12 ff | not enabled
+19 give 1 12 | enabled
+20 fetch 1 | not enabled
+0:2b4f4b0d0a
+1:24310d0a310d0a
+entries 2
 ";
 
 /// A reader over bytes in memory.
@@ -154,9 +215,14 @@ struct Outcome {
 impl Outcome {
     /// Runs the schedule of a reader, for a writer that takes so many bytes and then fails.
     fn of(alloc: Global, source: Source<'_>, takes: usize) -> Outcome {
+        Outcome::showing(alloc, Shown::Report, source, takes)
+    }
+
+    /// The same, with what is to be written of it.
+    fn showing(alloc: Global, shown: Shown, source: Source<'_>, takes: usize) -> Outcome {
         let mut reader = Noted::new(source);
         let mut writer = Noted::new(Sink::new(alloc, takes));
-        let result = run_schedule(alloc, &mut reader, &mut writer);
+        let result = run_schedule(alloc, shown, &mut reader, &mut writer);
         let writer_told = writer.told();
         Outcome {
             result,
@@ -193,6 +259,12 @@ fn prints(alloc: Global, schedule: &[u8], report: &[u8]) -> bool {
     outcome.is_report(report)
 }
 
+/// Whether the schedule has this trace, and passes it on.
+fn is_traced(alloc: Global, schedule: &[u8], lines: &[u8]) -> bool {
+    let outcome = Outcome::showing(alloc, Shown::Trace, Source::of(schedule), usize::MAX);
+    outcome.is_report(lines)
+}
+
 /// Whether this line is the first bad one of the text, and nothing is printed.
 fn is_bad_at(alloc: Global, text: &[u8], number: usize) -> bool {
     let outcome = Outcome::of(alloc, Source::of(text), usize::MAX);
@@ -223,6 +295,29 @@ fn a_watched_key_that_was_written_stops_a_transaction(rt: HostRuntime) {
 #[test]
 fn later_events_are_read_and_never_enabled(rt: HostRuntime) {
     assert!(rt; prints(rt.alloc(), WITH_LATER_EVENTS, SET_AND_GET_REPORT));
+}
+
+#[test]
+fn a_set_and_a_get_are_traced(rt: HostRuntime) {
+    assert!(rt; is_traced(rt.alloc(), SET_AND_GET, SET_AND_GET_TRACE));
+}
+
+#[test]
+fn a_transaction_that_is_stopped_is_traced(rt: HostRuntime) {
+    assert!(rt; is_traced(rt.alloc(), WATCH_AND_EXEC, WATCH_AND_EXEC_TRACE));
+}
+
+#[test]
+fn later_events_are_traced_as_not_enabled(rt: HostRuntime) {
+    assert!(rt; is_traced(rt.alloc(), WITH_LATER_EVENTS, WITH_LATER_EVENTS_TRACE));
+}
+
+/// A trace without events is the report, and a bad line is told in place of a trace.
+#[test]
+fn a_trace_without_events(rt: HostRuntime) {
+    assert!(rt; is_traced(rt.alloc(), b"world 2 1 12\n", b"0:\n1:\nentries 0\n"));
+    let bad = trace(rt.alloc(), b"world 2 1 12\nclose 0\nclose 2\n");
+    assert_eq!(rt; bad.err(), Some(ReplayFault::BadLine(3)));
 }
 
 #[test]
@@ -347,9 +442,9 @@ fn a_writer_that_fails(rt: HostRuntime) {
 }
 
 /// Whether a schedule was reported, or memory was wanted.
-fn is_report_or_out_of_memory(replayed: &Result<Vec<u8>, ReplayFault>) -> bool {
+fn is_report_or_out_of_memory(replayed: &Result<Vec<u8>, ReplayFault>, lines: &[u8]) -> bool {
     match replayed {
-        Ok(report) => report.as_slice() == SET_AND_GET_REPORT,
+        Ok(report) => report.as_slice() == lines,
         Err(fault) => *fault == ReplayFault::OutOfMemory,
     }
 }
@@ -358,7 +453,14 @@ fn is_report_or_out_of_memory(replayed: &Result<Vec<u8>, ReplayFault>) -> bool {
 #[test]
 fn a_refused_allocation(rt: HostRuntime) {
     let replayed = replay(rt.alloc(), SET_AND_GET);
-    assert!(rt; is_report_or_out_of_memory(&replayed));
+    assert!(rt; is_report_or_out_of_memory(&replayed, SET_AND_GET_REPORT));
+}
+
+/// The same of a trace.
+#[test]
+fn a_refused_allocation_of_a_trace(rt: HostRuntime) {
+    let traced = trace(rt.alloc(), SET_AND_GET);
+    assert!(rt; is_report_or_out_of_memory(&traced, SET_AND_GET_TRACE));
 }
 
 /// Whether a fault has this text.

@@ -1,7 +1,7 @@
 -- An event leaves a world as it is to be: sound, with all that is kept beside the plain state right.
 use Rattle.std.proofs.Common.{◌≡◌, ◌≢◌, ◌∙◌, ℕ, ◌<◌, ◌≤◌, Bool, true, false, ◌&&◌, List, [], ◌∷◌, length, get_or, map, Option, Some, None, refl, sym, ap, ap₂, subst, nat_lt, nat_eq, if◌then◌else◌}
-use Rattle.std.specs.Prelude.{slice_get, OnOk, Result, Ok, Err}
-use Rattle.std.proofs.lemmas.Bool.{le-ltb}
+use Rattle.std.specs.Prelude.{slice_get, IfOk, OnOk, Result, Ok, Err}
+use Rattle.std.proofs.lemmas.Bool.{le-ltb, lt-ltb}
 use Rattle.std.proofs.lemmas.Bool.Decides.{Decides-eqb}
 use Rattle.std.proofs.lemmas.List.{length-map}
 use Rattle.hybrid.specs.HybridLog.{HybridLog, HasRoom}
@@ -12,17 +12,18 @@ use Rattle.world_events.specs.declared.event.Event.TheVariants as event
 use Rattle.world_log.specs.Given.{StaysGiven}
 use Rattle.world_log.specs.Stripes.{acts_for, lane_log, lent}
 use Rattle.world_log.specs.WorldLogs.{IsWorldLog, KeepsHeld, NoneReleasedAt, Took, stays_of}
+use Rattle.world_log.specs.WorldLogs as logs
 use Rattle.world_log.specs.Types.{Lane, Stripes}
 use Rattle.world_log.specs.declared.logs.WorldLog.{WorldLog}
 use Rattle.world_model.specs.Advancing.{Goes, When}
 use Rattle.world_model.specs.States.{ClientState, State, client, stripe_count}
-use Rattle.world_model.specs.Enabled.{holds, is_enabled, is_enabled_for, is_enabled_of, is_number}
+use Rattle.world_model.specs.Enabled.{holds, is_enabled, is_enabled_for, is_enabled_in, is_enabled_of, is_number}
 use Rattle.world_model.specs.Planned.{IsNoCommitOf}
 use Rattle.world_model.specs.Soundness.{IsSound}
 use Rattle.world_model.specs.Turns.{DoesAndGoes, Turn, Turns}
 use Rattle.world.specs.Desks.{IsRight, client_of}
 use Rattle.world.specs.Laws.{TurnLaws}
-use Rattle.world.specs.Tables.{Handled, HasGoneOn, HasWorked, IsKept, IsWorld, PlanStays, Same, New, StaysRoomy, rest_of, state_of}
+use Rattle.world.specs.Tables.{Handled, Handles, HasGoneOn, HasWorked, IsKept, IsWorld, PlanStays, Same, New, StaysRoomy, rest_of, state_of}
 use Rattle.world.specs.declared.desk.Plan.{Plan}
 use Rattle.world.specs.declared.member.Member.{Member}
 use Rattle.world.specs.declared.world.World.{World}
@@ -78,15 +79,29 @@ pub not_acted : (old : World) (c : ℕ) (e : Event) → actor e ≡ Some c → i
     → Turn (state_of old) e (state_of old)
 not_acted old c e is not_allowed = not_turned (state_of old) c e is not_allowed
 
+pub told_nobody : (old : World) (c : ℕ) (e : Event) → actor e ≡ Some c → length old.members.items ≤ c → false ≡ is_enabled (state_of old) e
+unfolding state_of
+told_nobody old c e is past =
+    sym (ap (is_enabled_of (state_of old) e) is
+    ∙ ap (λ (b : Bool). b && is_enabled_for (state_of old) c (client (state_of old) c) e)
+    (le-ltb c (length (state_of old).clients) (rw (length-map old.members.items client_of) past)))
+
 -- or is of no client
 pub nobody_acted : (old : World) (c : ℕ) (e : Event) → actor e ≡ Some c → length old.members.items ≤ c → Turn (state_of old) e (state_of old)
 unfolding state_of
-nobody_acted old c e is past =
-    let enabled : is_enabled (state_of old) e ≡ false =
-    ap (is_enabled_of (state_of old) e) is
-    ∙ ap (λ (b : Bool). b && is_enabled_for (state_of old) c (client (state_of old) c) e)
-    (le-ltb c (length (state_of old).clients) (rw (length-map old.members.items client_of) past)) in
-    rw enabled refl
+nobody_acted old c e is past = rw (sym (told_nobody old c e is past)) refl
+
+-- whether it was enabled
+pub told_handled : (done : Bool) (old mid : World) (c : ℕ) (e : Event) → actor e ≡ Some c → c < length old.members.items → Handles done old c e mid
+    → done ≡ is_enabled (state_of old) e
+unfolding state_of
+told_handled done old mid c e is below handled =
+    sym (ap (is_enabled_of (state_of old) e) is
+    ∙ ap₂ (λ (a b : Bool). a && b) (lt-ltb c (length (state_of old).clients) (rw (length-map old.members.items client_of) below)) (may done handled))
+  where
+    may : (t : Bool) → Handles t old c e mid → is_enabled_for (state_of old) c (client (state_of old) c) e ≡ t
+    may true handled = handled.enabled
+    may false handled = handled.0
 
 -- EVENTS OF STRIPES
 
@@ -193,3 +208,22 @@ turn_of old log e given is none worked =
 pub world_of : TurnLaws → (old : World) (log : WorldLog) (e : Event) → actor e ≡ None → HasWorked e old (with_world_log old log) → IsWorld old
     → IsWorld (with_world_log old log)
 world_of laws old log e none worked world = worked_world laws old (with_world_log old log) e none refl worked world
+
+-- whether an event of a stripe was enabled
+pub told_by : (done : Bool) (old : World) (e given : Event) → given ≡ e → actor e ≡ None
+    → ((rest : State) → done ≡ is_enabled_in (logs.state_of rest old.log) e) → done ≡ is_enabled (state_of old) given
+unfolding state_of
+told_by done old e given is none told =
+    told (rest_of old) ∙ sym (ap (is_enabled (state_of old)) is ∙ ap (is_enabled_of (state_of old) e) none)
+
+pub ok_told : {E : Type 0} (r : Result Bool E) (old : World) (e given : Event) → given ≡ e → actor e ≡ None
+    → IfOk r (λ done. (rest : State) → done ≡ is_enabled_in (logs.state_of rest old.log) e) → IfOk r (λ done. done ≡ is_enabled (state_of old) given)
+ok_told (Ok done) old e given is none told = told_by done old e given is none told
+ok_told (Err x) old e given is none told = tt
+
+pub ok_told_drained : {E : Type 0} (r : Result Bool E) (old : World) (i : ℕ) (stays : List (Option ℕ)) → stays ≡ stays_of (rest_of old)
+    → IfOk r (λ done. (rest : State) → stays_of rest ≡ stays → done ≡ is_enabled_in (logs.state_of rest old.log) (event.Drain i))
+    → IfOk r (λ done. done ≡ is_enabled (state_of old) (event.Drain i))
+unfolding state_of
+ok_told_drained (Ok done) old i stays are told = told (rest_of old) (sym are)
+ok_told_drained (Err x) old i stays are told = tt

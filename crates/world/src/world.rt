@@ -7,7 +7,7 @@ ghost use Rattle.world_events.specs.declared.event.Event.TheVariants as event;
 ghost use Rattle.world_model.specs.States.{open_call, start};
 ghost use Rattle.world_model.specs.States as states;
 ghost use Rattle.world_model.specs.Advancing.{Goes, is_idle};
-ghost use Rattle.world_model.specs.Enabled.{holds_none, is_enabled_for, next_stripe};
+ghost use Rattle.world_model.specs.Enabled.{holds_none, is_enabled, is_enabled_for, next_stripe};
 ghost use Rattle.world_model.specs.Places.{NoneReleased};
 ghost use Rattle.world_model.specs.Told.{Headline};
 ghost use Rattle.world_model.specs.Turns.{Turn, Turns};
@@ -89,6 +89,32 @@ impl World {
         }
     }
 
+    /// Does what one event does, and says whether it was enabled. An event that is not enabled changes nothing.
+    ///
+    /// # Errors
+    ///
+    /// [`Stopped`] where the event found no memory. The world was given up.
+    pub fn step(self, event: &Event) -> Result<(World, bool), Stopped>
+        requires world { IsWorld self }
+        ensures turn { IfOk result (λ next. Turn (state_of self) event.now (state_of next.0)) }
+        ensures done { IfOk result (λ next. next.1 ≡ is_enabled (state_of self) event.now) }
+        ensures headline { IfOk result (λ next. Headline (state_of next.0)) }
+        ensures places { IfOk result (λ next. NoneReleased (state_of next.0)) }
+        ensures world { IfOk result (λ next. IsWorld next.0) }
+    {
+        let mut world = self;
+        match world.turn(event) {
+            Ok(done) => {
+                world.tells();
+                Ok((world, done))
+            }
+            Err(stopped) => {
+                end_members(world.into_members());
+                Err(stopped)
+            }
+        }
+    }
+
     /// What was written to a client, by its number.
     pub fn output(&self, client: usize) -> &[u8]
         requires { client < length (state_of self.now).clients }
@@ -128,17 +154,18 @@ impl World {
     {
         let mut left = events;
         while let Some((event, others)) = left.split_first() {
-            self.turn(event)?;
+            let _done = self.turn(event)?;
             left = others;
         }
         self.rests();
         Ok(())
     }
 
-    /// Does what an event does.
-    fn turn(&mut self, event: &Event) -> Result<(), Stopped>
+    /// Does what an event does, and says whether it was enabled.
+    fn turn(&mut self, event: &Event) -> Result<bool, Stopped>
         requires world { IsWorld self.old }
         ensures turn { OnOk result (Turn (state_of self.old) event.now (state_of self.new)) }
+        ensures told { IfOk result (λ done. done ≡ is_enabled (state_of self.old) event.now) }
         ensures world { OnOk result (IsWorld self.new) }
         ensures endable { AreEndable self.new.members.items }
     {
@@ -148,30 +175,33 @@ impl World {
         }
     }
 
-    /// Does what an event of a client does.
-    fn act(&mut self, client: usize, event: &Event) -> Result<(), Stopped>
+    /// Does what an event of a client does, and says whether it was enabled.
+    fn act(&mut self, client: usize, event: &Event) -> Result<bool, Stopped>
         requires world { IsWorld self.old }
         requires actor { actor event.now ≡ Some client }
         ensures turn { OnOk result (Turn (state_of self.old) event.now (state_of self.new)) }
+        ensures told { IfOk result (λ done. done ≡ is_enabled (state_of self.old) event.now) }
         ensures world { OnOk result (IsWorld self.new) }
         ensures endable { AreEndable self.new.members.items }
     {
         self.rests();
         laws();
         if client >= self.members.len() {
-            return Ok(());
+            return Ok(false);
         }
         if !self.handle(client, event)? {
-            return Ok(());
+            return Ok(false);
         }
-        self.go_on(client)
+        self.go_on(client)?;
+        Ok(true)
     }
 
-    /// Does what an event of a stripe does.
-    fn work(&mut self, event: &Event) -> Result<(), Stopped>
+    /// Does what an event of a stripe does, and says whether it was enabled.
+    fn work(&mut self, event: &Event) -> Result<bool, Stopped>
         requires world { IsWorld self.old }
         requires actor { actor event.now ≡ None }
         ensures turn { OnOk result (Turn (state_of self.old) event.now (state_of self.new)) }
+        ensures told { IfOk result (λ done. done ≡ is_enabled (state_of self.old) event.now) }
         ensures world { OnOk result (IsWorld self.new) }
         ensures endable { AreEndable self.new.members.items }
     {
@@ -180,14 +210,8 @@ impl World {
         match event {
             Event::Copy(i) => self.log.copy(self.alloc, *i),
             Event::Write(i) => self.log.write(*i),
-            Event::Install(i) => {
-                self.log.install(*i);
-                Ok(())
-            }
-            Event::Drop(i) => {
-                self.log.evict(*i);
-                Ok(())
-            }
+            Event::Install(i) => Ok(self.log.install(*i)),
+            Event::Drop(i) => Ok(self.log.evict(*i)),
             Event::Unlink(i) => self.log.unlink(self.alloc, *i),
             Event::Retire(i) => self.log.retire(*i),
             Event::Drain(i) => self.drain(*i),
@@ -197,9 +221,10 @@ impl World {
     }
 
     /// The oldest retired place of a stripe is drained.
-    fn drain(&mut self, i: usize) -> Result<(), Stopped>
+    fn drain(&mut self, i: usize) -> Result<bool, Stopped>
         requires log { IsWorldLog self.old.log }
         ensures worked { OnOk result (HasWorked (event.Drain i) self.old self.new) }
+        ensures told { IfOk result (λ done. done ≡ is_enabled (state_of self.old) (event.Drain i)) }
         ensures same { self.new ≡ record self.old { log = self.new.log } }
     {
         let stays = self.stays()?;

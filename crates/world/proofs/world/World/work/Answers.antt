@@ -1,6 +1,6 @@
 use Rattle.std.proofs.Common.{refl}
 use Rattle.world_events.specs.declared.event.Event.TheVariants as event
-use Rattle.world.proofs.Acting.{none_released_at, ok_worked, turn_of, worked_by, world_of, worked_world}
+use Rattle.world.proofs.Acting.{none_released_at, ok_told, ok_worked, told_by, turn_of, worked_by, world_of, worked_world}
 use Rattle.world.proofs.Worlds.{ok_then}
 use Rattle.world.specs.Tables.{rest_of}
 use Rattle.world.proofs.world.World.work.Goals as goal
@@ -83,3 +83,24 @@ returns-in-Drain-clause-world c =
     ok_then c.drain.result
     (λ worked. worked_world c.laws.ensures.turns c.args.self.now c.drain.new.self (event.Drain c.in-Drain.i) refl c.drain.ensures.same worked c.requires.world)
     c.drain.ensures.worked
+
+pub returns-in-Copy-clause-told : goal.returns-in-Copy-clause-told
+returns-in-Copy-clause-told c = ok_told c.copy.result c.args.self.now (event.Copy c.in-Copy.i) c.args.event.now c.in-Copy.is refl c.copy.ensures.told
+
+pub returns-in-Write-clause-told : goal.returns-in-Write-clause-told
+returns-in-Write-clause-told c = ok_told c.write.result c.args.self.now (event.Write c.in-Write.i) c.args.event.now c.in-Write.is refl c.write.ensures.told
+
+pub returns-in-Unlink-clause-told : goal.returns-in-Unlink-clause-told
+returns-in-Unlink-clause-told c = ok_told c.unlink.result c.args.self.now (event.Unlink c.in-Unlink.i) c.args.event.now c.in-Unlink.is refl c.unlink.ensures.told
+
+pub returns-in-Retire-clause-told : goal.returns-in-Retire-clause-told
+returns-in-Retire-clause-told c = ok_told c.retire.result c.args.self.now (event.Retire c.in-Retire.i) c.args.event.now c.in-Retire.is refl c.retire.ensures.told
+
+pub returns-in-Release-clause-told : goal.returns-in-Release-clause-told
+returns-in-Release-clause-told c = ok_told c.release.result c.args.self.now (event.Release c.in-Release.i c.in-Release.page) c.args.event.now c.in-Release.is refl c.release.ensures.told
+
+pub returns-in-Install-clause-told : goal.returns-in-Install-clause-told
+returns-in-Install-clause-told c = told_by c.install.result c.args.self.now (event.Install c.in-Install.i) c.args.event.now c.in-Install.is refl c.install.ensures.told
+
+pub returns-in-Drop-clause-told : goal.returns-in-Drop-clause-told
+returns-in-Drop-clause-told c = told_by c.evict.result c.args.self.now (event.Drop c.in-Drop.i) c.args.event.now c.in-Drop.is refl c.evict.ensures.told

@@ -4,8 +4,8 @@ use Rattle.clap.specs.Faults.{is_simple_and_free}
 use Rattle.clap.proofs.FaultLemmas.{failed_up}
 use Rattle.clap.proofs.TakesLemmas.{passed_up}
 use Rattle.clap.proofs.WalkLemmas.{first_value-rows}
-use Rattle.replaying.specs.CommandLine.{replay}
-use Rattle.replaying.proofs.command_line.file_of.Goals as goal
+use Rattle.replaying.specs.CommandLine.{replay, shown_by}
+use Rattle.replaying.proofs.command_line.asked_by.Goals as goal
 
 replay_is_simple : is_simple replay ≡ true
 unfolding replay
@@ -27,11 +27,19 @@ returns-in_err-matches-clause-kinds g c =
     c.from_residual-in_err-matches.ensures.1
     (subst (λ (a : App). HasKind (fault_of a (map g.S.AsStr.text c.args.words.now)) c.in_err-matches.field-0.0) c.in_ok-command.ensures kinds)
 
-pub returns-clause-ok : goal.returns-clause-ok
-returns-clause-ok g c =
+pub returns-clause-file : goal.returns-clause-file
+returns-clause-file g c =
     let rows = (c.in_ok-matches.ensures.matches (ap is_simple c.in_ok-command.ensures ∙ replay_is_simple)).0 in
     c.get_str.ensures ∙ first_value-rows (found_of c.in_ok-matches.matches) (codes "file")
     ∙ ap (first_of (codes "file")) (rows ∙ ap (λ (a : App). matches_of a (map g.S.AsStr.text c.args.words.now)) c.in_ok-command.ensures)
+
+pub returns-clause-shown : goal.returns-clause-shown
+returns-clause-shown g c =
+    let rows = (c.in_ok-matches.ensures.matches (ap is_simple c.in_ok-command.ensures ∙ replay_is_simple)).0 in
+    c.shown_by.ensures
+    ∙ ap shown_by
+    (c.get_str-2.ensures ∙ first_value-rows (found_of c.in_ok-matches.matches) (codes "trace")
+    ∙ ap (first_of (codes "trace")) (rows ∙ ap (λ (a : App). matches_of a (map g.S.AsStr.text c.args.words.now)) c.in_ok-command.ensures))
 
 pub returns-clause-kinds : goal.returns-clause-kinds
 returns-clause-kinds g c =

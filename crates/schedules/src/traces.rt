@@ -1,0 +1,163 @@
+//! Tracing a run: a line for each event, which says what it did.
+
+ghost use Rattle.std.specs.Prelude.{◌≡◌, ◌++◌, IfOk, OnOk, drop};
+ghost use Rattle.world_model.specs.Told.{Headline};
+ghost use Rattle.world_model.specs.Turns.{Turn};
+ghost use Rattle.world.specs.Tables.{IsWorld, state_of};
+ghost use Rattle.schedules.specs.Traces.{IsTrace, IsTraced, effect_part, entry_added, enabled_part, entry_part, event_part, output_of, said, told_part, trace_line};
+
+use crate::report::report_of;
+use crate::schedule::Schedule;
+use crate::spelling::{add_bytes, add_event, add_number};
+use std::alloc::{AllocError, Global};
+use words::word::OutOfMemory;
+use world::World;
+use world_events::Event;
+
+/// What an event did.
+#[derive(Clone, Copy)]
+struct Effect<'a> {
+    enabled: bool,
+    /// What its client was told by it.
+    told: &'a [u8],
+    /// The position of the entry that it added, if it did.
+    entry: Option<usize>,
+}
+
+/// Runs a schedule, and traces it: a line for each event, and then the report.
+pub(crate) fn traced(alloc: Global, schedule: &Schedule) -> Result<Vec<u8>, OutOfMemory>
+    ensures { IfOk result (λ text. IsTraced schedule.now.limits schedule.now.events.items text.items) }
+{
+    let world = World::new(alloc, &schedule.limits)?;
+    let (world, mut text) = follow(alloc, world, schedule.events.as_slice())?;
+    let report = report_of(alloc, &world);
+    world.end();
+    text.extend_from_slice(report?.as_slice())?;
+    Ok(text)
+}
+
+/// Does what the events do, in order, and gives their lines, the first of which is on line 2 of the schedule.
+fn follow(alloc: Global, world: World, events: &[Event]) -> Result<(World, Vec<u8>), OutOfMemory>
+    requires world { IsWorld world }
+    requires headline { Headline (state_of world) }
+    ensures trace { IfOk result (λ done. IsTrace 2 (state_of world) events.now (state_of done.0) done.1.items) }
+    ensures headline { IfOk result (λ done. Headline (state_of done.0)) }
+    ensures world { IfOk result (λ done. IsWorld done.0) }
+{
+    let mut world = world;
+    let mut lines = Vec::new(alloc);
+    let mut left = events;
+    while let Some((event, others)) = left.split_first() {
+        let number = events.len() - left.len() + 2;
+        world = step(alloc, world, number, event, &mut lines)?;
+        left = others;
+    }
+    Ok((world, lines))
+}
+
+/// Does an event, and adds its line. Where there is no memory, the world is given up.
+fn step(
+    alloc: Global,
+    world: World,
+    number: usize,
+    event: &Event,
+    lines: &mut Vec<u8>,
+) -> Result<World, OutOfMemory>
+    requires world { IsWorld world }
+    ensures turn { IfOk result (λ next. Turn (state_of world) event.now (state_of next)) }
+    ensures line { IfOk result (λ next. lines.new.items ≡ lines.old.items ++ trace_line number event.now (state_of world) (state_of next)) }
+    ensures headline { IfOk result (λ next. Headline (state_of next)) }
+    ensures world { IfOk result IsWorld }
+{
+    let client = event.actor();
+    let told = output_of(&world, client).len();
+    let entries = world.history().len();
+    let Ok((next, enabled)) = world.step(event) else {
+        return Err(AllocError);
+    };
+    let effect = Effect {
+        enabled,
+        told: rest_of(output_of(&next, client), told),
+        entry: (entries < next.history().len()).then_some(entries),
+    };
+    match add_line(alloc, lines, number, event, effect) {
+        Ok(()) => Ok(next),
+        Err(refused) => {
+            next.end();
+            Err(refused)
+        }
+    }
+}
+
+/// All that was written to the client of an event; of a stripe's event there is none.
+fn output_of(world: &World, client: Option<usize>) -> &[u8]
+    ensures { result.now ≡ output_of (state_of world.now) client }
+{
+    match client {
+        Some(client) if client < world.clients() => world.output(client),
+        _ => &[],
+    }
+}
+
+/// What a text has after so many bytes.
+fn rest_of(text: &[u8], count: usize) -> &[u8]
+    ensures { result.now ≡ drop count text.now }
+{
+    if count < text.len() {
+        &text[count..]
+    } else {
+        &[]
+    }
+}
+
+/// Adds the line of an event that did this. The event is on the line of this number in the schedule.
+fn add_line(
+    alloc: Global,
+    lines: &mut Vec<u8>,
+    number: usize,
+    event: &Event,
+    effect: Effect<'_>,
+) -> Result<(), OutOfMemory>
+    ensures { OnOk result (lines.new.items ≡ lines.old.items ++ (event_part number event.now ++ effect_part effect.enabled effect.told.now effect.entry)) }
+{
+    add_number(lines, number)?;
+    lines.push(b' ')?;
+    add_event(alloc, lines, event)?;
+    add_enabled(lines, effect.enabled)?;
+    add_told(alloc, lines, effect.told)?;
+    add_entry(lines, effect.entry)?;
+    Ok(lines.push(b'\n')?)
+}
+
+/// Adds whether an event was enabled.
+fn add_enabled(lines: &mut Vec<u8>, enabled: bool) -> Result<(), OutOfMemory>
+    ensures { OnOk result (lines.new.items ≡ lines.old.items ++ enabled_part enabled) }
+{
+    if enabled {
+        lines.extend_from_slice(b" | enabled")
+    } else {
+        lines.extend_from_slice(b" | not enabled")
+    }
+}
+
+/// Adds what a client was told, where it was told something.
+fn add_told(alloc: Global, lines: &mut Vec<u8>, told: &[u8]) -> Result<(), OutOfMemory>
+    ensures { OnOk result (lines.new.items ≡ lines.old.items ++ told_part told.now) }
+{
+    if told.is_empty() {
+        return Ok(());
+    }
+    lines.extend_from_slice(b" | told ")?;
+    add_bytes(alloc, lines, told)
+}
+
+/// Adds the position of an entry, where there is one.
+fn add_entry(lines: &mut Vec<u8>, entry: Option<usize>) -> Result<(), OutOfMemory>
+    ensures { OnOk result (lines.new.items ≡ lines.old.items ++ entry_part entry) }
+{
+    let Some(position) = entry else {
+        return Ok(());
+    };
+    lines.extend_from_slice(b" | entry ")?;
+    add_number(lines, position)
+}
