@@ -113,42 +113,42 @@ fn row<R: Abort>(rt: &R, alloc: Global, text: &str, value: bool, entries: usize)
 /// A page that left its frame is read outside the stripe, and the call is planned anew.
 #[test]
 fn a_cold_page_is_fetched(rt: HostRuntime) {
-    let text = "copy 0; write 0; install 0; drop 0; ask 1 GET k0000; take 1 0; silent 1; give 1 0; \
-        fetch 1; take 1 0; commit 1; give 1 0";
+    let text = "do copy 0; do write 0; do install 0; do drop 0; do ask 1 GET k0000; do take 1 0; silent 1; \
+        do give 1 0; do fetch 1; do take 1 0; do commit 1; do give 1 0";
     row(&rt, rt.alloc(), text, true, 151);
 }
 
 /// Without the read nothing is committed.
 #[test]
 fn a_cold_call_waits_for_its_page(rt: HostRuntime) {
-    let text = "copy 0; write 0; install 0; drop 0; ask 1 GET k0000; take 1 0; commit 1; give 1 0; \
-        take 1 0; commit 1; give 1 0";
+    let text = "do copy 0; do write 0; do install 0; do drop 0; do ask 1 GET k0000; do take 1 0; not commit 1; \
+        do give 1 0; not take 1 0; not commit 1; not give 1 0";
     row(&rt, rt.alloc(), text, false, 150);
 }
 
 /// A page without a receipt stays.
 #[test]
 fn a_page_without_a_receipt_is_not_dropped(rt: HostRuntime) {
-    let text = "drop 0; ask 1 GET k0000; take 1 0; commit 1; give 1 0";
+    let text = "not drop 0; do ask 1 GET k0000; do take 1 0; do commit 1; do give 1 0";
     row(&rt, rt.alloc(), text, true, 151);
-    let text = "copy 0; drop 0; write 0; drop 0; ask 1 GET k0000; take 1 0; commit 1; give 1 0";
+    let text = "do copy 0; not drop 0; do write 0; not drop 0; do ask 1 GET k0000; do take 1 0; do commit 1; do give 1 0";
     row(&rt, rt.alloc(), text, true, 151);
 }
 
 /// The cleaner copies what counts of the oldest page to the tail, and its place is released.
 #[test]
 fn a_place_is_released_and_shows_another_page(rt: HostRuntime) {
-    let text = "copy 0; write 0; install 0; drop 0; unlink 0; retire 0; drain 0; release 0 255; \
-        ask 1 GET k0000; take 1 0; commit 1; give 1 0";
+    let text = "do copy 0; do write 0; do install 0; do drop 0; do unlink 0; do retire 0; do drain 0; \
+        do release 0 255; not release 0 255; do ask 1 GET k0000; do take 1 0; do commit 1; do give 1 0";
     row(&rt, rt.alloc(), text, true, 151);
 }
 
 /// A place that a client may read is not drained before its stay ends.
 #[test]
 fn a_stay_keeps_a_place(rt: HostRuntime) {
-    let text = "copy 0; write 0; install 0; drop 0; ask 1 GET k0000; take 1 0; give 1 0; \
-        unlink 0; retire 0; drain 0; release 0 255; \
-        fetch 1; take 1 0; commit 1; give 1 0; drain 0; release 0 255";
+    let text = "do copy 0; do write 0; do install 0; do drop 0; do ask 1 GET k0000; do take 1 0; do give 1 0; \
+        do unlink 0; do retire 0; not drain 0; not release 0 255; \
+        do fetch 1; do take 1 0; not drain 0; do commit 1; not drain 0; do give 1 0; do drain 0; do release 0 255";
     row(&rt, rt.alloc(), text, true, 151);
 }
 
@@ -168,15 +168,19 @@ fn a_plan_reads_after_three_rounds(rt: HostRuntime) {
     world.end();
 }
 
-/// Events of stripes that are not enabled: nothing is sealed in a stripe that is held, there is no copy and no receipt,
-/// the oldest page is resident, and no place was unlinked, retired or drained.
+/// Events of stripes that are not enabled: the stripe is held, there is no copy, one already, or no receipt, the oldest
+/// page is resident, and no place was unlinked, retired or drained.
 #[test]
 fn events_of_a_stripe_that_are_not_enabled(rt: HostRuntime) {
-    let text = "write 0; install 0; unlink 0; retire 0; drain 0; release 0 255; drop 0; \
-        ask 1 GET k0000; take 1 0; copy 0; write 0; install 0; drop 0; unlink 0; commit 1; give 1 0";
+    let text = "not write 0; not install 0; not unlink 0; not retire 0; not drain 0; not release 0 255; not drop 0; \
+        do ask 1 GET k0000; do take 1 0; not copy 0; not write 0; not install 0; not drop 0; not unlink 0; do commit 1; \
+        not copy 0; do give 1 0";
     row(&rt, rt.alloc(), text, true, 151);
-    let text = "copy 0; install 0; drop 0; unlink 0; retire 0; drain 0; release 0 255; \
-        ask 1 GET k0000; take 1 0; write 0; install 0; drop 0; commit 1; give 1 0";
+    let text = "do copy 0; not copy 0; not install 0; not drop 0; not unlink 0; not retire 0; not drain 0; \
+        not release 0 255; do ask 1 GET k0000; do take 1 0; do write 0; not write 0; not copy 0; not install 0; \
+        not drop 0; do commit 1; do give 1 0; do install 0; not install 0; not unlink 0; do drop 0; not drop 0; \
+        do unlink 0; not unlink 0; not drain 0; do retire 0; not retire 0; not release 0 255; do drain 0; not drain 0; \
+        do release 0 255; not release 0 255";
     row(&rt, rt.alloc(), text, true, 151);
 }
 
@@ -184,9 +188,10 @@ fn events_of_a_stripe_that_are_not_enabled(rt: HostRuntime) {
 #[test]
 fn events_of_a_client_that_are_not_enabled(rt: HostRuntime) {
     let text =
-        "copy 0; write 0; install 0; drop 0; fetch 1; ask 1 GET k0000; fetch 1; commit 1; give 1 0; \
-        take 1 0; fetch 1; commit 1; give 1 0; commit 1; take 1 0; fetch 1; fetch 1; \
-        take 1 0; give 1 0; fetch 1; commit 1; give 1 0";
+        "do copy 0; do write 0; do install 0; do drop 0; not fetch 1; do ask 1 GET k0000; not fetch 1; not commit 1; \
+        not give 1 0; do take 1 0; not fetch 1; not commit 1; not take 1 0; do give 1 0; not commit 1; not take 1 0; \
+        not give 1 0; do fetch 1; not fetch 1; do take 1 0; not take 1 0; not give 1 0; not fetch 1; do commit 1; \
+        not commit 1; not fetch 1; do give 1 0; not give 1 0";
     row(&rt, rt.alloc(), text, true, 151);
 }
 
@@ -206,7 +211,11 @@ fn a_full_stripe_refuses_calls(rt: HostRuntime) {
     if world.history().len() >= 8 * KEYS {
         panic!(rt; "entries")
     }
-    world.end();
+    // Nothing is copied for the flusher either. The oldest page holds nothing that counts: it is unlinked, and once its
+    // place is released there is one for the flusher.
+    let text = "not copy 0; do unlink 0; not copy 0; do retire 0; not copy 0; do drain 0; not copy 0; do release 0 0; \
+        do copy 0";
+    follow(&rt, alloc, world, text).end();
 }
 
 /// A world in which all keys were set so many times more.

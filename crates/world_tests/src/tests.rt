@@ -5,6 +5,7 @@
 //!   for CR LF, `<` for CR and `>` for LF;
 //! - `close C`, `take C I`, `commit C`, `give C I`, and `fetch C`, `copy I` .. `release I BYTE` are the other
 //!   events, where a release shows a page of this byte, and `turn C I` is a take, a commit and a give;
+//! - `do EVENT` is an event that is enabled, and `not EVENT` one that is not; without such a word either will do;
 //! - `told C TEXT` says what was written to client C since the start, and `silent C` that it is nothing;
 //! - `entries C C ..` says which client's each entry of the history is, and `no entries` that there is none.
 //!
@@ -192,6 +193,28 @@ fn after_turn(world: World, client: usize, stripe: usize) -> Option<World>
     world.run(&[take, Event::Commit(client), give]).ok()
 }
 
+/// The event of a line that says whether it is enabled, and whether it is to be.
+fn step_of(alloc: Global, line: &str) -> Option<(Event, bool)> {
+    if let Some(event) = line.strip_prefix("do ") {
+        return Some((event_of(alloc, event)?, true));
+    }
+    let event = line.strip_prefix("not ")?;
+    Some((event_of(alloc, event)?, false))
+}
+
+/// The world after an event that is enabled, or is not, as it is to be.
+fn after_step(world: World, event: &Event, due: bool) -> Option<World>
+    requires { IsWorld world }
+    ensures { IfSome result IsWorld }
+{
+    let (world, enabled) = world.step(event).ok()?;
+    if enabled == due {
+        return Some(world);
+    }
+    world.end();
+    None
+}
+
 /// The world after a line. `None` where the line does not hold, or where there was no memory.
 fn after(alloc: Global, world: World, line: &str) -> Option<World>
     requires { IsWorld world }
@@ -199,6 +222,9 @@ fn after(alloc: Global, world: World, line: &str) -> Option<World>
 {
     if let Some((client, stripe)) = turn_of(line) {
         return after_turn(world, client, stripe);
+    }
+    if let Some((event, due)) = step_of(alloc, line) {
+        return after_step(world, &event, due);
     }
     if let Some(event) = event_of(alloc, line) {
         return world.run(&[event]).ok();
@@ -390,10 +416,12 @@ fn a_call_of_two_stripes(rt: HostRuntime) {
 #[test]
 fn events_that_are_not_enabled_at_the_start(rt: HostRuntime) {
     let first =
-        "take 0 12; commit 0; give 0 12; take 0 16; give 0 16; ask 2 SET a 1; close 2; take 2 12; \
-        commit 2; give 2 12; fetch 0; copy 12; write 12; install 12; drop 12; unlink 12; retire 12; \
-        drain 12; release 12 255; fetch 2; copy 16; release 16 0; take 0 18446744073709551615; give 0 18446744073709551615; \
-        ask 18446744073709551615 SET a 1; silent 0; silent 1; no entries";
+        "not take 0 12; not commit 0; not give 0 12; not take 0 16; not give 0 16; not ask 2 SET a 1; not close 2; \
+        not take 2 12; not commit 2; not give 2 12; not fetch 0; not copy 12; not write 12; not install 12; \
+        not drop 12; not unlink 12; not retire 12; not drain 12; not release 12 255; not fetch 2; not copy 16; \
+        not write 16; not install 16; not drop 16; not unlink 16; not retire 16; not drain 16; not release 16 0; \
+        not take 0 18446744073709551615; not give 0 18446744073709551615; \
+        not ask 18446744073709551615 SET a 1; silent 0; silent 1; no entries";
     let second = "ask 0 SET a 1; ask 1 GET a; turn 1 12; told 1 $-1|; turn 0 12; told 0 +OK|; \
         entries 1 0; ask 1 GET a; turn 1 12; told 1 $-1|$1|1|; entries 1 0 1";
     follow_both(&rt, rt.alloc(), new_world(rt.alloc(), 16, 2), first, second);
@@ -401,13 +429,14 @@ fn events_that_are_not_enabled_at_the_start(rt: HostRuntime) {
 
 #[test]
 fn events_that_are_not_enabled_within_a_call(rt: HostRuntime) {
-    let first = "ask 0 MULTI; ask 0 SET a 1; ask 0 SET b 2; ask 0 EXEC; take 0 5; \
-        take 0 16; take 0 7; give 0 5; commit 0; give 1 5; take 1 5; commit 1; give 0 12; give 0 16; \
-        fetch 0; copy 5; write 5; install 5; drop 5; unlink 5; retire 5; drain 5; release 5 0; \
-        told 0 +OK|+QUEUED|+QUEUED|; silent 1; no entries; take 0 12; give 0 12; give 0 5";
-    let second = "commit 0; told 0 +OK|+QUEUED|+QUEUED|*2|+OK|+OK|; entries 0; commit 0; \
-        ask 1 GET a; give 1 12; give 1 5; turn 1 12; silent 1; entries 0; \
-        give 0 12; give 0 12; take 0 12; turn 1 12; told 1 $1|1|; entries 0 1; \
+    let first = "do ask 0 MULTI; do ask 0 SET a 1; do ask 0 SET b 2; do ask 0 EXEC; not take 0 12; do take 0 5; \
+        not take 0 5; not take 0 16; not take 0 7; not give 0 5; not commit 0; not give 1 5; not take 1 5; \
+        not commit 1; not give 0 12; not give 0 16; not fetch 0; not copy 5; not write 5; not install 5; not drop 5; \
+        not unlink 5; not retire 5; not drain 5; not release 5 0; \
+        told 0 +OK|+QUEUED|+QUEUED|; silent 1; no entries; do take 0 12; not give 0 12; not give 0 5";
+    let second = "do commit 0; told 0 +OK|+QUEUED|+QUEUED|*2|+OK|+OK|; entries 0; not commit 0; \
+        do ask 1 GET a; not give 1 12; not give 1 5; not take 1 12; not commit 1; silent 1; entries 0; \
+        do give 0 12; not give 0 12; not take 0 12; turn 1 12; told 1 $1|1|; entries 0 1; \
         ask 0 PING; told 0 +OK|+QUEUED|+QUEUED|*2|+OK|+OK|; give 0 5; \
         told 0 +OK|+QUEUED|+QUEUED|*2|+OK|+OK|+PONG|";
     follow_both(&rt, rt.alloc(), new_world(rt.alloc(), 16, 2), first, second);
@@ -416,8 +445,9 @@ fn events_that_are_not_enabled_within_a_call(rt: HostRuntime) {
 #[test]
 fn events_after_the_end(rt: HostRuntime) {
     let texts = [
-        "ask 0 QUIT; told 0 +OK|; ask 0 PING; close 0; take 0 12; commit 0; give 0 12; told 0 +OK|",
-        "close 0; ask 0 PING; close 0; commit 0; silent 0; no entries",
+        "do ask 0 QUIT; told 0 +OK|; not ask 0 PING; not close 0; not take 0 12; not commit 0; not give 0 12; \
+            not fetch 0; told 0 +OK|",
+        "do close 0; not ask 0 PING; not close 0; not commit 0; silent 0; no entries",
         "raw 0 *1|$4|PI; silent 0; close 0; raw 0 NG|; silent 0",
         "ask 0 SET a 1; close 0; ask 0 PING; close 0; turn 0 12; told 0 +OK|; ask 0 PING; \
             told 0 +OK|; entries 0; commit 0; entries 0",

@@ -6,7 +6,10 @@ use std::collections::BTreeMap;
 use words::command::Command;
 use words::history::{Entry, Operation};
 
-/// A plain map, and for each client the replies that it is due, in order.
+/// What a client is told whose call met a full stripe.
+const FULL: &[u8] = b"-FULL store is full\r\n";
+
+/// A plain map.
 #[derive(Drop)]
 pub(crate) struct Plain {
     alloc: Global,
@@ -41,23 +44,37 @@ impl Plain {
                     None => Vec::from_slice(self.alloc, b":0\r\n").ok(),
                 }
             }
+            Command::MGet(keys) => {
+                let [first, second] = keys.as_slice() else {
+                    return None;
+                };
+                let mut text = Vec::from_slice(self.alloc, b"*2\r\n").ok()?;
+                self.add_value(&mut text, first.as_slice())?;
+                self.add_value(&mut text, second.as_slice())?;
+                Some(text)
+            }
             _ => None,
         }
     }
 
     /// A value as a bulk string.
     fn value(&self, key: &[u8]) -> Option<Vec<u8>> {
-        let Some(value) = self.values.get(key) else {
-            return Vec::from_slice(self.alloc, b"$-1\r\n").ok();
-        };
         let mut text = Vec::new(self.alloc);
+        self.add_value(&mut text, key)?;
+        Some(text)
+    }
+
+    /// Adds a value as a bulk string.
+    fn add_value(&self, text: &mut Vec<u8>, key: &[u8]) -> Option<()> {
+        let Some(value) = self.values.get(key) else {
+            return text.extend_from_slice(b"$-1\r\n").ok();
+        };
         text.push(b'$').ok()?;
         text.extend_from_slice(itoa::Buffer::new().format(value.len()).as_bytes())
             .ok()?;
         text.extend_from_slice(b"\r\n").ok()?;
         text.extend_from_slice(value.as_slice()).ok()?;
-        text.extend_from_slice(b"\r\n").ok()?;
-        Some(text)
+        text.extend_from_slice(b"\r\n").ok()
     }
 
     /// What an entry is due to be answered, where its own reply is that.
@@ -86,24 +103,16 @@ pub(crate) fn after_reply<'a>(output: &'a [u8], reply: &[u8]) -> Option<(usize, 
     }
 }
 
-/// What is left of an output behind the lines that begin with a minus sign, and how many there are.
+/// What is left of an output behind the lines that say that a stripe was full, and how many there are.
 pub(crate) fn after_refusals(output: &[u8]) -> (usize, &[u8]) {
     let mut rest = output;
     let mut count: usize = 0;
     for _ in 0..output.len() {
-        if !rest.starts_with(b"-") {
+        let Some(behind) = rest.strip_prefix(FULL) else {
             break;
-        }
-        rest = after_line(rest);
+        };
+        rest = behind;
         count = count.saturating_add(1);
     }
     (count, rest)
-}
-
-/// What follows the first line feed.
-fn after_line(text: &[u8]) -> &[u8] {
-    match text.iter().position(|byte| *byte == b'\n') {
-        Some(at) => &text[at + 1..],
-        None => &[],
-    }
 }
