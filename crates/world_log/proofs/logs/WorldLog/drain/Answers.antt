@@ -69,8 +69,8 @@ returns-then-not-are_past-clause-told c rest stays =
     told_drain_held (with_values rest c.args.self.now.stripes) c.args.self.now c.args.i c.index.result.now c.args.stays.now c.in-Some.epoch
     (reached c.args.self.now c.args.i c.index.result.now c.requires.log here) stays c.in-Some.ensures.some (sym c.are_past.ensures ∙ c.if-not-are_past.true)
 
-pub returns-in-None-clause-told : goal.returns-in-None-clause-told
-returns-in-None-clause-told c rest stays =
+pub returns-in_default-clause-told : goal.returns-in_default-clause-told
+returns-in_default-clause-told c rest stays =
     let here = slice_get_read c.args.self.now.stripes.lanes.items (length c.args.self.now.stripes.lanes.items) c.args.i c.index.result.now refl
     (omega (arith, c.if-i-len.false, c.len.ensures)) c.index.ensures in
-    told_drain_none (with_values rest c.args.self.now.stripes) c.args.self.now c.args.i c.index.result.now (reached c.args.self.now c.args.i c.index.result.now c.requires.log here) c.in-None.ensures.none
+    told_drain_none (with_values rest c.args.self.now.stripes) c.args.self.now c.args.i c.index.result.now (reached c.args.self.now c.args.i c.index.result.now c.requires.log here) c.in_default.ensures.none

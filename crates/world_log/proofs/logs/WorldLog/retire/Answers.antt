@@ -1,4 +1,4 @@
-use Rattle.std.proofs.Common.{length, refl, arith, subst, sym, true, false}
+use Rattle.std.proofs.Common.{length, refl, arith, subst, sym}
 use Rattle.std.proofs.lemmas.Option.{slice_get_read}
 use Rattle.hybrid.specs.HybridLog.{HasRoom, HybridLog}
 use Rattle.world_log.proofs.LaneSteps.{lane_of, reached, took_retire, took_retire_not, store_retired, store_same, with_epoch, with_lane, told_retire}
@@ -73,12 +73,12 @@ pub returns-then-done-clause-told : goal.returns-then-done-clause-told
 returns-then-done-clause-told c rest =
     let there = slice_get_read c.args.self.now.stripes.lanes.items (length c.args.self.now.stripes.lanes.items) c.args.i c.index_mut-lane.result.now refl
     (omega (arith, c.if-i-len.false, c.len.ensures)) c.index_mut-lane.ensures.value in
-    told_retire (with_values rest c.args.self.now.stripes) c.args.self.now c.args.i c.index_mut-lane.result.now c.retire.new.self true
-    (reached c.args.self.now c.args.i c.index_mut-lane.result.now c.requires.log there) (rw c.if-done.true at c.in_ok-done.ensures.does)
+    told_retire (with_values rest c.args.self.now.stripes) c.args.self.now c.args.i c.index_mut-lane.result.now c.retire.new.self c.in_ok-done.done
+    (reached c.args.self.now c.args.i c.index_mut-lane.result.now c.requires.log there) c.in_ok-done.ensures.does
 
 pub returns-else-done-clause-told : goal.returns-else-done-clause-told
 returns-else-done-clause-told c rest =
     let there = slice_get_read c.args.self.now.stripes.lanes.items (length c.args.self.now.stripes.lanes.items) c.args.i c.index_mut-lane.result.now refl
     (omega (arith, c.if-i-len.false, c.len.ensures)) c.index_mut-lane.ensures.value in
-    told_retire (with_values rest c.args.self.now.stripes) c.args.self.now c.args.i c.index_mut-lane.result.now c.retire.new.self false
-    (reached c.args.self.now c.args.i c.index_mut-lane.result.now c.requires.log there) (rw c.if-done.false at c.in_ok-done.ensures.does)
+    told_retire (with_values rest c.args.self.now.stripes) c.args.self.now c.args.i c.index_mut-lane.result.now c.retire.new.self c.in_ok-done.done
+    (reached c.args.self.now c.args.i c.index_mut-lane.result.now c.requires.log there) c.in_ok-done.ensures.does
