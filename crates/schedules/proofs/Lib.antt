@@ -9,4 +9,5 @@ pub mod Running
 pub mod ShownPages
 pub mod Spellings
 pub mod Texts
+pub mod Tracing
 mod SizeRows

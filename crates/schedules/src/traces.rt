@@ -1,7 +1,6 @@
 //! Tracing a run: a line for each event, which says what it did.
 
 ghost use Rattle.std.specs.Prelude.{◌≡◌, ◌++◌, IfOk, OnOk, drop};
-ghost use Rattle.world_model.specs.Told.{Headline};
 ghost use Rattle.world_model.specs.Turns.{Turn};
 ghost use Rattle.world.specs.Tables.{IsWorld, state_of};
 ghost use Rattle.schedules.specs.Traces.{IsTrace, IsTraced, effect_part, entry_added, enabled_part, entry_part, event_part, output_of, said, told_part, trace_line};
@@ -13,6 +12,7 @@ use std::alloc::{AllocError, Global};
 use words::word::OutOfMemory;
 use world::World;
 use world_events::Event;
+use world_model::theorems::sound_worlds_tell_the_truth;
 
 /// What an event did.
 #[derive(Clone, Copy)]
@@ -28,6 +28,7 @@ struct Effect<'a> {
 pub(crate) fn traced(alloc: Global, schedule: &Schedule) -> Result<Vec<u8>, OutOfMemory>
     ensures { IfOk result (λ text. IsTraced schedule.now.limits schedule.now.events.items text.items) }
 {
+    sound_worlds_tell_the_truth();
     let world = World::new(alloc, &schedule.limits)?;
     let (world, mut text) = follow(alloc, world, schedule.events.as_slice())?;
     let report = report_of(alloc, &world);
@@ -39,9 +40,7 @@ pub(crate) fn traced(alloc: Global, schedule: &Schedule) -> Result<Vec<u8>, OutO
 /// Does what the events do, in order, and gives their lines, the first of which is on line 2 of the schedule.
 fn follow(alloc: Global, world: World, events: &[Event]) -> Result<(World, Vec<u8>), OutOfMemory>
     requires world { IsWorld world }
-    requires headline { Headline (state_of world) }
     ensures trace { IfOk result (λ done. IsTrace 2 (state_of world) events.now (state_of done.0) done.1.items) }
-    ensures headline { IfOk result (λ done. Headline (state_of done.0)) }
     ensures world { IfOk result (λ done. IsWorld done.0) }
 {
     let mut world = world;
@@ -66,7 +65,6 @@ fn step(
     requires world { IsWorld world }
     ensures turn { IfOk result (λ next. Turn (state_of world) event.now (state_of next)) }
     ensures line { IfOk result (λ next. lines.new.items ≡ lines.old.items ++ trace_line number event.now (state_of world) (state_of next)) }
-    ensures headline { IfOk result (λ next. Headline (state_of next)) }
     ensures world { IfOk result IsWorld }
 {
     let client = event.actor();
