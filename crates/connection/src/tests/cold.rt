@@ -249,17 +249,18 @@ fn a_set_whose_write_fails(rt: HostRuntime) -> Result<(), Fail> {
     Ok(())
 }
 
-/// 76 pages hold 1,140 keys of 1,000 bytes. Each further SET is told that no place is left, and what is stored is read.
+/// 76 pages have frames or places. Six of them are left to deletions and to the cleaner, and the others hold 1,050 keys of
+/// 1,000 bytes. Each further SET is told that no place is left, and what is stored is read.
 #[test]
 fn a_full_store_tells_so_and_is_read(rt: HostRuntime) -> Result<(), Fail> {
     let alloc = rt.alloc();
-    let input = gets(alloc, 1_141)?;
+    let input = gets(alloc, 1_051)?;
     let store = (&narrow(), memory(alloc, &narrow())?);
     let (before, after) = run_cold(&rt, alloc, store, 1_300, &input)?;
-    let refused = repeated(alloc, STORE_FULL, 160, b"")?;
-    let stored = repeated(alloc, b"+OK\r\n", 1_140, &refused)?;
+    let refused = repeated(alloc, STORE_FULL, 250, b"")?;
+    let stored = repeated(alloc, b"+OK\r\n", 1_050, &refused)?;
     check_outcome(&rt, &before, &stored, Ended::EndOfInput);
-    let mut found = values(alloc, 1_140)?;
+    let mut found = values(alloc, 1_050)?;
     found.extend_from_slice(b"$-1\r\n")?;
     check_outcome(&rt, &after, &found, Ended::EndOfInput);
     Ok(())
