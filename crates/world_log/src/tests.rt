@@ -37,7 +37,7 @@ fn set(log: &mut WorldLog, key: &Word, value: &Word) -> Result<(), Stopped>
     }
     let lane = &mut log.stripes.lanes[0];
     let weight = WEIGHT_OF_KEY + key.len() + value.len();
-    let Ok(()) = lane.shard.reserve(weight, &mut log.device) else {
+    let Ok(()) = lane.shard.reserve(weight, 0, &mut log.device) else {
         return Err(Stopped);
     };
     lane.shard.set(key, value);

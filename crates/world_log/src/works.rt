@@ -210,7 +210,7 @@ pub(crate) fn make_room(
 {
     let _oldest = log.stripe().oldest();
     let _ = queues;
-    match log.reserve(weight, device) {
+    match log.reserve(weight, 0, device) {
         Ok(()) => Ok(true),
         Err(Fault::StoreFull) => Ok(false),
         Err(Fault::DeviceFault) => Err(Stopped),
