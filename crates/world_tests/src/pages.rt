@@ -58,14 +58,23 @@ fn push(events: &mut Vec<Event>, event: Event) -> Option<()> {
     }
 }
 
-/// The events by which client 0 sets all keys.
+/// Adds the events of a call of client 0 that holds stripe 0 once.
+fn push_call(events: &mut Vec<Event>) -> Option<()> {
+    push(events, Event::Take(0, 0))?;
+    push(events, Event::Commit(0))?;
+    push(events, Event::Give(0, 0))
+}
+
+/// The events by which client 0 sets all keys. A call that wants pages goes in up to three more rounds.
 fn sets(alloc: Global) -> Option<Vec<Event>> {
     let mut events = Vec::new(alloc);
     for number in 0..KEYS {
         push(&mut events, Event::Piece(0, set_of(alloc, number)?))?;
-        push(&mut events, Event::Take(0, 0))?;
-        push(&mut events, Event::Commit(0))?;
-        push(&mut events, Event::Give(0, 0))?;
+        push_call(&mut events)?;
+        for _ in 0..3 {
+            push(&mut events, Event::Fetch(0))?;
+            push_call(&mut events)?;
+        }
     }
     Some(events)
 }
