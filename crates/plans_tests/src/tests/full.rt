@@ -64,13 +64,13 @@ fn clean<D: Device>(
     requires { IsOutside epochs.now seat.old }
     ensures { IsOutside epochs.now seat.new }
 {
-    let mut left = 0;
+    let mut done: u32 = 0;
     for _ in 0..steps {
-        if !clean_once(alloc, store, epochs, seat) {
-            left += 1;
+        if clean_once(alloc, store, epochs, seat) {
+            done = done.saturating_add(1);
         }
     }
-    steps.saturating_sub(left)
+    done
 }
 
 /// Gives a key a value of 1,000 bytes, and tells whether the stripe took it. `None` where something else failed.
@@ -92,12 +92,12 @@ fn fill_from(alloc: Global, both: &mut Small, first: u64) -> Option<u64> {
 
 /// Deletes every eighth key, so many, and tells how many of the deletions the stripe took.
 fn delete(alloc: Global, both: &mut Small, count: u64) -> Option<u64> {
-    let mut taken = 0;
+    let mut taken: u64 = 0;
     for at in 0..count {
         let number = at.wrapping_mul(8);
         let line = format!(in alloc; "DEL k{number}").ok()?;
         if meets_full(alloc, both, line.as_str())?.is_none() {
-            taken += 1;
+            taken = taken.saturating_add(1);
         }
     }
     Some(taken)
@@ -146,11 +146,11 @@ fn a_full_stripe_serves_again_once_keys_are_deleted(rt: HostRuntime) -> Result<(
 /// Sets each of a hundred keys in turn, so many times, with four steps of the cleaner for each page. It tells how many were not taken.
 fn overwrite(alloc: Global, both: &mut Small, times: u64) -> Option<u64> {
     let (epochs, mut seat) = epochs(alloc)?;
-    let mut refused = 0;
+    let mut refused: u64 = 0;
     for time in 0..times {
         let number = time % 100;
         if !set(alloc, both, number, time % 9)? {
-            refused += 1;
+            refused = refused.saturating_add(1);
         }
         if number % 15 == 0 {
             clean(alloc, &mut both.store, &epochs, &mut seat, 4);

@@ -232,11 +232,7 @@ fn an_undone_watch_leaves_what_was_watched(rt: HostRuntime) -> Result<(), Fail> 
 
 /// What the command of a line is answered: nothing, where it is done, or the stripe that is full. `None` where something
 /// else happened.
-fn stripe_met<D: Device>(
-    alloc: Global,
-    both: &mut Both<D>,
-    line: &str,
-) -> Option<Option<usize>> {
+fn stripe_met<D: Device>(alloc: Global, both: &mut Both<D>, line: &str) -> Option<Option<usize>> {
     let command = command_of(alloc, line)?;
     let call = Call::One(command);
     let told = submit(alloc, &mut both.store, 0, &call);
