@@ -6,7 +6,7 @@ ghost use Rattle.words.specs.Bounds.{IsBounded};
 ghost use Rattle.words.specs.Commands.{touches_keys};
 ghost use Rattle.engine.specs.Passes.{knows, Rests};
 
-use device::MemoryDevice;
+use device::{Device, MemoryDevice};
 use engine::{BACKGROUND_PASSES, Engine, Pass};
 use gates::{Latch, Open, Point};
 use std::alloc::Global;
@@ -24,9 +24,11 @@ use words::number;
 use words::reply::{CommandReply, Fault, Item, Reply};
 use words::word::{OutOfMemory, Word, Words};
 
+mod cold;
 mod moving;
 mod steps;
 mod trying;
+mod waiting;
 
 /// How often each of two threads adds to a key.
 const TIMES: u64 = 1_000;
@@ -642,16 +644,16 @@ fn with_two(
 }
 
 /// What a pass is answered. `None` where there was no memory for the request's own words.
-fn answer_of<R: Wait, L: Latch>(
+fn answer_of<R: Wait, L: Latch, D: Device>(
     rt: &R,
     alloc: Global,
     latch: &L,
-    engine: &Engine<MemoryDevice>,
-    pass: &mut Pass<MemoryDevice>,
+    engine: &Engine<D>,
+    pass: &mut Pass<D>,
     request: &str,
 ) -> Option<Answer>
-    requires { Rests ⊤ engine.now pass.old }
-    ensures { Rests ⊤ engine.now pass.new }
+    requires { Rests D.Receipt.is_steady engine.now pass.old }
+    ensures { Rests D.Receipt.is_steady engine.now pass.new }
 {
     let command = command_of(alloc, request);
     match command.filter(|command| has_place(command)) {
@@ -909,16 +911,16 @@ fn gets<R: Wait, L: Latch>(
 }
 
 /// Whether a key within the limits is set to a value within them.
-fn sets_to<R: Wait, L: Latch>(
+fn sets_to<R: Wait, L: Latch, D: Device>(
     rt: &R,
-    engine: &Engine<MemoryDevice>,
-    pass: &mut Pass<MemoryDevice>,
+    engine: &Engine<D>,
+    pass: &mut Pass<D>,
     key: &Word,
     value: &Word,
     latch: &L,
 ) -> bool
-    requires { Rests ⊤ engine.now pass.old }
-    ensures { Rests ⊤ engine.now pass.new }
+    requires { Rests D.Receipt.is_steady engine.now pass.old }
+    ensures { Rests D.Receipt.is_steady engine.now pass.new }
 {
     key.len() <= KEY_BYTES_MAX
         && value.len() <= VALUE_BYTES_MAX

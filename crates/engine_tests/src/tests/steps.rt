@@ -5,7 +5,7 @@ ghost use Rattle.std.specs.Prelude.{⊤, ◌≡◌, All, IfSome, vec_len};
 ghost use Rattle.engine.specs.Passes.{Rests, stripe_count};
 
 use super::sets_to;
-use device::MemoryDevice;
+use device::{Device, MemoryDevice};
 use engine::{BACKGROUND_PASSES, Engine, Pass};
 use gates::Open;
 use std::alloc::Global;
@@ -15,7 +15,10 @@ use words::limits::{FRAMES_MIN, Limits};
 use words::word::Word;
 
 /// How many keys are set.
-const KEYS: usize = 150;
+pub(super) const KEYS: usize = 150;
+
+/// The value of these tests.
+pub(super) const VALUE: [u8; 1000] = [b'v'; 1000];
 
 /// An engine of one stripe with so many places, with its passes.
 fn narrow_engine(
@@ -26,9 +29,26 @@ fn narrow_engine(
     ensures stripes { IfSome result (λ made. stripe_count made.0 ≡ 1) }
     ensures rest { IfSome result (λ made. All (Rests ⊤ made.0) made.1.items) }
 {
+    let openings = MemoryDevice::openings(alloc, 1 + BACKGROUND_PASSES).ok()?;
+    narrow_over(alloc, places, openings)
+}
+
+/// The same over these openings.
+pub(super) fn narrow_over<D: Device>(
+    alloc: Global,
+    places: usize,
+    openings: Vec<D>,
+) -> Option<(Engine<D>, Vec<Pass<D>>)>
+    requires openings { vec_len openings ≡ 4 }
+    ensures count { IfSome result (λ made. vec_len made.1 ≡ 4) }
+    ensures stripes { IfSome result (λ made. stripe_count made.0 ≡ 1) }
+    ensures rest { IfSome result (λ made. All (Rests D.Receipt.is_steady made.0) made.1.items) }
+{
     let limits = Limits::new(1, 64, FRAMES_MIN, places, 1)?;
-    let openings = MemoryDevice::openings(alloc, limits.clients + BACKGROUND_PASSES).ok()?;
-    Engine::new(alloc, &limits, openings).ok()
+    match Engine::new(alloc, &limits, openings) {
+        Ok(made) => Some(made),
+        Err(_) => None,
+    }
 }
 
 /// The key of this number, below 10,000.
@@ -43,18 +63,19 @@ fn key_of(alloc: Global, number: usize) -> Option<Word> {
     Word::from_slice(alloc, &text).ok()
 }
 
-/// How many of so many keys can be set to a value of 1,000 bytes, one after the other, until one can not.
-fn fill<R: Wait>(
+/// How many of so many keys can be set to a value, one after the other, until one can not.
+pub(super) fn fill<R: Wait, D: Device>(
     rt: &R,
     alloc: Global,
-    engine: &Engine<MemoryDevice>,
-    pass: &mut Pass<MemoryDevice>,
+    engine: &Engine<D>,
+    pass: &mut Pass<D>,
+    value: &[u8],
     count: usize,
 ) -> Option<usize>
-    requires rests { Rests ⊤ engine.now pass.old }
-    ensures rests { Rests ⊤ engine.now pass.new }
+    requires rests { Rests D.Receipt.is_steady engine.now pass.old }
+    ensures rests { Rests D.Receipt.is_steady engine.now pass.new }
 {
-    let value = Word::from_slice(alloc, &[b'v'; 1000]).ok()?;
+    let value = Word::from_slice(alloc, value).ok()?;
     for number in 0..count {
         let key = key_of(alloc, number)?;
         if !sets_to(rt, engine, pass, &key, &value, &Open) {
@@ -84,7 +105,10 @@ fn a_place_comes_back_in_six_tries(rt: HostRuntime) -> Result<(), Fail> {
     let alloc = rt.alloc();
     let (engine, mut passes) = narrow_engine(alloc, 4096).ok_or("no engine")?;
     let mut pass = passes.swap_remove(0);
-    assert_eq!(rt; fill(&rt, alloc, &engine, &mut pass, KEYS), Some(KEYS));
+    assert_eq!(rt;
+        fill(&rt, alloc, &engine, &mut pass, &VALUE, KEYS),
+        Some(KEYS)
+    );
     assert_eq!(rt; six_tries(&engine, &mut pass), [true; 6]);
     assert_eq!(rt; six_tries(&engine, &mut pass), [true; 6]);
     Ok(())
@@ -105,7 +129,7 @@ fn a_full_stripe_is_half_used(rt: HostRuntime) -> Result<(), Fail> {
     let mut pass = passes.swap_remove(0);
     assert!(rt; !engine.half_used(&rt, &mut pass, 0));
     assert_eq!(rt; engine.used_places(&rt, &mut pass, 0), 0);
-    let Some(count) = fill(&rt, alloc, &engine, &mut pass, 10_000) else {
+    let Some(count) = fill(&rt, alloc, &engine, &mut pass, &VALUE, 10_000) else {
         return Err(Fail::from("no memory"));
     };
     assert!(rt; count < 10_000);

@@ -1,0 +1,356 @@
+//! Reads of a page that has left its frame, and what other passes do meanwhile: at an engine of one stripe, over a device in
+//! memory whose receipts lend no page. The keys of `steps` fill 10 pages; `k0000` is in the oldest one.
+
+ghost use Rattle.std.specs.Prelude.{⊤, ◌≡◌, IfSome, vec_len};
+ghost use Rattle.engine.specs.Passes.{Rests, stripe_count};
+
+use super::steps::{KEYS, VALUE, fill, narrow_over};
+use super::waiting::{Signal, Waiting};
+use super::{answer_of, sets_to};
+use device::{Device, Faulty, MemoryDevice};
+use engine::{BACKGROUND_PASSES, Engine, Pass};
+use gates::Open;
+use std::alloc::Global;
+use std::sync::{Arc, Wait};
+use std::test::Fail;
+use std::thread::{Threads, join};
+use transact::call::Answer;
+use words::reply::{CommandReply, Item, Reply};
+use words::word::Word;
+
+/// What `k0000` is set to anew.
+const ANEW: [u8; 1000] = [b'w'; 1000];
+
+/// Whether a GET of `k0000` was answered by this value.
+pub(super) fn is_value(answer: &Option<Answer>, value: &[u8]) -> bool {
+    match answer {
+        Some(Answer::Reply(Reply::Single(CommandReply::One(Item::Bulk(word))))) => {
+            word.as_slice() == value
+        }
+        _ => false,
+    }
+}
+
+/// Whether `k0000` has this value.
+pub(super) fn has<R: Wait, D: Device>(
+    rt: &R,
+    alloc: Global,
+    engine: &Engine<D>,
+    pass: &mut Pass<D>,
+    value: &[u8],
+) -> bool
+    requires rests { Rests D.Receipt.is_steady engine.now pass.old }
+    ensures rests { Rests D.Receipt.is_steady engine.now pass.new }
+{
+    is_value(
+        &answer_of(rt, alloc, &Open, engine, pass, "GET k0000"),
+        value,
+    )
+}
+
+/// Sets `k0000` anew, and says whether that was done.
+fn rewrites<R: Wait, D: Device>(
+    rt: &R,
+    alloc: Global,
+    engine: &Engine<D>,
+    pass: &mut Pass<D>,
+) -> bool
+    requires rests { Rests D.Receipt.is_steady engine.now pass.old }
+    ensures rests { Rests D.Receipt.is_steady engine.now pass.new }
+{
+    let Ok(key) = Word::from_slice(alloc, b"k0000") else {
+        return false;
+    };
+    match Word::from_slice(alloc, &ANEW) {
+        Ok(value) => sets_to(rt, engine, pass, &key, &value, &Open),
+        Err(_) => false,
+    }
+}
+
+/// Whether a call of the cleaner is done.
+fn cleans<R: Wait, D: Device>(rt: &R, engine: &Engine<D>, pass: &mut Pass<D>) -> bool
+    requires one { stripe_count engine.now ≡ 1 }
+    requires rests { Rests D.Receipt.is_steady engine.now pass.old }
+    ensures rests { Rests D.Receipt.is_steady engine.now pass.new }
+{
+    matches!(engine.clean_one(rt, pass, 0), Ok(true))
+}
+
+/// How many of so many calls of the cleaner are done.
+fn cleans_often<R: Wait, D: Device>(
+    rt: &R,
+    engine: &Engine<D>,
+    pass: &mut Pass<D>,
+    count: usize,
+) -> usize
+    requires one { stripe_count engine.now ≡ 1 }
+    requires rests { Rests D.Receipt.is_steady engine.now pass.old }
+    ensures rests { Rests D.Receipt.is_steady engine.now pass.new }
+{
+    let mut done = 0usize;
+    for _n in 0..count {
+        if cleans(rt, engine, pass) {
+            done = done.saturating_add(1);
+        }
+    }
+    done
+}
+
+/// Whether a page is written.
+pub(super) fn flushes<R: Wait, D: Device>(rt: &R, engine: &Engine<D>, pass: &mut Pass<D>) -> bool
+    requires one { stripe_count engine.now ≡ 1 }
+    requires rests { Rests D.Receipt.is_steady engine.now pass.old }
+    ensures rests { Rests D.Receipt.is_steady engine.now pass.new }
+{
+    matches!(engine.flush_one(rt, pass, 0), Ok(true))
+}
+
+/// Whether a page leaves its frame.
+pub(super) fn evicts<R: Wait, D: Device>(rt: &R, engine: &Engine<D>, pass: &mut Pass<D>) -> bool
+    requires one { stripe_count engine.now ≡ 1 }
+    requires rests { Rests D.Receipt.is_steady engine.now pass.old }
+    ensures rests { Rests D.Receipt.is_steady engine.now pass.new }
+{
+    matches!(engine.evict_one(rt, pass, 0), Ok(true))
+}
+
+/// Sets so many keys to a value, and makes the oldest page cold. Whether that was done.
+pub(super) fn chills<R: Wait, D: Device>(
+    rt: &R,
+    alloc: Global,
+    engine: &Engine<D>,
+    pass: &mut Pass<D>,
+    value: &[u8],
+    count: usize,
+) -> bool
+    requires one { stripe_count engine.now ≡ 1 }
+    requires rests { Rests D.Receipt.is_steady engine.now pass.old }
+    ensures rests { Rests D.Receipt.is_steady engine.now pass.new }
+{
+    let set = fill(rt, alloc, engine, pass, value, count);
+    let flushes = flushes(rt, engine, pass);
+    let evicts = evicts(rt, engine, pass);
+    set == Some(count) && flushes && evicts
+}
+
+/// What another pass does while a cold GET waits for its page.
+#[derive(Clone, Copy)]
+enum Deed {
+    /// It sets the key anew.
+    Rewrites,
+    /// It takes the page out of the log.
+    Unlinks,
+    /// It calls the cleaner a hundred times.
+    Cleans,
+}
+
+impl Deed {
+    /// Does it, and says whether it came to what it is to come to. No place is released.
+    fn is_done<R: Wait, D: Device>(
+        self,
+        rt: &R,
+        alloc: Global,
+        engine: &Engine<D>,
+        pass: &mut Pass<D>,
+    ) -> bool
+        requires one { stripe_count engine.now ≡ 1 }
+        requires rests { Rests D.Receipt.is_steady engine.now pass.old }
+        ensures rests { Rests D.Receipt.is_steady engine.now pass.new }
+    {
+        let before = engine.used_places(rt, pass, 0);
+        let is_done = match self {
+            Deed::Rewrites => rewrites(rt, alloc, engine, pass),
+            Deed::Unlinks => cleans(rt, engine, pass),
+            // The page leaves the log, and is retired.
+            Deed::Cleans => cleans_often(rt, engine, pass, 100) == 2,
+        };
+        is_done && engine.used_places(rt, pass, 0) >= before
+    }
+
+    /// Whether the GET may be answered so.
+    fn may_be(self, answer: &Option<Answer>) -> bool {
+        match self {
+            Deed::Rewrites => is_value(answer, &VALUE) || is_value(answer, &ANEW),
+            Deed::Unlinks | Deed::Cleans => is_value(answer, &VALUE),
+        }
+    }
+}
+
+/// An opening of the device of these tests.
+pub(super) type Opening = Waiting<Faulty<MemoryDevice>>;
+
+/// The openings of a device in memory whose receipts lend no page, over one signal. Each fails the calls with these numbers,
+/// and the reads of the first one wait.
+fn openings(alloc: Global, signal: &Arc<Signal>, failing: &[u64]) -> Option<Vec<Opening>>
+    ensures { IfSome result (λ openings. vec_len openings ≡ 4) }
+{
+    let mut below = MemoryDevice::openings(alloc, 1 + BACKGROUND_PASSES).ok()?;
+    let mut openings = Vec::new(alloc);
+    while let Some(device) = below.pop() {
+        let opening = Waiting {
+            device: Faulty::new(device, failing.to_vec(alloc).ok()?),
+            waits: openings.is_empty(),
+            signal: Arc::try_clone(signal).ok()?,
+        };
+        openings.push(opening).ok()?;
+    }
+    Some(openings)
+}
+
+/// A store of one stripe over such openings, and its first two passes.
+pub(super) fn with_two(
+    alloc: Global,
+    signal: &Arc<Signal>,
+    failing: &[u64],
+) -> Option<(Engine<Opening>, Pass<Opening>, Pass<Opening>)>
+    ensures one { IfSome result (λ made. stripe_count made.0 ≡ 1) }
+    ensures first { IfSome result (λ made. Rests ⊤ made.0 made.1) }
+    ensures second { IfSome result (λ made. Rests ⊤ made.0 made.2) }
+{
+    let openings = openings(alloc, signal, failing)?;
+    let (engine, mut passes) = narrow_over(alloc, 4096, openings)?;
+    let second = passes.swap_remove(1);
+    let first = passes.swap_remove(0);
+    Some((engine, first, second))
+}
+
+/// The GET that waits.
+fn reads_slowly<R: Wait, D: Device>(
+    rt: &R,
+    alloc: Global,
+    engine: &Engine<D>,
+    mut pass: Pass<D>,
+) -> Option<Answer>
+    requires rests { Rests D.Receipt.is_steady engine.now pass }
+{
+    answer_of(rt, alloc, &Open, engine, &mut pass, "GET k0000")
+}
+
+/// Does the deed once the GET waits, and lets it go on. Whether the deed was done.
+fn does_meanwhile<R: Wait, D: Device>(
+    rt: &R,
+    alloc: Global,
+    signal: &Signal,
+    engine: &Engine<D>,
+    mut pass: Pass<D>,
+    deed: Deed,
+) -> (Pass<D>, bool)
+    requires one { stripe_count engine.now ≡ 1 }
+    requires rests { Rests D.Receipt.is_steady engine.now pass }
+    ensures rests { Rests D.Receipt.is_steady engine.now result.0 }
+{
+    let came = signal.meets_read();
+    let is_done = deed.is_done(rt, alloc, engine, &mut pass);
+    signal.let_go();
+    (pass, came && is_done)
+}
+
+/// Whether the place of the page comes back in two calls of the cleaner.
+fn releases_in_two<R: Wait, D: Device>(rt: &R, engine: &Engine<D>, pass: &mut Pass<D>) -> bool
+    requires one { stripe_count engine.now ≡ 1 }
+    requires rests { Rests D.Receipt.is_steady engine.now pass.old }
+    ensures rests { Rests D.Receipt.is_steady engine.now pass.new }
+{
+    let before = engine.used_places(rt, pass, 0);
+    let drained = cleans(rt, engine, pass);
+    let between = engine.used_places(rt, pass, 0);
+    let released = cleans(rt, engine, pass);
+    let after = engine.used_places(rt, pass, 0);
+    drained && between == before && released && after.saturating_add(1) == before
+}
+
+/// The GET in one thread, and the deed in another: what the GET is answered, and whether the deed was done.
+fn beside<R: Threads + Wait + Sync>(
+    rt: &R,
+    alloc: Global,
+    signal: &Signal,
+    engine: &Engine<Opening>,
+    reader: Pass<Opening>,
+    other: Pass<Opening>,
+    deed: Deed,
+) -> (Option<Answer>, (Pass<Opening>, bool))
+    requires one { stripe_count engine.now ≡ 1 }
+    requires reader { Rests ⊤ engine.now reader }
+    requires other { Rests ⊤ engine.now other }
+    ensures rests { Rests ⊤ engine.now result.1.0 }
+{
+    join(
+        rt,
+        move || -> Option<Answer>
+            requires { Rests ⊤ engine.now reader }
+        { reads_slowly(rt, alloc, engine, reader) },
+        move || -> (Pass<Opening>, bool)
+            requires one { stripe_count engine.now ≡ 1 }
+            requires other { Rests ⊤ engine.now other }
+            ensures { Rests ⊤ engine.entry.now result.0 }
+        { does_meanwhile(rt, alloc, signal, engine, other, deed) },
+    )
+}
+
+/// Whether the store is as it is to be after a deed and the GET.
+fn ends_well<R: Wait, D: Device>(
+    rt: &R,
+    alloc: Global,
+    engine: &Engine<D>,
+    pass: &mut Pass<D>,
+    deed: Deed,
+    signal: &Signal,
+) -> bool
+    requires one { stripe_count engine.now ≡ 1 }
+    requires rests { Rests D.Receipt.is_steady engine.now pass.old }
+{
+    if signal.releases() != 0 {
+        return false;
+    }
+    match deed {
+        Deed::Rewrites => has(rt, alloc, engine, pass, &ANEW),
+        Deed::Unlinks => has(rt, alloc, engine, pass, &VALUE),
+        Deed::Cleans => {
+            releases_in_two(rt, engine, pass)
+                && signal.releases() == 1
+                && has(rt, alloc, engine, pass, &VALUE)
+        }
+    }
+}
+
+/// Whether a cold GET is answered as it may be while another pass does this, and the store is as it is to be then, over this
+/// signal. `None` where there was no memory.
+fn goes_well_over<R: Threads + Wait + Sync>(
+    rt: &R,
+    alloc: Global,
+    signal: &Arc<Signal>,
+    deed: Deed,
+) -> Option<bool> {
+    let (engine, reader, mut other) = with_two(alloc, signal, &[])?;
+    if !chills(rt, alloc, &engine, &mut other, &VALUE, KEYS) {
+        return None;
+    }
+    let (answer, (mut other, is_done)) = beside(rt, alloc, signal, &engine, reader, other, deed);
+    let is_well = ends_well(rt, alloc, &engine, &mut other, deed, signal);
+    Some(is_done && deed.may_be(&answer) && is_well && signal.is_in_time())
+}
+
+/// The same over a new signal.
+fn goes_well<R: Threads + Wait + Sync>(rt: &R, alloc: Global, deed: Deed) -> Option<bool> {
+    let signal = Arc::new(alloc, Signal::new()).ok()?;
+    goes_well_over(rt, alloc, &signal, deed)
+}
+
+/// While a cold read is under way, the place of its page is not released. It is once the read is over.
+#[test]
+fn a_cold_reader_keeps_its_place(rt: HostRuntime) -> Result<(), Fail> {
+    assert!(rt; goes_well(&rt, rt.alloc(), Deed::Cleans) == Some(true));
+    Ok(())
+}
+
+#[test]
+fn a_cold_key_is_set_anew_meanwhile(rt: HostRuntime) -> Result<(), Fail> {
+    assert!(rt; goes_well(&rt, rt.alloc(), Deed::Rewrites) == Some(true));
+    Ok(())
+}
+
+#[test]
+fn a_cold_page_leaves_the_log_meanwhile(rt: HostRuntime) -> Result<(), Fail> {
+    assert!(rt; goes_well(&rt, rt.alloc(), Deed::Unlinks) == Some(true));
+    Ok(())
+}

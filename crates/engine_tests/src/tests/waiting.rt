@@ -1,0 +1,128 @@
+//! A device whose reads wait until another thread has done its part.
+
+ghost use Rattle.epoch.specs.Seats.{drained_epoch, drained_of, retired_epoch, retired_of};
+ghost use Rattle.std.specs.Prelude.{◌≡◌};
+
+use device::{Device, DeviceFault};
+use epoch::{Drained, Retired};
+use records::Page;
+use std::sync::Arc;
+use std::sync::atomic::{AtomicBool, AtomicU64, Ordering};
+use std::thread::yield_now;
+
+/// How often a thread gives way to the other one at most. 10,000 times are too few: where each has a processor they are over
+/// in some milliseconds, in which the other one may not have run at all.
+const TURNS: u64 = 10_000_000;
+
+/// What a read that waits and another thread tell one another, and what the openings count.
+#[derive(Drop)]
+pub(super) struct Signal {
+    /// A read waits, or has waited.
+    came: AtomicBool,
+    /// It may go on.
+    may_go: AtomicBool,
+    /// It went on after all turns.
+    late: AtomicBool,
+    /// How many receipts were taken back.
+    releases: AtomicU64,
+}
+
+impl Signal {
+    /// Nothing was told yet.
+    pub(super) fn new() -> Signal {
+        Signal {
+            came: AtomicBool::new(false),
+            may_go: AtomicBool::new(false),
+            late: AtomicBool::new(false),
+            releases: AtomicU64::new(0),
+        }
+    }
+
+    /// Waits until a read waits. False after all turns.
+    pub(super) fn meets_read(&self) -> bool {
+        is_told(&self.came)
+    }
+
+    /// Lets the read go on.
+    pub(super) fn let_go(&self) {
+        self.may_go.store(true, Ordering::SeqCst);
+    }
+
+    /// Whether the read went on only once it might.
+    pub(super) fn is_in_time(&self) -> bool {
+        !self.late.load(Ordering::SeqCst)
+    }
+
+    /// How many receipts were taken back.
+    pub(super) fn releases(&self) -> u64 {
+        self.releases.load(Ordering::SeqCst)
+    }
+
+    /// Tells that a read came, and waits until it may go on.
+    fn hold_up(&self) {
+        self.came.store(true, Ordering::SeqCst);
+        let may_go = is_told(&self.may_go);
+        self.late.store(!may_go, Ordering::SeqCst);
+    }
+}
+
+/// Waits until this is so. False after all turns.
+fn is_told(told: &AtomicBool) -> bool {
+    for _ in 0..TURNS {
+        if told.load(Ordering::SeqCst) {
+            return true;
+        }
+        yield_now();
+    }
+    false
+}
+
+/// One opening of another device, which it asks at each call. Before a read it waits, if it is to: it tells that it came,
+/// and goes on once it may. What the other device promises, it promises too.
+#[derive(Drop)]
+pub(super) struct Waiting<D: Drop> {
+    pub(super) device: D,
+    /// Whether a read waits.
+    pub(super) waits: bool,
+    /// What all openings share.
+    pub(super) signal: Arc<Signal>,
+}
+
+impl<D: Device> Device for Waiting<D> {
+    type Receipt = D::Receipt;
+
+    ghost failures = { λ w. D.failures w.device };
+
+    ghost writes = { λ w. D.writes w.device };
+
+    ghost reads = { λ w. D.reads w.device };
+
+    ghost releases = { λ w. D.releases w.device };
+
+    ghost wrote = { λ before page r after. D.wrote before.device page r after.device };
+
+    ghost serves = { λ w r. D.serves w.device r };
+
+    ghost copies = { λ w r s same served. D.copies w.device r s same served };
+
+    ghost steady = { λ s w r. D.steady s w.device r };
+
+    fn write(&mut self, page: &Page) -> Result<D::Receipt, DeviceFault> {
+        self.device.write(page)
+    }
+
+    fn read(&mut self, receipt: &D::Receipt, page: &mut Page) -> Result<(), DeviceFault> {
+        if self.waits {
+            self.signal.hold_up();
+        }
+        self.device.read(receipt, page)
+    }
+
+    fn release(&mut self, retired: Retired<D::Receipt>, drained: &Drained)
+        requires own_epoch { retired_epoch retired ≡ drained_epoch drained.now }
+        requires own_epochs { retired_of retired ≡ drained_of drained.now }
+    {
+        self.signal.releases.fetch_add(1, Ordering::SeqCst);
+        self.device.release(retired, drained);
+    }
+}
