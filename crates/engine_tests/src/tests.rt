@@ -25,6 +25,7 @@ use words::reply::{CommandReply, Fault, Item, Reply};
 use words::word::{OutOfMemory, Word, Words};
 
 mod cold;
+mod failing;
 mod moving;
 mod steps;
 mod trying;

@@ -9,7 +9,7 @@ use super::{
     Exchange, Holds, Outcome, call_held, command_of, compare, exchange_of, has_place, is_due,
     with_two,
 };
-use device::MemoryDevice;
+use device::{Device, MemoryDevice};
 use engine::{Engine, Pass};
 use gates::Open;
 use std::alloc::Global;
@@ -24,14 +24,14 @@ use words::command::Command;
 use words::word::{OutOfMemory, Word};
 
 /// What a command is answered, or the stripe that was another pass's, with the command.
-fn try_command(
-    engine: &Engine<MemoryDevice>,
-    pass: &mut Pass<MemoryDevice>,
+pub(super) fn try_command<D: Device>(
+    engine: &Engine<D>,
+    pass: &mut Pass<D>,
     command: Command,
 ) -> Result<Answer, (usize, Command)>
-    requires rests { Rests ⊤ engine.now pass.old }
+    requires rests { Rests D.Receipt.is_steady engine.now pass.old }
     requires place { IsTrue (touches_keys command) × IsBounded command }
-    ensures rests { Rests ⊤ engine.now pass.new }
+    ensures rests { Rests D.Receipt.is_steady engine.now pass.new }
     ensures back { IfErr result (λ refused. refused.1 ≡ command) }
 {
     match engine.try_submit(pass, Call::One(command)) {
@@ -44,7 +44,7 @@ fn try_command(
 }
 
 /// The command of a request, where it is one that reads or writes keys.
-fn keyed(alloc: Global, request: &str) -> Option<Command>
+pub(super) fn keyed(alloc: Global, request: &str) -> Option<Command>
     ensures { IfSome result (λ command. IsTrue (touches_keys command) × IsBounded command) }
 {
     match command_of(alloc, request) {
@@ -113,15 +113,15 @@ fn is_back(answer: &Result<Answer, (usize, Command)>, key: &str, stripe: usize) 
 }
 
 /// Whether a GET of this word was handed back, since this stripe was another pass's.
-fn command_is_busy(
-    engine: &Engine<MemoryDevice>,
-    pass: &mut Pass<MemoryDevice>,
+fn command_is_busy<D: Device>(
+    engine: &Engine<D>,
+    pass: &mut Pass<D>,
     word: Word,
     key: &str,
     stripe: usize,
 ) -> bool
-    requires rests { Rests ⊤ engine.now pass.old }
-    ensures rests { Rests ⊤ engine.now pass.new }
+    requires rests { Rests D.Receipt.is_steady engine.now pass.old }
+    ensures rests { Rests D.Receipt.is_steady engine.now pass.new }
 {
     let Some(command) = Some(Command::Get(word)).filter(|command| has_place(command)) else {
         return false;
@@ -133,15 +133,15 @@ fn command_is_busy(
 }
 
 /// Whether a GET that is tried finds this stripe to be another pass's, and is handed back.
-fn is_busy(
+pub(super) fn is_busy<D: Device>(
     alloc: Global,
-    engine: &Engine<MemoryDevice>,
-    pass: &mut Pass<MemoryDevice>,
+    engine: &Engine<D>,
+    pass: &mut Pass<D>,
     key: &str,
     stripe: usize,
 ) -> bool
-    requires rests { Rests ⊤ engine.now pass.old }
-    ensures rests { Rests ⊤ engine.now pass.new }
+    requires rests { Rests D.Receipt.is_steady engine.now pass.old }
+    ensures rests { Rests D.Receipt.is_steady engine.now pass.new }
 {
     match Word::from_slice(alloc, key.as_bytes()) {
         Ok(word) => command_is_busy(engine, pass, word, key, stripe),
