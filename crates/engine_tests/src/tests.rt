@@ -27,6 +27,7 @@ use words::word::{OutOfMemory, Word, Words};
 mod cold;
 mod failing;
 mod moving;
+mod refused;
 mod steps;
 mod trying;
 mod waiting;
