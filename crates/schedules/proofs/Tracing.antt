@@ -24,6 +24,11 @@ pub no_more : (from number : ℕ) (start before : State) (all : List Event) (lin
 no_more from number start before all lines leads =
     subst (IsTrace from start all before) (append-nil lines) (leads before [] (refl, refl))
 
+-- there are none
+pub none_left : (events : List Event) → length events ≡ 0 → [] ≡ events
+none_left [] is = refl
+none_left (e ∷ events) is = absurd (omega (arith, is))
+
 -- to a client that there is not nothing was written
 pub past_output : (state : State) (c : ℕ) → length state.clients ≤ c → (client state c).output ≡ []
 past_output state c past = ap (λ (one : ClientState). one.output) (past_or state.clients c past)

@@ -21,7 +21,7 @@ struct Effect<'a> {
     /// What its client was told by it.
     told: &'a [u8],
     /// The position of the entry that it added, if it did.
-    entry: Option<usize>,
+    added: Option<usize>,
 }
 
 /// Runs a schedule, and traces it: a line for each event, and then the report.
@@ -76,7 +76,7 @@ fn step(
     let effect = Effect {
         enabled,
         told: rest_of(output_of(&next, client), told),
-        entry: (entries < next.history().len()).then_some(entries),
+        added: (entries < next.history().len()).then_some(entries),
     };
     match add_line(alloc, lines, number, event, effect) {
         Ok(()) => Ok(next),
@@ -116,14 +116,14 @@ fn add_line(
     event: &Event,
     effect: Effect<'_>,
 ) -> Result<(), OutOfMemory>
-    ensures { OnOk result (lines.new.items ≡ lines.old.items ++ (event_part number event.now ++ effect_part effect.enabled effect.told.now effect.entry)) }
+    ensures { OnOk result (lines.new.items ≡ lines.old.items ++ (event_part number event.now ++ effect_part effect.entry.enabled effect.entry.told.now effect.entry.added)) }
 {
     add_number(lines, number)?;
     lines.push(b' ')?;
     add_event(alloc, lines, event)?;
     add_enabled(lines, effect.enabled)?;
     add_told(alloc, lines, effect.told)?;
-    add_entry(lines, effect.entry)?;
+    add_entry(lines, effect.added)?;
     Ok(lines.push(b'\n')?)
 }
 
