@@ -44,7 +44,7 @@ pub fn asked_by<'a, S: AsStr>(alloc: Global, words: &'a [S]) -> Result<Asked<'a>
 
 /// What is to be written where the flag for a trace has this value, if one.
 fn shown_by(flag: Option<&str>) -> Shown
-    ensures { result ≡ shown_by (option_map (λ value. value.now) flag) }
+    ensures { result ≡ shown_by (option_map (λ value. value.now) flag.entry) }
 {
     match flag {
         Some(value) if value == "true" => Shown::Trace,

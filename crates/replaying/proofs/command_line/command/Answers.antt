@@ -14,7 +14,7 @@ returns c =
     let rule : rule_of c.help-file.result ≡ file_argument = search rules in
     let flag : rule_of c.help-trace.result ≡ trace_flag = search rules in
     let start : app_of c.about.result ≡ named (codes "replay") =
-    ap app_of_fields c.about.ensures ∙ ap app_of_fields c.version.ensures ∙ ap tells_version c.new-2.ensures.app in
+    ap app_of_fields c.about.ensures ∙ ap app_of_fields c.version.ensures ∙ ap tells_version c.new-3.ensures.app in
     let traced : app_of c.in_ok-arg.field-0 ≡ with_rule (named (codes "replay")) trace_flag =
     c.in_ok-arg.ensures.shape (search rules) ∙ ap₂ with_rule start flag in
     IfOk-weaker c.arg-2.result _ _ (λ r added. added.shape (search rules) ∙ ap₂ with_rule traced rule) c.arg-2.ensures
