@@ -259,19 +259,19 @@ fn a_file_cut_short_is_a_fault_of_the_device(rt: HostRuntime) -> Result<(), Fail
     Ok(())
 }
 
-/// SETs of more keys than 76 pages hold, the last of them once more, and GETs of all that are stored.
+/// SETs of more keys than a store of 76 pages takes, the last of them once more, and GETs of all that are stored.
 fn too_many(alloc: Global) -> io::Result<Vec<u8>> {
-    let mut input = sets(alloc, 1_160)?;
-    add_set(&mut input, 1_159)?;
-    input.extend_from_slice(&gets(alloc, 1_140)?)?;
+    let mut input = sets(alloc, 1_070)?;
+    add_set(&mut input, 1_069)?;
+    input.extend_from_slice(&gets(alloc, 1_050)?)?;
     Ok(input)
 }
 
-/// What that is answered: 1,140 keys are stored, no further one is, and each that is stored has its value.
+/// What that is answered: 1,050 keys are stored, no further one is, and each that is stored has its value.
 fn too_many_answered(alloc: Global) -> io::Result<Vec<u8>> {
-    let found = values(alloc, 1_140)?;
+    let found = values(alloc, 1_050)?;
     let refused = repeated(alloc, STORE_FULL, 21, &found)?;
-    repeated(alloc, OK, 1_140, &refused)
+    repeated(alloc, OK, 1_050, &refused)
 }
 
 /// What is said over a file with places for 64 pages.
@@ -288,7 +288,7 @@ fn run_full<R: Wait + Files<File = File>>(
     Ok(outcome)
 }
 
-/// 12 frames and 64 places hold 1,140 keys.
+/// 12 frames and 64 places take 1,050 keys: six pages are left to deletions and to the cleaner.
 #[test]
 fn a_file_with_no_place_left_is_a_full_store(rt: HostRuntime) -> Result<(), Fail> {
     let alloc = rt.alloc();

@@ -56,7 +56,7 @@ fn deletes<R: AllocGlobal + Clock + Wait>(rt: &R, stream: &TcpStream) -> Option<
 
 /// Whether the pieces that were stored and not deleted have their values.
 fn has_others(alloc: Global, stream: &TcpStream, stored: u32) -> Option<bool> {
-    for piece in DELETED..stored {
+    for piece in DELETED..stored.min(PIECES) {
         if !has_thirty(alloc, stream, FIRST + piece * 30)? {
             return Some(false);
         }
