@@ -86,6 +86,10 @@ fn a_file_that_is_not_there_cannot_be_read(rt: HostRuntime) {
             file: Some(path),
             shown: Shown::Report,
         };
-        assert_eq!(rt; replayed(&rt, asked), Err(ReplayFault::CannotRead), "{path}");
+        assert_eq!(rt;
+            replayed(&rt, asked),
+            Err(ReplayFault::CannotRead),
+            "{path}"
+        );
     }
 }

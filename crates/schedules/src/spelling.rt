@@ -17,11 +17,7 @@ pub(crate) fn add_number(text: &mut Vec<u8>, number: usize) -> Result<(), OutOfM
 }
 
 /// Adds bytes to a text, in lower-case hexadecimal.
-pub(crate) fn add_bytes(
-    alloc: Global,
-    text: &mut Vec<u8>,
-    bytes: &[u8],
-) -> Result<(), OutOfMemory>
+pub(crate) fn add_bytes(alloc: Global, text: &mut Vec<u8>, bytes: &[u8]) -> Result<(), OutOfMemory>
     ensures { OnOk result (text.new.items ≡ text.old.items ++ encode_lower bytes.now) }
 {
     let digits = hex::encode(alloc, bytes)?;
@@ -67,11 +63,7 @@ fn add_with_bytes(
 }
 
 /// Adds the words of an event, each two separated by one space.
-pub(crate) fn add_event(
-    alloc: Global,
-    text: &mut Vec<u8>,
-    event: &Event,
-) -> Result<(), OutOfMemory>
+pub(crate) fn add_event(alloc: Global, text: &mut Vec<u8>, event: &Event) -> Result<(), OutOfMemory>
     ensures { OnOk result (text.new.items ≡ text.old.items ++ spaced (words_of event.now)) }
 {
     match event {

@@ -1,6 +1,8 @@
 //! Reading and running schedules, over streams in memory.
 
-use schedules::{PIECE_BYTES_MAX, ParseFault, ReplayFault, Shown, parse, replay, run_schedule, trace};
+use schedules::{
+    PIECE_BYTES_MAX, ParseFault, ReplayFault, Shown, parse, replay, run_schedule, trace,
+};
 use std::alloc::{AllocError, Global};
 use std::io;
 use std::io::{ErrorKind, Read, Write};

@@ -122,7 +122,8 @@ fn row<R: Abort>(rt: &R, alloc: Global, text: &str, value: bool, entries: usize)
 /// A page that left its frame is read outside the stripe, and the call is planned anew.
 #[test]
 fn a_cold_page_is_fetched(rt: HostRuntime) {
-    let text = "do copy 0; do write 0; do install 0; do drop 0; do ask 1 GET k0000; do take 1 0; silent 1; \
+    let text =
+        "do copy 0; do write 0; do install 0; do drop 0; do ask 1 GET k0000; do take 1 0; silent 1; \
         do give 1 0; do fetch 1; do take 1 0; do commit 1; do give 1 0";
     row(&rt, rt.alloc(), text, true, 151);
 }
@@ -130,7 +131,8 @@ fn a_cold_page_is_fetched(rt: HostRuntime) {
 /// Without the read nothing is committed.
 #[test]
 fn a_cold_call_waits_for_its_page(rt: HostRuntime) {
-    let text = "do copy 0; do write 0; do install 0; do drop 0; do ask 1 GET k0000; do take 1 0; not commit 1; \
+    let text =
+        "do copy 0; do write 0; do install 0; do drop 0; do ask 1 GET k0000; do take 1 0; not commit 1; \
         do give 1 0; not take 1 0; not commit 1; not give 1 0";
     row(&rt, rt.alloc(), text, false, 150);
 }
@@ -140,14 +142,16 @@ fn a_cold_call_waits_for_its_page(rt: HostRuntime) {
 fn a_page_without_a_receipt_is_not_dropped(rt: HostRuntime) {
     let text = "not drop 0; do ask 1 GET k0000; do take 1 0; do commit 1; do give 1 0";
     row(&rt, rt.alloc(), text, true, 151);
-    let text = "do copy 0; not drop 0; do write 0; not drop 0; do ask 1 GET k0000; do take 1 0; do commit 1; do give 1 0";
+    let text =
+        "do copy 0; not drop 0; do write 0; not drop 0; do ask 1 GET k0000; do take 1 0; do commit 1; do give 1 0";
     row(&rt, rt.alloc(), text, true, 151);
 }
 
 /// The cleaner copies what counts of the oldest page to the tail, and its place is released.
 #[test]
 fn a_place_is_released_and_shows_another_page(rt: HostRuntime) {
-    let text = "do copy 0; do write 0; do install 0; do drop 0; do unlink 0; do retire 0; do drain 0; \
+    let text =
+        "do copy 0; do write 0; do install 0; do drop 0; do unlink 0; do retire 0; do drain 0; \
         do release 0 255; not release 0 255; do ask 1 GET k0000; do take 1 0; do commit 1; do give 1 0";
     row(&rt, rt.alloc(), text, true, 151);
 }
@@ -155,7 +159,8 @@ fn a_place_is_released_and_shows_another_page(rt: HostRuntime) {
 /// A place that a client may read is not drained before its stay ends.
 #[test]
 fn a_stay_keeps_a_place(rt: HostRuntime) {
-    let text = "do copy 0; do write 0; do install 0; do drop 0; do ask 1 GET k0000; do take 1 0; do give 1 0; \
+    let text =
+        "do copy 0; do write 0; do install 0; do drop 0; do ask 1 GET k0000; do take 1 0; do give 1 0; \
         do unlink 0; do retire 0; not drain 0; not release 0 255; \
         do fetch 1; do take 1 0; not drain 0; do commit 1; not drain 0; do give 1 0; do drain 0; do release 0 255";
     row(&rt, rt.alloc(), text, true, 151);
@@ -181,11 +186,13 @@ fn a_plan_reads_after_three_rounds(rt: HostRuntime) {
 /// page is resident, and no place was unlinked, retired or drained.
 #[test]
 fn events_of_a_stripe_that_are_not_enabled(rt: HostRuntime) {
-    let text = "not write 0; not install 0; not unlink 0; not retire 0; not drain 0; not release 0 255; not drop 0; \
+    let text =
+        "not write 0; not install 0; not unlink 0; not retire 0; not drain 0; not release 0 255; not drop 0; \
         do ask 1 GET k0000; do take 1 0; not copy 0; not write 0; not install 0; not drop 0; not unlink 0; do commit 1; \
         not copy 0; do give 1 0";
     row(&rt, rt.alloc(), text, true, 151);
-    let text = "do copy 0; not copy 0; not install 0; not drop 0; not unlink 0; not retire 0; not drain 0; \
+    let text =
+        "do copy 0; not copy 0; not install 0; not drop 0; not unlink 0; not retire 0; not drain 0; \
         not release 0 255; do ask 1 GET k0000; do take 1 0; do write 0; not write 0; not copy 0; not install 0; \
         not drop 0; do commit 1; do give 1 0; do install 0; not install 0; not unlink 0; do drop 0; not drop 0; \
         do unlink 0; not unlink 0; not drain 0; do retire 0; not retire 0; not release 0 255; do drain 0; not drain 0; \
@@ -222,7 +229,8 @@ fn a_full_stripe_refuses_calls(rt: HostRuntime) {
     }
     // Nothing is copied for the flusher either. The oldest page holds nothing that counts: it is unlinked, and once its
     // place is released there is one for the flusher.
-    let text = "not copy 0; do unlink 0; not copy 0; do retire 0; not copy 0; do drain 0; not copy 0; do release 0 0; \
+    let text =
+        "not copy 0; do unlink 0; not copy 0; do retire 0; not copy 0; do drain 0; not copy 0; do release 0 0; \
         do copy 0";
     follow(&rt, alloc, world, text).end();
 }

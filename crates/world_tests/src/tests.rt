@@ -429,7 +429,8 @@ fn events_that_are_not_enabled_at_the_start(rt: HostRuntime) {
 
 #[test]
 fn events_that_are_not_enabled_within_a_call(rt: HostRuntime) {
-    let first = "do ask 0 MULTI; do ask 0 SET a 1; do ask 0 SET b 2; do ask 0 EXEC; not take 0 12; do take 0 5; \
+    let first =
+        "do ask 0 MULTI; do ask 0 SET a 1; do ask 0 SET b 2; do ask 0 EXEC; not take 0 12; do take 0 5; \
         not take 0 5; not take 0 16; not take 0 7; not give 0 5; not commit 0; not give 1 5; not take 1 5; \
         not commit 1; not give 0 12; not give 0 16; not fetch 0; not copy 5; not write 5; not install 5; not drop 5; \
         not unlink 5; not retire 5; not drain 5; not release 5 0; \
