@@ -1,7 +1,7 @@
 //! A device whose reads wait until another thread has done its part.
 
-ghost use Rattle.epoch.specs.Seats.{drained_epoch, drained_of, retired_epoch, retired_of};
-ghost use Rattle.std.specs.Prelude.{◌≡◌};
+ghost use Rattle.epoch.specs.Seats.{drained_epoch, drained_of, retired_epoch, retired_of, retired_value};
+ghost use Rattle.std.specs.Prelude.{◌≡◌, ◌≢◌, ◌+◌};
 
 use device::{Device, DeviceFault};
 use epoch::{Drained, Retired};
@@ -121,6 +121,13 @@ impl<D: Device> Device for Waiting<D> {
     fn release(&mut self, retired: Retired<D::Receipt>, drained: &Drained)
         requires own_epoch { retired_epoch retired ≡ drained_epoch drained.now }
         requires own_epochs { retired_of retired ≡ drained_of drained.now }
+        ensures still_served { (r : D.Receipt) → D.Receipt.identity r ≢ D.Receipt.identity (retired_value retired)
+            → D.serves self.old.device r → D.serves self.new.device r }
+
+        ensures no_failure { D.failures self.new.device ≡ D.failures self.old.device }
+        ensures no_write { D.writes self.new.device ≡ D.writes self.old.device }
+        ensures no_read { D.reads self.new.device ≡ D.reads self.old.device }
+        ensures counted { D.releases self.new.device ≡ D.releases self.old.device + 1 }
     {
         self.signal.releases.fetch_add(1, Ordering::SeqCst);
         self.device.release(retired, drained);
