@@ -132,11 +132,9 @@ pages_for p weight = if nat_lt (PAGE_SIZE - HEADER_SIZE) (weight + tail_bytes p)
 abbrev pub available : HybridLog → ℕ
 available p = free p + (p.places - p.unreleased)
 
--- the frames that have to be free for writes of this weight: one for each page that they can open, and, where a page is opened and
--- fewer frames are available than these pages and so many `beside` them, also those
-abbrev pub frames_for : HybridLog → (weight beside : ℕ) → ℕ
-frames_for p weight beside =
-    if nat_lt 0 (pages_for p weight) && nat_lt (available p) (pages_for p weight + beside) then pages_for p weight + beside else pages_for p weight
+-- the same once each place has come back that is no page's of the log: of those whose receipts wait to be released, and of a page that is being written
+abbrev pub expected : HybridLog → ℕ
+expected p = free p + (p.places - count_kept p.kept)
 
 -- frames for the pages that writes of this weight can open, and numbers for these pages
 pub record HasFrames (p : HybridLog) (weight : ℕ) : Type 0 where

@@ -19,7 +19,7 @@ mod write;
 pub use staged::{ReadFault, Staged};
 pub use stripe::clean::{Cleaned, Weighed};
 pub use stripe::find::Lookup;
-pub use stripe::room::{Fault, Room};
+pub use stripe::room::{Fault, Purpose, Room};
 pub use stripe::{
     CALL_PAGES, CLEAN_PAGES, CLEAN_WEIGHT, CLOSED_MIN, LAST_PAGE, RECORD_MAX, Stripe,
 };

@@ -6,7 +6,7 @@ ghost use Rattle.hybrid.specs.Log.{contents};
 ghost use Rattle.hybrid.specs.Staging.{AreRight};
 
 use device::{Device, Faulty, FaultyReceipt, MemoryDevice, MemoryReceipt, Shows};
-use hybrid::{Cleaned, Fault, Lookup, Room, Staged, Stripe, Weighed, Write};
+use hybrid::{Cleaned, Fault, Lookup, Purpose, Room, Staged, Stripe, Weighed, Write};
 use records::{KEY_BYTES_MAX, Page, Record, record_at};
 use std::alloc::Global;
 use std::process::Abort;
@@ -85,7 +85,7 @@ impl Shelf {
             return Err(Fault::StoreFull);
         }
         let weight = WEIGHT_OF_KEY + key.len() + length_of(value);
-        let _room = self.stripe.reserve(weight, 0, &mut self.device)?;
+        let _room = self.stripe.reserve(weight, Purpose::Clean, &mut self.device)?;
         self.stripe.install_one(&OneWrite { key, value });
         Ok(())
     }
@@ -155,7 +155,7 @@ impl Shelf {
                     stage(&self.stripe, &mut self.device, &mut staged, number)?;
                 }
                 Weighed::Live(weight) => {
-                    let room = self.stripe.reserve(weight, 0, &mut self.device).ok()?;
+                    let room = self.stripe.reserve(weight, Purpose::Clean, &mut self.device).ok()?;
                     return self.clean_with(&mut staged, room);
                 }
             }
@@ -592,7 +592,7 @@ fn put_hashed(
         return Err(Fault::StoreFull);
     }
     let weight = WEIGHT_OF_KEY + key.len() + length_of(value);
-    let _room = stripe.reserve(weight, 0, device)?;
+    let _room = stripe.reserve(weight, Purpose::Clean, device)?;
     stripe.install_one_hashed(hash_of(key), &OneWrite { key, value });
     Ok(())
 }

@@ -5,13 +5,14 @@ use Rattle.std.proofs.lemmas.Bool.{cases_eq}
 use Rattle.words.specs.Store.{Write}
 use Rattle.frames.specs.Resident.{Resident}
 use Rattle.hybrid.specs.HybridLog.{HybridLog}
+use Rattle.hybrid.specs.declared.stripe.room.Purpose.{Purpose}
 use Rattle.hybrid.specs.Staging.{StagedPage}
 use Rattle.plans.specs.declared.shard.Shard.{Shard}
 use Rattle.plans.specs.declared.stop.Stop.{Stop}
 use Rattle.plans.specs.declared.stop.Stop.TheVariants as stop
 use Rattle.plans.specs.Reading.{HasMore}
 use Rattle.plans.specs.Devices.{IsReadAlone, StillServes}
-use Rattle.plans.specs.Rooms.{LacksRoom, LacksRoomAt, LeaveFrames, LeavesFrames, LeavesFramesAt, ShedFew, ShedsFew, ShedsFewAt, kept_back, share}
+use Rattle.plans.specs.Rooms.{LacksRoom, LacksRoomAt, LeaveFrames, LeavesFrames, LeavesFramesAt, ShedFew, ShedsFew, ShedsFewAt, purpose_of, share}
 use Rattle.plans.specs.Shards.{logs_of, shard_log}
 use Rattle.plans.specs.Stops.{IfNoMemory}
 use Rattle.plans.proofs.Logs.{log_at}
@@ -21,8 +22,8 @@ all_pages : (r : Resident) (oldest : ℕ) → oldest ≡ r.oldest → r ≡ reco
 all_pages r oldest is = ap (λ (k : ℕ). record { oldest = k; pages = r.pages; frames = r.frames }) (sym is)
 
 -- no page has left its frame
-pub shed_none : (weight beside : ℕ) (p : HybridLog) → ShedsFew weight beside p p
-shed_none weight beside p = record {
+pub shed_none : (weight : ℕ) (purpose : Purpose) (p : HybridLog) → ShedsFew weight purpose p p
+shed_none weight purpose p = record {
   count = 0;
   reserved = record {
     oldest = refl;
@@ -38,55 +39,55 @@ shed_none weight beside p = record {
   few = omega arith;
 }
 
-pub few_same : (stripe weight beside : ℕ) (before later : ℕ → Option HybridLog) → later stripe ≡ before stripe → ShedsFewAt stripe weight beside before later
-few_same stripe weight beside before later same old new was is = subst (ShedsFew weight beside old) (some_is old new (before stripe) was (sym same ∙ is)) (shed_none weight beside old)
+pub few_same : (stripe weight : ℕ) (purpose : Purpose) (before later : ℕ → Option HybridLog) → later stripe ≡ before stripe → ShedsFewAt stripe weight purpose before later
+few_same stripe weight purpose before later same old new was is = subst (ShedsFew weight purpose old) (some_is old new (before stripe) was (sym same ∙ is)) (shed_none weight purpose old)
 
 pub few_none : (n : ℕ) (ws : List Write) (before later : ℕ → Option HybridLog) → ((i : ℕ) → later i ≡ before i) → ShedFew n ws before later
-few_none n ws before later same i = few_same i (share n i ws) (kept_back ws) before later (same i)
+few_none n ws before later same i = few_same i (share n i ws) (purpose_of ws) before later (same i)
 
 -- from logs that are the same
 pub few_from : (n : ℕ) (ws : List Write) (old other new : ℕ → Option HybridLog) → ((i : ℕ) → other i ≡ old i) → ShedFew n ws other new → ShedFew n ws old new
 few_from n ws old other new same few i was is at there = few i was is (same i ∙ at) there
 
 -- one stripe more has shed
-pub few_more : (n i share_is beside : ℕ) (ws : List Write) (start before later : ℕ → Option HybridLog) → share_is ≡ share n i ws → beside ≡ kept_back ws → ((j : ℕ) → i ≤ j → before j ≡ start j)
-    → ((j : ℕ) → j ≢ i → later j ≡ before j) → ShedFew n ws start before → ShedsFewAt i share_is beside before later → ShedFew n ws start later
-few_more n i share_is beside ws start before later is left ahead others few one j was now at stands = ⊎_elim
+pub few_more : (n i share_is : ℕ) (purpose : Purpose) (ws : List Write) (start before later : ℕ → Option HybridLog) → share_is ≡ share n i ws → purpose ≡ purpose_of ws → ((j : ℕ) → i ≤ j → before j ≡ start j)
+    → ((j : ℕ) → j ≢ i → later j ≡ before j) → ShedFew n ws start before → ShedsFewAt i share_is purpose before later → ShedFew n ws start later
+few_more n i share_is purpose ws start before later is left ahead others few one j was now at stands = ⊎_elim
     (λ same.
     let here : before j ≡ start j = ahead j (omega (arith, same)) in
-    subst (λ (k : ℕ). ShedsFew (share n j ws) k was now) left
-    (subst (λ (k : ℕ). ShedsFew k beside was now) (is ∙ ap (λ (k : ℕ). share n k ws) (sym same))
+    subst (λ (k : Purpose). ShedsFew (share n j ws) k was now) left
+    (subst (λ (k : ℕ). ShedsFew k purpose was now) (is ∙ ap (λ (k : ℕ). share n k ws) (sym same))
     (one was now (sym (ap before same) ∙ here ∙ at) (sym (ap later same) ∙ stands))))
     (λ ne. few j was now at (sym (others j ne) ∙ stands))
     (cases_eq j i)
 
 -- the log of one part
-pub few_at : {R : Type 0} (weight beside stripe : ℕ) (parts later : ℕ → Option (Shard R)) (old new : Shard R) → parts stripe ≡ Some old → later stripe ≡ Some new → ShedsFew weight beside (shard_log old) (shard_log new)
-    → ShedsFewAt stripe weight beside (logs_of parts) (logs_of later)
-few_at {R} weight beside stripe parts later old new there is few was now at stands =
-    subst (ShedsFew weight beside was) (some_is (shard_log new) now (logs_of later stripe) (log_at later stripe new is) stands)
-    (subst (λ (p : HybridLog). ShedsFew weight beside p (shard_log new)) (some_is (shard_log old) was (logs_of parts stripe) (log_at parts stripe old there) at) few)
+pub few_at : {R : Type 0} (weight : ℕ) (purpose : Purpose) (stripe : ℕ) (parts later : ℕ → Option (Shard R)) (old new : Shard R) → parts stripe ≡ Some old → later stripe ≡ Some new → ShedsFew weight purpose (shard_log old) (shard_log new)
+    → ShedsFewAt stripe weight purpose (logs_of parts) (logs_of later)
+few_at {R} weight purpose stripe parts later old new there is few was now at stands =
+    subst (ShedsFew weight purpose was) (some_is (shard_log new) now (logs_of later stripe) (log_at later stripe new is) stands)
+    (subst (λ (p : HybridLog). ShedsFew weight purpose p (shard_log new)) (some_is (shard_log old) was (logs_of parts stripe) (log_at parts stripe old there) at) few)
 
-pub lacks_at : {R : Type 0} (weight beside stripe : ℕ) (parts later : ℕ → Option (Shard R)) (old new : Shard R) → parts stripe ≡ Some old → later stripe ≡ Some new → LacksRoom weight beside (shard_log old) (shard_log new)
-    → LacksRoomAt stripe weight beside (logs_of parts) (logs_of later)
-lacks_at {R} weight beside stripe parts later old new there is lacks was now at stands =
-    subst (LacksRoom weight beside was) (some_is (shard_log new) now (logs_of later stripe) (log_at later stripe new is) stands)
-    (subst (λ (p : HybridLog). LacksRoom weight beside p (shard_log new)) (some_is (shard_log old) was (logs_of parts stripe) (log_at parts stripe old there) at) lacks)
+pub lacks_at : {R : Type 0} (weight : ℕ) (purpose : Purpose) (stripe : ℕ) (parts later : ℕ → Option (Shard R)) (old new : Shard R) → parts stripe ≡ Some old → later stripe ≡ Some new → LacksRoom weight purpose (shard_log old) (shard_log new)
+    → LacksRoomAt stripe weight purpose (logs_of parts) (logs_of later)
+lacks_at {R} weight purpose stripe parts later old new there is lacks was now at stands =
+    subst (LacksRoom weight purpose was) (some_is (shard_log new) now (logs_of later stripe) (log_at later stripe new is) stands)
+    (subst (λ (p : HybridLog). LacksRoom weight purpose p (shard_log new)) (some_is (shard_log old) was (logs_of parts stripe) (log_at parts stripe old there) at) lacks)
 
-pub lacks_as : (i j u w beside : ℕ) (before later : ℕ → Option HybridLog) → i ≡ j → u ≡ w → LacksRoomAt i u beside before later → LacksRoomAt j w beside before later
-lacks_as i j u w beside before later same is lacks =
-    subst (λ (k : ℕ). LacksRoomAt j k beside before later) is (subst (λ (k : ℕ). LacksRoomAt k u beside before later) same lacks)
+pub lacks_as : (i j u w : ℕ) (purpose : Purpose) (before later : ℕ → Option HybridLog) → i ≡ j → u ≡ w → LacksRoomAt i u purpose before later → LacksRoomAt j w purpose before later
+lacks_as i j u w purpose before later same is lacks =
+    subst (λ (k : ℕ). LacksRoomAt j k purpose before later) is (subst (λ (k : ℕ). LacksRoomAt k u purpose before later) same lacks)
 
--- the same of the frames that are left beside
-pub left_at : {R : Type 0} (weight beside stripe : ℕ) (parts later : ℕ → Option (Shard R)) (old new : Shard R) → parts stripe ≡ Some old → later stripe ≡ Some new → LeavesFrames weight beside (shard_log old) (shard_log new)
-    → LeavesFramesAt stripe weight beside (logs_of parts) (logs_of later)
-left_at {R} weight beside stripe parts later old new there is left was now at stands =
-    subst (LeavesFrames weight beside was) (some_is (shard_log new) now (logs_of later stripe) (log_at later stripe new is) stands)
-    (subst (λ (p : HybridLog). LeavesFrames weight beside p (shard_log new)) (some_is (shard_log old) was (logs_of parts stripe) (log_at parts stripe old there) at) left)
+-- the same of the frames that are left purpose
+pub left_at : {R : Type 0} (weight : ℕ) (purpose : Purpose) (stripe : ℕ) (parts later : ℕ → Option (Shard R)) (old new : Shard R) → parts stripe ≡ Some old → later stripe ≡ Some new → LeavesFrames weight purpose (shard_log old) (shard_log new)
+    → LeavesFramesAt stripe weight purpose (logs_of parts) (logs_of later)
+left_at {R} weight purpose stripe parts later old new there is left was now at stands =
+    subst (LeavesFrames weight purpose was) (some_is (shard_log new) now (logs_of later stripe) (log_at later stripe new is) stands)
+    (subst (λ (p : HybridLog). LeavesFrames weight purpose p (shard_log new)) (some_is (shard_log old) was (logs_of parts stripe) (log_at parts stripe old there) at) left)
 
-pub left_as : (i j u w beside : ℕ) (before later : ℕ → Option HybridLog) → i ≡ j → u ≡ w → LeavesFramesAt i u beside before later → LeavesFramesAt j w beside before later
-left_as i j u w beside before later same is left =
-    subst (λ (k : ℕ). LeavesFramesAt j k beside before later) is (subst (λ (k : ℕ). LeavesFramesAt k u beside before later) same left)
+pub left_as : (i j u w : ℕ) (purpose : Purpose) (before later : ℕ → Option HybridLog) → i ≡ j → u ≡ w → LeavesFramesAt i u purpose before later → LeavesFramesAt j w purpose before later
+left_as i j u w purpose before later same is left =
+    subst (λ (k : ℕ). LeavesFramesAt j k purpose before later) is (subst (λ (k : ℕ). LeavesFramesAt k u purpose before later) same left)
 
 -- no writes leave any
 pub left_none : (n : ℕ) (ws : List Write) (before later : ℕ → Option HybridLog) → ws ≡ [] → LeaveFrames n ws before later
@@ -98,17 +99,17 @@ left_from n ws old other new same left i some was is at there = left i some was 
 
 -- of so many stripes
 abbrev pub LeftBelow : (n count : ℕ) → List Write → (before later : ℕ → Option HybridLog) → Type 0
-LeftBelow n count ws before later = (i : ℕ) → i < count → 0 < share n i ws → LeavesFramesAt i (share n i ws) (kept_back ws) before later
+LeftBelow n count ws before later = (i : ℕ) → i < count → 0 < share n i ws → LeavesFramesAt i (share n i ws) (purpose_of ws) before later
 
 -- one stripe more has room
-pub left_more : (n i share_is beside : ℕ) (ws : List Write) (start before later : ℕ → Option HybridLog) → share_is ≡ share n i ws → beside ≡ kept_back ws → ((j : ℕ) → i ≤ j → before j ≡ start j)
-    → ((j : ℕ) → j ≢ i → later j ≡ before j) → LeftBelow n i ws start before → (0 < share_is → LeavesFramesAt i share_is beside before later) → LeftBelow n (i + 1) ws start later
-left_more n i share_is beside ws start before later is kept ahead others left one j below some was now at stands = ⊎_elim
+pub left_more : (n i share_is : ℕ) (purpose : Purpose) (ws : List Write) (start before later : ℕ → Option HybridLog) → share_is ≡ share n i ws → purpose ≡ purpose_of ws → ((j : ℕ) → i ≤ j → before j ≡ start j)
+    → ((j : ℕ) → j ≢ i → later j ≡ before j) → LeftBelow n i ws start before → (0 < share_is → LeavesFramesAt i share_is purpose before later) → LeftBelow n (i + 1) ws start later
+left_more n i share_is purpose ws start before later is kept ahead others left one j below some was now at stands = ⊎_elim
     (λ same.
     let here : before j ≡ start j = ahead j (omega (arith, same)) in
     let mine : share_is ≡ share n j ws = is ∙ ap (λ (k : ℕ). share n k ws) (sym same) in
-    subst (λ (k : ℕ). LeavesFrames (share n j ws) k was now) kept
-    (subst (λ (k : ℕ). LeavesFrames k beside was now) mine
+    subst (λ (k : Purpose). LeavesFrames (share n j ws) k was now) kept
+    (subst (λ (k : ℕ). LeavesFrames k purpose was now) mine
     (one (omega (arith, some, mine)) was now (sym (ap before same) ∙ here ∙ at) (sym (ap later same) ∙ stands))))
     (λ ne. left j (omega (arith, below, ne)) some was now at (sym (others j ne) ∙ stands))
     (cases_eq j i)

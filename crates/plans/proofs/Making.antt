@@ -3,10 +3,11 @@ use Rattle.std.proofs.Common.{◌≡◌, ◌∙◌, inl, inr, ℕ, zero, suc, ad
 use Rattle.std.specs.Prelude.{Result, Ok, Err, IfErr}
 use Rattle.words.specs.declared.limits.TheConstants.{WEIGHT_MAX}
 use Rattle.words.specs.Store.{Write, weight}
+use Rattle.hybrid.specs.declared.stripe.room.Purpose.{Purpose}
 use Rattle.hybrid.specs.HybridLog.{HybridLog, Kept}
 use Rattle.plans.specs.declared.stop.Stop.{Stop}
 use Rattle.plans.specs.declared.stop.Stop.TheVariants as stop
-use Rattle.plans.specs.Rooms.{AreRoomy, IsFullAt, LacksRoom, LacksRoomAt, MakesRoom, MeetsFull, RoomAt, ShedFew, ShedsAt, kept_back, share}
+use Rattle.plans.specs.Rooms.{AreRoomy, IsFullAt, LacksRoom, LacksRoomAt, MakesRoom, MeetsFull, RoomAt, ShedFew, ShedsAt, purpose_of, share}
 use Rattle.plans.specs.Stops.{IfCold, IfFull, faults}
 use Rattle.plans.proofs.Few.{few_from}
 
@@ -37,22 +38,22 @@ module _ {D R : Type 0} (wrote : D → List ℕ → R → D → Type 0) (view : 
 
   -- a stripe was met that is full
   pub met_full : (i : ℕ) (ws : List Write) (a b c : ℕ → Option HybridLog) (d e f : D) → weight ws ≤ WEIGHT_MAX → 0 < share n i ws → i < n → MakesRoom wrote view n i ws a d b e
-      → ShedsAt wrote view i b e c f → IsFullAt c i → ShedFew n ws a c → LacksRoomAt i (share n i ws) (kept_back ws) a c → MeetsFull wrote view n i (λ due. due ≡ ws) a d c f
+      → ShedsAt wrote view i b e c f → IsFullAt c i → ShedFew n ws a c → LacksRoomAt i (share n i ws) (purpose_of ws) a c → MeetsFull wrote view n i (λ due. due ≡ ws) a d c f
   met_full i ws a b c d e f light some below made shed full few lacks =
       record { writes = ws; due = refl; light = light; written = some; below = below; made = (b, e, made, inr (some, shed)); full = full; few = few; lacks = lacks }
 
   -- the same of a stop at that stripe
-  pub met_stop : (s : Stop R) (failures : D → ℕ) (i share_is beside : ℕ) (ws : List Write) (a b c : ℕ → Option HybridLog) (d e f : D) → share_is ≡ share n i ws → beside ≡ kept_back ws → weight ws ≤ WEIGHT_MAX → i < n
-      → MakesRoom wrote view n i ws a d b e → b i ≡ a i → ShedFew n ws a c → LacksRoomAt i share_is beside b c → failures f ≡ failures e + faults s
+  pub met_stop : (s : Stop R) (failures : D → ℕ) (i share_is : ℕ) (purpose : Purpose) (ws : List Write) (a b c : ℕ → Option HybridLog) (d e f : D) → share_is ≡ share n i ws → purpose ≡ purpose_of ws → weight ws ≤ WEIGHT_MAX → i < n
+      → MakesRoom wrote view n i ws a d b e → b i ≡ a i → ShedFew n ws a c → LacksRoomAt i share_is purpose b c → failures f ≡ failures e + faults s
       → (0 < share_is → failures f ≡ failures e → ShedsAt wrote view i b e c f) → IfFull s (λ full. (full ≡ i) × (0 < share_is) × IsFullAt c full)
       → IfFull s (λ stripe. MeetsFull wrote view n stripe (λ due. due ≡ ws) a d c f)
-  met_stop stop.OutOfMemory failures i share_is beside ws a b c d e f is left light below made same few lacks counted shed full = tt
-  met_stop stop.DeviceFault failures i share_is beside ws a b c d e f is left light below made same few lacks counted shed full = tt
-  met_stop (stop.Cold receipts) failures i share_is beside ws a b c d e f is left light below made same few lacks counted shed full = tt
-  met_stop (stop.StoreFull j) failures i share_is beside ws a b c d e f is left light below made same few lacks counted shed full =
+  met_stop stop.OutOfMemory failures i share_is purpose ws a b c d e f is left light below made same few lacks counted shed full = tt
+  met_stop stop.DeviceFault failures i share_is purpose ws a b c d e f is left light below made same few lacks counted shed full = tt
+  met_stop (stop.Cold receipts) failures i share_is purpose ws a b c d e f is left light below made same few lacks counted shed full = tt
+  met_stop (stop.StoreFull j) failures i share_is purpose ws a b c d e f is left light below made same few lacks counted shed full =
       subst (λ (k : ℕ). MeetsFull wrote view n k (λ due. due ≡ ws) a d c f) (sym full.0)
       (met_full i ws a b c d e f light (omega (arith, full.1, is)) below made (shed full.1 (omega (arith, counted))) (subst (IsFullAt c) full.0 full.2) few
-      (λ was now at there. subst (λ (k : ℕ). LacksRoom (share n i ws) k was now) left (subst (λ (k : ℕ). LacksRoom k beside was now) is (lacks was now (same ∙ at) there))))
+      (λ was now at there. subst (λ (k : Purpose). LacksRoom (share n i ws) k was now) left (subst (λ (k : ℕ). LacksRoom k purpose was now) is (lacks was now (same ∙ at) there))))
 
   -- what is due, said otherwise
   pub met_as : (i : ℕ) (One Other : List Write → Type 0) (a c : ℕ → Option HybridLog) (d f : D) → ((ws : List Write) → weight ws ≤ WEIGHT_MAX → One ws → Other ws) → MeetsFull wrote view n i One a d c f

@@ -5,9 +5,11 @@ use Rattle.words.specs.declared.limits.TheConstants.{WEIGHT_MAX}
 use Rattle.words.specs.Store.{Write, writes_key, weight}
 use Rattle.words.specs.Stripes.{stripe_of}
 use Rattle.frames.specs.Resident.{next_number}
-use Rattle.hybrid.specs.declared.stripe.TheConstants.{CLEAN_PAGES, LAST_PAGE}
-use Rattle.hybrid.specs.HybridLog.{HybridLog, HasRoom, IsGrown, Kept, frames_for, free, pages_for, receipt_of}
-use Rattle.hybrid.specs.Reserving.{IsFull, IsReserved, KeepsBack}
+use Rattle.hybrid.specs.declared.stripe.TheConstants.{LAST_PAGE}
+use Rattle.hybrid.specs.HybridLog.{HybridLog, HasRoom, IsGrown, Kept, expected, free, pages_for, receipt_of}
+use Rattle.hybrid.specs.declared.stripe.room.Purpose.{Purpose}
+use Rattle.hybrid.specs.declared.stripe.room.Purpose.TheVariants as purpose
+use Rattle.hybrid.specs.Reserving.{IsFull, IsReserved, KeepsBack, KeepsSpare, beside, frames_for, spare}
 use Rattle.hybrid.specs.Shedding.{HasShed}
 use Rattle.plans.specs.Shards.{weigh}
 
@@ -41,37 +43,37 @@ pub record GrowsAt (stripe weight : ℕ) (before later : ℕ → Option HybridLo
   pub grown : IsGrown old new weight
   pub others : (other : ℕ) → other ≢ stripe → later other ≡ before other
 
--- The frames that writes leave beside their own, near the limit of places: those that what lives in one page can open by its weight, so that
--- the page can be cleaned; and one more, which deletions may take, where a value is written.
-abbrev pub kept_back : List Write → ℕ
-kept_back [] = CLEAN_PAGES
-kept_back (write ∷ writes) = if is_some write.1 then CLEAN_PAGES + 1 else kept_back writes
+-- For what room is made: deletions alone, or writes of which one at least gives a value.
+abbrev pub purpose_of : List Write → Purpose
+purpose_of [] = purpose.Delete
+purpose_of (write ∷ writes) = if is_some write.1 then purpose.Write else purpose_of writes
 
--- pages of the log have left their frames, no more than writes of this weight want that leave so many frames `beside` their own
-pub record ShedsFew (weight beside : ℕ) (old new : HybridLog) : Type 0 where
+-- pages of the log have left their frames, no more than writes of this weight want for this purpose
+pub record ShedsFew (weight : ℕ) (purpose : Purpose) (old new : HybridLog) : Type 0 where
   pub count : ℕ
   pub reserved : IsReserved old new count
-  pub few : count ≤ frames_for old weight beside - free old
+  pub few : count ≤ frames_for old weight purpose - free old
 
--- There may be no room for writes of this weight that leave so many frames `beside` their own: they may open a page, for which too few frames are
--- free, and no page may leave its frame, or be opened.
-pub record LacksRoom (weight beside : ℕ) (old new : HybridLog) : Type 0 where
-  pub wanted : 0 < pages_for old weight
-  pub lacks : (LAST_PAGE < next_number new.resident) ⊎ ((receipt_of new new.resident.oldest ≡ None) × (free new < frames_for old weight beside))
+-- There may be no room for writes of this weight, for this purpose: they may open a page, or fewer frames are expected than they leave; too few
+-- frames are free for that, and no page may leave its frame, or be opened.
+pub record LacksRoom (weight : ℕ) (purpose : Purpose) (old new : HybridLog) : Type 0 where
+  pub wanted : (0 < pages_for old weight) ⊎ (expected old < spare purpose)
+  pub lacks : (LAST_PAGE < next_number new.resident) ⊎ ((receipt_of new new.resident.oldest ≡ None) × (free new < frames_for old weight purpose))
 
--- where writes of this weight can open a page, so many frames are left `beside` their own
-abbrev pub LeavesFrames : (weight beside : ℕ) → (old new : HybridLog) → Type 0
-LeavesFrames weight beside old new = 0 < pages_for old weight → KeepsBack new (pages_for old weight) beside
+-- The frames of the purpose are left: beside the pages that writes of this weight can open, or where they fit into the tail page.
+pub record LeavesFrames (weight : ℕ) (purpose : Purpose) (old new : HybridLog) : Type 0 where
+  pub opening : 0 < pages_for old weight → KeepsBack new (pages_for old weight) (beside purpose)
+  pub fitting : pages_for old weight ≡ 0 → KeepsSpare new (spare purpose)
 
 -- the same of the log of a stripe
-abbrev pub ShedsFewAt : (stripe weight beside : ℕ) → (before later : ℕ → Option HybridLog) → Type 0
-ShedsFewAt stripe weight beside before later = (old new : HybridLog) → before stripe ≡ Some old → later stripe ≡ Some new → ShedsFew weight beside old new
+abbrev pub ShedsFewAt : (stripe weight : ℕ) → Purpose → (before later : ℕ → Option HybridLog) → Type 0
+ShedsFewAt stripe weight purpose before later = (old new : HybridLog) → before stripe ≡ Some old → later stripe ≡ Some new → ShedsFew weight purpose old new
 
-abbrev pub LacksRoomAt : (stripe weight beside : ℕ) → (before later : ℕ → Option HybridLog) → Type 0
-LacksRoomAt stripe weight beside before later = (old new : HybridLog) → before stripe ≡ Some old → later stripe ≡ Some new → LacksRoom weight beside old new
+abbrev pub LacksRoomAt : (stripe weight : ℕ) → Purpose → (before later : ℕ → Option HybridLog) → Type 0
+LacksRoomAt stripe weight purpose before later = (old new : HybridLog) → before stripe ≡ Some old → later stripe ≡ Some new → LacksRoom weight purpose old new
 
-abbrev pub LeavesFramesAt : (stripe weight beside : ℕ) → (before later : ℕ → Option HybridLog) → Type 0
-LeavesFramesAt stripe weight beside before later = (old new : HybridLog) → before stripe ≡ Some old → later stripe ≡ Some new → LeavesFrames weight beside old new
+abbrev pub LeavesFramesAt : (stripe weight : ℕ) → Purpose → (before later : ℕ → Option HybridLog) → Type 0
+LeavesFramesAt stripe weight purpose before later = (old new : HybridLog) → before stripe ≡ Some old → later stripe ≡ Some new → LeavesFrames weight purpose old new
 
 -- each stripe has room for its share of the writes, if it has one
 abbrev pub AreRoomy : ℕ → (ℕ → Option HybridLog) → List Write → Type 0
@@ -84,11 +86,11 @@ pub record HaveGrown (n : ℕ) (writes : List Write) (before later : ℕ → Opt
 
 -- of each log no more pages have left their frames than its share of the writes wants
 abbrev pub ShedFew : ℕ → List Write → (before later : ℕ → Option HybridLog) → Type 0
-ShedFew n writes before later = (i : ℕ) → ShedsFewAt i (share n i writes) (kept_back writes) before later
+ShedFew n writes before later = (i : ℕ) → ShedsFewAt i (share n i writes) (purpose_of writes) before later
 
 -- each log that has a share of the writes has the frames that they leave
 abbrev pub LeaveFrames : ℕ → List Write → (before later : ℕ → Option HybridLog) → Type 0
-LeaveFrames n writes before later = (i : ℕ) → 0 < share n i writes → LeavesFramesAt i (share n i writes) (kept_back writes) before later
+LeaveFrames n writes before later = (i : ℕ) → 0 < share n i writes → LeavesFramesAt i (share n i writes) (purpose_of writes) before later
 
 -- `wrote` is the device's: what a write of a page that gave a receipt makes of it. `view` shows a receipt.
 module _ {D R : Type 0} (wrote : D → List ℕ → R → D → Type 0) (view : R → Kept) where
@@ -122,4 +124,4 @@ module _ {D R : Type 0} (wrote : D → List ℕ → R → D → Type 0) (view : 
     pub made : MakesRoom n (suc stripe) writes old before new after
     pub full : IsFullAt new stripe
     pub few : ShedFew n writes old new
-    pub lacks : LacksRoomAt stripe (share n stripe writes) (kept_back writes) old new
+    pub lacks : LacksRoomAt stripe (share n stripe writes) (purpose_of writes) old new

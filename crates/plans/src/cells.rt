@@ -7,7 +7,6 @@ ghost use Rattle.words.specs.Answers as answering;
 ghost use Rattle.words.specs.Commands.{IsInline};
 ghost use Rattle.words.specs.Stripes as striping;
 ghost use Rattle.strings.specs.declared.writes.TheConstants.{WRITES_INLINE};
-ghost use Rattle.hybrid.specs.declared.stripe.TheConstants.{CLEAN_PAGES};
 ghost use Rattle.hybrid.specs.HybridLog.{Kept, IsGrown};
 ghost use Rattle.hybrid.specs.Reserving.{MatchFault};
 ghost use Rattle.hybrid.specs.Staging.{AreRight, IsMissing};
@@ -24,7 +23,7 @@ use crate::shard::Shard;
 use crate::stop::{Receipts, Stop};
 use device::{Device, Shows};
 use gates::Parts;
-use hybrid::{Fault, Lookup, Staged};
+use hybrid::{Fault, Lookup, Purpose, Staged};
 use std::alloc::Global;
 use strings::writes::{Write, Writes};
 use words::hash::stripe_of;
@@ -189,34 +188,33 @@ pub(crate) fn is_marked<R: Shows, P: Parts<Shard<R>>>(
     parts.part(stripe).mark(key, seat).unwrap_or(false)
 }
 
-/// Makes room in a stripe for writes that leave so many frames `beside` their own. What keys have and all marks stay, and so do the logs of other stripes.
+/// Makes room in a stripe for writes. What keys have and all marks stay, and so do the logs of other stripes.
 pub(crate) fn reserve_at<R: Shows, D: Device<Receipt = R>, P: Parts<Shard<R>>>(
     parts: &mut P,
     stripes: usize,
     stripe: usize,
     weight: usize,
-    beside: usize,
+    purpose: Purpose,
     device: &mut D,
 ) -> Result<(), Fault>
     requires open { P.is_open parts.old }
     requires there { IsSome (P.part_of parts.old stripe) }
     requires light { weight ≤ WEIGHT_MAX }
-    requires few { beside ≤ CLEAN_PAGES + 1 }
     ensures became { Became (shard_meaning R.is_steady) stripes [] stays (P.part_of parts.old) (P.part_of parts.new) }
     ensures room { OnOk result (IsRoomyAt (logs_of (P.part_of parts.new)) stripe weight) }
     ensures shed { D.failures device.new ≡ D.failures device.old → ShedsAt D.wrote (kept_by R.identity R.shown) stripe (logs_of (P.part_of parts.old)) device.old (logs_of (P.part_of parts.new)) device.new }
     ensures others { (other : ℕ) → other ≢ stripe → logs_of (P.part_of parts.new) other ≡ logs_of (P.part_of parts.old) other }
     ensures fault { IfErr result (λ fault. MatchFault fault (D.failures device.new ≡ D.failures device.old + 1) (IsFullAt (logs_of (P.part_of parts.new)) stripe × (D.failures device.new ≡ D.failures device.old))) }
-    ensures few { ShedsFewAt stripe weight beside (logs_of (P.part_of parts.old)) (logs_of (P.part_of parts.new)) }
-    ensures lacks { OnErr result (LacksRoomAt stripe weight beside (logs_of (P.part_of parts.old)) (logs_of (P.part_of parts.new))) }
-    ensures kept { OnOk result (LeavesFramesAt stripe weight beside (logs_of (P.part_of parts.old)) (logs_of (P.part_of parts.new))) }
+    ensures few { ShedsFewAt stripe weight purpose (logs_of (P.part_of parts.old)) (logs_of (P.part_of parts.new)) }
+    ensures lacks { OnErr result (LacksRoomAt stripe weight purpose (logs_of (P.part_of parts.old)) (logs_of (P.part_of parts.new))) }
+    ensures kept { OnOk result (LeavesFramesAt stripe weight purpose (logs_of (P.part_of parts.old)) (logs_of (P.part_of parts.new))) }
     ensures device { StillServes D.serves D.releases device.old device.new }
     ensures no_fault { OnOk result (D.failures device.new ≡ D.failures device.old) }
     ensures waits { SameWaits (P.part_of parts.old) (P.part_of parts.new) }
     ensures open { P.is_open parts.new }
     ensures keeps { P.keeps parts.old parts.new }
 {
-    parts.part(stripe).reserve(weight, beside, device)
+    parts.part(stripe).reserve(weight, purpose, device)
 }
 
 /// Writes a key for which there is room.

@@ -21,7 +21,7 @@ use device::{Device, Shows};
 use epoch::{EpochSeat, Epochs};
 use gates::Refused;
 use hybrid::laws::reading_ends;
-use hybrid::{CLEAN_WEIGHT, ReadFault, Room, Staged, Stripe, Weighed};
+use hybrid::{CLEAN_WEIGHT, Purpose, ReadFault, Room, Staged, Stripe, Weighed};
 use words::reply::Fault;
 
 /// What the cleaner's step came to.
@@ -152,7 +152,7 @@ impl<R: Shows> Shard<R> {
         }
     }
 
-    /// Makes room for writes of this weight. It may take the frames that calls leave beside their own.
+    /// Makes room for writes of this weight. It may take the frames that calls leave for it.
     fn make_room<D: Device<Receipt = R>>(
         &mut self,
         weight: usize,
@@ -169,7 +169,7 @@ impl<R: Shows> Shard<R> {
         ensures fault { IfErr result (λ fault. MatchFault fault ⊥ (D.failures device.new ≡ D.failures device.old + 1) (pages.IsFull (shard_pages self.new) × (D.failures device.new ≡ D.failures device.old))) }
         ensures no_fault { OnOk result (D.failures device.new ≡ D.failures device.old) }
     {
-        match self.log.reserve(weight, 0, device) {
+        match self.log.reserve(weight, Purpose::Clean, device) {
             Ok(()) => Ok(()),
             Err(hybrid::Fault::DeviceFault) => Err(Fault::DeviceFault),
             Err(hybrid::Fault::StoreFull) => Err(Fault::StoreFull),

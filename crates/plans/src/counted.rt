@@ -6,11 +6,11 @@ ghost use Rattle.std.specs.Bool.{OnTrue, OnFalse};
 ghost use Rattle.std.specs.Str.{bytes_eq};
 ghost use Rattle.words.specs.declared.limits.TheConstants.{WEIGHT_MAX};
 ghost use Rattle.frames.specs.Resident.{next_number};
-ghost use Rattle.hybrid.specs.declared.stripe.TheConstants.{CLEAN_PAGES, CLEAN_WEIGHT, LAST_PAGE};
+ghost use Rattle.hybrid.specs.declared.stripe.TheConstants.{CLEAN_WEIGHT, LAST_PAGE};
 ghost use Rattle.hybrid.specs.Weighing.{oldest_weight};
-ghost use Rattle.hybrid.specs.HybridLog.{HasRoom, IsGrown, IsSealed, empty_log, frames_for, free, log_of, pages_for, receipt_of, with_dropped};
+ghost use Rattle.hybrid.specs.HybridLog.{HasRoom, IsGrown, IsSealed, empty_log, expected, free, log_of, pages_for, receipt_of, with_dropped};
 ghost use Rattle.hybrid.specs.Log.{Fits, contents};
-ghost use Rattle.hybrid.specs.Reserving.{IsFull, IsReserved, KeepsBack, MatchFault};
+ghost use Rattle.hybrid.specs.Reserving.{IsFull, IsReserved, KeepsBack, KeepsSpare, MatchFault, beside, frames_for, spare};
 ghost use Rattle.hybrid.specs.Shedding.{HasShed};
 ghost use Rattle.hybrid.specs.Writing.{IsWritten, write_weight};
 ghost use Rattle.hybrid.specs.Staging.{AreRight, IsCleaned, IsMissing, IsUnlinked};
@@ -21,7 +21,7 @@ ghost use Rattle.plans.specs.Receipts.{kept_by};
 
 use device::{Device, Releasable, Shows};
 use epoch::{EpochSeat, Epochs, Retired};
-use hybrid::{Cleaned, Fault, Room, Staged, Stripe, Write};
+use hybrid::{Cleaned, Fault, Purpose, Room, Staged, Stripe, Write};
 use records::Page;
 use std::alloc::Global;
 use std::collections::VecDeque;
@@ -126,7 +126,7 @@ impl<R: Shows> CountedLog<R> {
         &self.stripe
     }
 
-    /// Makes room for writes of this weight that leave so many frames `beside` their own, as [`Stripe::reserve`] does.
+    /// Makes room for writes of this weight, as [`Stripe::reserve`] does.
     ///
     /// # Errors
     ///
@@ -134,11 +134,10 @@ impl<R: Shows> CountedLog<R> {
     pub fn reserve<D: Device<Receipt = R>>(
         &mut self,
         weight: usize,
-        beside: usize,
+        purpose: Purpose,
         device: &mut D,
     ) -> Result<(), Fault>
         requires light { weight ≤ WEIGHT_MAX }
-        requires few { beside ≤ CLEAN_PAGES + 1 }
         ensures room { OnOk result (HasRoom self.new.log weight) }
         ensures log { log_of self.new.log ≡ log_of self.old.log }
         ensures in_flight { self.new.in_flight ≡ self.old.in_flight }
@@ -147,16 +146,17 @@ impl<R: Shows> CountedLog<R> {
         ensures drained { self.new.drained ≡ self.old.drained }
         ensures refusals { self.new.refusals ≡ self.old.refusals }
         ensures shed { D.failures device.new ≡ D.failures device.old → HasShed D.wrote (kept_by R.identity R.shown) self.old.log device.old self.new.log device.new }
-        ensures reserved { (count : ℕ) × IsReserved self.old.log self.new.log count × (count ≤ frames_for self.old.log weight beside - free self.old.log) }
+        ensures reserved { (count : ℕ) × IsReserved self.old.log self.new.log count × (count ≤ frames_for self.old.log weight purpose - free self.old.log) }
         ensures fault { IfErr result (λ fault. MatchFault fault (D.failures device.new ≡ D.failures device.old + 1) (IsFull self.new.log × (D.failures device.new ≡ D.failures device.old))) }
         ensures no_fault { OnOk result (D.failures device.new ≡ D.failures device.old) }
-        ensures needed { OnErr result (0 < pages_for self.old.log weight) }
-        ensures needful { OnErr result ((LAST_PAGE < next_number self.new.log.resident) ⊎ ((receipt_of self.new.log self.new.log.resident.oldest ≡ None) × (free self.new.log < frames_for self.old.log weight beside))) }
-        ensures kept { OnOk result (0 < pages_for self.old.log weight → KeepsBack self.new.log (pages_for self.old.log weight) beside) }
+        ensures needed { OnErr result ((0 < pages_for self.old.log weight) ⊎ (expected self.old.log < spare purpose)) }
+        ensures needful { OnErr result ((LAST_PAGE < next_number self.new.log.resident) ⊎ ((receipt_of self.new.log self.new.log.resident.oldest ≡ None) × (free self.new.log < frames_for self.old.log weight purpose))) }
+        ensures kept { OnOk result (0 < pages_for self.old.log weight → KeepsBack self.new.log (pages_for self.old.log weight) (beside purpose)) }
+        ensures spared { OnOk result (pages_for self.old.log weight ≡ 0 → KeepsSpare self.new.log (spare purpose)) }
         ensures no_release { D.releases device.new ≡ D.releases device.old }
         ensures still_served { (r : R) → D.serves device.old r → D.serves device.new r }
     {
-        self.stripe.reserve(weight, beside, device)?;
+        self.stripe.reserve(weight, purpose, device)?;
         Ok(())
     }
 

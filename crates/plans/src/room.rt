@@ -3,11 +3,10 @@
 ghost use Rattle.std.specs.Prelude.{◌≡◌, ◌≢◌, ◌+◌, ◌<◌, ◌≤◌, [], ℕ, IsSome, IfErr, OnErr, OnOk, slice_index, ◌∷◌, if◌then◌else◌};
 ghost use Rattle.words.specs.Store.{weight, writes_key};
 ghost use Rattle.words.specs.declared.limits.TheConstants.{WEIGHT_MAX};
-ghost use Rattle.hybrid.specs.declared.stripe.TheConstants.{CLEAN_PAGES};
 ghost use Rattle.transact.specs.Tables.{AreThere, Became, keys_written, stays};
 ghost use Rattle.plans.specs.Devices.{StillServes};
 ghost use Rattle.plans.specs.Receipts.{kept_by};
-ghost use Rattle.plans.specs.Rooms.{AreRoomy, IsFullAt, IsRoomyAt, LacksRoomAt, LeaveFrames, LeavesFramesAt, MakesRoom, MeetsFull, ShedFew, ShedsAt, ShedsFewAt, kept_back, share};
+ghost use Rattle.plans.specs.Rooms.{AreRoomy, IsFullAt, IsRoomyAt, LacksRoomAt, LeaveFrames, LeavesFramesAt, MakesRoom, MeetsFull, ShedFew, ShedsAt, ShedsFewAt, purpose_of, share};
 ghost use Rattle.plans.specs.Shards.{SameWaits, logs_of, shard_meaning, weigh};
 ghost use Rattle.plans.specs.Stops.{IfCold, IfFull, IfNoMemory, faults};
 
@@ -16,7 +15,7 @@ use crate::shard::Shard;
 use crate::stop::Stop;
 use device::{Device, Shows};
 use gates::Parts;
-use hybrid::{CLEAN_PAGES, Fault};
+use hybrid::{Fault, Purpose};
 use strings::writes::{Write, writes_to};
 use words::hash::stripe_of;
 use words::limits::WEIGHT_OF_KEY;
@@ -61,42 +60,39 @@ fn shares_of(writes: &[Write], stripes: usize) -> [usize; 64]
     shares
 }
 
-/// The frames that writes leave beside their own, near the limit of places: those that what lives in one page can open, so
-/// that the page can be cleaned; and one more, which deletions may take, where a value is written.
-fn kept_back(writes: &[Write]) -> usize
-    ensures frames { result ≡ kept_back writes.now }
-    ensures few { result ≤ CLEAN_PAGES + 1 }
+/// For what room is made: deletions alone, or writes of which one at least gives a value.
+fn purpose_of(writes: &[Write]) -> Purpose
+    ensures { result ≡ purpose_of writes.now }
 {
     for write in writes {
         if write.value().is_some() {
-            return CLEAN_PAGES + 1;
+            return Purpose::Write;
         }
     }
-    CLEAN_PAGES
+    Purpose::Delete
 }
 
-/// Makes room in a stripe for its share of writes, if it has one. They leave so many frames `beside` their own.
+/// Makes room in a stripe for its share of writes, if it has one.
 fn reserve_share<R: Shows, D: Device<Receipt = R>, P: Parts<Shard<R>>>(
     parts: &mut P,
     stripes: usize,
     stripe: usize,
     share: usize,
-    beside: usize,
+    purpose: Purpose,
     device: &mut D,
 ) -> Result<(), Stop<R>>
     requires open { P.is_open parts.old }
     requires there { 0 < share → IsSome (P.part_of parts.old stripe) }
     requires light { share ≤ WEIGHT_MAX }
-    requires few { beside ≤ CLEAN_PAGES + 1 }
     ensures became { Became (shard_meaning R.is_steady) stripes [] stays (P.part_of parts.old) (P.part_of parts.new) }
     ensures room { OnOk result (0 < share → IsRoomyAt (logs_of (P.part_of parts.new)) stripe share) }
     ensures others { (other : ℕ) → other ≢ stripe → logs_of (P.part_of parts.new) other ≡ logs_of (P.part_of parts.old) other }
     ensures needless { share ≡ 0 → (P.part_of parts.new ≡ P.part_of parts.old) × (device.new ≡ device.old) }
     ensures shed { 0 < share → D.failures device.new ≡ D.failures device.old → ShedsAt D.wrote (kept_by R.identity R.shown) stripe (logs_of (P.part_of parts.old)) device.old (logs_of (P.part_of parts.new)) device.new }
     ensures full { IfErr result (λ stop. IfFull stop (λ full. (full ≡ stripe) × (0 < share) × IsFullAt (logs_of (P.part_of parts.new)) full)) }
-    ensures few { ShedsFewAt stripe share beside (logs_of (P.part_of parts.old)) (logs_of (P.part_of parts.new)) }
-    ensures lacks { OnErr result (LacksRoomAt stripe share beside (logs_of (P.part_of parts.old)) (logs_of (P.part_of parts.new))) }
-    ensures kept { OnOk result (0 < share → LeavesFramesAt stripe share beside (logs_of (P.part_of parts.old)) (logs_of (P.part_of parts.new))) }
+    ensures few { ShedsFewAt stripe share purpose (logs_of (P.part_of parts.old)) (logs_of (P.part_of parts.new)) }
+    ensures lacks { OnErr result (LacksRoomAt stripe share purpose (logs_of (P.part_of parts.old)) (logs_of (P.part_of parts.new))) }
+    ensures kept { OnOk result (0 < share → LeavesFramesAt stripe share purpose (logs_of (P.part_of parts.old)) (logs_of (P.part_of parts.new))) }
     ensures device { StillServes D.serves D.releases device.old device.new }
     ensures never_cold { IfErr result (λ stop. IfCold stop (λ receipts. ⊥)) }
     ensures memory { IfErr result (λ stop. IfNoMemory stop ⊥) }
@@ -109,7 +105,7 @@ fn reserve_share<R: Shows, D: Device<Receipt = R>, P: Parts<Shard<R>>>(
     if share == 0 {
         return Ok(());
     }
-    match reserve_at(parts, stripes, stripe, share, beside, device) {
+    match reserve_at(parts, stripes, stripe, share, purpose, device) {
         Ok(()) => Ok(()),
         Err(Fault::DeviceFault) => Err(Stop::DeviceFault),
         Err(Fault::StoreFull) => Err(Stop::StoreFull(stripe)),
@@ -144,9 +140,9 @@ pub(crate) fn reserve_all<R: Shows, D: Device<Receipt = R>, P: Parts<Shard<R>>>(
     ensures keeps { P.keeps parts.old parts.new }
 {
     let shares = shares_of(writes, stripes);
-    let beside = kept_back(writes);
+    let purpose = purpose_of(writes);
     for stripe in 0..stripes {
-        reserve_share(parts, stripes, stripe, shares[stripe], beside, device)?;
+        reserve_share(parts, stripes, stripe, shares[stripe], purpose, device)?;
     }
     Ok(())
 }

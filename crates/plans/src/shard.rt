@@ -14,7 +14,6 @@ ghost use Rattle.gates.specs.Pages as pages;
 ghost use Rattle.gates.specs.declared.view.Work.TheVariants.{Clean, Evict, Flush};
 ghost use Rattle.gates.specs.declared.view.Refused.{Refused};
 ghost use Rattle.watch.specs.Marked.{are_these, begun_if, cleared};
-ghost use Rattle.hybrid.specs.declared.stripe.TheConstants.{CLEAN_PAGES};
 ghost use Rattle.hybrid.specs.HybridLog.{HasRoom, IsGrown, empty_log, receipt_at, IsSealed, receipt_of, with_dropped};
 ghost use Rattle.hybrid.specs.Lookups.{Leads, MatchLookup};
 ghost use Rattle.hybrid.specs.Reserving.{IsFull, MatchFault};
@@ -32,7 +31,7 @@ use crate::counted::{Begun, CountedLog, Moved};
 use device::{Device, Shows};
 use epoch::{EpochSeat, Epochs};
 use gates::Part;
-use hybrid::{Fault, Lookup, Staged};
+use hybrid::{Fault, Lookup, Purpose, Staged};
 use records::Page;
 use std::alloc::Global;
 use strings::writes::Write;
@@ -146,8 +145,7 @@ impl<R: Shows> Shard<R> {
         self.log.stripe().receipt(number)
     }
 
-    /// Makes room for writes of this weight that leave so many frames `beside` their own: flushes and drops pages. What keys
-    /// have and marks stay.
+    /// Makes room for writes of this weight: flushes and drops pages. What keys have and marks stay.
     ///
     /// # Errors
     ///
@@ -156,24 +154,23 @@ impl<R: Shows> Shard<R> {
     pub fn reserve<D: Device<Receipt = R>>(
         &mut self,
         weight: usize,
-        beside: usize,
+        purpose: Purpose,
         device: &mut D,
     ) -> Result<(), Fault>
         requires light { weight ≤ WEIGHT_MAX }
-        requires few { beside ≤ CLEAN_PAGES + 1 }
         ensures store { shard_store self.new ≡ shard_store self.old }
         ensures marks { shard_marks self.new ≡ shard_marks self.old }
         ensures waits { shard_waiting self.new ≡ shard_waiting self.old }
         ensures room { OnOk result (HasRoom (shard_log self.new) weight) }
         ensures shed { D.failures device.new ≡ D.failures device.old → HasShed D.wrote (kept_by R.identity R.shown) (shard_log self.old) device.old (shard_log self.new) device.new }
         ensures fault { IfErr result (λ fault. MatchFault fault (D.failures device.new ≡ D.failures device.old + 1) (IsFull (shard_log self.new) × (D.failures device.new ≡ D.failures device.old))) }
-        ensures few { ShedsFew weight beside (shard_log self.old) (shard_log self.new) }
-        ensures lacks { OnErr result (LacksRoom weight beside (shard_log self.old) (shard_log self.new)) }
-        ensures kept { OnOk result (LeavesFrames weight beside (shard_log self.old) (shard_log self.new)) }
+        ensures few { ShedsFew weight purpose (shard_log self.old) (shard_log self.new) }
+        ensures lacks { OnErr result (LacksRoom weight purpose (shard_log self.old) (shard_log self.new)) }
+        ensures kept { OnOk result (LeavesFrames weight purpose (shard_log self.old) (shard_log self.new)) }
         ensures device { StillServes D.serves D.releases device.old device.new }
         ensures no_fault { OnOk result (D.failures device.new ≡ D.failures device.old) }
     {
-        self.log.reserve(weight, beside, device)
+        self.log.reserve(weight, purpose, device)
     }
 
     /// Writes a key, for which there is room: its value is this, or none, and its marks are touched. It takes no

@@ -9,7 +9,7 @@ ghost use Rattle.words.specs.declared.word.TheConstants.{WORD_INLINE};
 ghost use Rattle.words.specs.History.{History, after};
 ghost use Rattle.words.specs.Session.{value_reply};
 ghost use Rattle.words.specs.Stripes as striping;
-ghost use Rattle.hybrid.specs.declared.stripe.TheConstants.{CLEAN_PAGES};
+ghost use Rattle.hybrid.specs.declared.stripe.room.Purpose.TheVariants as purpose;
 ghost use Rattle.hybrid.specs.Log.{Fits};
 ghost use Rattle.hybrid.specs.Staging.{AreRight};
 ghost use Rattle.transact.specs.Plans.{IsPlan};
@@ -27,7 +27,7 @@ use crate::shard::Shard;
 use crate::stop::Stop;
 use device::{Device, Shows};
 use gates::Parts;
-use hybrid::{CLEAN_PAGES, Fault, Staged};
+use hybrid::{Fault, Purpose, Staged};
 use std::alloc::Global;
 use words::limits::WEIGHT_OF_KEY;
 use words::word::Word;
@@ -64,7 +64,7 @@ pub fn value_of<R: Shows, P: Parts<Shard<R>>>(
     cells::value_of(alloc, parts, stripes, key, staged)
 }
 
-/// Makes room for a SET without an option, which leaves as many frames beside its own as any call that writes a value. What keys have and all marks stay. It takes no memory.
+/// Makes room for a SET without an option. What keys have and all marks stay. It takes no memory.
 ///
 /// # Errors
 ///
@@ -85,9 +85,9 @@ pub fn reserve_set<R: Shows, D: Device<Receipt = R>, P: Parts<Shard<R>>>(
     ensures room { OnOk result (IsRoomyAt (logs_of (P.part_of parts.new)) (striping.stripe_of stripes key.now) (weigh (key.now, Some value.now))) }
     ensures shed { D.failures device.new ≡ D.failures device.old → ShedsAt D.wrote (kept_by R.identity R.shown) (striping.stripe_of stripes key.now) (logs_of (P.part_of parts.old)) device.old (logs_of (P.part_of parts.new)) device.new }
     ensures full { IfErr result (λ stop. IfFull stop (λ stripe. (stripe ≡ striping.stripe_of stripes key.now) × IsFullAt (logs_of (P.part_of parts.new)) stripe)) }
-    ensures few { ShedsFewAt (striping.stripe_of stripes key.now) (weigh (key.now, Some value.now)) (CLEAN_PAGES + 1) (logs_of (P.part_of parts.old)) (logs_of (P.part_of parts.new)) }
-    ensures lacks { OnErr result (LacksRoomAt (striping.stripe_of stripes key.now) (weigh (key.now, Some value.now)) (CLEAN_PAGES + 1) (logs_of (P.part_of parts.old)) (logs_of (P.part_of parts.new))) }
-    ensures kept { OnOk result (LeavesFramesAt (striping.stripe_of stripes key.now) (weigh (key.now, Some value.now)) (CLEAN_PAGES + 1) (logs_of (P.part_of parts.old)) (logs_of (P.part_of parts.new))) }
+    ensures few { ShedsFewAt (striping.stripe_of stripes key.now) (weigh (key.now, Some value.now)) purpose.Write (logs_of (P.part_of parts.old)) (logs_of (P.part_of parts.new)) }
+    ensures lacks { OnErr result (LacksRoomAt (striping.stripe_of stripes key.now) (weigh (key.now, Some value.now)) purpose.Write (logs_of (P.part_of parts.old)) (logs_of (P.part_of parts.new))) }
+    ensures kept { OnOk result (LeavesFramesAt (striping.stripe_of stripes key.now) (weigh (key.now, Some value.now)) purpose.Write (logs_of (P.part_of parts.old)) (logs_of (P.part_of parts.new))) }
     ensures others { (other : ℕ) → other ≢ striping.stripe_of stripes key.now → logs_of (P.part_of parts.new) other ≡ logs_of (P.part_of parts.old) other }
     ensures device { StillServes D.serves D.releases device.old device.new }
     ensures never_cold { IfErr result (λ stop. IfCold stop (λ receipts. ⊥)) }
@@ -99,7 +99,7 @@ pub fn reserve_set<R: Shows, D: Device<Receipt = R>, P: Parts<Shard<R>>>(
 {
     let stripe = stripe_in(&*parts, stripes, key);
     let weight = WEIGHT_OF_KEY + key.len() + value.len();
-    match reserve_at(parts, stripes, stripe, weight, CLEAN_PAGES + 1, device) {
+    match reserve_at(parts, stripes, stripe, weight, Purpose::Write, device) {
         Ok(()) => Ok(()),
         Err(Fault::DeviceFault) => Err(Stop::DeviceFault),
         Err(Fault::StoreFull) => Err(Stop::StoreFull(stripe)),

@@ -7,7 +7,7 @@ use super::*;
 use crate::laws::reads_change_no_place;
 use device::{Device, Shows};
 use hybrid::laws::growth_adds_up;
-use hybrid::{Lookup, Staged};
+use hybrid::{Lookup, Purpose, Staged};
 use records::{KEY_BYTES_MAX, Page};
 use std::alloc::Global;
 use std::process::Abort;
@@ -37,7 +37,7 @@ fn set(log: &mut WorldLog, key: &Word, value: &Word) -> Result<(), Stopped>
     }
     let lane = &mut log.stripes.lanes[0];
     let weight = WEIGHT_OF_KEY + key.len() + value.len();
-    let Ok(()) = lane.shard.reserve(weight, 0, &mut log.device) else {
+    let Ok(()) = lane.shard.reserve(weight, Purpose::Clean, &mut log.device) else {
         return Err(Stopped);
     };
     lane.shard.set(key, value);

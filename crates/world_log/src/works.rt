@@ -14,7 +14,7 @@ ghost use Rattle.world_log.specs.Beside.{Agrees, AreGiven, DoesCopy, DoesDrain, 
 use crate::queues::{Flushing, Queues};
 use crate::shelves::{WorldDevice, WorldReceipt};
 use crate::stopped::Stopped;
-use hybrid::Fault;
+use hybrid::{Fault, Purpose};
 use plans::counted::{Begun, CountedLog};
 use records::Page;
 use std::alloc::Global;
@@ -210,7 +210,7 @@ pub(crate) fn make_room(
 {
     let _oldest = log.stripe().oldest();
     let _ = queues;
-    match log.reserve(weight, 0, device) {
+    match log.reserve(weight, Purpose::Clean, device) {
         Ok(()) => Ok(true),
         Err(Fault::StoreFull) => Ok(false),
         Err(Fault::DeviceFault) => Err(Stopped),

@@ -1,10 +1,10 @@
 // Room for a call's writes: flushes and drops of the oldest read-only pages.
 
-ghost use Rattle.std.specs.Prelude.{◌≡◌, ◌↔◌, ◌+◌, ◌-◌, ◌<◌, ◌≤◌, ◌^◌, ◌⊎◌, ℕ, IsTrue, IsSome, IfOk, IfErr, OnOk, OnErr, None};
+ghost use Rattle.std.specs.Prelude.{if◌then◌else◌, nat_lt, ◌≡◌, ◌↔◌, ◌+◌, ◌-◌, ◌<◌, ◌≤◌, ◌^◌, ◌⊎◌, ℕ, IsTrue, IsSome, IfOk, IfErr, OnOk, OnErr, None};
 ghost use Rattle.std.specs.Bool.{OnTrue, OnFalse};
 ghost use Rattle.frames.specs.Resident.{first_mutable, next_number};
-ghost use Rattle.hybrid.specs.HybridLog.{log_of, HasRoom, IsHybridLog, frames_for, free, pages_for, with_dropped, receipt_of};
-ghost use Rattle.hybrid.specs.Reserving.{AreNewServed, IsFlushed, IsReserved, KeepsBack, MatchFault, IsFull};
+ghost use Rattle.hybrid.specs.HybridLog.{log_of, HasRoom, IsHybridLog, expected, free, pages_for, with_dropped, receipt_of};
+ghost use Rattle.hybrid.specs.Reserving.{AreNewServed, IsFlushed, IsReserved, KeepsBack, KeepsSpare, MatchFault, IsFull, beside, frames_for, spare};
 ghost use Rattle.hybrid.specs.Shedding.{HasShed, IsFlushedBy};
 
 use crate::stripe::{CALL_PAGES, CLEAN_PAGES, CLOSED_MIN, LAST_PAGE, Stripe};
@@ -28,29 +28,66 @@ pub enum Fault {
     StoreFull,
 }
 
+/// For what room is made. Near the limit of places each leaves frames for those that stand before it here.
+#[derive(Clone, Copy, Debug, PartialEq, Eq)]
+pub enum Purpose {
+    /// Copies of what lives in the oldest page. They leave no frame.
+    Clean,
+    /// Deletions alone. Where they can open a page they leave [`CLEAN_PAGES`] frames beside it, so that a page can be cleaned.
+    Delete,
+    /// Writes of which one at least gives a value. They leave one frame more, in which keys can be deleted, and also where
+    /// they fit into the tail page.
+    Write,
+}
+
+impl Purpose {
+    // The frames that are left where a page can be opened.
+    fn beside(self) -> usize
+        ensures frames { result ≡ beside self }
+        ensures few { result ≤ CLEAN_PAGES + 1 }
+    {
+        match self {
+            Purpose::Clean => 0,
+            Purpose::Delete => CLEAN_PAGES,
+            Purpose::Write => CLEAN_PAGES + 1,
+        }
+    }
+
+    // The frames that are left where the writes fit into the tail page.
+    fn spare(self) -> usize
+        ensures frames { result ≡ spare self }
+        ensures few { result ≤ CLEAN_PAGES + 1 }
+    {
+        match self {
+            Purpose::Clean | Purpose::Delete => 0,
+            Purpose::Write => CLEAN_PAGES + 1,
+        }
+    }
+}
+
 impl<R: Shows> Stripe<R> {
     /// Room for writes of this weight in all. Where fewer frames are free than pages that these writes
     /// can open, the oldest read-only pages are written to the device and dropped, no more than needed.
     /// After an `Err` some of that may have been done.
     ///
-    /// Near the limit of places these writes leave so many frames `beside` their pages, for others that pass
-    /// less: as many stay free, or may be had for places that are not taken. Where a page would be opened and no
-    /// place is left for these, the store is full. Only where no read-only page is resident they may be fewer.
+    /// Near the limit of places these writes leave the frames that their purpose says. Where they can open a page, so
+    /// many stay free beside it, or may be had for places that are not taken. Where they fit into the tail page, places
+    /// count too whose receipts wait to be released. Where no place is left for these frames, the store is full. Only
+    /// where no read-only page is resident they may be fewer.
     pub fn reserve<D: Device<Receipt = R>>(
         &mut self,
         weight: usize,
-        beside: usize,
+        purpose: Purpose,
         device: &mut D,
     ) -> Result<Room, Fault>
         requires light { weight ≤ WEIGHT_MAX }
-        requires few { beside ≤ CLEAN_PAGES + 1 }
         ensures room { IfOk result (λ room. (room.weight ≡ weight) × HasRoom self.new weight) }
         ensures log { log_of self.new ≡ log_of self.old }
         // Each page that left its frame was read-only, and had a receipt or was written to this device.
         ensures shed { OnOk result (HasShed D.wrote (λ r. record { identity = R.identity r; shown = R.shown r }) self.old device.old self.new device.new) }
         ensures shed_full { OnErr result (D.failures device.new ≡ D.failures device.old → HasShed D.wrote (λ r. record { identity = R.identity r; shown = R.shown r }) self.old device.old self.new device.new) }
-        ensures reserved { (count : ℕ) × IsReserved self.old self.new count × (count ≤ frames_for self.old weight beside - free self.old) }
-        ensures needless { frames_for self.old weight beside ≤ free self.old → self.new ≡ self.old }
+        ensures reserved { (count : ℕ) × IsReserved self.old self.new count × (count ≤ frames_for self.old weight purpose - free self.old) }
+        ensures needless { frames_for self.old weight purpose ≤ free self.old → self.new ≡ self.old }
         ensures fault { IfErr result (λ fault. MatchFault fault (D.failures device.new ≡ D.failures device.old + 1) (IsFull self.new × (D.failures device.new ≡ D.failures device.old))) }
         ensures no_fault { OnOk result (D.failures device.new ≡ D.failures device.old) }
         ensures no_release { D.releases device.new ≡ D.releases device.old }
@@ -62,12 +99,13 @@ impl<R: Shows> Stripe<R> {
         // It asks the device once for each place that it takes, and once more where the device fails.
         ensures writes { OnOk result (D.writes device.new + self.old.unreleased ≡ D.writes device.old + self.new.unreleased) }
         ensures asked { IfErr result (λ fault. MatchFault fault (D.writes device.new + self.old.unreleased ≡ D.writes device.old + self.new.unreleased + 1) (D.writes device.new + self.old.unreleased ≡ D.writes device.old + self.new.unreleased)) }
-        ensures needed { OnErr result (0 < pages_for self.old weight) }
-        ensures needful { OnErr result ((LAST_PAGE < next_number self.new.resident) ⊎ ((receipt_of self.new self.new.resident.oldest ≡ None) × (free self.new < frames_for self.old weight beside))) }
-        ensures kept { OnOk result (0 < pages_for self.old weight → KeepsBack self.new (pages_for self.old weight) beside) }
+        ensures needed { OnErr result ((0 < pages_for self.old weight) ⊎ (expected self.old < spare purpose)) }
+        ensures needful { OnErr result ((LAST_PAGE < next_number self.new.resident) ⊎ ((receipt_of self.new self.new.resident.oldest ≡ None) × (free self.new < frames_for self.old weight purpose))) }
+        ensures kept { OnOk result (0 < pages_for self.old weight → KeepsBack self.new (pages_for self.old weight) (beside purpose)) }
+        ensures spared { OnOk result (pages_for self.old weight ≡ 0 → KeepsSpare self.new (spare purpose)) }
         ensures last { OnOk result (0 < pages_for self.old weight → next_number self.new.resident ≤ LAST_PAGE) }
     {
-        let wanted = self.frames_for(weight, beside);
+        let wanted = self.frames_for(weight, purpose);
         if wanted > 0 && self.next_number() > LAST_PAGE {
             return Err(Fault::StoreFull);
         }
@@ -117,20 +155,35 @@ impl<R: Shows> Stripe<R> {
     }
 
     // The frames that have to be free for writes of this weight: for the pages that they can open and, near the limit
-    // of places, so many beside them.
-    fn frames_for(&self, weight: usize, beside: usize) -> usize
+    // of places, for those that they leave.
+    fn frames_for(&self, weight: usize, purpose: Purpose) -> usize
         requires light { weight ≤ WEIGHT_MAX }
-        requires few { beside ≤ CLEAN_PAGES + 1 }
-        ensures frames { result ≡ frames_for self.now weight beside }
-        ensures some { 0 < result → 0 < pages_for self.now weight }
+        ensures frames { result ≡ frames_for self.now weight purpose }
+        ensures some { 0 < result → (0 < pages_for self.now weight) ⊎ (expected self.now < spare purpose) }
         ensures pages { pages_for self.now weight ≤ CALL_PAGES }
     {
         let pages = self.pages_for(weight);
-        let lacking = (pages + beside).saturating_sub(self.free());
-        if pages > 0 && self.places - self.unreleased < lacking {
-            pages + beside
+        if pages == 0 {
+            return self.spare_for(purpose);
+        }
+        let wanted = pages + purpose.beside();
+        if self.places - self.unreleased < wanted.saturating_sub(self.free()) {
+            wanted
         } else {
             pages
+        }
+    }
+
+    // The frames that have to be free for writes that fit into the tail page: none, but near the limit of places.
+    fn spare_for(&self, purpose: Purpose) -> usize
+        ensures frames { result ≡ (if nat_lt (expected self.now) (spare purpose) then spare purpose else 0) }
+        ensures some { 0 < result → expected self.now < spare purpose }
+    {
+        let spare = purpose.spare();
+        if self.places - self.kept < spare.saturating_sub(self.free()) {
+            spare
+        } else {
+            0
         }
     }
 

@@ -169,3 +169,34 @@ fn a_stripe_that_is_cleaned_is_overwritten_for_ever(rt: HostRuntime) -> Result<(
     assert!(rt; is_same);
     Ok(())
 }
+
+/// Deletes one key, and then gives new keys values until the stripe takes none, so often, with a few steps of the cleaner each time.
+/// It tells how many of the deletions the stripe took, and how many of the new values.
+fn delete_and_fill(alloc: Global, both: &mut Small, times: u64) -> Option<(u64, u64)> {
+    let (epochs, mut seat) = epochs(alloc)?;
+    let mut next = fill_from(alloc, both, 0)?;
+    let mut deleted: u64 = 0;
+    let mut given: u64 = 0;
+    for time in 0..times {
+        let line = format!(in alloc; "DEL k{time}").ok()?;
+        if meets_full(alloc, both, line.as_str())?.is_none() {
+            deleted = deleted.saturating_add(1);
+        }
+        clean(alloc, &mut both.store, &epochs, &mut seat, 8);
+        let end = fill_from(alloc, both, next)?;
+        given = given.saturating_add(end.saturating_sub(next));
+        next = end;
+    }
+    Some((deleted, given))
+}
+
+// What a deletion opens stays for deletions, so a client that deletes one key and tries again is not shut out for good.
+#[test]
+fn values_do_not_fill_the_page_that_a_deletion_opened(rt: HostRuntime) -> Result<(), Fail> {
+    let alloc = rt.alloc();
+    let mut both = small(alloc).ok_or("no store")?;
+    let (deleted, given) = delete_and_fill(alloc, &mut both, 400).ok_or("not full")?;
+    assert!(rt; deleted == 400, "{deleted}");
+    assert!(rt; 300 <= given, "{given}");
+    Ok(())
+}

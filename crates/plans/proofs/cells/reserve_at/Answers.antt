@@ -32,7 +32,7 @@ returns-clause-few g c =
     let new = c.reserve.new.self in
     let before = g.P.Parts.part_of c.args.parts.now in
     let later = g.P.Parts.part_of (g.P.Parts.with_part c.args.parts.now i new) in
-    few_at c.args.weight c.args.beside i before later c.part.result.now new c.part.ensures.value (c.part.ensures.written new) c.reserve.ensures.few
+    few_at c.args.weight c.args.purpose i before later c.part.result.now new c.part.ensures.value (c.part.ensures.written new) c.reserve.ensures.few
 
 pub returns-clause-lacks : goal.returns-clause-lacks
 returns-clause-lacks g c =
@@ -40,7 +40,7 @@ returns-clause-lacks g c =
     let new = c.reserve.new.self in
     let before = g.P.Parts.part_of c.args.parts.now in
     let later = g.P.Parts.part_of (g.P.Parts.with_part c.args.parts.now i new) in
-    err_then c.reserve.result (λ lacks. lacks_at c.args.weight c.args.beside i before later c.part.result.now new c.part.ensures.value (c.part.ensures.written new) lacks) c.reserve.ensures.lacks
+    err_then c.reserve.result (λ lacks. lacks_at c.args.weight c.args.purpose i before later c.part.result.now new c.part.ensures.value (c.part.ensures.written new) lacks) c.reserve.ensures.lacks
 
 pub returns-clause-kept : goal.returns-clause-kept
 returns-clause-kept g c =
@@ -48,7 +48,7 @@ returns-clause-kept g c =
     let new = c.reserve.new.self in
     let before = g.P.Parts.part_of c.args.parts.now in
     let later = g.P.Parts.part_of (g.P.Parts.with_part c.args.parts.now i new) in
-    ok_then c.reserve.result (λ left. left_at c.args.weight c.args.beside i before later c.part.result.now new c.part.ensures.value (c.part.ensures.written new) left) c.reserve.ensures.kept
+    ok_then c.reserve.result (λ left. left_at c.args.weight c.args.purpose i before later c.part.result.now new c.part.ensures.value (c.part.ensures.written new) left) c.reserve.ensures.kept
 
 pub returns-clause-waits : goal.returns-clause-waits
 returns-clause-waits g c =

@@ -68,8 +68,8 @@ loop-stripe-preserved g c =
       same = c.in_ok-reserve_share.ensures.no_fault ∙ inv.same;
       device = still_both g.D.Device.serves g.D.Device.releases g.D.Device.writes c.args.device.now c.loop-stripe.device c.reserve_share.new.device inv.device e.device;
       ahead = λ j above. e.others j (λ at. absurd (omega (arith, at, above))) ∙ inv.ahead j (omega (arith, above));
-      few = few_more n i (slice_index c.shares_of-shares.result i) c.kept_back-beside.result ws (logs_of start) (logs_of before) (logs_of later) is c.kept_back-beside.ensures.frames inv.ahead e.others inv.few e.few;
-      left = left_more n i (slice_index c.shares_of-shares.result i) c.kept_back-beside.result ws (logs_of start) (logs_of before) (logs_of later) is c.kept_back-beside.ensures.frames inv.ahead e.others inv.left c.in_ok-reserve_share.ensures.kept;
+      few = few_more n i (slice_index c.shares_of-shares.result i) c.purpose_of-purpose.result ws (logs_of start) (logs_of before) (logs_of later) is c.purpose_of-purpose.ensures inv.ahead e.others inv.few e.few;
+      left = left_more n i (slice_index c.shares_of-shares.result i) c.purpose_of-purpose.result ws (logs_of start) (logs_of before) (logs_of later) is c.purpose_of-purpose.ensures inv.ahead e.others inv.left c.in_ok-reserve_share.ensures.kept;
       made = made_more g.D.Device.wrote (kept_by g.R.Shows.identity g.R.Shows.shown) n i ws (logs_of start) (logs_of before) (logs_of later) c.args.device.now c.loop-stripe.device c.reserve_share.new.device inv.made
           (room_at g.D.Device.wrote (kept_by g.R.Shows.identity g.R.Shows.shown) n i (slice_index c.shares_of-shares.result i) ws (logs_of before) (logs_of later) c.loop-stripe.device c.reserve_share.new.device is
           (λ none. let same = e.needless none in (λ j. ap (λ p. logs_of p j) same.0, same.1)) (λ some. e.shed some c.in_ok-reserve_share.ensures.no_fault));
@@ -101,7 +101,7 @@ returns-in_err-reserve_share-clause-few g c =
     let later = g.P.Parts.part_of c.reserve_share.new.parts in
     let is : slice_index c.shares_of-shares.result i ≡ share n i ws = c.shares_of-shares.ensures i (omega (arith, c.loop-stripe-test.true, c.requires.most)) in
     let e = c.reserve_share.ensures in
-    few_more n i (slice_index c.shares_of-shares.result i) c.kept_back-beside.result ws (logs_of start) (logs_of before) (logs_of later) is c.kept_back-beside.ensures.frames inv.ahead e.others inv.few e.few
+    few_more n i (slice_index c.shares_of-shares.result i) c.purpose_of-purpose.result ws (logs_of start) (logs_of before) (logs_of later) is c.purpose_of-purpose.ensures inv.ahead e.others inv.few e.few
 
 pub returns-in_err-reserve_share-clause-device : goal.returns-in_err-reserve_share-clause-device
 returns-in_err-reserve_share-clause-device g c = still_both g.D.Device.serves g.D.Device.releases g.D.Device.writes c.args.device.now c.loop-stripe.device c.reserve_share.new.device c.loop-stripe.invariant.device c.reserve_share.ensures.device
@@ -117,9 +117,9 @@ returns-in_err-reserve_share-clause-full g c =
     let later = g.P.Parts.part_of c.reserve_share.new.parts in
     let is : slice_index c.shares_of-shares.result i ≡ share n i ws = c.shares_of-shares.ensures i (omega (arith, c.loop-stripe-test.true, c.requires.most)) in
     let e = c.reserve_share.ensures in
-    let met = met_stop g.D.Device.wrote (kept_by g.R.Shows.identity g.R.Shows.shown) n c.in_err-reserve_share.field-0.0 g.D.Device.failures i (slice_index c.shares_of-shares.result i) c.kept_back-beside.result ws (logs_of start) (logs_of before) (logs_of later)
-    c.args.device.now c.loop-stripe.device c.reserve_share.new.device is c.kept_back-beside.ensures.frames c.requires.light c.loop-stripe-test.true inv.made (inv.ahead i (omega arith))
-    (few_more n i (slice_index c.shares_of-shares.result i) c.kept_back-beside.result ws (logs_of start) (logs_of before) (logs_of later) is c.kept_back-beside.ensures.frames inv.ahead e.others inv.few e.few)
+    let met = met_stop g.D.Device.wrote (kept_by g.R.Shows.identity g.R.Shows.shown) n c.in_err-reserve_share.field-0.0 g.D.Device.failures i (slice_index c.shares_of-shares.result i) c.purpose_of-purpose.result ws (logs_of start) (logs_of before) (logs_of later)
+    c.args.device.now c.loop-stripe.device c.reserve_share.new.device is c.purpose_of-purpose.ensures c.requires.light c.loop-stripe-test.true inv.made (inv.ahead i (omega arith))
+    (few_more n i (slice_index c.shares_of-shares.result i) c.purpose_of-purpose.result ws (logs_of start) (logs_of before) (logs_of later) is c.purpose_of-purpose.ensures inv.ahead e.others inv.few e.few)
     c.in_err-reserve_share.ensures.lacks c.in_err-reserve_share.ensures.faults e.shed c.in_err-reserve_share.ensures.full in
     let p = err_from_is_err_and c.from_residual.result c.from_residual.ensures.1 in
     rw (p.1, p.2) met

@@ -1,8 +1,9 @@
 use Rattle.std.proofs.Common.{rules, ◌≡◌, ◌∙◌, ◌<◌, refl, ap, arith}
-use Rattle.hybrid.specs.HybridLog.{HybridLog, frames_for, free, with_dropped}
+use Rattle.hybrid.specs.HybridLog.{HybridLog, free, with_dropped}
+use Rattle.hybrid.specs.Reserving.{frames_for}
 use Rattle.frames.specs.Resident.{first_mutable}
 use Rattle.hybrid.proofs.Dropping.{on-true}
-use Rattle.hybrid.proofs.Reserving.{ended, frames-least, kept-back, needful, on-err, reserving-step, room-enough, room-reserved}
+use Rattle.hybrid.proofs.Reserving.{ended, frames-least, kept-back, kept-spare, needful, on-err, reserving-step, room-enough, room-reserved}
 use Rattle.hybrid.proofs.Serving.{new-step, new-still}
 use Rattle.hybrid.proofs.Shedding.{shed-more, shed-full}
 use Rattle.hybrid.proofs.stripe.Stripe.reserve.Goals as goal
@@ -14,9 +15,9 @@ loop-self-preserved g c =
     let may : (free c.loop-self.self < c.frames_for-wanted.result) × (c.loop-self.self.resident.oldest < first_mutable c.loop-self.self.resident) =
     on-true c.may_free.result _ c.loop-self-test.true c.may_free.ensures.lacks in
     let is = c.may_free.ensures.log in
-    let lacks : free c.loop-self.self < frames_for c.args.self.now c.args.weight c.args.beside = omega (arith, may.0, c.frames_for-wanted.ensures.frames) in
-    let reserving = reserving-step c.args.self.now c.loop-self.self c.flush_oldest.new.self c.drop_oldest.new.self (g.D.Device.failures c.args.device.now) (g.D.Device.failures c.loop-self.device) (g.D.Device.failures c.flush_oldest.new.device) (frames_for c.args.self.now c.args.weight c.args.beside)
-    c.loop-self.invariant.reserving lacks c.in_ok-flush_oldest.ensures.no_fault is.live is.numbered is.tail is.fits
+    let lacks : free c.loop-self.self < frames_for c.args.self.now c.args.weight c.args.purpose = omega (arith, may.0, c.frames_for-wanted.ensures.frames) in
+    let reserving = reserving-step c.args.self.now c.loop-self.self c.flush_oldest.new.self c.drop_oldest.new.self (g.D.Device.failures c.args.device.now) (g.D.Device.failures c.loop-self.device) (g.D.Device.failures c.flush_oldest.new.device) (frames_for c.args.self.now c.args.weight c.args.purpose)
+    c.loop-self.invariant.reserving lacks c.in_ok-flush_oldest.ensures.no_fault is.live is.numbered may.1 is.enough is.fits
     c.in_ok-flush_oldest.ensures.flushed dropped c.flush_oldest.ensures.log c.drop_oldest.ensures.log in
     record {
       reserving = reserving;
@@ -43,16 +44,21 @@ returns-in_err-flush_oldest-clause-still_served g c = λ r s. c.flush_oldest.ens
 pub returns-clause-room : goal.returns-clause-room
 returns-clause-room g c =
     let is = c.may_free.ensures.log in
-    let over = ended c.may_free.result (frames_for c.args.self.now c.args.weight c.args.beside) c.frames_for-wanted.result c.loop-self.self c.frames_for-wanted.ensures.frames c.loop-self-test.false c.may_free.ensures.enough in (
+    let over = ended c.may_free.result (frames_for c.args.self.now c.args.weight c.args.purpose) c.frames_for-wanted.result c.loop-self.self c.frames_for-wanted.ensures.frames c.loop-self-test.false c.may_free.ensures.enough in (
       refl,
-      room-reserved c.args.self.now c.loop-self.self c.args.weight c.args.beside (g.D.Device.failures c.args.device.now) (g.D.Device.failures c.loop-self.device) c.requires.light c.loop-self.invariant.reserving
-          (room-enough c.args.self.now c.loop-self.self c.args.weight c.args.beside is.enough c.frames_for-wanted.ensures.pages over),
+      room-reserved c.args.self.now c.loop-self.self c.args.weight c.args.purpose (g.D.Device.failures c.args.device.now) (g.D.Device.failures c.loop-self.device) c.requires.light c.loop-self.invariant.reserving
+          (room-enough c.args.self.now c.loop-self.self c.args.weight c.args.purpose is.enough c.frames_for-wanted.ensures.pages over),
     )
 
 pub returns-clause-kept : goal.returns-clause-kept
 returns-clause-kept g c =
-    kept-back c.args.self.now c.loop-self.self c.args.weight c.args.beside (g.D.Device.failures c.args.device.now) (g.D.Device.failures c.loop-self.device) c.loop-self.invariant.reserving
-    (ended c.may_free.result (frames_for c.args.self.now c.args.weight c.args.beside) c.frames_for-wanted.result c.loop-self.self c.frames_for-wanted.ensures.frames c.loop-self-test.false c.may_free.ensures.enough)
+    kept-back c.args.self.now c.loop-self.self c.args.weight c.args.purpose (g.D.Device.failures c.args.device.now) (g.D.Device.failures c.loop-self.device) c.loop-self.invariant.reserving
+    (ended c.may_free.result (frames_for c.args.self.now c.args.weight c.args.purpose) c.frames_for-wanted.result c.loop-self.self c.frames_for-wanted.ensures.frames c.loop-self-test.false c.may_free.ensures.enough)
+
+pub returns-clause-spared : goal.returns-clause-spared
+returns-clause-spared g c =
+    kept-spare c.args.self.now c.loop-self.self c.args.weight c.args.purpose (g.D.Device.failures c.args.device.now) (g.D.Device.failures c.loop-self.device) c.loop-self.invariant.reserving
+    (ended c.may_free.result (frames_for c.args.self.now c.args.weight c.args.purpose) c.frames_for-wanted.result c.loop-self.self c.frames_for-wanted.ensures.frames c.loop-self-test.false c.may_free.ensures.enough)
 
 pub returns-in_err-flush_oldest-clause-needed : goal.returns-in_err-flush_oldest-clause-needed
 returns-in_err-flush_oldest-clause-needed g c =
@@ -62,11 +68,11 @@ returns-in_err-flush_oldest-clause-needed g c =
 pub returns-in_err-flush_oldest-clause-needful : goal.returns-in_err-flush_oldest-clause-needful
 returns-in_err-flush_oldest-clause-needful g c =
     let may = on-true c.may_free.result _ c.loop-self-test.true c.may_free.ensures.lacks in
-    on-err c.from_residual.result _ (needful c.loop-self.self c.flush_oldest.new.self (frames_for c.args.self.now c.args.weight c.args.beside)
+    on-err c.from_residual.result _ (needful c.loop-self.self c.flush_oldest.new.self (frames_for c.args.self.now c.args.weight c.args.purpose)
     c.in_err-flush_oldest.ensures.unchanged c.in_err-flush_oldest.ensures.bare (omega (arith, may.0, c.frames_for-wanted.ensures.frames)))
 
 pub returns-clause-last : goal.returns-clause-last
-returns-clause-last g c = λ some. c.loop-self.invariant.reserving.numbers (omega (arith, some, frames-least c.args.self.now c.args.weight c.args.beside))
+returns-clause-last g c = λ some. c.loop-self.invariant.reserving.numbers (omega (arith, some, frames-least c.args.self.now c.args.weight c.args.purpose))
 
 pub returns-clause-shed : goal.returns-clause-shed
 returns-clause-shed g c = c.loop-self.invariant.shed

@@ -1,6 +1,6 @@
 use Rattle.std.proofs.Common.{◌≡◌, ◌+◌, ◌-◌, ◌≤◌, ℕ, ap, subst}
-use Rattle.hybrid.specs.HybridLog.{HybridLog, frames_for, free}
-use Rattle.hybrid.specs.Reserving.{IsReserved}
+use Rattle.hybrid.specs.HybridLog.{HybridLog, free}
+use Rattle.hybrid.specs.Reserving.{IsReserved, frames_for}
 use Rattle.hybrid.specs.Shedding.{HasShed}
 use Rattle.plans.specs.Counted.{Counted}
 use Rattle.plans.specs.Receipts.{kept_by}
@@ -18,5 +18,5 @@ returns-clause-shed g c = λ same.
 
 pub returns-clause-reserved : goal.returns-clause-reserved
 returns-clause-reserved g c =
-    subst (λ (l : HybridLog). (count : ℕ) × IsReserved l c.reserve.new.self count × (count ≤ frames_for l c.args.weight c.args.beside - free l))
+    subst (λ (l : HybridLog). (count : ℕ) × IsReserved l c.reserve.new.self count × (count ≤ frames_for l c.args.weight c.args.purpose - free l))
     (ap (λ (x : Counted). x.log) c.self.view_is) c.reserve.ensures.reserved
