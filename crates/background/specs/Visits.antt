@@ -20,8 +20,9 @@ use Rattle.gates.specs.Rule.{Meaning}
 use Rattle.hybrid.specs.HybridLog.{Kept, receipt_at}
 use Rattle.plans.specs.declared.cleaning.Stepped.{Stepped}
 use Rattle.plans.specs.declared.cleaning.Stepped.TheVariants as stepped
-use Rattle.plans.specs.declared.counted.Begun.{Begun}
-use Rattle.plans.specs.declared.counted.Begun.TheVariants as begun
+use Rattle.background.specs.declared.cells.Began.{Began}
+use Rattle.background.specs.declared.cells.Began.TheVariants as began
+use Rattle.background.specs.declared.cells.Flight.{Flight}
 use Rattle.plans.specs.declared.shard.Shard.{Shard}
 use Rattle.plans.specs.Shards.{shard_log}
 use Rattle.background.specs.declared.clean.Round.{Round}
@@ -53,10 +54,16 @@ told work stripe true = note.Done stripe work ∷ []
 told work stripe false = note.Idle stripe work ∷ []
 
 -- what is told where a flush begins
-abbrev pub told_at_begin : (stripe : ℕ) → Begun → List Note
-told_at_begin stripe begun.Idle = note.Idle stripe Flush ∷ []
-told_at_begin stripe begun.Full = note.Full stripe ∷ []
-told_at_begin stripe (begun.Sealed number) = []
+abbrev pub told_at_begin : (stripe : ℕ) → Began → List Note
+told_at_begin stripe began.Idle = note.Idle stripe Flush ∷ []
+told_at_begin stripe began.Full = note.Full stripe ∷ []
+told_at_begin stripe (began.Sealed flight) = []
+
+-- by what began
+abbrev pub MatchBegan : Began → (idle full : Type 0) → (sealed : Flight → Type 0) → Type 0
+MatchBegan began.Idle idle full sealed = idle
+MatchBegan began.Full idle full sealed = full
+MatchBegan (began.Sealed flight) idle full sealed = sealed flight
 
 -- what is told where one ends
 abbrev pub told_at_end : (stripe : ℕ) → (done : Bool) → List Note

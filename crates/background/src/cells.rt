@@ -6,15 +6,15 @@ ghost use Rattle.epoch.specs.Seats.{IsOutside, WasWorn, known};
 ghost use Rattle.gates.specs.Background.{IsIdle, IsStep};
 ghost use Rattle.gates.specs.Pages.{IsFull};
 ghost use Rattle.gates.specs.declared.view.Work.TheVariants.{Evict, Flush};
-ghost use Rattle.hybrid.specs.HybridLog.{Kept, receipt_at};
+ghost use Rattle.hybrid.specs.HybridLog.{Kept, receipt_at, with_dropped};
 ghost use Rattle.hybrid.specs.Reserving.{MatchFault};
 ghost use Rattle.hybrid.specs.Staging.{AreRight, IsMissing};
 ghost use Rattle.plans.specs.Cleaning.{HasTried, MatchStepped};
 ghost use Rattle.plans.specs.Cleaning as cleaned;
-ghost use Rattle.plans.specs.Counted.{MatchBegun, without_flight};
+ghost use Rattle.plans.specs.Counted.{HasFlushed, HasLanded, IsFirstSealed, claimed, with_flight, without_flight};
 ghost use Rattle.plans.specs.Receipts.{kept_by};
 ghost use Rattle.plans.specs.Shards.{shard_counted, shard_log, shard_meaning, shard_pages};
-ghost use Rattle.background.specs.Visits.{HasStepped, Keeps, MayTell};
+ghost use Rattle.background.specs.Visits.{HasStepped, Keeps, MatchBegan, MayTell};
 
 use device::{Device, Shows};
 use epoch::{EpochSeat, Epochs};
@@ -27,11 +27,27 @@ use records::Page;
 use std::alloc::AllocError;
 use words::reply;
 
+/// A page that is on its way to the device, with a place counted for it; contracts see the page's number. It is no value
+/// that can be dropped: it ends where the page's receipt comes back, or where its write failed.
+pub(crate) struct Flight {
+    number: u64,
+}
+
+/// What begins at the oldest page that waits to be written.
+pub(crate) enum Began {
+    /// None waits.
+    Idle,
+    /// One waits, and no place may be taken for it.
+    Full,
+    /// It was copied, and a place is counted for it.
+    Sealed(Flight),
+}
+
 /// Drops the oldest resident page of a stripe, where it has a receipt.
 pub(crate) fn evict_at<R: Shows, P: Parts<Shard<R>>>(parts: &mut P, stripe: usize) -> bool
     requires open { P.is_open parts.old }
     requires there { IsSome (P.part_of parts.old stripe) }
-    ensures stepped { HasStepped (shard_meaning R.is_steady) stripe (P.part_of parts.old) (P.part_of parts.new) (λ was now. OnTrue result (IsStep Evict (shard_pages was) (shard_pages now)) × OnFalse result (IsIdle Evict (shard_pages now))) }
+    ensures stepped { HasStepped (shard_meaning R.is_steady) stripe (P.part_of parts.old) (P.part_of parts.new) (λ was now. OnTrue result (IsStep Evict (shard_pages was) (shard_pages now)) × OnFalse result (IsIdle Evict (shard_pages now)) × OnTrue result (shard_counted now ≡ record (shard_counted was) { log = with_dropped (shard_log was) }) × OnFalse result (now ≡ was)) }
     ensures open { P.is_open parts.new }
     ensures keeps { P.keeps parts.old parts.new }
 {
@@ -43,42 +59,48 @@ pub(crate) fn begin_at<R: Shows, P: Parts<Shard<R>>>(
     parts: &mut P,
     stripe: usize,
     page: &mut Page,
-) -> Begun
+) -> Began
     requires open { P.is_open parts.old }
     requires there { IsSome (P.part_of parts.old stripe) }
-    ensures stepped { HasStepped (shard_meaning R.is_steady) stripe (P.part_of parts.old) (P.part_of parts.new) (λ was now. MatchBegun result (IsIdle Flush (shard_pages now)) (IsFull (shard_pages now)) (λ number. ⊤)) }
+    ensures stepped { HasStepped (shard_meaning R.is_steady) stripe (P.part_of parts.old) (P.part_of parts.new) (λ was now. MatchBegan result (IsIdle Flush (shard_pages now)) (IsFull (shard_pages now)) (λ flight. ⊤) × MatchBegan result (now ≡ was) (now ≡ was) (λ flight. IsFirstSealed (shard_log was) flight.number page.new × (shard_counted now ≡ with_flight (shard_counted was)))) }
     ensures open { P.is_open parts.new }
     ensures keeps { P.keeps parts.old parts.new }
 {
-    parts.part(stripe).begin_flush(page)
+    match parts.part(stripe).begin_flush(page) {
+        Begun::Idle => Began::Idle,
+        Begun::Full => Began::Full,
+        Begun::Sealed(number) => Began::Sealed(Flight { number }),
+    }
 }
 
 /// Keeps the receipt of a page that was written, or counts its place as unlinked.
 pub(crate) fn end_at<R: Shows, P: Parts<Shard<R>>>(
     parts: &mut P,
     stripe: usize,
-    number: u64,
+    flight: Flight,
     page: &Page,
     receipt: R,
 ) -> bool
     requires open { P.is_open parts.old }
     requires there { IsSome (P.part_of parts.old stripe) }
     requires shown { R.shown receipt ≡ page.now }
-    ensures stepped { HasStepped (shard_meaning R.is_steady) stripe (P.part_of parts.old) (P.part_of parts.new) (λ was now. OnTrue result (IsStep Flush (shard_pages was) (shard_pages now)) × OnFalse result (IsFull (shard_pages now))) }
+    ensures stepped { HasStepped (shard_meaning R.is_steady) stripe (P.part_of parts.old) (P.part_of parts.new) (λ was now. OnTrue result (IsStep Flush (shard_pages was) (shard_pages now)) × OnFalse result (IsFull (shard_pages now)) × OnTrue result (HasLanded (claimed (shard_counted was)) flight.number page.now (kept_by R.identity R.shown receipt) (shard_counted now)) × OnFalse result (now ≡ was)) }
     ensures open { P.is_open parts.new }
     ensures keeps { P.keeps parts.old parts.new }
 {
+    let Flight { number } = flight;
     parts.part(stripe).end_flush(number, page, receipt)
 }
 
 /// Counts a place off whose page could not be written.
-pub(crate) fn fail_at<R: Shows, P: Parts<Shard<R>>>(parts: &mut P, stripe: usize)
+pub(crate) fn fail_at<R: Shows, P: Parts<Shard<R>>>(parts: &mut P, stripe: usize, flight: Flight)
     requires open { P.is_open parts.old }
     requires there { IsSome (P.part_of parts.old stripe) }
     ensures stepped { HasStepped (shard_meaning R.is_steady) stripe (P.part_of parts.old) (P.part_of parts.new) (λ was now. shard_counted now ≡ without_flight (shard_counted was)) }
     ensures open { P.is_open parts.new }
     ensures keeps { P.keeps parts.old parts.new }
 {
+    let Flight { number: _ } = flight;
     parts.part(stripe).fail_flush();
 }
 
@@ -92,7 +114,7 @@ pub(crate) fn flush_at<R: Shows, D: Device<Receipt = R>, P: Parts<Shard<R>>>(
 ) -> Result<bool, Fault>
     requires open { P.is_open parts.old }
     requires there { IsSome (P.part_of parts.old stripe) }
-    ensures stepped { HasStepped (shard_meaning R.is_steady) stripe (P.part_of parts.old) (P.part_of parts.new) (λ was now. IfOk result (λ done. OnTrue done (IsStep Flush (shard_pages was) (shard_pages now))) × IfOk result (λ done. OnFalse done (IsIdle Flush (shard_pages now))) × IfErr result (λ fault. MatchFault fault (D.failures device.new ≡ D.failures device.old + 1) (IsFull (shard_pages now) × (D.failures device.new ≡ D.failures device.old))) × OnErr result (shard_counted now ≡ shard_counted was)) }
+    ensures stepped { HasStepped (shard_meaning R.is_steady) stripe (P.part_of parts.old) (P.part_of parts.new) (λ was now. IfOk result (λ done. OnTrue done (IsStep Flush (shard_pages was) (shard_pages now))) × IfOk result (λ done. OnFalse done (IsIdle Flush (shard_pages now))) × IfErr result (λ fault. MatchFault fault (D.failures device.new ≡ D.failures device.old + 1) (IsFull (shard_pages now) × (D.failures device.new ≡ D.failures device.old))) × IfOk result (λ done. OnTrue done (HasFlushed (shard_counted was) (shard_counted now))) × IfOk result (λ done. OnFalse done (now ≡ was)) × OnErr result (shard_counted now ≡ shard_counted was)) }
     ensures fault { IfErr result (λ fault. MatchFault fault (D.failures device.new ≡ D.failures device.old + 1) (D.failures device.new ≡ D.failures device.old)) }
     ensures no_fault { OnOk result (D.failures device.new ≡ D.failures device.old) }
     ensures open { P.is_open parts.new }

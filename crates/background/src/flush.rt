@@ -4,10 +4,9 @@ ghost use Rattle.std.specs.Prelude.{◌≡◌, ◌<◌, [], ◌∷◌, IfOk, IfE
 ghost use Rattle.gates.specs.Passes.{IsResting, WasBusy, known, stripes_of};
 ghost use Rattle.background.specs.Visits.{HasFlushed, Visited, told_at_begin, told_at_end};
 
-use crate::cells::{begin_at, end_at, fail_at, flush_at};
+use crate::cells::{Began, Flight, begin_at, end_at, fail_at, flush_at};
 use device::{Device, Shows};
 use gates::{Gates, Pass, Report, Sorted, Work};
-use plans::counted::Begun;
 use plans::shard::Shard;
 use records::Page;
 use std::sync::Wait;
@@ -21,7 +20,7 @@ fn begin<R: Shows, W: Wait>(
     pass: &mut Pass<Shard<R>>,
     stripe: usize,
     page: &mut Page,
-) -> Begun
+) -> Began
     requires own { IsResting R.is_steady gates.now pass.old }
     requires below { stripe < stripes_of gates.now }
     ensures own { IsResting R.is_steady gates.now pass.new }
@@ -31,17 +30,17 @@ fn begin<R: Shows, W: Wait>(
     let wanted = Sorted::none().with(stripe);
     let mut held = gates.take(rt, pass, &wanted);
     match begin_at(&mut held, stripe, page) {
-        Begun::Idle => {
+        Began::Idle => {
             held.give(&Report::Idle(stripe as u64, Work::Flush));
-            Begun::Idle
+            Began::Idle
         }
-        Begun::Full => {
+        Began::Full => {
             held.give(&Report::Full(stripe as u64));
-            Begun::Full
+            Began::Full
         }
-        Begun::Sealed(number) => {
+        Began::Sealed(flight) => {
             held.give(&Report::Nothing);
-            Begun::Sealed(number)
+            Began::Sealed(flight)
         }
     }
 }
@@ -52,7 +51,7 @@ fn end<R: Shows, W: Wait>(
     gates: &Gates<Shard<R>>,
     pass: &mut Pass<Shard<R>>,
     stripe: usize,
-    number: u64,
+    flight: Flight,
     page: &Page,
     receipt: R,
 ) -> bool
@@ -65,7 +64,7 @@ fn end<R: Shows, W: Wait>(
     let _stripes = gates.stripes();
     let wanted = Sorted::none().with(stripe);
     let mut held = gates.take(rt, pass, &wanted);
-    if end_at(&mut held, stripe, number, page, receipt) {
+    if end_at(&mut held, stripe, flight, page, receipt) {
         held.give(&Report::Done(stripe as u64, Work::Flush));
         true
     } else {
@@ -80,6 +79,7 @@ fn fail<R: Shows, W: Wait>(
     gates: &Gates<Shard<R>>,
     pass: &mut Pass<Shard<R>>,
     stripe: usize,
+    flight: Flight,
 )
     requires own { IsResting R.is_steady gates.now pass.old }
     requires below { stripe < stripes_of gates.now }
@@ -89,7 +89,7 @@ fn fail<R: Shows, W: Wait>(
     let _stripes = gates.stripes();
     let wanted = Sorted::none().with(stripe);
     let mut held = gates.take(rt, pass, &wanted);
-    fail_at(&mut held, stripe);
+    fail_at(&mut held, stripe, flight);
     held.give(&Report::Nothing);
 }
 
@@ -115,16 +115,16 @@ pub fn flush_one<R: Shows, D: Device<Receipt = R>, W: Wait>(
     ensures flushed { HasFlushed (stripe ∷ []) stripe result (D.failures device.old) (D.failures device.new) (known pass.old) (known pass.new) }
 {
     let mut page = Page::new(0);
-    let number = match begin(rt, gates, pass, stripe, &mut page) {
-        Begun::Idle => return Ok(false),
-        Begun::Full => return Err(Fault::StoreFull),
-        Begun::Sealed(number) => number,
+    let flight = match begin(rt, gates, pass, stripe, &mut page) {
+        Began::Idle => return Ok(false),
+        Began::Full => return Err(Fault::StoreFull),
+        Began::Sealed(flight) => flight,
     };
     let Ok(receipt) = device.write(&page) else {
-        fail(rt, gates, pass, stripe);
+        fail(rt, gates, pass, stripe, flight);
         return Err(Fault::DeviceFault);
     };
-    if end(rt, gates, pass, stripe, number, &page, receipt) {
+    if end(rt, gates, pass, stripe, flight, &page, receipt) {
         Ok(true)
     } else {
         Err(Fault::StoreFull)

@@ -1,6 +1,6 @@
 //! Looks at a stripe: whether there is work for the evictor and the cleaner.
 
-ghost use Rattle.std.specs.Prelude.{◌<◌, [], ◌∷◌, ⊤, IsSome};
+ghost use Rattle.std.specs.Prelude.{◌≡◌, ◌<◌, [], ◌∷◌, IsSome};
 ghost use Rattle.gates.specs.Passes.{IsResting, known, stripes_of};
 ghost use Rattle.plans.specs.Shards.{shard_meaning};
 ghost use Rattle.background.specs.Visits.{HasStepped, Visited};
@@ -75,7 +75,7 @@ pub fn is_short_of_frames<R: Shows, W: Wait>(
 fn is_half_used_at<R: Shows, P: Parts<Shard<R>>>(parts: &mut P, stripe: usize) -> bool
     requires open { P.is_open parts.old }
     requires there { IsSome (P.part_of parts.old stripe) }
-    ensures stepped { HasStepped (shard_meaning R.is_steady) stripe (P.part_of parts.old) (P.part_of parts.new) (λ was now. ⊤) }
+    ensures stepped { HasStepped (shard_meaning R.is_steady) stripe (P.part_of parts.old) (P.part_of parts.new) (λ was now. now ≡ was) }
     ensures open { P.is_open parts.new }
     ensures keeps { P.keeps parts.old parts.new }
 {
@@ -86,7 +86,7 @@ fn is_half_used_at<R: Shows, P: Parts<Shard<R>>>(parts: &mut P, stripe: usize) -
 fn used_places_at<R: Shows, P: Parts<Shard<R>>>(parts: &mut P, stripe: usize) -> usize
     requires open { P.is_open parts.old }
     requires there { IsSome (P.part_of parts.old stripe) }
-    ensures stepped { HasStepped (shard_meaning R.is_steady) stripe (P.part_of parts.old) (P.part_of parts.new) (λ was now. ⊤) }
+    ensures stepped { HasStepped (shard_meaning R.is_steady) stripe (P.part_of parts.old) (P.part_of parts.new) (λ was now. now ≡ was) }
     ensures open { P.is_open parts.new }
     ensures keeps { P.keeps parts.old parts.new }
 {
@@ -97,7 +97,7 @@ fn used_places_at<R: Shows, P: Parts<Shard<R>>>(parts: &mut P, stripe: usize) ->
 fn is_short_of_frames_at<R: Shows, P: Parts<Shard<R>>>(parts: &mut P, stripe: usize) -> bool
     requires open { P.is_open parts.old }
     requires there { IsSome (P.part_of parts.old stripe) }
-    ensures stepped { HasStepped (shard_meaning R.is_steady) stripe (P.part_of parts.old) (P.part_of parts.new) (λ was now. ⊤) }
+    ensures stepped { HasStepped (shard_meaning R.is_steady) stripe (P.part_of parts.old) (P.part_of parts.new) (λ was now. now ≡ was) }
     ensures open { P.is_open parts.new }
     ensures keeps { P.keeps parts.old parts.new }
 {

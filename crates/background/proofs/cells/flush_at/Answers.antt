@@ -13,5 +13,5 @@ returns-clause-stepped g c =
       others = c.part.ensures.others new;
       store = λ t key. ap (λ (s : Store). s key) c.flush.ensures.store;
       marks = c.flush.ensures.marks;
-      says = (c.flush.ensures.done, c.flush.ensures.idle, c.flush.ensures.fault, c.flush.ensures.failed);
+      says = (c.flush.ensures.done, c.flush.ensures.idle, c.flush.ensures.fault, c.flush.ensures.flushed, c.flush.ensures.unchanged, c.flush.ensures.failed);
     }

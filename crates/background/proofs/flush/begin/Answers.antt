@@ -11,7 +11,7 @@ give-requires-clause-told g c =
     record {
       part = s.new;
       there = s.is;
-      is = (s.says, (lent.0, s.old), ap (λ took. part_at took c.args.stripe) c.begin_at.ensures.keeps.taken ∙ lent.1, tt);
+      is = (s.says.0, (lent.0, s.old), ap (λ took. part_at took c.args.stripe) c.begin_at.ensures.keeps.taken ∙ lent.1, tt);
     }
 
 pub give-requires-clause-fit : goal.give-requires-clause-fit
