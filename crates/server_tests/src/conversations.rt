@@ -8,6 +8,8 @@ use std::alloc::Global;
 use std::io::Read;
 use std::net::{Shutdown, TcpStream};
 use std::test::Fail;
+use std::thread::sleep;
+use std::time::Duration;
 
 const SET: &[u8] = b"*3\r\n$3\r\nSET\r\n$1\r\nk\r\n$5\r\na\r\n*1\r\n";
 
@@ -110,10 +112,14 @@ fn goes_in_the_middle_of_a_request(rt: &HostRuntime, port: u16) -> Option<bool> 
     Some(sends(&connect(rt, port)?, &GET[..20]))
 }
 
-/// Asks for 16 MiB, far more than the sockets hold, and goes after the first byte of it.
+/// Asks for 16 MiB, far more than the sockets hold, and goes after the first byte of it. The server is given time to come to a
+/// write that waits, since it may else be the next read that fails.
 fn goes_in_the_middle_of_a_reply(rt: &HostRuntime, port: u16) -> Option<bool> {
     let client = connect(rt, port)?;
-    Some(sends_a_long_set(&client) && asks_often(rt.alloc(), &client) && reads_six(&client))
+    let asked = sends_a_long_set(&client) && asks_often(rt.alloc(), &client);
+    let begins = reads_six(&client);
+    sleep(rt, Duration::from_millis(300));
+    Some(asked && begins)
 }
 
 /// Sends a SET of 8,192 bytes.
