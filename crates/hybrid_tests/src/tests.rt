@@ -14,6 +14,8 @@ use std::test::Fail;
 use words::hash::hash_of;
 use words::limits::{Limits, VALUE_BYTES_MAX, WEIGHT_OF_KEY};
 
+mod flushed;
+
 // One write.
 #[derive(Drop)]
 struct OneWrite<'a> {

@@ -289,6 +289,30 @@ where
     Ok(outcome_of(well, &endings))
 }
 
+/// A server with these options over these openings.
+pub(crate) fn with_openings<R, D, F: FnOnce(&R, u16) -> Option<bool>>(
+    rt: &R,
+    options: &Options,
+    openings: Vec<D>,
+    talk: F,
+) -> Result<Outcome, Fail>
+where
+    R: AllocGlobal
+        + Clock
+        + Net<Listener = TcpListener, Stream = TcpStream>
+        + Threads
+        + Wait
+        + Sync,
+    D: Device + Send + Sync,
+    D::Receipt: Send + Sync,
+    requires talk { F.IsAlwaysCallable talk }
+    requires openings { vec_len openings ≡ options.now.workers + BACKGROUND_PASSES }
+{
+    let endings = Endings::new(rt.alloc())?;
+    let well = end_well(rt, options, openings, &Open, &endings, talk);
+    Ok(outcome_of(well, &endings))
+}
+
 /// A client of the server at this port.
 pub(crate) fn connect(rt: &impl Net<Stream = TcpStream>, port: u16) -> Option<TcpStream> {
     let address = SocketAddrV4::new(Ipv4Addr::LOCALHOST, port);

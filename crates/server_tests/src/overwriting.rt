@@ -67,7 +67,7 @@ pub(crate) fn comes_to_room<R: AllocGlobal + Clock + Wait>(
 }
 
 /// Writes all keys again and again, and says whether they have their values in the end.
-fn overwrites<R>(rt: &R, port: u16) -> Option<bool>
+pub(crate) fn overwrites<R>(rt: &R, port: u16) -> Option<bool>
 where
     R: AllocGlobal + Clock + Net<Stream = TcpStream> + Wait,
 {
