@@ -26,6 +26,7 @@ use words::word::{OutOfMemory, Word, Words};
 
 mod cold;
 mod failing;
+mod held;
 mod moving;
 mod refused;
 mod steps;

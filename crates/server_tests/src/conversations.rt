@@ -196,7 +196,7 @@ fn one_is_served_after_each(rt: &HostRuntime, port: u16) -> Option<bool> {
 #[test]
 fn a_ping_is_answered_after_each_ending(rt: HostRuntime) -> Result<(), Fail> {
     let outcome = with_server(&rt, 10, 16, 1, one_is_served_after_each)?;
-    assert!(rt; outcome.is_well(10));
+    assert!(rt; outcome.is_well(10) && outcome.ended_each([6, 1, 1, 1, 1, 0]));
     Ok(())
 }
 
