@@ -24,6 +24,7 @@ use words::number;
 use words::reply::{CommandReply, Fault, Item, Reply};
 use words::word::{OutOfMemory, Word, Words};
 
+mod cleaning;
 mod cold;
 mod failing;
 mod held;

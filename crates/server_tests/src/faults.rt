@@ -5,8 +5,8 @@ ghost use Rattle.std.specs.Prelude.{◌≡◌, ◌+◌, IfOk, vec_len};
 ghost use Rattle.engine.specs.declared.TheConstants.{BACKGROUND_PASSES};
 
 use crate::client::{connect, with_openings};
-use crate::overwriting::overwrites;
-use crate::pages::{FIRST, has_all, has_thirty, options, sets_thirty, stores_all};
+use crate::overwriting::overwrites_often;
+use crate::pages::{FIRST, has_thirty, options, sets_thirty};
 use device::{Device, DeviceFault, Faulty, MemoryDevice};
 use epoch::{Drained, Retired};
 use options::Options;
@@ -177,22 +177,39 @@ where
     Ok(outcome.is_well(1) && of_workers.failed.load(Ordering::SeqCst) == 0)
 }
 
-/// Whether 150 keys are stored, the flusher comes to write their pages after it failed, and all keys are stored and read
-/// then.
+/// Whether so many pieces of thirty keys are stored, and each has its value then.
+fn stores_and_has(alloc: Global, stream: &TcpStream, pieces: u32) -> Option<bool> {
+    for piece in 0..pieces {
+        if !sets_thirty(
+            alloc,
+            stream,
+            FIRST.saturating_add(piece.saturating_mul(30)),
+        )? {
+            return Some(false);
+        }
+    }
+    for piece in 0..pieces {
+        if !has_thirty(
+            alloc,
+            stream,
+            FIRST.saturating_add(piece.saturating_mul(30)),
+        )? {
+            return Some(false);
+        }
+    }
+    Some(true)
+}
+
+/// Whether 150 keys are stored, the flusher comes to write their pages after it failed, and keys of 40 pages are stored and
+/// read then.
 fn stores_beside_faults<R>(rt: &R, port: u16, tally: &Tally) -> Option<bool>
 where
     R: AllocGlobal + Clock + Net<Stream = TcpStream>,
 {
     let stream = connect(rt, port)?;
-    let alloc = rt.alloc();
-    for piece in 0..5 {
-        if !sets_thirty(alloc, &stream, FIRST + piece * 30)? {
-            return Some(false);
-        }
-    }
+    let stores = stores_and_has(rt.alloc(), &stream, 5)?;
     let comes = tally.comes_to_write(rt);
-    let has = has_thirty(alloc, &stream, FIRST)?;
-    Some(comes && has && stores_all(alloc, &stream)? && has_all(alloc, &stream)?)
+    Some(stores && comes && stores_and_has(rt.alloc(), &stream, 20)?)
 }
 
 /// 150 keys fill 10 pages, of which 6 wait for the flusher. It fails three times, and then it writes them.
@@ -210,12 +227,20 @@ fn a_fault_of_the_flusher_is_told_to_nobody(rt: HostRuntime) -> Result<(), Fail>
     Ok(())
 }
 
+/// How often the keys of 20 pages are written. That takes twice as many pages as there are places.
+const ROUNDS: u32 = 7;
+
 /// The flusher and the cleaner fail three times each, and then the cleaner gives places back: the store is overwritten with
-/// ten times as many pages as there are places.
+/// twice as many pages as there are places.
 #[test]
 fn a_fault_of_the_cleaner_is_told_to_nobody(rt: HostRuntime) -> Result<(), Fail> {
     let tally = Tally::new();
-    let is_well = is_well_beside(&rt, 64, &tally, |rt, port| overwrites(rt, port))?;
+    let is_well = is_well_beside(
+        &rt,
+        64,
+        &tally,
+        |rt, port| overwrites_often(rt, port, ROUNDS),
+    )?;
     assert!(rt; is_well);
     assert!(rt; tally.failed.load(Ordering::SeqCst) == 2 * FAILING);
     assert!(rt; tally.released.load(Ordering::SeqCst) > 0);

@@ -3,11 +3,10 @@
 use crate::client::{connect, with_file};
 use crate::pages::{FIRST, has_thirty, options, sets_thirty};
 use std::alloc::Global;
-use std::fs;
 use std::net::{Net, TcpStream};
 use std::test::Fail;
-use std::thread;
 use std::thread::Threads;
+use std::{fs, thread};
 use words::limits::PLACES_DEFAULT;
 
 /// How many pieces of thirty keys each of three clients stores. With values of 1,000 bytes they take 198 pages together.
