@@ -1,7 +1,7 @@
 //! Faults of the device that the threads of the background meet, over a socket: no client is told, and the threads go on.
 
-ghost use Rattle.epoch.specs.Seats.{drained_epoch, drained_of, retired_epoch, retired_of};
-ghost use Rattle.std.specs.Prelude.{◌≡◌, ◌+◌, IfOk, vec_len};
+ghost use Rattle.epoch.specs.Seats.{drained_epoch, drained_of, retired_epoch, retired_of, retired_value};
+ghost use Rattle.std.specs.Prelude.{◌≡◌, ◌≢◌, ◌+◌, IfOk, vec_len};
 ghost use Rattle.engine.specs.declared.TheConstants.{BACKGROUND_PASSES};
 
 use crate::client::{connect, with_openings};
@@ -50,6 +50,27 @@ impl Tally {
         }
     }
 
+    /// A page was written, or the write failed.
+    fn note_write(&self, is_done: bool) {
+        if is_done {
+            self.written.fetch_add(1, Ordering::SeqCst);
+        } else {
+            self.failed.fetch_add(1, Ordering::SeqCst);
+        }
+    }
+
+    /// A page was read, or the read failed.
+    fn note_read(&self, is_done: bool) {
+        if !is_done {
+            self.failed.fetch_add(1, Ordering::SeqCst);
+        }
+    }
+
+    /// A receipt was taken back.
+    fn note_release(&self) {
+        self.released.fetch_add(1, Ordering::SeqCst);
+    }
+
     /// Whether pages were written after the calls that fail. False after all turns.
     fn comes_to_write(&self, clock: &impl Clock) -> bool {
         for _ in 0..TURNS {
@@ -90,28 +111,28 @@ impl<'a, D: Device> Device for Tallied<'a, D> {
 
     fn write(&mut self, page: &Page) -> Result<D::Receipt, DeviceFault> {
         let written = self.device.write(page);
-        let count = if written.is_ok() {
-            &self.tally.written
-        } else {
-            &self.tally.failed
-        };
-        count.fetch_add(1, Ordering::SeqCst);
+        self.tally.note_write(written.is_ok());
         written
     }
 
     fn read(&mut self, receipt: &D::Receipt, page: &mut Page) -> Result<(), DeviceFault> {
         let read = self.device.read(receipt, page);
-        if read.is_err() {
-            self.tally.failed.fetch_add(1, Ordering::SeqCst);
-        }
+        self.tally.note_read(read.is_ok());
         read
     }
 
     fn release(&mut self, retired: Retired<D::Receipt>, drained: &Drained)
         requires own_epoch { retired_epoch retired ≡ drained_epoch drained.now }
         requires own_epochs { retired_of retired ≡ drained_of drained.now }
+        ensures still_served { (r : D.Receipt) → D.Receipt.identity r ≢ D.Receipt.identity (retired_value retired)
+            → D.serves self.old.device r → D.serves self.new.device r }
+
+        ensures no_failure { D.failures self.new.device ≡ D.failures self.old.device }
+        ensures no_write { D.writes self.new.device ≡ D.writes self.old.device }
+        ensures no_read { D.reads self.new.device ≡ D.reads self.old.device }
+        ensures counted { D.releases self.new.device ≡ D.releases self.old.device + 1 }
     {
-        self.tally.released.fetch_add(1, Ordering::SeqCst);
+        self.tally.note_release();
         self.device.release(retired, drained);
     }
 }
