@@ -13,3 +13,5 @@ mod keys;
 mod refused;
 #[cfg(test)]
 mod talks;
+#[cfg(test)]
+mod watching;

@@ -10,7 +10,7 @@ use engine::{BACKGROUND_PASSES, Engine, Pass};
 use gates::Open;
 use std::alloc::{AllocError, Global};
 use std::io;
-use std::io::{ErrorKind, Read};
+use std::io::{ErrorKind, Read, Write};
 use std::process::Abort;
 use std::sync::Wait;
 use streams::{Noted, ReadReady};
@@ -152,6 +152,26 @@ pub(crate) fn memory(alloc: Global, limits: &Limits) -> Result<Vec<MemoryDevice>
     MemoryDevice::openings(alloc, limits.clients + BACKGROUND_PASSES)
 }
 
+/// Serves a connection whose replies go to this writer, and gives the pass and the writer back, with how it ended.
+pub(crate) fn talk_to<D: Device, W: Write>(
+    rt: &impl Wait,
+    alloc: Global,
+    source: Source<'_>,
+    writer: W,
+    engine: &Engine<D>,
+    pass: Pass<D>,
+) -> (Pass<D>, W, Ended)
+    requires rests { Rests D.Receipt.is_steady engine.now pass }
+    requires watches { (knows D.failures pass).watched ≡ [] }
+    ensures rests { Rests D.Receipt.is_steady engine.now result.0 }
+    ensures watches { (knows D.failures result.0).watched ≡ [] }
+{
+    let mut reader = Noted::new(source);
+    let mut writer = Noted::new(writer);
+    let (pass, ended) = serve(rt, alloc, &mut reader, &mut writer, engine, pass, &Open);
+    (pass, writer.into_inner(), ended)
+}
+
 /// Serves a connection, and gives the pass back.
 pub(crate) fn talk<D: Device>(
     rt: &impl Wait,
@@ -165,10 +185,7 @@ pub(crate) fn talk<D: Device>(
     ensures rests { Rests D.Receipt.is_steady engine.now result.0 }
     ensures watches { (knows D.failures result.0).watched ≡ [] }
 {
-    let mut reader = Noted::new(source);
-    let mut writer = Noted::new(Vec::new(alloc));
-    let (pass, ended) = serve(rt, alloc, &mut reader, &mut writer, engine, pass, &Open);
-    let text = writer.into_inner();
+    let (pass, text, ended) = talk_to(rt, alloc, source, Vec::new(alloc), engine, pass);
     (pass, Outcome { text, ended })
 }
 

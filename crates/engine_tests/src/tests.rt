@@ -24,8 +24,10 @@ use words::number;
 use words::reply::{CommandReply, Fault, Item, Reply};
 use words::word::{OutOfMemory, Word, Words};
 
+mod cleaning;
 mod cold;
 mod failing;
+mod held;
 mod moving;
 mod refused;
 mod steps;

@@ -14,6 +14,8 @@ use std::test::Fail;
 use words::hash::hash_of;
 use words::limits::{Limits, VALUE_BYTES_MAX, WEIGHT_OF_KEY};
 
+mod flushed;
+
 // One write.
 #[derive(Drop)]
 struct OneWrite<'a> {
@@ -85,7 +87,9 @@ impl Shelf {
             return Err(Fault::StoreFull);
         }
         let weight = WEIGHT_OF_KEY + key.len() + length_of(value);
-        let _room = self.stripe.reserve(weight, Purpose::Clean, &mut self.device)?;
+        let _room = self
+            .stripe
+            .reserve(weight, Purpose::Clean, &mut self.device)?;
         self.stripe.install_one(&OneWrite { key, value });
         Ok(())
     }
@@ -155,7 +159,10 @@ impl Shelf {
                     stage(&self.stripe, &mut self.device, &mut staged, number)?;
                 }
                 Weighed::Live(weight) => {
-                    let room = self.stripe.reserve(weight, Purpose::Clean, &mut self.device).ok()?;
+                    let room = self
+                        .stripe
+                        .reserve(weight, Purpose::Clean, &mut self.device)
+                        .ok()?;
                     return self.clean_with(&mut staged, room);
                 }
             }

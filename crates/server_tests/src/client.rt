@@ -44,6 +44,8 @@ pub(crate) struct Outcome {
     numbers: [Option<u8>; 4],
     /// How many connections were served.
     count: usize,
+    /// How many of them ended by each number from 1 on.
+    tally: [usize; 6],
 }
 
 impl Outcome {
@@ -55,6 +57,11 @@ impl Outcome {
     /// Whether the server ended well, its clients told yes, and the first four connections ended so.
     pub(crate) fn ended(&self, numbers: [Option<u8>; 4]) -> bool {
         self.well && self.numbers == numbers
+    }
+
+    /// Whether the server ended well, its clients told yes, and so many connections ended by each number from 1 on.
+    pub(crate) fn ended_each(&self, tally: [usize; 6]) -> bool {
+        self.well && self.tally == tally
     }
 }
 
@@ -68,12 +75,25 @@ fn first_numbers(endings: &Endings) -> [Option<u8>; 4] {
     ]
 }
 
+/// How many connections ended by each number from 1 on.
+fn tally_of(endings: &Endings) -> [usize; 6] {
+    let mut tally = [0usize; 6];
+    for place in 0..endings.count() {
+        let number = endings.get(place).unwrap_or(0);
+        if let Some(count) = tally.get_mut(usize::from(number).wrapping_sub(1)) {
+            *count = count.saturating_add(1);
+        }
+    }
+    tally
+}
+
 /// What came of a server that ended so, and these endings.
 fn outcome_of(well: Option<bool>, endings: &Endings) -> Outcome {
     Outcome {
         well: well == Some(true),
         numbers: first_numbers(endings),
         count: endings.count(),
+        tally: tally_of(endings),
     }
 }
 
@@ -286,6 +306,30 @@ where
 {
     let endings = Endings::new(rt.alloc())?;
     let well = end_well_on_file(rt, options, path, &endings, talk);
+    Ok(outcome_of(well, &endings))
+}
+
+/// A server with these options over these openings.
+pub(crate) fn with_openings<R, D, F: FnOnce(&R, u16) -> Option<bool>>(
+    rt: &R,
+    options: &Options,
+    openings: Vec<D>,
+    talk: F,
+) -> Result<Outcome, Fail>
+where
+    R: AllocGlobal
+        + Clock
+        + Net<Listener = TcpListener, Stream = TcpStream>
+        + Threads
+        + Wait
+        + Sync,
+    D: Device + Send + Sync,
+    D::Receipt: Send + Sync,
+    requires talk { F.IsAlwaysCallable talk }
+    requires openings { vec_len openings ≡ options.now.workers + BACKGROUND_PASSES }
+{
+    let endings = Endings::new(rt.alloc())?;
+    let well = end_well(rt, options, openings, &Open, &endings, talk);
     Ok(outcome_of(well, &endings))
 }
 

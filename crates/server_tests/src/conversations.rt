@@ -188,6 +188,24 @@ fn the_worker_serves_the_next_after_each_ending(rt: HostRuntime) -> Result<(), F
     Ok(())
 }
 
+/// One that is served after each of five, each of whom ends its connection in its own manner.
+fn one_is_served_after_each(rt: &HostRuntime, port: u16) -> Option<bool> {
+    let told = goes_in_the_middle_of_a_request(rt, port)? && is_served(rt, port)?;
+    let told = quits(rt, port)? && is_served(rt, port)? && told;
+    let told = is_refused_and_goes(rt, port)? && is_served(rt, port)? && told;
+    let told = is_reset(rt, port)? && is_served(rt, port)? && told;
+    let told = goes_in_the_middle_of_a_reply(rt, port)? && told;
+    Some(is_served(rt, port)? && told)
+}
+
+/// The one worker answers a PING on the connection after each kind of ending.
+#[test]
+fn a_ping_is_answered_after_each_ending(rt: HostRuntime) -> Result<(), Fail> {
+    let outcome = with_server(&rt, 10, 16, 1, one_is_served_after_each)?;
+    assert!(rt; outcome.is_well(10) && outcome.ended_each([6, 1, 1, 1, 1, 0]));
+    Ok(())
+}
+
 /// Sends what is no request, and far more than the sockets hold, before it reads.
 fn sends_on(client: &TcpStream) -> bool {
     if !sends(client, BAD_LENGTH) {

@@ -11,6 +11,8 @@ mod counters;
 #[cfg(test)]
 mod crowds;
 #[cfg(test)]
+mod faults;
+#[cfg(test)]
 mod files;
 #[cfg(test)]
 mod filling;
@@ -26,5 +28,7 @@ mod pipelines;
 mod refusals;
 #[cfg(test)]
 mod sharing;
+#[cfg(test)]
+mod sharing_file;
 #[cfg(test)]
 mod starting;

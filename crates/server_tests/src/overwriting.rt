@@ -66,13 +66,13 @@ pub(crate) fn comes_to_room<R: AllocGlobal + Clock + Wait>(
     Some(false)
 }
 
-/// Writes all keys again and again, and says whether they have their values in the end.
-fn overwrites<R>(rt: &R, port: u16) -> Option<bool>
+/// Writes all keys so often, and says whether they have their values in the end.
+pub(crate) fn overwrites_often<R>(rt: &R, port: u16, rounds: u32) -> Option<bool>
 where
     R: AllocGlobal + Clock + Net<Stream = TcpStream> + Wait,
 {
     let stream = connect(rt, port)?;
-    for _ in 0..ROUNDS {
+    for _ in 0..rounds {
         for piece in 0..PIECES {
             let sets = thirty_sets(rt.alloc(), FIRST + piece * 30).ok()?;
             if !comes_to_room(rt, &stream, sets.as_slice())? {
@@ -86,6 +86,14 @@ where
         }
     }
     Some(true)
+}
+
+/// Writes all keys again and again, and says whether they have their values in the end.
+fn overwrites<R>(rt: &R, port: u16) -> Option<bool>
+where
+    R: AllocGlobal + Clock + Net<Stream = TcpStream> + Wait,
+{
+    overwrites_often(rt, port, ROUNDS)
 }
 
 #[test]

@@ -1,0 +1,43 @@
+// Receipts that come too late.
+
+use super::*;
+
+// A copy of page 0.
+fn copy_of_page_0(stripe: &Stripe<Receipt>) -> Page {
+    let mut copy = Page::new(0);
+    if let Some(page) = stripe.page(0) {
+        copy.copy_from(page);
+    }
+    copy
+}
+
+// Page 0 is written once more: its receipt is given back, and nothing changes.
+fn refuses_another_receipt(shelf: &mut Shelf, rt: &impl Abort, page: &Page) -> Result<(), Fail> {
+    let receipt = shelf.device.write(page)?;
+    assert!(rt; shelf.stripe.take_place());
+    let sealed = shelf.stripe.sealed();
+    let oldest = shelf.stripe.oldest();
+    assert!(rt; shelf.stripe.mark_flushed(0, page, receipt).is_err());
+    assert!(rt; shelf.stripe.sealed() == sealed && shelf.stripe.oldest() == oldest);
+    assert!(rt; shelf.stripe.receipt(0).is_some());
+    Ok(())
+}
+
+// The same of a page that has a receipt and its frame, and then of one that has left it.
+fn refuses_both(shelf: &mut Shelf, rt: &impl Abort) -> Result<(), Fail> {
+    assert!(rt; fills(shelf, 150));
+    let page = copy_of_page_0(&shelf.stripe);
+    assert!(rt; shelf.flush() == Some(true));
+    refuses_another_receipt(shelf, rt, &page)?;
+    assert!(rt; shelf.stripe.unreleased() == 2);
+    assert!(rt; shelf.stripe.drop_oldest() && shelf.stripe.page(0).is_none());
+    refuses_another_receipt(shelf, rt, &page)?;
+    assert!(rt; shelf.stripe.unreleased() == 3);
+    Ok(())
+}
+
+#[test]
+fn a_page_that_has_a_receipt_keeps_it(rt: HostRuntime) -> Result<(), Fail> {
+    let mut shelf = new_shelf(rt.alloc(), 4096, 64)?;
+    refuses_both(&mut shelf, &rt)
+}
