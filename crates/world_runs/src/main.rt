@@ -34,8 +34,11 @@ const CLIENTS: usize = 3;
 
 const STRIPES: usize = 2;
 
-/// How many events a schedule has, or somewhat more.
-const EVENTS: usize = 8_000;
+/// How many frames a stripe has: the fewest.
+const FRAMES: usize = 12;
+
+/// How many times events are drawn for a schedule, one or several at a time.
+const DRAWS: usize = 8_000;
 
 /// So many places of a stripe that no schedule takes them all.
 const MANY_PLACES: usize = 4_096;
@@ -116,8 +119,8 @@ fn run(alloc: Global, seed: u64, places: usize, counts: &mut Counts) -> Verdict 
 fn world_after(alloc: Global, seed: u64, places: usize, counts: &mut Counts) -> Option<World>
     ensures { IfSome result IsWorld }
 {
-    let events = schedule(alloc, seed, EVENTS, CLIENTS, STRIPES)?;
-    let limits = Limits::new(STRIPES, 4_096, 12, places, CLIENTS)?;
+    let events = schedule(alloc, seed, DRAWS, CLIENTS, STRIPES)?;
+    let limits = Limits::new(STRIPES, 4_096, FRAMES, places, CLIENTS)?;
     let world = World::new(alloc, &limits).ok()?;
     followed(world, events.as_slice(), counts)
 }

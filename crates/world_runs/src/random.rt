@@ -7,17 +7,34 @@ use crate::requests::request;
 use std::alloc::Global;
 use world_events::{Event, ShownPage};
 
-/// How many events are drawn in the same mood.
+/// How many times events are drawn in the same mood.
 const MOOD: usize = 2_000;
 
-/// A mood in which the log of each stripe grows: the cleaner takes no step.
-const GROWS: usize = 0;
+/// What is drawn while a mood lasts.
+#[derive(Clone, Copy)]
+pub(crate) enum Mood {
+    /// The logs grow: most requests write, and the cleaner takes no step.
+    Grows,
+    /// The cleaner works.
+    Cleans,
+}
 
-/// Some `count` random events; among the last of them the input of some client comes to its end.
+impl Mood {
+    /// The mood after so many draws; the two take turns.
+    fn at(draws: usize) -> Mood {
+        if draws / MOOD % 2 == 0 {
+            Mood::Grows
+        } else {
+            Mood::Cleans
+        }
+    }
+}
+
+/// The events of so many draws; in the last of them the input of some client may come to its end.
 pub(crate) fn schedule(
     alloc: Global,
     seed: u64,
-    count: usize,
+    draws: usize,
     clients: usize,
     stripes: usize,
 ) -> Option<Vec<Event>>
@@ -26,9 +43,10 @@ pub(crate) fn schedule(
 {
     let mut dice = Dice::new(seed);
     let mut events = Vec::new(alloc);
-    for number in 0..count {
-        add_event(alloc, &mut dice, &mut events, clients, stripes)?;
-        if number > count - count / 50 && dice.below(40) == 0 {
+    for number in 0..draws {
+        let mood = Mood::at(number);
+        draw(alloc, &mut dice, mood, &mut events, clients, stripes)?;
+        if number > draws - draws / 50 && dice.below(40) == 0 {
             push(&mut events, Event::Close(dice.below(clients)))?;
         }
     }
@@ -36,9 +54,10 @@ pub(crate) fn schedule(
 }
 
 /// Adds a random event, three of four times a client's, or a client's whole call.
-fn add_event(
+fn draw(
     alloc: Global,
     dice: &mut Dice,
+    mood: Mood,
     events: &mut Vec<Event>,
     clients: usize,
     stripes: usize,
@@ -47,19 +66,23 @@ fn add_event(
     requires stripes { 0 < stripes }
 {
     if dice.below(4) == 0 {
-        let cleans = events.len() / MOOD % 2 != GROWS;
         let stripe = dice.below(stripes);
-        return push(events, of_stripe(alloc, dice, stripe, cleans)?);
+        return push(events, of_stripe(alloc, dice, mood, stripe)?);
     }
     let client = dice.below(clients);
-    if dice.below(10) == 0 {
-        return add_call(events, client, stripes);
+    match dice.below(4) {
+        0 => {
+            push(events, Event::Piece(client, request(alloc, dice, mood)?))?;
+            add_call(events, client, stripes)
+        }
+        1 => add_call(events, client, stripes),
+        _ => push(events, of_client(alloc, dice, mood, client, stripes)?),
     }
-    push(events, of_client(alloc, dice, client, stripes)?)
 }
 
 /// Adds what brings an open call of a client to its end, where nothing is in its way.
 fn add_call(events: &mut Vec<Event>, client: usize, stripes: usize) -> Option<()> {
+    push(events, Event::Fetch(client))?;
     for stripe in 0..stripes {
         push(events, Event::Take(client, stripe))?;
     }
@@ -71,12 +94,18 @@ fn add_call(events: &mut Vec<Event>, client: usize, stripes: usize) -> Option<()
 }
 
 /// A random event of a client.
-fn of_client(alloc: Global, dice: &mut Dice, client: usize, stripes: usize) -> Option<Event>
+fn of_client(
+    alloc: Global,
+    dice: &mut Dice,
+    mood: Mood,
+    client: usize,
+    stripes: usize,
+) -> Option<Event>
     requires { 0 < stripes }
 {
     match dice.below(12) {
-        0 | 1 => Some(Event::Piece(client, request(alloc, dice)?)),
-        2 | 3 | 4 | 5 => Some(Event::Take(client, dice.below(stripes))),
+        0 => Some(Event::Piece(client, request(alloc, dice, mood)?)),
+        1 | 2 | 3 | 4 | 5 => Some(Event::Take(client, dice.below(stripes))),
         6 | 7 => Some(Event::Commit(client)),
         8 | 9 | 10 => Some(Event::Give(client, dice.below(stripes))),
         _ => Some(Event::Fetch(client)),
@@ -84,8 +113,11 @@ fn of_client(alloc: Global, dice: &mut Dice, client: usize, stripes: usize) -> O
 }
 
 /// A random event of a stripe: of the flusher and the evictor, or of the cleaner too.
-fn of_stripe(alloc: Global, dice: &mut Dice, stripe: usize, cleans: bool) -> Option<Event> {
-    let kinds = if cleans { 8 } else { 4 };
+fn of_stripe(alloc: Global, dice: &mut Dice, mood: Mood, stripe: usize) -> Option<Event> {
+    let kinds = match mood {
+        Mood::Grows => 4,
+        Mood::Cleans => 8,
+    };
     match dice.below(kinds) {
         0 => Some(Event::Copy(stripe)),
         1 => Some(Event::Write(stripe)),

@@ -1,6 +1,7 @@
 //! Random requests.
 
 use crate::dice::Dice;
+use crate::random::Mood;
 use bytes::Bytes;
 use itoa::Buffer;
 use std::alloc::Global;
@@ -17,10 +18,14 @@ const LARGE_LENGTHS: usize = 20;
 const SMALL_LENGTHS: usize = 2_000;
 
 /// A random request: a GET, an MGET of two keys, a DEL, a WATCH, a SET of a random value, an MSET of two small ones; or
-/// the four of a transaction with a SET and a GET.
-pub(crate) fn request(alloc: Global, dice: &mut Dice) -> Option<Bytes> {
+/// the four of a transaction with a SET and a GET. Where logs grow, a SET three of four times.
+pub(crate) fn request(alloc: Global, dice: &mut Dice, mood: Mood) -> Option<Bytes> {
     let mut text = Vec::new(alloc);
-    match dice.below(12) {
+    let kinds = match mood {
+        Mood::Grows => 32,
+        Mood::Cleans => 12,
+    };
+    match dice.below(kinds) {
         0 => add_one_key(&mut text, dice, b"*2\r\n$3\r\nDEL\r\n")?,
         1 | 2 => add_one_key(&mut text, dice, b"*2\r\n$3\r\nGET\r\n")?,
         3 => {
@@ -29,7 +34,7 @@ pub(crate) fn request(alloc: Global, dice: &mut Dice) -> Option<Bytes> {
         }
         4 => add_one_key(&mut text, dice, b"*2\r\n$5\r\nWATCH\r\n")?,
         5 => add_mset(&mut text, dice)?,
-        6 => add_transaction(&mut text, dice)?,
+        6 | 7 => add_transaction(&mut text, dice)?,
         _ => add_set(&mut text, dice)?,
     }
     Bytes::from_vec(text).ok()
