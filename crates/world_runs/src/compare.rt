@@ -8,12 +8,15 @@ use crate::told::Told;
 use crate::watches::Watches;
 use std::alloc::Global;
 use words::history::{Entry, Operation};
+use words::reply::Reply;
 use world::World;
 
-/// How many entries a history has, and how many calls were refused beside them.
+/// How many entries a history has, how many of them are transactions that were not done, and how many calls were
+/// refused beside them.
 #[derive(Clone, Copy)]
 pub(crate) struct Sums {
     pub(crate) entries: usize,
+    pub(crate) undone: usize,
     pub(crate) refused: usize,
 }
 
@@ -33,10 +36,17 @@ pub(crate) fn compared(alloc: Global, world: &World) -> Option<Sums> {
         let count = compared_of(alloc, world, client)?;
         refused = refused.checked_add(count)?;
     }
+    let history = world.history();
     Some(Sums {
-        entries: world.history().len(),
+        entries: history.len(),
+        undone: history.iter().filter(|entry| is_undone(entry)).count(),
         refused,
     })
+}
+
+/// Whether an entry is a transaction that was not done.
+fn is_undone(entry: &Entry) -> bool {
+    matches!(entry.reply, Reply::NullArray)
 }
 
 /// How many calls of one client were refused.

@@ -38,7 +38,7 @@ const STRIPES: usize = 2;
 const FRAMES: usize = 12;
 
 /// How many times events are drawn for a schedule, one or several at a time.
-const DRAWS: usize = 8_000;
+const DRAWS: usize = 5_000;
 
 /// So many places of a stripe that no schedule takes them all.
 const MANY_PLACES: usize = 4_096;
@@ -73,8 +73,8 @@ impl Display for Verdict {
             Verdict::Right(sums) => {
                 write!(
                     f,
-                    "{} entries, {} calls refused, as the map has it",
-                    sums.entries, sums.refused
+                    "{} entries, {} of them transactions that were not done, {} calls refused, as the map has it",
+                    sums.entries, sums.undone, sums.refused
                 )
             }
             Verdict::Wrong => write!(f, "not as the map has it"),

@@ -8,7 +8,7 @@ use std::alloc::Global;
 use world_events::{Event, ShownPage};
 
 /// How many times events are drawn in the same mood.
-const MOOD: usize = 2_000;
+const MOOD: usize = 1_250;
 
 /// What is drawn while a mood lasts.
 #[derive(Clone, Copy)]

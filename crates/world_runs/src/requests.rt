@@ -7,7 +7,10 @@ use itoa::Buffer;
 use std::alloc::Global;
 
 /// The keys, by their last byte.
-const KEYS: [u8; 16] = *b"0123456789abcdef";
+const KEYS: [u8; 64] = *b"0123456789abcdefghijklmnopqrstuvwxyzABCDEFGHIJKLMNOPQRSTUVWXYZ-+";
+
+/// How many of the first of them are asked for as often as all together.
+const OFTEN: usize = 8;
 
 /// A value of this many bytes or more has a page for itself.
 const LARGE: usize = 8_170;
@@ -70,8 +73,9 @@ fn add_one_key(text: &mut Vec<u8>, dice: &mut Dice, front: &[u8]) -> Option<()> 
 
 /// Adds a random key.
 fn add_key(text: &mut Vec<u8>, dice: &mut Dice) -> Option<()> {
+    let count = if dice.below(2) == 0 { OFTEN } else { 64 };
     add(text, b"$2\r\nk")?;
-    add(text, &[KEYS[dice.below(16)]])?;
+    add(text, &[KEYS[dice.below(count)]])?;
     add(text, b"\r\n")
 }
 
