@@ -211,6 +211,31 @@ fn events_of_a_client_that_are_not_enabled(rt: HostRuntime) {
     row(&rt, rt.alloc(), text, true, 151);
 }
 
+/// A receipt that comes when its page has left its frame is unlinked at once, and its place can be released.
+#[test]
+fn a_receipt_that_comes_late_is_unlinked(rt: HostRuntime) {
+    let alloc = rt.alloc();
+    let Some(world) = filled_world(alloc, 4_096) else {
+        panic!(rt; "no world")
+    };
+    let world = follow(&rt, alloc, world, "do copy 0; do write 0; not retire 0");
+    // Each key is set once more, which takes 10 pages: the pages 0 to 7 leave their frames.
+    let Some(world) = filled_again(alloc, world, 1) else {
+        panic!(rt; "stopped")
+    };
+    let text =
+        "not retire 0; do install 0; do retire 0; do drain 0; do release 0 255; not retire 0; \
+        do ask 1 GET k0000; do take 1 0; do commit 1; do give 1 0";
+    let world = follow(&rt, alloc, world, text);
+    if world.clients() != 2 || !is_value(alloc, world.output(1)) {
+        panic!(rt; "told otherwise")
+    }
+    if world.history().len() != 2 * KEYS + 1 {
+        panic!(rt; "entries")
+    }
+    world.end();
+}
+
 /// Where no place is left, calls are refused, and the history has no entry of them.
 #[test]
 fn a_full_stripe_refuses_calls(rt: HostRuntime) {

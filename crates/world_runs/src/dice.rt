@@ -9,10 +9,19 @@ pub(crate) struct Dice {
 }
 
 impl Dice {
+    /// Those of a seed.
     pub(crate) fn new(seed: u64) -> Dice {
         Dice {
             state: seed.wrapping_mul(0x9e37_79b9_7f4a_7c15),
         }
+    }
+
+    /// A number below a bound that is not 0.
+    pub(crate) fn below(&mut self, bound: usize) -> usize
+        requires { 0 < bound }
+        ensures { result < bound }
+    {
+        (self.roll() % bound as u64) as usize
     }
 
     /// The next number.
@@ -23,13 +32,5 @@ impl Dice {
         state ^= state << 17;
         self.state = state;
         state
-    }
-
-    /// A number below a bound that is not 0.
-    pub(crate) fn below(&mut self, bound: usize) -> usize
-        requires { 0 < bound }
-        ensures { result < bound }
-    {
-        (self.roll() % bound as u64) as usize
     }
 }

@@ -50,6 +50,32 @@ impl Counts {
         *count = count.saturating_add(1);
     }
 
+    /// How many calls were committed.
+    pub(crate) fn commits(&self) -> u64 {
+        self.commit
+    }
+
+    /// Whether each kind was enabled at least once.
+    pub(crate) fn are_all_there(&self) -> bool {
+        let counts = [
+            self.piece,
+            self.close,
+            self.take,
+            self.fetch,
+            self.commit,
+            self.give,
+            self.copy,
+            self.write,
+            self.install,
+            self.evict,
+            self.unlink,
+            self.retire,
+            self.drain,
+            self.release,
+        ];
+        counts.iter().all(|count| *count > 0)
+    }
+
     /// How often events of the same kind as this were enabled.
     fn of(&mut self, event: &Event) -> &mut u64 {
         match event {
