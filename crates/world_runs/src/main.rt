@@ -43,8 +43,24 @@ const DRAWS: usize = 5_000;
 /// So many places of a stripe that no schedule takes them all.
 const MANY_PLACES: usize = 4_096;
 
-/// The seeds, and how many places a stripe has by each. A stripe of 64 places is filled.
-const RUNS: [(u64, usize); 4] = [(1, MANY_PLACES), (2, MANY_PLACES), (3, 64), (4, 64)];
+/// The fewest places of a stripe: a schedule fills them.
+const FEW_PLACES: usize = 64;
+
+/// The seeds, and how many places a stripe has by each.
+const RUNS: [(u64, usize); 12] = [
+    (1, MANY_PLACES),
+    (2, MANY_PLACES),
+    (3, FEW_PLACES),
+    (4, FEW_PLACES),
+    (5, MANY_PLACES),
+    (6, FEW_PLACES),
+    (7, MANY_PLACES),
+    (8, FEW_PLACES),
+    (9, MANY_PLACES),
+    (10, FEW_PLACES),
+    (11, MANY_PLACES),
+    (12, FEW_PLACES),
+];
 
 /// What a run came to.
 #[derive(Clone, Copy)]

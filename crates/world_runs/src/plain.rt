@@ -109,7 +109,8 @@ impl Plain {
     /// Sets a key.
     fn set(&mut self, key: &Word, value: &Word) -> Option<()> {
         let value = Vec::from_slice(self.alloc, value.as_slice()).ok()?;
-        let _old = self.values.insert(self.key(key)?, value).ok()?;
+        let owned = self.key(key)?;
+        let _old = self.values.insert(owned, value).ok()?;
         self.note(key)
     }
 
@@ -126,7 +127,8 @@ impl Plain {
 
     /// The present entry wrote a key.
     fn note(&mut self, key: &Word) -> Option<()> {
-        let _old = self.writers.insert(self.key(key)?, self.position).ok()?;
+        let owned = self.key(key)?;
+        let _old = self.writers.insert(owned, self.position).ok()?;
         Some(())
     }
 
