@@ -71,6 +71,19 @@ impl Tally {
         self.released.fetch_add(1, Ordering::SeqCst);
     }
 
+    /// Whether the flusher and the cleaner failed so often as they do, and a place was given back. False after all turns.
+    fn comes_to_release(&self, clock: &impl Clock) -> bool {
+        for _ in 0..TURNS {
+            if self.failed.load(Ordering::SeqCst) == 2 * FAILING
+                && self.released.load(Ordering::SeqCst) > 0
+            {
+                return true;
+            }
+            sleep(clock, Duration::from_millis(1));
+        }
+        false
+    }
+
     /// Whether pages were written after the calls that fail. False after all turns.
     fn comes_to_write(&self, clock: &impl Clock) -> bool {
         for _ in 0..TURNS {
@@ -174,11 +187,12 @@ fn openings<'a>(
     Ok(openings)
 }
 
-/// What came of a server of one worker with places for so many pages, the first calls of whose background fail, and whose
-/// client talks meanwhile.
+/// What came of a server with places for so many pages and a worker for each of so many clients, who talk while the first
+/// calls of its background fail.
 fn is_well_beside<R, F: FnOnce(&R, u16) -> Option<bool>>(
     rt: &R,
     places: usize,
+    clients: u32,
     of_background: &Tally,
     talk: F,
 ) -> Result<bool, Fail>
@@ -192,10 +206,10 @@ where
     requires { F.IsAlwaysCallable talk }
 {
     let of_workers = Tally::new();
-    let options = options(places, 1, 1).ok_or("no options")?;
+    let options = options(places, clients as usize, clients).ok_or("no options")?;
     let openings = openings(rt.alloc(), &options, &of_workers, of_background)?;
     let outcome = with_openings(rt, &options, openings, talk)?;
-    Ok(outcome.is_well(1) && of_workers.failed.load(Ordering::SeqCst) == 0)
+    Ok(outcome.is_well(clients as usize) && of_workers.failed.load(Ordering::SeqCst) == 0)
 }
 
 /// Whether so many pieces of thirty keys are stored, and each has its value then.
@@ -240,6 +254,7 @@ fn a_fault_of_the_flusher_is_told_to_nobody(rt: HostRuntime) -> Result<(), Fail>
     let is_well = is_well_beside(
         &rt,
         PLACES_DEFAULT,
+        1,
         &tally,
         |rt, port| stores_beside_faults(rt, port, &tally),
     )?;
@@ -251,6 +266,17 @@ fn a_fault_of_the_flusher_is_told_to_nobody(rt: HostRuntime) -> Result<(), Fail>
 /// How often the keys of 20 pages are written. That takes twice as many pages as there are places.
 const ROUNDS: u32 = 7;
 
+/// Whether the store is overwritten, and the cleaner comes to give places back after the faults, while a client stays.
+fn overwrites_beside_faults<R>(rt: &R, port: u16, tally: &Tally) -> Option<bool>
+where
+    R: AllocGlobal + Clock + Net<Stream = TcpStream> + Wait,
+{
+    let stream = connect(rt, port)?;
+    let overwrites = overwrites_often(rt, port, ROUNDS)?;
+    let comes = tally.comes_to_release(rt);
+    Some(overwrites && comes && has_thirty(rt.alloc(), &stream, FIRST)?)
+}
+
 /// The flusher and the cleaner fail three times each, and then the cleaner gives places back: the store is overwritten with
 /// twice as many pages as there are places.
 #[test]
@@ -259,8 +285,9 @@ fn a_fault_of_the_cleaner_is_told_to_nobody(rt: HostRuntime) -> Result<(), Fail>
     let is_well = is_well_beside(
         &rt,
         64,
+        2,
         &tally,
-        |rt, port| overwrites_often(rt, port, ROUNDS),
+        |rt, port| overwrites_beside_faults(rt, port, &tally),
     )?;
     assert!(rt; is_well);
     assert!(rt; tally.failed.load(Ordering::SeqCst) == 2 * FAILING);
