@@ -197,16 +197,6 @@ pub frames-for : (p : HybridLog) (weight : ℕ) (purpose : Purpose)
     → Wanted (pages_for p weight) (available p) (beside purpose) (expected p) (spare purpose) (frames_for p weight purpose)
 frames-for p weight purpose = frames-by (pages_for p weight) (available p) (beside purpose) (expected p) (spare purpose)
 
--- where frames are wanted, a page may be opened, or fewer are expected than are left
-some-wanted : (pages hand left due rest wanted : ℕ) → Wanted pages hand left due rest wanted → 0 < wanted → (0 < pages) ⊎ (due < rest)
-some-wanted pages hand left due rest wanted (near some less is) any = inl some
-some-wanted pages hand left due rest wanted (far some enough is) any = inl some
-some-wanted pages hand left due rest wanted (scarce none less is) any = inr less
-some-wanted pages hand left due rest wanted (ample none enough is) any = absurd (omega (arith, any, is))
-
-pub frames-some : (p : HybridLog) (weight : ℕ) (purpose : Purpose) → 0 < frames_for p weight purpose → (0 < pages_for p weight) ⊎ (expected p < spare purpose)
-frames-some p weight purpose = some-wanted _ _ _ _ _ _ (frames-for p weight purpose)
-
 least-wanted : (pages hand left due rest wanted : ℕ) → Wanted pages hand left due rest wanted → pages ≤ wanted
 least-wanted pages hand left due rest wanted (near some less is) = omega (arith, is)
 least-wanted pages hand left due rest wanted (far some enough is) = omega (arith, is)
