@@ -150,7 +150,7 @@ impl<R: Shows> Shard<R> {
     /// # Errors
     ///
     /// [`Fault::DeviceFault`] where a write of the device failed; [`Fault::StoreFull`] where a page has to be
-    /// written, or opened, for which no place is left.
+    /// written, or opened, for which no place is left, or none for the frames that these writes leave.
     pub fn reserve<D: Device<Receipt = R>>(
         &mut self,
         weight: usize,
