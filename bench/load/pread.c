@@ -1,4 +1,4 @@
-// Pages of 16 KiB read a second from one file by THREADS threads, each at uniformly drawn places by pread.   pread FILE THREADS SECONDS
+// Pages of 64 KiB read a second from one file by THREADS threads, each at uniformly drawn places by pread.   pread FILE THREADS SECONDS
 #define _GNU_SOURCE
 #include <fcntl.h>
 #include <pthread.h>
@@ -11,16 +11,16 @@
 static int fd; static uint64_t pages; static double seconds, start; static uint64_t counts[64];
 static double now(void) { struct timespec t; clock_gettime(CLOCK_MONOTONIC, &t); return t.tv_sec + t.tv_nsec * 1e-9; }
 static void *work(void *arg) {
-    long id = (long)arg; char *page = malloc(16384); uint64_t rng = 88172645463325252ull + id * 7919, n = 0;
+    long id = (long)arg; char *page = malloc(65536); uint64_t rng = 88172645463325252ull + id * 7919, n = 0;
     while ((n & 63) || now() - start < seconds) {
         rng ^= rng << 13; rng ^= rng >> 7; rng ^= rng << 17;
-        if (pread(fd, page, 16384, (rng >> 11) % pages * 16384) != 16384) { perror("pread"); exit(1); }
+        if (pread(fd, page, 65536, (rng >> 11) % pages * 65536) != 65536) { perror("pread"); exit(1); }
         n++;
     }
     counts[id] = n; return 0;
 }
 int main(int argc, char **argv) {
-    int threads = atoi(argv[2]); seconds = atof(argv[3]); fd = open(argv[1], O_RDONLY); struct stat s; fstat(fd, &s); pages = s.st_size / 16384;
+    int threads = atoi(argv[2]); seconds = atof(argv[3]); fd = open(argv[1], O_RDONLY); struct stat s; fstat(fd, &s); pages = s.st_size / 65536;
     pthread_t t[64]; start = now(); uint64_t all = 0;
     for (long i = 0; i < threads; i++) pthread_create(&t[i], 0, work, (void *)i);
     for (int i = 0; i < threads; i++) { pthread_join(t[i], 0); all += counts[i]; }

@@ -5,8 +5,8 @@ use std::os::unix::fs::FileExt;
 use std::sync::{Arc, Mutex};
 use std::time::Instant;
 
-const PAGE_SIZE: usize = 16384;
-const PAGES: u64 = 4_000;
+const PAGE_SIZE: usize = 65536;
+const PAGES: u64 = 1_000;
 const ROUNDS: u64 = 5;
 const TRIES: u32 = 7;
 

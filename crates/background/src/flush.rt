@@ -95,8 +95,8 @@ fn fail<R: Shows, W: Wait>(
 
 /// Writes the oldest page of a stripe that waits for it to the device, while nobody waits for the stripe, and then keeps
 /// its receipt. A page that has changed meanwhile, or has another receipt, keeps none: the place then counts as unlinked.
-/// False where no page waits. It waits where another pass holds the stripe. It takes no memory but what the device takes,
-/// makes no entry, and no key and no mark changes.
+/// False where no page waits. It waits where another pass holds the stripe. It takes no memory but what the device takes:
+/// the page is copied to `page`, and what that held is lost. It makes no entry, and no key and no mark changes.
 ///
 /// # Errors
 ///
@@ -107,6 +107,7 @@ pub fn flush_one<R: Shows, D: Device<Receipt = R>, W: Wait>(
     gates: &Gates<Shard<R>>,
     pass: &mut Pass<Shard<R>>,
     device: &mut D,
+    page: &mut Page,
     stripe: usize,
 ) -> Result<bool, Fault>
     requires own { IsResting R.is_steady gates.now pass.old }
@@ -114,17 +115,16 @@ pub fn flush_one<R: Shows, D: Device<Receipt = R>, W: Wait>(
     ensures own { IsResting R.is_steady gates.now pass.new }
     ensures flushed { HasFlushed (stripe ∷ []) stripe result (D.failures device.old) (D.failures device.new) (known pass.old) (known pass.new) }
 {
-    let mut page = Page::new(0);
-    let flight = match begin(rt, gates, pass, stripe, &mut page) {
+    let flight = match begin(rt, gates, pass, stripe, page) {
         Began::Idle => return Ok(false),
         Began::Full => return Err(Fault::StoreFull),
         Began::Sealed(flight) => flight,
     };
-    let Ok(receipt) = device.write(&page) else {
+    let Ok(receipt) = device.write(page) else {
         fail(rt, gates, pass, stripe, flight);
         return Err(Fault::DeviceFault);
     };
-    if end(rt, gates, pass, stripe, flight, &page, receipt) {
+    if end(rt, gates, pass, stripe, flight, page, receipt) {
         Ok(true)
     } else {
         Err(Fault::StoreFull)
@@ -142,6 +142,7 @@ pub fn try_flush_one<R: Shows, D: Device<Receipt = R>>(
     gates: &Gates<Shard<R>>,
     pass: &mut Pass<Shard<R>>,
     device: &mut D,
+    page: &mut Page,
     stripe: usize,
 ) -> Result<Result<bool, Fault>, Busy>
     requires own { IsResting R.is_steady gates.now pass.old }
@@ -157,8 +158,7 @@ pub fn try_flush_one<R: Shows, D: Device<Receipt = R>>(
     match gates.try_take(pass, &wanted) {
         Ok(()) => {
             let mut held = gates.hold(pass, &wanted);
-            let mut page = Page::new(0);
-            match flush_at(&mut held, stripe, &mut page, device) {
+            match flush_at(&mut held, stripe, page, device) {
                 Ok(true) => {
                     held.give(&Report::Done(stripe as u64, Work::Flush));
                     Ok(Ok(true))

@@ -103,14 +103,14 @@ impl HelpTexts {
         )?;
         let frames = number_text(
             alloc,
-            "Frames of each stripe for the newest pages, 16 KiB each",
+            "Frames of each stripe for the newest pages, 64 KiB each",
             FRAMES_MIN,
             FRAMES_MAX,
             FRAMES_DEFAULT,
         )?;
         let places = number_text(
             alloc,
-            "Places of each stripe on the device for the other pages, 16 KiB each when used",
+            "Places of each stripe on the device for the other pages, 64 KiB each when used",
             PLACES_MIN,
             PLACES_MAX,
             PLACES_DEFAULT,
@@ -444,9 +444,9 @@ mod tests {
         "--buckets <B>",
         "8 bytes each, 1 to 65536; default 4096",
         "--frames <F>",
-        "16 KiB each, 12 to 256; default 32",
+        "64 KiB each, 12 to 256; default 32",
         "--places <L>",
-        "16 KiB each when used, 64 to 65536; default 4096",
+        "64 KiB each when used, 64 to 65536; default 4096",
         "--workers <W>",
         "1 to 64; default 4",
         "--device <DEVICE>",

@@ -182,13 +182,13 @@ pub(crate) fn forget<T: Wait, L: Latch, D: Device>(
 /// Pieces are cut from two blocks of 32,768 bytes in turn, each taken when it is first needed. The other one's
 /// turn comes where a block has room for less than a piece and some of its pieces are kept; a new one takes its
 /// place only where some of its pieces are kept too. A piece is read only once no whole request is left of those
-/// before it. Where no request waits none is kept. Of a waiting request the whole words are copied, 65,536
-/// bytes at most, and what is left in the pieces is a part of one word: 8,200 bytes at most, so it stands in
-/// at most two blocks. Each piece costs 40 bytes in the reader's list beside its own, so a client that sends
+/// before it. Where no request waits none is kept. Of a waiting request the whole words are copied, 131,072
+/// bytes at most, and what is left in the pieces is a part of one word: 32,777 bytes at most, so it stands in
+/// at most four blocks. Each piece costs 40 bytes in the reader's list beside its own, so a client that sends
 /// one byte a piece costs 41 bytes a byte, or 81 just after the list has doubled. Only where memory was
-/// refused for a word do whole words stay in the pieces: then the request's 66,694 bytes stand in at most six
-/// blocks. The words of a request, 65,536 bytes at most, stay until the reply is written. The output buffer has
-/// 65,536 bytes. A transaction keeps at most 128 commands with 65,536 bytes of words, and a session at most 128
+/// refused for a word do whole words stay in the pieces: then the request's 132,358 bytes stand in at most ten
+/// blocks. The words of a request, 131,072 bytes at most, stay until the reply is written. The output buffer has
+/// 65,536 bytes. A transaction keeps at most 128 commands with 131,072 bytes of words, and a session at most 128
 /// watched keys.
 pub fn serve<T: Wait, L: Latch, R: ReadReady, W: Write, D: Device>(
     rt: &T,

@@ -313,6 +313,21 @@ const ROWS: &[(&[u8], &[u8], Ended)] = &[
         Ended::EndOfInput,
     ),
     (
+        b"*4\r\n$8\r\nSETRANGE\r\n$1\r\nk\r\n$5\r\n32766\r\n$1\r\nx\r\n*3\r\n$6\r\nAPPEND\r\n$1\r\nk\r\n$1\r\nx\r\n*3\r\n$6\r\nAPPEND\r\n$1\r\nk\r\n$1\r\ny\r\n*2\r\n$6\r\nSTRLEN\r\n$1\r\nk\r\n",
+        b":32767\r\n:32768\r\n-ERR string is too long\r\n:32768\r\n",
+        Ended::EndOfInput,
+    ),
+    (
+        b"*1\r\n$5\r\nMULTI\r\n*4\r\n$8\r\nSETRANGE\r\n$1\r\na\r\n$5\r\n32767\r\n$1\r\nx\r\n*4\r\n$8\r\nSETRANGE\r\n$1\r\nb\r\n$5\r\n32767\r\n$1\r\nx\r\n*4\r\n$8\r\nSETRANGE\r\n$1\r\nc\r\n$5\r\n32767\r\n$1\r\nx\r\n*4\r\n$8\r\nSETRANGE\r\n$1\r\nd\r\n$5\r\n32767\r\n$1\r\nx\r\n*4\r\n$8\r\nSETRANGE\r\n$1\r\ne\r\n$5\r\n32767\r\n$1\r\nx\r\n*4\r\n$8\r\nSETRANGE\r\n$1\r\nf\r\n$5\r\n32473\r\n$1\r\nx\r\n*1\r\n$4\r\nEXEC\r\n*3\r\n$6\r\nEXISTS\r\n$1\r\na\r\n$1\r\nf\r\n",
+        b"+OK\r\n+QUEUED\r\n+QUEUED\r\n+QUEUED\r\n+QUEUED\r\n+QUEUED\r\n+QUEUED\r\n*6\r\n:32768\r\n:32768\r\n:32768\r\n:32768\r\n:32768\r\n:32474\r\n:2\r\n",
+        Ended::EndOfInput,
+    ),
+    (
+        b"*1\r\n$5\r\nMULTI\r\n*4\r\n$8\r\nSETRANGE\r\n$1\r\na\r\n$5\r\n32767\r\n$1\r\nx\r\n*4\r\n$8\r\nSETRANGE\r\n$1\r\nb\r\n$5\r\n32767\r\n$1\r\nx\r\n*4\r\n$8\r\nSETRANGE\r\n$1\r\nc\r\n$5\r\n32767\r\n$1\r\nx\r\n*4\r\n$8\r\nSETRANGE\r\n$1\r\nd\r\n$5\r\n32767\r\n$1\r\nx\r\n*4\r\n$8\r\nSETRANGE\r\n$1\r\ne\r\n$5\r\n32767\r\n$1\r\nx\r\n*4\r\n$8\r\nSETRANGE\r\n$1\r\nf\r\n$5\r\n32474\r\n$1\r\nx\r\n*1\r\n$4\r\nEXEC\r\n*3\r\n$6\r\nEXISTS\r\n$1\r\na\r\n$1\r\nf\r\n",
+        b"+OK\r\n+QUEUED\r\n+QUEUED\r\n+QUEUED\r\n+QUEUED\r\n+QUEUED\r\n+QUEUED\r\n-ERR command writes too much\r\n:0\r\n",
+        Ended::EndOfInput,
+    ),
+    (
         b"*3\r\n$3\r\nSET\r\n$1\r\nn\r\n$19\r\n9223372036854775807\r\n*2\r\n$4\r\nINCR\r\n$1\r\nn\r\n*2\r\n$3\r\nGET\r\n$1\r\nn\r\n",
         b"+OK\r\n-ERR increment or decrement would overflow\r\n$19\r\n9223372036854775807\r\n",
         Ended::EndOfInput,
@@ -542,17 +557,17 @@ fn filled(alloc: Global, parts: &[(&[u8], usize)]) -> Result<Vec<u8>, AllocError
 const LONG_WORDS: &[(&[u8], usize)] = &[
     (b"*2\r\n$3\r\nGET\r\n$513\r\n", 513),
     (b"\r\n*3\r\n$3\r\nSET\r\n$512\r\n", 512),
-    (b"\r\n$8192\r\n", 8_192),
+    (b"\r\n$32768\r\n", 32_768),
     (b"\r\n", 0),
 ];
 
 /// GET of the longest key.
 const LONG_GET: &[(&[u8], usize)] = &[(b"*2\r\n$3\r\nGET\r\n$512\r\n", 512), (b"\r\n", 0)];
 
-/// A key that is too long, then the longest key with the longest value, read twenty times.
+/// A key that is too long, then the longest key with the longest value, read five times.
 fn long_words(alloc: Global) -> Result<Vec<u8>, AllocError> {
     let get = filled(alloc, LONG_GET)?;
-    let gets = repeated(alloc, &get, 20, b"")?;
+    let gets = repeated(alloc, &get, 5, b"")?;
     drop(get);
     let first = filled(alloc, LONG_WORDS)?;
     repeated(alloc, &first, 1, &gets)
@@ -560,7 +575,7 @@ fn long_words(alloc: Global) -> Result<Vec<u8>, AllocError> {
 
 /// So many replies of the longest value, after the replies before them.
 fn long_replies(alloc: Global, before: &[u8], count: u32) -> Result<Vec<u8>, AllocError> {
-    let reply = filled(alloc, &[(b"$8192\r\n", 8_192), (b"\r\n", 0)])?;
+    let reply = filled(alloc, &[(b"$32768\r\n", 32_768), (b"\r\n", 0)])?;
     let replies = repeated(alloc, &reply, count, b"")?;
     repeated(alloc, before, 1, &replies)
 }
@@ -569,16 +584,16 @@ fn long_replies(alloc: Global, before: &[u8], count: u32) -> Result<Vec<u8>, All
 fn words_at_the_limits(rt: HostRuntime) -> Result<(), Fail> {
     let alloc = rt.alloc();
     let input = long_words(alloc)?;
-    let text = long_replies(alloc, b"-ERR key is too long\r\n+OK\r\n", 20)?;
+    let text = long_replies(alloc, b"-ERR key is too long\r\n+OK\r\n", 5)?;
     let streams = (Source::new(&input, 16_384), Sink::new(alloc, 100_000)?);
     check_run(&rt, alloc, streams, &text, Ended::EndOfInput)
 }
 
-/// Eight words of 8,192 bytes and one byte more. The spelling of a word is that of a reply.
+/// Four words of 32,768 bytes and one byte more. The spelling of a word is that of a reply.
 #[test]
 fn a_request_that_is_too_large(rt: HostRuntime) -> Result<(), Fail> {
     let alloc = rt.alloc();
-    let mut input = long_replies(alloc, b"*9\r\n", 8)?;
+    let mut input = long_replies(alloc, b"*5\r\n", 4)?;
     input.extend_from_slice(b"$1")?;
     let streams = (Source::new(&input, 16_384), Sink::new(alloc, 16_384)?);
     let text = b"-ERR Protocol error: request too large\r\n";
@@ -862,8 +877,8 @@ fn a_refused_allocation(rt: HostRuntime) -> Result<(), Fail> {
 
 /// More requests than a block has bytes for, and then a part of one with most of a long word.
 fn many_bytes(alloc: Global) -> Result<Vec<u8>, AllocError> {
-    let part = repeated(alloc, b"*2\r\n$4\r\nECHO\r\n$8192\r\n", 1, b"")?;
-    let word = repeated(alloc, b"xxxxxxxx", 1_000, b"")?;
+    let part = repeated(alloc, b"*2\r\n$4\r\nECHO\r\n$32768\r\n", 1, b"")?;
+    let word = repeated(alloc, b"xxxxxxxx", 4_000, b"")?;
     let part = repeated(alloc, &part, 1, &word)?;
     repeated(alloc, PING, 5_000, &part)
 }

@@ -30,16 +30,16 @@ struct Stored {
     written: u64,
 }
 
-/// Keys of 40 pages.
+/// Keys of 24 pages.
 const SOME: Stored = Stored {
-    keys: 600,
-    written: 28,
+    keys: 1_512,
+    written: 12,
 };
 
-/// Keys of 200 pages.
+/// Keys of 48 pages.
 const MANY: Stored = Stored {
     keys: 3_000,
-    written: 188,
+    written: 36,
 };
 
 /// Openings of a device in memory, each of which fails the call with this number.
@@ -171,7 +171,7 @@ fn check_failing<R: Abort + Wait>(
     Ok(failed)
 }
 
-/// 28 of 40 pages are written, and some are read to find the first key. Each of these calls fails in turn, until there
+/// 12 of 24 pages are written, and some are read to find the first key. Each of these calls fails in turn, until there
 /// is no further one: one request is answered by the fault of the device, and each other one as is due.
 #[test]
 fn each_call_of_the_device_fails_in_turn(rt: HostRuntime) -> Result<(), Fail> {
@@ -183,11 +183,11 @@ fn each_call_of_the_device_fails_in_turn(rt: HostRuntime) -> Result<(), Fail> {
     Err(Fail::from("more calls"))
 }
 
-/// Some calls of the device fail, where 188 of 200 pages are written: one request is answered by the fault of the
+/// Some calls of the device fail, where 36 of 48 pages are written: one request is answered by the fault of the
 /// device, and each other one as is due.
 #[test]
 fn calls_of_the_device_fail_where_pages_are_many(rt: HostRuntime) -> Result<(), Fail> {
-    for call in [0, 1, 94, 187, 188, 300] {
+    for call in [0, 1, 18, 35, 36, 100] {
         check_failing(&rt, rt.alloc(), MANY, call)?;
     }
     Ok(())
@@ -261,17 +261,17 @@ fn a_file_cut_short_is_a_fault_of_the_device(rt: HostRuntime) -> Result<(), Fail
 
 /// SETs of more keys than a store of 76 pages takes, the last of them once more, and GETs of all that are stored.
 fn too_many(alloc: Global) -> io::Result<Vec<u8>> {
-    let mut input = sets(alloc, 1_070)?;
-    add_set(&mut input, 1_069)?;
-    input.extend_from_slice(&gets(alloc, 1_050)?)?;
+    let mut input = sets(alloc, 4_430)?;
+    add_set(&mut input, 4_429)?;
+    input.extend_from_slice(&gets(alloc, 4_410)?)?;
     Ok(input)
 }
 
-/// What that is answered: 1,050 keys are stored, no further one is, and each that is stored has its value.
+/// What that is answered: 4,410 keys are stored, no further one is, and each that is stored has its value.
 fn too_many_answered(alloc: Global) -> io::Result<Vec<u8>> {
-    let found = values(alloc, 1_050)?;
+    let found = values(alloc, 4_410)?;
     let refused = repeated(alloc, STORE_FULL, 21, &found)?;
-    repeated(alloc, OK, 1_050, &refused)
+    repeated(alloc, OK, 4_410, &refused)
 }
 
 /// What is said over a file with places for 64 pages.
@@ -288,7 +288,7 @@ fn run_full<R: Wait + Files<File = File>>(
     Ok(outcome)
 }
 
-/// 12 frames and 64 places take 1,050 keys: six pages are left to deletions and to the cleaner.
+/// 12 frames and 64 places take 4,410 keys: six pages are left to deletions and to the cleaner.
 #[test]
 fn a_file_with_no_place_left_is_a_full_store(rt: HostRuntime) -> Result<(), Fail> {
     let alloc = rt.alloc();

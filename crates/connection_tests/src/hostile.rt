@@ -23,7 +23,7 @@ const STREAMS: &[(&[u8], &[u8], Ended)] = &[
         Ended::ProtocolFault,
     ),
     (b"*1\r\n$-1", BAD_LENGTH, Ended::ProtocolFault),
-    (b"*1\r\n$8193", BAD_LENGTH, Ended::ProtocolFault),
+    (b"*1\r\n$32769", BAD_LENGTH, Ended::ProtocolFault),
     (
         b"*1\r\n$4\r\nPING\r\nX",
         b"+PONG\r\n-ERR Protocol error: expected '*'\r\n",

@@ -54,34 +54,35 @@ fn several_keys_with_each_allocation_refused(rt: HostRuntime) {
     check(&rt, rt.alloc(), SEVERAL, SEVERAL_ANSWERS, Ended::EndOfInput);
 }
 
-/// The heaviest call: MSET of five values of 8,192 bytes and one of 7,898. Then EXISTS of two of its keys.
-fn heaviest(alloc: Global) -> io::Result<Vec<u8>> {
-    let mut input = repeated(alloc, b"*13\r\n$4\r\nMSET\r\n", 1, b"")?;
-    for key in b"abcde" {
+/// The largest request: MSET of three values of 32,768 bytes and one of 32,760, so that its words have 131,072 bytes
+/// together. Then EXISTS of two of its keys.
+fn largest(alloc: Global) -> io::Result<Vec<u8>> {
+    let mut input = repeated(alloc, b"*9\r\n$4\r\nMSET\r\n", 1, b"")?;
+    for key in b"abc" {
         input.extend_from_slice(&[b'$', b'1', b'\r', b'\n', *key])?;
-        input.extend_from_slice(b"\r\n$8192\r\n")?;
-        input.extend_from_slice(&[b'x'; 8_192])?;
+        input.extend_from_slice(b"\r\n$32768\r\n")?;
+        input.extend_from_slice(&[b'x'; 32_768])?;
         input.extend_from_slice(b"\r\n")?;
     }
-    input.extend_from_slice(b"$1\r\nf\r\n$7898\r\n")?;
-    input.extend_from_slice(&[b'x'; 7_898])?;
+    input.extend_from_slice(b"$1\r\nf\r\n$32760\r\n")?;
+    input.extend_from_slice(&[b'x'; 32_760])?;
     input.extend_from_slice(b"\r\n*3\r\n$6\r\nEXISTS\r\n$1\r\na\r\n$1\r\nf\r\n")?;
     Ok(input)
 }
 
 /// What may be said to that.
-const HEAVIEST_ANSWERS: &[&[u8]] = &[
+const LARGEST_ANSWERS: &[&[u8]] = &[
     b"+OK\r\n:2\r\n",
     b"-OOM out of memory\r\n:0\r\n",
     b"+OK\r\n-OOM out of memory\r\n",
 ];
 
 #[test]
-fn the_heaviest_call_with_each_allocation_refused(rt: HostRuntime) {
-    let Ok(input) = heaviest(rt.alloc()) else {
+fn the_largest_request_with_each_allocation_refused(rt: HostRuntime) {
+    let Ok(input) = largest(rt.alloc()) else {
         return;
     };
-    check(&rt, rt.alloc(), &input, HEAVIEST_ANSWERS, Ended::EndOfInput);
+    check(&rt, rt.alloc(), &input, LARGEST_ANSWERS, Ended::EndOfInput);
 }
 
 /// Requests that want no memory but for their own words: those of a session, and those that are refused.

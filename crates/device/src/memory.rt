@@ -1,6 +1,7 @@
 // A device that keeps its pages in memory.
 
 ghost use Rattle.std.specs.Prelude.{◌≡◌, ℕ, IfOk, IsOk, IsSome, IfSome, replicate};
+ghost use Rattle.std.specs.Arc.{arc_value};
 
 use crate::counts::CallCount;
 use crate::{Device, DeviceFault, Shows};
@@ -127,9 +128,7 @@ impl Device for MemoryDevice {
 
     fn write(&mut self, page: &Page) -> Result<MemoryReceipt, DeviceFault> {
         self.writes.note();
-        let mut copy = Page::new(0);
-        copy.copy_from(page);
-        match Arc::new(self.alloc, copy) {
+        match shared(self.alloc, page) {
             Ok(page) => Ok(MemoryReceipt { page }),
             Err(_) => {
                 self.failures.note();
@@ -157,5 +156,16 @@ impl Device for MemoryDevice {
     {
         self.releases.note();
         drop(retired.into_value(drained));
+    }
+}
+
+/// A copy of a page that can be shared.
+fn shared(alloc: Global, page: &Page) -> Result<Arc<Page>, AllocError>
+    ensures { IfOk result (λ shared. arc_value shared ≡ page.now) }
+{
+    let copy = page.try_clone(alloc)?;
+    match Arc::new(alloc, copy) {
+        Ok(shared) => Ok(shared),
+        Err(_) => Err(AllocError),
     }
 }

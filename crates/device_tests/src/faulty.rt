@@ -10,12 +10,9 @@ use std::fs::{File, Files};
 use std::sync::Wait;
 
 // Writes a page and reads it, and says which of the two calls failed. A read without a receipt is not tried.
-fn failed_pair<D: Device>(device: &mut D, number: u64) -> (bool, bool) {
-    match device.write(&Page::new(number)) {
-        Ok(receipt) => {
-            let mut page = Page::new(99);
-            (false, device.read(&receipt, &mut page).is_err())
-        }
+fn failed_pair<D: Device>(device: &mut D, page: &Page, seen: &mut Page) -> (bool, bool) {
+    match device.write(page) {
+        Ok(receipt) => (false, device.read(&receipt, seen).is_err()),
         Err(DeviceFault) => (true, false),
     }
 }
@@ -29,8 +26,10 @@ fn failing_at<D: Device>(alloc: Global, device: D, call: u64) -> Option<Faulty<D
 // Whether of the calls of two pairs exactly this one fails.
 fn fails_at<D: Device>(alloc: Global, device: D, call: u64) -> Option<bool> {
     let mut device = failing_at(alloc, device, call)?;
-    let first = failed_pair(&mut device, 5);
-    let second = failed_pair(&mut device, 6);
+    let page = Page::new(alloc, 5).ok()?;
+    let mut seen = Page::new(alloc, 99).ok()?;
+    let first = failed_pair(&mut device, &page, &mut seen);
+    let second = failed_pair(&mut device, &page, &mut seen);
     let is_counted = device.calls() == if first.0 || second.0 { 3 } else { 4 };
     // A first write that fails has no read, so the second pair then has the calls 1 and 2.
     Some(is_counted && first == (call == 0, call == 1) && second == (call == 2, call == 3))
@@ -64,14 +63,15 @@ fn each_call_fails_in_turn(rt: HostRuntime) {
 fn a_failed_write_takes_no_place(rt: HostRuntime) {
     let path = "faulty.pages";
     assert!(rt; fails_in_file(&rt, rt.alloc(), path, 0) == Some(true));
-    assert!(rt; length_of(&rt, path) == Some(16_384));
+    assert!(rt; length_of(&rt, path) == Some(65_536));
     assert!(rt; fs::remove_file(&rt, path).is_ok());
 }
 
 // The number of the page that a receipt of a device that fails at one call lends, if it lends one.
 fn number_lent_through<D: Device>(alloc: Global, device: D) -> Option<Option<u64>> {
     let mut device = failing_at(alloc, device, 9)?;
-    let receipt = device.write(&Page::new(5)).ok()?;
+    let page = Page::new(alloc, 5).ok()?;
+    let receipt = device.write(&page).ok()?;
     Some(number_lent(&receipt))
 }
 
@@ -104,9 +104,9 @@ fn a_release_comes_to_the_device_below(rt: HostRuntime) {
     let path = "faulty_released.pages";
     let numbers = numbers_through(&rt, rt.alloc(), path, Released::First);
     assert!(rt; numbers == Some([Some(1), Some(2), Some(3)]));
-    assert!(rt; length_of(&rt, path) == Some(3 * 16_384));
+    assert!(rt; length_of(&rt, path) == Some(3 * 65_536));
     let numbers = numbers_through(&rt, rt.alloc(), path, Released::Second);
     assert!(rt; numbers == Some([Some(0), Some(2), Some(3)]));
-    assert!(rt; length_of(&rt, path) == Some(3 * 16_384));
+    assert!(rt; length_of(&rt, path) == Some(3 * 65_536));
     assert!(rt; fs::remove_file(&rt, path).is_ok());
 }

@@ -34,8 +34,8 @@ pub(crate) fn length_of<R: Files<File = File>>(rt: &R, path: &str) -> Option<u64
 }
 
 // The number of the page that is read, if one is.
-fn number_read<D: Device>(device: &mut D, receipt: &D::Receipt) -> Option<u64> {
-    let mut page = Page::new(99);
+fn number_read<D: Device>(alloc: Global, device: &mut D, receipt: &D::Receipt) -> Option<u64> {
+    let mut page = Page::new(alloc, 99).ok()?;
     match device.read(receipt, &mut page) {
         Ok(()) => Some(page.number()),
         Err(DeviceFault) => None,
@@ -43,16 +43,30 @@ fn number_read<D: Device>(device: &mut D, receipt: &D::Receipt) -> Option<u64> {
 }
 
 // The number of the page that one opening reads of another's write.
-fn number_across<D: Device>(writer: &mut D, reader: &mut D, number: u64) -> Option<u64> {
-    let receipt = writer.write(&Page::new(number)).ok()?;
-    number_read(reader, &receipt)
+fn number_across<D: Device>(
+    alloc: Global,
+    writer: &mut D,
+    reader: &mut D,
+    number: u64,
+) -> Option<u64> {
+    let receipt = receipt_of(alloc, writer, number)?;
+    number_read(alloc, reader, &receipt)
+}
+
+// The receipt of an empty page of this number that is written.
+fn receipt_of<D: Device>(alloc: Global, device: &mut D, number: u64) -> Option<D::Receipt> {
+    let page = Page::new(alloc, number).ok()?;
+    device.write(&page).ok()
 }
 
 // What the first two openings read of one another.
-fn numbers_of_two<D: Device>(openings: &mut [D]) -> Option<[Option<u64>; 2]> {
+fn numbers_of_two<D: Device>(alloc: Global, openings: &mut [D]) -> Option<[Option<u64>; 2]> {
     let (one, others) = openings.split_first_mut()?;
     let two = others.first_mut()?;
-    Some([number_across(one, two, 5), number_across(two, one, 6)])
+    Some([
+        number_across(alloc, one, two, 5),
+        number_across(alloc, two, one, 6),
+    ])
 }
 
 // What two openings of a file read of one another.
@@ -62,42 +76,62 @@ fn numbers_across<R: Wait + Files<File = File>>(
     path: &str,
 ) -> Option<[Option<u64>; 2]> {
     let mut openings = FileDevice::openings(rt, alloc, path, 2).ok()?;
-    numbers_of_two(openings.as_mut_slice())
+    numbers_of_two(alloc, openings.as_mut_slice())
 }
 
 // A page with this number whose bytes behind the header differ from place to place, and by the seed.
-fn filled_page(number: u64, seed: u8) -> Page {
-    let mut page = Page::new(number);
+fn filled_page(alloc: Global, number: u64, seed: u8) -> Option<Page> {
+    let mut page = Page::new(alloc, number).ok()?;
     let bytes = page.bytes_mut();
     for at in HEADER_SIZE..bytes.len() {
         bytes[at] = (at % 251) as u8 ^ seed;
     }
-    page
+    Some(page)
+}
+
+// Three such pages. The second and the third have one number, so their places alone tell them apart.
+fn filled_pages(alloc: Global) -> Option<[Page; 3]> {
+    Some([
+        filled_page(alloc, 5, 0)?,
+        filled_page(alloc, 6, 3)?,
+        filled_page(alloc, 6, 255)?,
+    ])
 }
 
 // Whether a receipt gives this page, byte for byte.
-fn gives<D: Device>(device: &mut D, receipt: &D::Receipt, page: &Page) -> bool {
-    let mut seen = Page::new(99);
+fn gives<D: Device>(alloc: Global, device: &mut D, receipt: &D::Receipt, page: &Page) -> bool {
+    let Ok(mut seen) = Page::new(alloc, 99) else {
+        return false;
+    };
     device.read(receipt, &mut seen).is_ok() && seen == *page
 }
 
 // Writes three pages through one opening, and says which of them another one gives byte for byte.
-fn given_across<D: Device>(writer: &mut D, reader: &mut D, pages: &[Page; 3]) -> Option<[bool; 3]> {
+fn given_across<D: Device>(
+    alloc: Global,
+    writer: &mut D,
+    reader: &mut D,
+    pages: &[Page; 3],
+) -> Option<[bool; 3]> {
     let first = writer.write(&pages[0]).ok()?;
     let second = writer.write(&pages[1]).ok()?;
     let third = writer.write(&pages[2]).ok()?;
     Some([
-        gives(reader, &first, &pages[0]),
-        gives(reader, &second, &pages[1]),
-        gives(reader, &third, &pages[2]),
+        gives(alloc, reader, &first, &pages[0]),
+        gives(alloc, reader, &second, &pages[1]),
+        gives(alloc, reader, &third, &pages[2]),
     ])
 }
 
 // What `given_across` says, between the first two of some openings.
-fn given_by_two<D: Device>(openings: &mut [D], pages: &[Page; 3]) -> Option<[bool; 3]> {
+fn given_by_two<D: Device>(
+    alloc: Global,
+    openings: &mut [D],
+    pages: &[Page; 3],
+) -> Option<[bool; 3]> {
     let (one, others) = openings.split_first_mut()?;
     let two = others.first_mut()?;
-    given_across(one, two, pages)
+    given_across(alloc, one, two, pages)
 }
 
 // What `given_by_two` says of a file, and how many openings it has of the three that were asked for.
@@ -108,16 +142,22 @@ fn given_in_file<R: Wait + Files<File = File>>(
     pages: &[Page; 3],
 ) -> Option<(usize, [bool; 3])> {
     let mut openings = FileDevice::openings(rt, alloc, path, 3).ok()?;
-    let given = given_by_two(openings.as_mut_slice(), pages)?;
+    let given = given_by_two(alloc, openings.as_mut_slice(), pages)?;
     Some((openings.len(), given))
 }
 
 // Whether a page lies at a place of a file, byte for byte.
-fn lies_at<R: Files<File = File>>(rt: &R, path: &str, place: u64, page: &Page) -> Option<bool>
+fn lies_at<R: Files<File = File>>(
+    rt: &R,
+    alloc: Global,
+    path: &str,
+    place: u64,
+    page: &Page,
+) -> Option<bool>
     requires { place < 4 }
 {
     let file = fs::OpenOptions::new().read(true).open(rt, path).ok()?;
-    let mut seen = Page::new(99);
+    let mut seen = Page::new(alloc, 99).ok()?;
     file.read_exact_at(seen.bytes_mut(), place * SIZE).ok()?;
     Some(seen == *page)
 }
@@ -125,14 +165,15 @@ fn lies_at<R: Files<File = File>>(rt: &R, path: &str, place: u64, page: &Page) -
 #[test]
 fn a_file_keeps_each_byte(rt: HostRuntime) {
     let path = "whole.pages";
-    // The second and the third have one number, so their places alone tell them apart.
-    let pages = [filled_page(5, 0), filled_page(6, 3), filled_page(6, 255)];
+    let Some(pages) = filled_pages(rt.alloc()) else {
+        panic!(rt; "no memory")
+    };
     let given = given_in_file(&rt, rt.alloc(), path, &pages);
     assert!(rt; given == Some((3, [true, true, true])));
     assert!(rt; length_of(&rt, path) == Some(3 * SIZE));
-    assert!(rt; lies_at(&rt, path, 0, &pages[0]) == Some(true));
-    assert!(rt; lies_at(&rt, path, 1, &pages[1]) == Some(true));
-    assert!(rt; lies_at(&rt, path, 2, &pages[2]) == Some(true));
+    assert!(rt; lies_at(&rt, rt.alloc(), path, 0, &pages[0]) == Some(true));
+    assert!(rt; lies_at(&rt, rt.alloc(), path, 1, &pages[1]) == Some(true));
+    assert!(rt; lies_at(&rt, rt.alloc(), path, 2, &pages[2]) == Some(true));
     assert!(rt; fs::remove_file(&rt, path).is_ok());
 }
 
@@ -231,6 +272,7 @@ pub(crate) enum Released {
 
 // Writes pages 0 and 1, and releases one of them twice. Gives the other's receipt.
 fn written_and_released<D: Device>(
+    alloc: Global,
     device: &mut D,
     epochs: &Epochs,
     seat: &mut EpochSeat,
@@ -238,8 +280,8 @@ fn written_and_released<D: Device>(
 ) -> Option<D::Receipt>
     requires { IsOutside epochs.now seat.old }
 {
-    let first = device.write(&Page::new(0)).ok()?;
-    let second = device.write(&Page::new(1)).ok()?;
+    let first = receipt_of(alloc, device, 0)?;
+    let second = receipt_of(alloc, device, 1)?;
     match released {
         Released::First => {
             release_twice(epochs, seat, device, first)?;
@@ -253,13 +295,17 @@ fn written_and_released<D: Device>(
 }
 
 // The numbers of the pages that are read after two more writes: by a receipt from before, and by theirs.
-fn numbers_after<D: Device>(device: &mut D, before: &D::Receipt) -> Option<[Option<u64>; 3]> {
-    let one = device.write(&Page::new(2)).ok()?;
-    let two = device.write(&Page::new(3)).ok()?;
+fn numbers_after<D: Device>(
+    alloc: Global,
+    device: &mut D,
+    before: &D::Receipt,
+) -> Option<[Option<u64>; 3]> {
+    let one = receipt_of(alloc, device, 2)?;
+    let two = receipt_of(alloc, device, 3)?;
     Some([
-        number_read(device, before),
-        number_read(device, &one),
-        number_read(device, &two),
+        number_read(alloc, device, before),
+        number_read(alloc, device, &one),
+        number_read(alloc, device, &two),
     ])
 }
 
@@ -270,8 +316,8 @@ pub(crate) fn numbers_after_releases<D: Device>(
     released: Released,
 ) -> Option<[Option<u64>; 3]> {
     let (epochs, mut seat) = epochs(alloc)?;
-    let kept = written_and_released(device, &epochs, &mut seat, released)?;
-    numbers_after(device, &kept)
+    let kept = written_and_released(alloc, device, &epochs, &mut seat, released)?;
+    numbers_after(alloc, device, &kept)
 }
 
 // What `numbers_after_releases` says, of a file.
@@ -313,14 +359,15 @@ fn change<R: Files<File = File>>(rt: &R, path: &str, bytes: &[u8], len: u64) -> 
 // The number of the page that is read after page 5 was written and a file was changed.
 fn number_after<D: Device, R: Files<File = File>>(
     rt: &R,
+    alloc: Global,
     device: &mut D,
     path: &str,
     bytes: &[u8],
     len: u64,
 ) -> Option<u64> {
-    let receipt = device.write(&Page::new(5)).ok()?;
+    let receipt = receipt_of(alloc, device, 5)?;
     change(rt, path, bytes, len)?;
-    number_read(device, &receipt)
+    number_read(alloc, device, &receipt)
 }
 
 // What `number_after` says, where the device is in that file.
@@ -332,7 +379,7 @@ fn number_after_change<R: Wait + Files<File = File>>(
     len: u64,
 ) -> Option<u64> {
     let mut device = opened(rt, alloc, path)?;
-    number_after(rt, &mut device, path, bytes, len)
+    number_after(rt, alloc, &mut device, path, bytes, len)
 }
 
 #[test]
@@ -350,7 +397,9 @@ fn other_bytes_are_a_fault_or_another_page(rt: HostRuntime) {
     let (ones, five) = ([255; PAGE_SIZE], [5, 0, 0, 0, 0, 0, 0, 0, 255]);
     assert!(rt; number_after_change(&rt, rt.alloc(), path, &five, SIZE) == Some(5));
     assert!(rt; number_after_change(&rt, rt.alloc(), path, &ones, SIZE).is_none());
-    let other = Page::new(6);
+    let Ok(other) = Page::new(rt.alloc(), 6) else {
+        panic!(rt; "no memory")
+    };
     assert!(rt; number_after_change(&rt, rt.alloc(), path, other.bytes(), SIZE).is_none());
     assert!(rt; fs::remove_file(&rt, path).is_ok());
 }
@@ -364,7 +413,8 @@ fn a_file_that_cannot_be_made(rt: HostRuntime) {
 // Whether a page is written to a file.
 fn is_written<R: Wait + Files<File = File>>(rt: &R, alloc: Global, path: &str) -> Option<bool> {
     let mut device = opened(rt, alloc, path)?;
-    Some(device.write(&Page::new(5)).is_ok())
+    let page = Page::new(alloc, 5).ok()?;
+    Some(device.write(&page).is_ok())
 }
 
 // Whether a file can be opened.

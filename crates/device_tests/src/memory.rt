@@ -103,12 +103,12 @@ fn written(device: &mut MemoryDevice, page: &Page) -> Result<MemoryReceipt, Devi
 fn an_opening_reads_what_another_wrote(rt: HostRuntime) -> Result<(), Fail> {
     let (mut writer, mut reader) = two_openings(rt.alloc())?;
     moves_to_a_thread(&writer);
-    let mut page = Page::new(5);
+    let mut page = Page::new(rt.alloc(), 5)?;
     let receipt = written(&mut writer, &page)?;
     moves_to_a_thread(&receipt);
     page.reset(6);
     drop(writer);
-    let mut seen = Page::new(7);
+    let mut seen = Page::new(rt.alloc(), 7)?;
     reader.read(&receipt, &mut seen)?;
     assert_eq!(rt; seen.number(), 5);
     Ok(())
@@ -126,16 +126,16 @@ fn sames<R: Shows>(receipt: &R, other: &R) -> Result<[bool; 4], AllocError> {
 }
 
 // The four answers of `sames` for two receipts in memory.
-fn sames_in_memory(device: &mut MemoryDevice) -> Option<[bool; 4]> {
-    let receipt = written(device, &Page::new(5)).ok()?;
-    let other = written(device, &Page::new(6)).ok()?;
+fn sames_in_memory(alloc: Global, device: &mut MemoryDevice) -> Option<[bool; 4]> {
+    let receipt = written(device, &Page::new(alloc, 5).ok()?).ok()?;
+    let other = written(device, &Page::new(alloc, 6).ok()?).ok()?;
     sames(&receipt, &other).ok()
 }
 
 #[test]
 fn a_copy_is_the_same_receipt(rt: HostRuntime) -> Result<(), Fail> {
     let (mut device, _) = two_openings(rt.alloc())?;
-    assert!(rt; sames_in_memory(&mut device) == Some([true, true, false, false]));
+    assert!(rt; sames_in_memory(rt.alloc(), &mut device) == Some([true, true, false, false]));
     Ok(())
 }
 
@@ -165,15 +165,15 @@ fn number_in_memory(receipt: &MemoryReceipt) -> u64
 #[test]
 fn a_receipt_in_memory_lends_its_page(rt: HostRuntime) -> Result<(), Fail> {
     let (mut device, _) = two_openings(rt.alloc())?;
-    let receipt = written(&mut device, &Page::new(5))?;
+    let receipt = written(&mut device, &Page::new(rt.alloc(), 5)?)?;
     assert_eq!(rt; number_in_memory(&receipt), 5);
     assert!(rt; number_lent(&receipt) == Some(5));
     Ok(())
 }
 
 // Reads a page by a copy, once the receipt that it was copied from is gone.
-fn is_read_by_copy(device: &mut MemoryDevice, seen: &mut Page) -> Option<bool> {
-    let receipt = written(device, &Page::new(5)).ok()?;
+fn is_read_by_copy(alloc: Global, device: &mut MemoryDevice, seen: &mut Page) -> Option<bool> {
+    let receipt = written(device, &Page::new(alloc, 5).ok()?).ok()?;
     let copy = receipt.again().ok()?;
     drop(receipt);
     device.read(&copy, seen).ok()?;
@@ -183,8 +183,8 @@ fn is_read_by_copy(device: &mut MemoryDevice, seen: &mut Page) -> Option<bool> {
 #[test]
 fn a_copy_keeps_the_page(rt: HostRuntime) -> Result<(), Fail> {
     let (mut device, _) = two_openings(rt.alloc())?;
-    let mut seen = Page::new(7);
-    assert!(rt; is_read_by_copy(&mut device, &mut seen) == Some(true));
+    let mut seen = Page::new(rt.alloc(), 7)?;
+    assert!(rt; is_read_by_copy(rt.alloc(), &mut device, &mut seen) == Some(true));
     assert!(rt; seen.number() == 5);
     Ok(())
 }
@@ -192,8 +192,8 @@ fn a_copy_keeps_the_page(rt: HostRuntime) -> Result<(), Fail> {
 #[test]
 fn a_generic_caller_gets_its_page(rt: HostRuntime) -> Result<(), Fail> {
     let (mut device, _) = two_openings(rt.alloc())?;
-    let page = Page::new(5);
-    let mut seen = Page::new(7);
+    let page = Page::new(rt.alloc(), 5)?;
+    let mut seen = Page::new(rt.alloc(), 7)?;
     let first = is_written_and_read(&mut device, &page, &mut seen);
     assert!(rt; first || is_written_and_read(&mut device, &page, &mut seen));
     assert!(rt; seen == page);
@@ -203,8 +203,8 @@ fn a_generic_caller_gets_its_page(rt: HostRuntime) -> Result<(), Fail> {
 #[test]
 fn a_generic_caller_reads_through_another_opening(rt: HostRuntime) -> Result<(), Fail> {
     let (mut device, mut other) = two_openings(rt.alloc())?;
-    let page = Page::new(5);
-    let mut seen = Page::new(7);
+    let page = Page::new(rt.alloc(), 5)?;
+    let mut seen = Page::new(rt.alloc(), 7)?;
     let first = write_and_read_elsewhere(&mut device, &mut other, &page, &mut seen).is_ok();
     assert!(rt;
         first || write_and_read_elsewhere(&mut device, &mut other, &page, &mut seen).is_ok()

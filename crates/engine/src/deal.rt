@@ -11,6 +11,7 @@ use epoch::{EpochSeat, Epochs};
 use gates::Gates;
 use hybrid::Staged;
 use plans::shard::Shard;
+use records::Page;
 use std::alloc::Global;
 use words::word::OutOfMemory;
 
@@ -18,7 +19,7 @@ use words::word::OutOfMemory;
 ///
 /// # Errors
 ///
-/// [`OutOfMemory`] where there is no memory for the list.
+/// [`OutOfMemory`] where there is no memory for the list or a page for each pass.
 pub(crate) fn deal<R: Shows, D: Device<Receipt = R>>(
     alloc: Global,
     gates: &Gates<Shard<R>>,
@@ -47,11 +48,14 @@ pub(crate) fn deal<R: Shows, D: Device<Receipt = R>>(
         let Some(seat) = seats.pop() else {
             unreachable!()
         };
+        let page = Page::new(alloc, 0)?;
+        let staged = Staged::new(alloc);
         let pass = Pass {
             gates,
             device,
             seat: Some(seat),
-            staged: Staged::new(alloc),
+            staged,
+            page,
         };
         dealt.insert(0, pass)?;
     }

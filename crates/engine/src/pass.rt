@@ -4,12 +4,13 @@ use device::{Device, Shows};
 use epoch::EpochSeat;
 use hybrid::Staged;
 use plans::shard::Shard;
+use records::Page;
 
 /// The right to call an [`Engine`](crate::Engine), for one session at a time, with an opening of the device of its own. It
 /// has a number, by which the entries of its calls are known in the history.
 ///
 /// It has a seat of the engine's epochs, so that a page that it reads outside the stripes stays where it is meanwhile, and
-/// the memory of the pages that it reads, which serves from call to call.
+/// the memory of the pages that it reads and of one that it writes, which serves from call to call.
 #[derive(Drop)]
 pub struct Pass<D: Device> {
     pub(crate) gates: gates::Pass<Shard<D::Receipt>>,
@@ -18,4 +19,6 @@ pub struct Pass<D: Device> {
     pub(crate) seat: Option<EpochSeat>,
     /// Empty between calls.
     pub(crate) staged: Staged<D::Receipt>,
+    /// Where a page is copied to that is to be written.
+    pub(crate) page: Page,
 }

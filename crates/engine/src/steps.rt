@@ -44,7 +44,14 @@ impl<D: Device> Engine<D> {
         ensures rests { Rests D.Receipt.is_steady self.now pass.new }
         ensures flushed { HasFlushed (stripe ∷ []) stripe result (D.failures pass.old.device) (D.failures pass.new.device) (known pass.old.gates) (known pass.new.gates) }
     {
-        flush_one(rt, &self.gates, &mut pass.gates, &mut pass.device, stripe)
+        flush_one(
+            rt,
+            &self.gates,
+            &mut pass.gates,
+            &mut pass.device,
+            &mut pass.page,
+            stripe,
+        )
     }
 
     /// The same as [`flush_one`](Engine::flush_one) without waiting. The page is written while the stripe is held.
@@ -64,7 +71,13 @@ impl<D: Device> Engine<D> {
         ensures busy { IfErr result (λ busy. (busy.stripe ≡ stripe) × WasBusy stripe (known pass.old.gates) (known pass.new.gates)) }
         ensures not_asked { IfErr result (λ busy. pass.new.device ≡ pass.old.device) }
     {
-        try_flush_one(&self.gates, &mut pass.gates, &mut pass.device, stripe)
+        try_flush_one(
+            &self.gates,
+            &mut pass.gates,
+            &mut pass.device,
+            &mut pass.page,
+            stripe,
+        )
     }
 
     /// The evictor's step at a stripe: its oldest resident page leaves its frame, where its receipt is kept; false where none

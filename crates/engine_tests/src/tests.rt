@@ -368,7 +368,7 @@ fn growing_values_with_each_growth_refused(rt: HostRuntime) -> Result<(), Fail> 
         SETRANGE key-of-more-than-22-bytes 17 33 -> :29 -> $one-of-more-than-33-bytes,two\n\
         SETRANGE key-of-more-than-22-bytes 28 ree -> :31 -> $one-of-more-than-33-bytes,twree\n\
         SETRANGE key-of-more-than-22-bytes 33 z -> :34 -> $one-of-more-than-33-bytes,twree\0\0z\n\
-        SETRANGE key-of-more-than-22-bytes 8192 z -> -ERR string is too long -> $one-of-more-than-33-bytes,twree\0\0z\n\
+        SETRANGE key-of-more-than-22-bytes 32768 z -> -ERR string is too long -> $one-of-more-than-33-bytes,twree\0\0z\n\
         GETRANGE key-of-more-than-22-bytes 1 -4 -> $ne-of-more-than-33-bytes,twree -> $one-of-more-than-33-bytes,twree\0\0z\n\
         GETRANGE key-of-more-than-22-bytes 5 4 -> $ -> $one-of-more-than-33-bytes,twree\0\0z\n\
         DEL key-of-more-than-22-bytes -> :1 -> null\n\
@@ -500,10 +500,10 @@ fn a_value_is_kept_until_the_next(rt: HostRuntime) -> Result<(), Fail> {
     Ok(())
 }
 
-/// MSET of six keys: five values of 8,192 bytes, and a last one of so many. It weighs 41,254 and the bytes of
+/// MSET of six keys: five values of 32,768 bytes, and a last one of so many. It weighs 164,134 and the bytes of
 /// the last.
 fn heavy(alloc: Global, last: usize) -> Result<Vec<u8>, OutOfMemory> {
-    let longest = vec![in alloc; b'x'; 8_192]?;
+    let longest = vec![in alloc; b'x'; 32_768]?;
     let mut request = Vec::from_slice(alloc, b"MSET")?;
     for key in b"abcde" {
         request.push(b' ')?;
@@ -561,8 +561,8 @@ fn refuses_the_heavier<R: Abort + Wait>(
 #[test]
 fn a_call_that_weighs_too_much_changes_nothing(rt: HostRuntime) -> Result<(), Fail> {
     let alloc = rt.alloc();
-    let most = heavy(alloc, 7_898)?;
-    let more = heavy(alloc, 7_899)?;
+    let most = heavy(alloc, 32_474)?;
+    let more = heavy(alloc, 32_475)?;
     refuses_the_heavier(&rt, alloc, most.as_slice(), more.as_slice())
 }
 

@@ -63,7 +63,7 @@ impl Frames {
     {
         let mut pages = Vec::with_capacity(alloc, frames)?;
         for _ in 0..frames {
-            pages.push_reserved(Page::new(0));
+            pages.push_reserved(Page::new(alloc, 0)?);
         }
         Ok(Frames {
             frames: pages,

@@ -57,7 +57,7 @@ fn a_frame_that_is_used_again_holds_an_empty_page(rt: HostRuntime) -> Result<(),
     for number in 0..40 {
         frames.drop_oldest();
         assert_eq!(rt; open(&mut frames, &rt), Ok(number));
-        let empty = Page::new(number);
+        let empty = Page::new(rt.alloc(), number)?;
         if let Some(page) = frames.page_mut(number) {
             assert!(rt; *page == empty);
             page.bytes_mut()[PAGE_SIZE - 1] = (number % 251 + 1) as u8;

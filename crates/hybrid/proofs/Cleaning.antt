@@ -4,7 +4,7 @@ use Rattle.std.specs.List.{Contains}
 use Rattle.std.proofs.lemmas.List.Elements.{Contains-append_cases}
 use Rattle.std.proofs.lemmas.Bool.{cases_Bool}
 use Rattle.std.specs.Prelude.{slice_index_or, Option, None, IsSome}
-use Rattle.records.specs.Fields.{u16_at}
+use Rattle.records.specs.Fields.{u16_at, u32_at}
 use Rattle.records.specs.Page.{used_end}
 use Rattle.records.specs.Records.{Stored, size_of, placed, end_from, records_of, IsLaidOut, value_bytes, value_of_kind, fields_at, IsRecordAt}
 use Rattle.hybrid.proofs.Placed.{Split, split_at, placed-append, end_from-append, end_from-le}
@@ -286,16 +286,16 @@ pub record IsRead (at : ℕ) (s : Stored) : Type 0 where
 value-of-kind : (kind : ℕ) (bytes : List ℕ) → length (value_bytes (value_of_kind kind bytes)) ≤ length bytes
 value-of-kind kind bytes = elim (cases_Bool (kind == 2)) [ inl y ↦ rw y (omega arith) | inr n ↦ rw n (omega arith) ]
 
--- where the fields of a record stand in it: behind its link and its hash the lengths of its key and its value, and behind
--- its capacity its kind
+-- where the fields of a record stand in it: behind its link and its hash the length of its key, its kind, and behind its
+-- form the length of its value
 abbrev key_length_at : ℕ
 key_length_at = 8 + 8
 
-abbrev value_length_at : ℕ
-value_length_at = key_length_at + 2
-
 abbrev kind_at : ℕ
-kind_at = value_length_at + 2 + 2
+kind_at = key_length_at + 2
+
+abbrev value_length_at : ℕ
+value_length_at = kind_at + 1 + 1
 
 take-short : (n : ℕ) (xs : List ℕ) → length (take n xs) ≤ n
 take-short n xs = omega (arith, length-take n xs)
@@ -307,7 +307,7 @@ read-fits page at s is e = subst (λ (x : Stored). IsRead at x) (sym e) (record 
   within = omega (arith, is.within, is.ends_in_page, take-short (u16_at page (at + key_length_at)) (drop (at + RECORD_HEADER) page));
   aligned = is.aligned;
   key = omega (arith, is.key_length, take-short (u16_at page (at + key_length_at)) (drop (at + RECORD_HEADER) page));
-  value = omega (arith, is.value_length, value-of-kind (slice_index page (at + kind_at)) (take (u16_at page (at + value_length_at)) (drop (at + RECORD_HEADER + u16_at page (at + key_length_at)) page)), take-short (u16_at page (at + value_length_at)) (drop (at + RECORD_HEADER + u16_at page (at + key_length_at)) page));
+  value = omega (arith, is.value_length, value-of-kind (slice_index page (at + kind_at)) (take (u32_at page (at + value_length_at)) (drop (at + RECORD_HEADER + u16_at page (at + key_length_at)) page)), take-short (u32_at page (at + value_length_at)) (drop (at + RECORD_HEADER + u16_at page (at + key_length_at)) page));
 })
 
 -- the three steps of the loop

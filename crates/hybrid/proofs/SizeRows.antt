@@ -2,7 +2,7 @@
 use Rattle.std.specs.Prelude.{◌≡◌, [], ◌∷◌, refl}
 use Rattle.hybrid.specs.declared.stripe.TheConstants.{RECORD_MAX, CLEAN_WEIGHT, CLOSED_MIN, CLEAN_PAGES, CALL_PAGES, LAST_PAGE}
 
-sizes : RECORD_MAX ∷ CLEAN_WEIGHT ∷ CLOSED_MIN ∷ CLEAN_PAGES ∷ CALL_PAGES ∷ [] ≡ 8728 ∷ 32736 ∷ 7640 ∷ 5 ∷ 7 ∷ []
+sizes : RECORD_MAX ∷ CLEAN_WEIGHT ∷ CLOSED_MIN ∷ CLEAN_PAGES ∷ CALL_PAGES ∷ [] ≡ 33312 ∷ 131040 ∷ 32208 ∷ 5 ∷ 7 ∷ []
 sizes = refl
 
 last_page : LAST_PAGE ≡ 70368744177664

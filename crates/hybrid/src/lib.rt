@@ -1,7 +1,7 @@
 //! One stripe's store as a hybrid log, for one owner.
 //!
 //! The log is a list of records, each at an address that grows from the oldest to the newest, in pages
-//! of 16,384 bytes (FASTER, SIGMOD 2018). An index points to the newest record of each bucket, and a
+//! of 65,536 bytes (FASTER, SIGMOD 2018). An index points to the newest record of each bucket, and a
 //! record links to the next older one of its bucket. The newest pages are resident: the tail page and a
 //! few before it are mutable, the others read-only. A read-only page is written to a device, which gives
 //! a receipt for it, and may then leave its frame. The oldest page leaves the log once the records that

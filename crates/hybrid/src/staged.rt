@@ -24,6 +24,7 @@ pub enum ReadFault {
 /// Its memory serves from call to call: after `clear` as many reads as before take none.
 #[derive(Drop)]
 pub struct Staged<R: Shows> {
+    alloc: Global,
     /// The receipts, each with a page at the same place.
     receipts: Vec<R>,
     /// Their pages, and behind these the pages that are free for the next reads.
@@ -48,6 +49,7 @@ impl<R: Shows> Staged<R> {
         ensures { result ≡ [] }
     {
         Staged {
+            alloc,
             receipts: Vec::new(alloc),
             pages: Vec::new(alloc),
         }
@@ -83,7 +85,7 @@ impl<R: Shows> Staged<R> {
         let Ok(()) = self.receipts.reserve(1) else {
             return Err(ReadFault::OutOfMemory);
         };
-        let Ok(()) = make_place(&mut self.pages, place) else {
+        let Ok(()) = make_place(self.alloc, &mut self.pages, place) else {
             return Err(ReadFault::OutOfMemory);
         };
         let page = &mut self.pages[place];
@@ -114,7 +116,7 @@ impl<R: Shows> Staged<R> {
 }
 
 // Sees to it that a page stands at this place, behind the others.
-fn make_place(pages: &mut Vec<Page>, place: usize) -> Result<(), AllocError>
+fn make_place(alloc: Global, pages: &mut Vec<Page>, place: usize) -> Result<(), AllocError>
     requires { place ≤ vec_len pages.old }
     ensures there { OnOk result (place < vec_len pages.new) }
     ensures longer { vec_len pages.old ≤ vec_len pages.new }
@@ -123,7 +125,8 @@ fn make_place(pages: &mut Vec<Page>, place: usize) -> Result<(), AllocError>
     if place < pages.len() {
         return Ok(());
     }
-    match pages.push(Page::new(0)) {
+    let page = Page::new(alloc, 0)?;
+    match pages.push(page) {
         Ok(()) => Ok(()),
         Err(_) => Err(AllocError),
     }

@@ -24,14 +24,14 @@ mod flush;
 mod install;
 pub mod room;
 
-/// The most bytes that a record takes, whose key and value are the longest: 8,728.
-pub const RECORD_MAX: usize = RECORD_HEADER + KEY_BYTES_MAX + VALUE_BYTES_MAX;
+/// The most bytes that a record takes, whose key and value are the longest: 33,312, a multiple of 8.
+pub const RECORD_MAX: usize = (RECORD_HEADER + KEY_BYTES_MAX + VALUE_BYTES_MAX + 7) / 8 * 8;
 
-/// The most that the records of one page weigh as writes: each no more than twice its bytes. 32,736.
+/// The most that the records of one page weigh as writes: each no more than twice its bytes. 131,040.
 pub const CLEAN_WEIGHT: usize = 2 * (PAGE_SIZE - HEADER_SIZE);
 
 /// A page is closed only when more than this many of its bytes hold records: else the longest record
-/// would still fit. 7,640.
+/// would still fit. 32,208.
 pub const CLOSED_MIN: usize = PAGE_SIZE - HEADER_SIZE - RECORD_MAX;
 
 /// The most pages that what lives in one page opens by its weight: 5.
@@ -76,7 +76,7 @@ impl<R: Shows> Model for Stripe<R> {
 }
 
 impl<R: Shows> Stripe<R> {
-    /// An empty log, whose page 0 is open. Takes 16,384 bytes a frame, 8 a bucket, and the size of a
+    /// An empty log, whose page 0 is open. Takes 65,536 bytes a frame, 8 a bucket, and the size of a
     /// receipt for each place and frame.
     pub fn new(alloc: Global, limits: &Limits) -> Result<Self, AllocError>
         ensures empty { IfOk result (λ made. made ≡ empty_log limits.now.stripes limits.now.buckets limits.now.frames limits.now.places) }

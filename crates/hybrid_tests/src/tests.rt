@@ -8,7 +8,7 @@ ghost use Rattle.hybrid.specs.Staging.{AreRight};
 use device::{Device, Faulty, FaultyReceipt, MemoryDevice, MemoryReceipt, Shows};
 use hybrid::{Cleaned, Fault, Lookup, Purpose, Room, Staged, Stripe, Weighed, Write};
 use records::{KEY_BYTES_MAX, Page, Record, record_at};
-use std::alloc::Global;
+use std::alloc::{AllocError, Global};
 use std::process::Abort;
 use std::test::Fail;
 use words::hash::hash_of;
@@ -54,6 +54,8 @@ type Receipt = FaultyReceipt<MemoryReceipt>;
 struct Shelf {
     stripe: Stripe<Receipt>,
     device: Faulty<MemoryDevice>,
+    // Where a page is copied to.
+    copy: Page,
 }
 
 impl Drop for Shelf {
@@ -61,6 +63,7 @@ impl Drop for Shelf {
         let Shelf {
             stripe: _,
             device: _,
+            copy: _,
         } = self;
     }
 }
@@ -77,7 +80,12 @@ fn new_shelf(alloc: Global, buckets: usize, places: usize) -> Result<Shelf, Fail
     let limits = Limits::new(1, buckets, 12, places, 1).ok_or("the limits")?;
     let device = Faulty::new(new_device(alloc)?, Vec::new(alloc));
     let stripe = Stripe::new(alloc, &limits)?;
-    Ok(Shelf { stripe, device })
+    let copy = Page::new(alloc, 0)?;
+    Ok(Shelf {
+        stripe,
+        device,
+        copy,
+    })
 }
 
 impl Shelf {
@@ -130,23 +138,18 @@ impl Shelf {
         None
     }
 
-    // Writes this page to the device, and says whether it stays there.
-    fn write(&mut self, number: u64, page: &Page) -> Option<bool> {
-        let receipt = self.device.write(page).ok()?;
-        Some(self.stripe.take_place() && self.stripe.mark_flushed(number, page, receipt).is_ok())
-    }
-
     // Writes a sealed page to the device, and says whether one was there.
     fn flush(&mut self) -> Option<bool> {
         let Some(number) = self.stripe.sealed() else {
             return Some(false);
         };
-        let mut copy = Page::new(0);
         match self.stripe.page(number) {
-            Some(page) => copy.copy_from(page),
+            Some(page) => self.copy.copy_from(page),
             None => return Some(false),
         }
-        self.write(number, &copy)
+        let receipt = self.device.write(&self.copy).ok()?;
+        let page = &self.copy;
+        Some(self.stripe.take_place() && self.stripe.mark_flushed(number, page, receipt).is_ok())
     }
 
     // Takes the oldest page out of the log, with room for what lives in it, and says whether it did.
@@ -174,7 +177,7 @@ impl Shelf {
         requires room { HasRoom self.old.stripe room.weight }
     {
         for _ in 0..400 {
-            match self.stripe.clean_oldest(staged, room) {
+            match self.stripe.clean_oldest(staged, room, &mut self.copy) {
                 Cleaned::Unlinked(_receipt) => {
                     self.stripe.free_place();
                     return Some(true);
@@ -238,21 +241,21 @@ fn in_place_then_at_the_tail(rt: HostRuntime) -> Result<(), Fail> {
 
 fn writes_in_place(shelf: &mut Shelf, rt: &impl Abort) {
     assert!(rt; puts(shelf, b"a", Some(b"1")));
-    assert!(rt; puts(shelf, b"a", Some(b"1234567")));
+    assert!(rt; puts(shelf, b"a", Some(b"123")));
     assert!(rt; ends_at(&shelf.stripe, 48));
-    assert!(rt; shows(&shelf.stripe, 16, 0, 7, b"1234567"));
+    assert!(rt; shows(&shelf.stripe, 16, 0, 3, b"123"));
 }
 
 fn writes_at_the_tail(shelf: &mut Shelf, rt: &impl Abort) {
     assert!(rt; puts(shelf, b"a", Some(b"12345678")));
     assert!(rt; ends_at(&shelf.stripe, 88));
-    assert!(rt; shows(&shelf.stripe, 48, 16, 15, b"12345678"));
+    assert!(rt; shows(&shelf.stripe, 48, 16, 11, b"12345678"));
 }
 
 // Whether the record at offset 48 of page 0 is of this kind.
 fn is_kind(stripe: &Stripe<Receipt>, kind: u8) -> bool {
     match stripe.page(0) {
-        Some(page) => page.bytes()[70] == kind,
+        Some(page) => page.bytes()[66] == kind,
         None => false,
     }
 }
@@ -313,11 +316,24 @@ fn fill(shelf: &mut Shelf, from: u16, to: u16) -> Result<u16, Fault> {
     Ok(to)
 }
 
-// Whether the keys below a number have their values.
+// Puts keys below a number with 8,000 bytes, of which 8 stand in a page, until the store is full.
+fn fill_long(shelf: &mut Shelf, to: u16) -> Result<u16, Fault> {
+    for number in 0..to {
+        match shelf.put(&key_of(number), Some(&[b'l'; 8000])) {
+            Ok(()) => {}
+            Err(Fault::StoreFull) => return Ok(number),
+            Err(Fault::DeviceFault) => return Err(Fault::DeviceFault),
+        }
+    }
+    Ok(to)
+}
+
+// Whether the keys below a number have their values. A page that was read stays at hand.
 fn are_there(shelf: &mut Shelf, alloc: Global, count: u16) -> bool {
+    let mut staged = Staged::new(alloc);
     for number in 0..count {
         let value = [(number % 128) as u8; 1000];
-        if !has(shelf, alloc, &key_of(number), Some(&value)) {
+        if shelf.holds_with(&mut staged, &key_of(number), Some(&value)) != Some(true) {
             return false;
         }
     }
@@ -343,6 +359,24 @@ fn keeps_three_thousand_keys(shelf: &mut Shelf, alloc: Global, rt: &impl Abort) 
     assert!(rt; has(shelf, alloc, &key_of(3000), None));
 }
 
+// Values of the most bytes stand in a page each, and are read back from the device.
+#[test]
+fn values_of_the_most_bytes(rt: HostRuntime) -> Result<(), Fail> {
+    let mut shelf = new_shelf(rt.alloc(), 4096, 64)?;
+    keeps_the_longest(&mut shelf, rt.alloc(), &rt);
+    Ok(())
+}
+
+fn keeps_the_longest(shelf: &mut Shelf, alloc: Global, rt: &impl Abort) {
+    for number in 0..20 {
+        assert!(rt; puts(shelf, &key_of(number), Some(&[number as u8; 32_768])));
+    }
+    assert!(rt; shelf.stripe.page(0).is_none() && shelf.stripe.page(19).is_some());
+    for number in 0..20 {
+        assert!(rt; has(shelf, alloc, &key_of(number), Some(&[number as u8; 32_768])));
+    }
+}
+
 #[test]
 fn a_full_store_still_reads(rt: HostRuntime) -> Result<(), Fail> {
     let mut shelf = new_shelf(rt.alloc(), 4096, 64)?;
@@ -350,9 +384,9 @@ fn a_full_store_still_reads(rt: HostRuntime) -> Result<(), Fail> {
 }
 
 fn reads_where_it_is_full(shelf: &mut Shelf, alloc: Global, rt: &impl Abort) -> Result<(), Fail> {
-    let count = fill(shelf, 0, 2000)?;
+    let count = fill(shelf, 0, 5000)?;
     assert!(rt; shelf.stripe.unreleased() == 64);
-    assert!(rt; count > 64 * 15 && count < 2000);
+    assert!(rt; count >= 64 * 63 && count <= 76 * 63);
     assert!(rt; are_there(shelf, alloc, count));
     Ok(())
 }
@@ -366,27 +400,27 @@ fn is_sealed(stripe: &Stripe<Receipt>, number: u64) -> bool {
 fn a_page_that_differs_in_one_byte_is_not_kept(rt: HostRuntime) -> Result<(), Fail> {
     let mut shelf = new_shelf(rt.alloc(), 4096, 64)?;
     seals_page_0(&mut shelf, &rt);
-    refuses_another_page(&mut shelf, &rt)
+    refuses_another_page(&mut shelf, rt.alloc(), &rt)
 }
 
 fn seals_page_0(shelf: &mut Shelf, rt: &impl Abort) {
-    assert!(rt; fills(shelf, 150));
+    assert!(rt; fills(shelf, 630));
     assert!(rt; is_sealed(&shelf.stripe, 0));
     assert!(rt; shelf.stripe.page(0).is_some());
 }
 
 // Page 0 with another byte.
-fn another_page(stripe: &Stripe<Receipt>) -> Page {
-    let mut other = Page::new(0);
+fn another_page(alloc: Global, stripe: &Stripe<Receipt>) -> Result<Page, AllocError> {
+    let mut other = Page::new(alloc, 0)?;
     if let Some(page) = stripe.page(0) {
         other.copy_from(page);
     }
     other.bytes_mut()[1000] ^= 1;
-    other
+    Ok(other)
 }
 
-fn refuses_another_page(shelf: &mut Shelf, rt: &impl Abort) -> Result<(), Fail> {
-    let other = another_page(&shelf.stripe);
+fn refuses_another_page(shelf: &mut Shelf, alloc: Global, rt: &impl Abort) -> Result<(), Fail> {
+    let other = another_page(alloc, &shelf.stripe)?;
     let receipt = shelf.device.write(&other)?;
     assert!(rt; shelf.stripe.take_place());
     assert!(rt; shelf.stripe.mark_flushed(0, &other, receipt).is_err());
@@ -404,7 +438,7 @@ fn a_flushed_page_leaves_its_frame_and_the_log(rt: HostRuntime) -> Result<(), Fa
 }
 
 fn flushes_and_drops(shelf: &mut Shelf, rt: &impl Abort) {
-    assert!(rt; fills(shelf, 150));
+    assert!(rt; fills(shelf, 630));
     assert!(rt; shelf.flush() == Some(true));
     assert!(rt; is_sealed(&shelf.stripe, 1));
     assert!(rt; shelf.stripe.receipt(0).is_some());
@@ -415,7 +449,7 @@ fn flushes_and_drops(shelf: &mut Shelf, rt: &impl Abort) {
 fn cleans(shelf: &mut Shelf, alloc: Global, rt: &impl Abort) {
     assert!(rt; shelf.clean(alloc) == Some(true));
     assert!(rt; shelf.stripe.oldest() == 1);
-    assert!(rt; are_there(shelf, alloc, 150));
+    assert!(rt; are_there(shelf, alloc, 630));
 }
 
 // One step of a random run: a write, a deletion, a flush, a drop or a clean. `None` where it failed.
@@ -427,7 +461,7 @@ fn step(
 ) -> Option<()> {
     let at = (random % 64) as usize;
     let key = key_of(at as u16);
-    let length = (random / 64 % 1500) as usize;
+    let length = (random / 64 % 6000) as usize;
     let byte = (random / 100_000 % 256) as u8;
     match random / 100_000_000 % 10 {
         0 => {
@@ -444,7 +478,7 @@ fn step(
             shelf.clean(alloc)?;
         }
         _ => {
-            let value = [byte; 1500];
+            let value = [byte; 6000];
             shelf.put(&key, Some(&value[..length])).ok()?;
             known[at] = Some((length, byte));
         }
@@ -454,16 +488,20 @@ fn step(
 
 // Whether each key could be looked up, and has what it should.
 fn is_known(shelf: &mut Shelf, alloc: Global, known: &[Option<(usize, u8)>; 64]) -> bool {
+    let mut staged = Staged::new(alloc);
     for (at, entry) in known.iter().enumerate() {
         let key = key_of(at as u16);
         let same = match entry {
-            None => has(shelf, alloc, &key, None),
+            None => shelf.holds_with(&mut staged, &key, None),
             Some((length, byte)) => {
-                let value = [*byte; 1500];
-                *length <= 1500 && has(shelf, alloc, &key, Some(&value[..*length]))
+                let value = [*byte; 6000];
+                if *length > 6000 {
+                    return false;
+                }
+                shelf.holds_with(&mut staged, &key, Some(&value[..*length]))
             }
         };
-        if !same {
+        if same != Some(true) {
             return false;
         }
     }
@@ -510,10 +548,10 @@ fn a_full_store_can_be_cleaned(rt: HostRuntime) -> Result<(), Fail> {
 }
 
 fn cleans_where_it_is_full(shelf: &mut Shelf, alloc: Global, rt: &impl Abort) -> Result<(), Fail> {
-    let count = fill(shelf, 0, 2000)?;
+    let count = fill_long(shelf, 700)?;
     assert!(rt; shelf.stripe.is_full() && !shelf.stripe.take_place());
     let deleted = deletes(shelf, count);
-    assert!(rt; deleted > 15);
+    assert!(rt; deleted > 8);
     assert!(rt;
         shelf.clean(alloc) == Some(true),
         "of {count} keys {deleted} were deleted"
@@ -531,7 +569,7 @@ fn a_page_without_a_live_record_wants_no_room(rt: HostRuntime) -> Result<(), Fai
 
 fn weighs_nothing(shelf: &mut Shelf, alloc: Global, rt: &impl Abort) {
     let mut staged = Staged::new(alloc);
-    assert!(rt; fills(shelf, 300) && fills(shelf, 15));
+    assert!(rt; fills(shelf, 1260) && fills(shelf, 63));
     assert!(rt; shelf.stripe.page(0).is_none());
     assert!(rt; shelf.stripe.weigh_oldest(&staged) == Weighed::Cold(0));
     assert!(rt; stage(&shelf.stripe, &mut shelf.device, &mut staged, 0).is_some());
@@ -546,7 +584,7 @@ fn places_are_counted(rt: HostRuntime) -> Result<(), Fail> {
 }
 
 fn counts_places(shelf: &mut Shelf, rt: &impl Abort) {
-    assert!(rt; fills(shelf, 150));
+    assert!(rt; fills(shelf, 630));
     assert!(rt; !shelf.stripe.has_spare_place());
     assert!(rt; shelf.stripe.take_place());
     assert!(rt; shelf.stripe.has_spare_place());
@@ -566,7 +604,7 @@ fn a_cold_page_is_read_once(rt: HostRuntime) -> Result<(), Fail> {
 fn reads_once(shelf: &mut Shelf, alloc: Global, rt: &impl Abort) {
     let mut staged = Staged::new(alloc);
     let value = [0; 1000];
-    assert!(rt; fills(shelf, 300));
+    assert!(rt; fills(shelf, 1260));
     let before = shelf.device.calls();
     assert!(rt; shelf.holds_with(&mut staged, &key_of(0), Some(&value)) == Some(true));
     let once = shelf.device.calls();
@@ -661,5 +699,5 @@ fn is_never_cold(stripe: &Stripe<MemoryReceipt>, alloc: Global, rt: &impl Abort)
     for number in 0..3001 {
         assert!(rt; value_lent(stripe, &staged, &key_of(number)).is_some() == (number < 3000));
     }
-    assert!(rt; weight_lent(stripe, &staged).unwrap_or(0) > 15_000);
+    assert!(rt; weight_lent(stripe, &staged).unwrap_or(0) > 65_000);
 }

@@ -79,6 +79,8 @@ pub struct CountedLog<R: Shows> {
     retired: VecDeque<Retired<R>>,
     /// Those whose epoch is drained, the oldest first.
     drained: VecDeque<Releasable<R>>,
+    /// Where the oldest page is gone over: the log changes meanwhile.
+    copy: Page,
 }
 
 impl<R: Shows> Model for CountedLog<R> {
@@ -99,7 +101,7 @@ impl<R: Shows> CountedLog<R> {
     ///
     /// # Errors
     ///
-    /// [`OutOfMemory`] where there is no memory for its frames, its buckets or its lists.
+    /// [`OutOfMemory`] where there is no memory for its frames, its buckets, its lists or a page.
     pub fn new(alloc: Global, limits: &Limits) -> Result<CountedLog<R>, OutOfMemory>
         ensures empty { IfOk result (λ made. made ≡ record { log = empty_log limits.now.stripes limits.now.buckets limits.now.frames limits.now.places; in_flight = 0; unlinked = []; retired = []; drained = []; refusals = 0 }) }
         ensures contents { IfOk result (λ made. (key : List ℕ) → contents (log_of made.log) key ≡ None) }
@@ -108,12 +110,14 @@ impl<R: Shows> CountedLog<R> {
         let unlinked = VecDeque::with_capacity(alloc, limits.places)?;
         let retired = VecDeque::with_capacity(alloc, limits.places)?;
         let drained = VecDeque::with_capacity(alloc, limits.places)?;
+        let copy = Page::new(alloc, 0)?;
         Ok(CountedLog {
             stripe,
             in_flight: 0,
             unlinked,
             retired,
             drained,
+            copy,
         })
     }
 
@@ -273,7 +277,7 @@ impl<R: Shows> CountedLog<R> {
         ensures resident { MatchCleaning result ⊤ (λ number. self.old.log.oldest < self.old.log.resident.oldest) (λ weight. self.old.log.oldest < self.old.log.resident.oldest) (self.old.log.resident.oldest ≡ self.old.log.oldest) }
     {
         let _limit = self.stripe.unreleased();
-        match self.stripe.clean_oldest(staged, room) {
+        match self.stripe.clean_oldest(staged, room, &mut self.copy) {
             Cleaned::Unlinked(receipt) => {
                 let _limit = self.stripe.unreleased();
                 self.unlinked.push_back_reserved(receipt);

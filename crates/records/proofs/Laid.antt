@@ -70,6 +70,9 @@ module _ (number : ℕ) (rs : List Stored) (page : List ℕ) (is : IsPage number
         in_order = rw page-records (placed-in_order HEADER_SIZE rs);
       }
 
+pub laid_out-length : (page : List ℕ) → IsLaidOut page → length page ≡ PAGE_SIZE
+laid_out-length page laid = page-length (number_of page) laid.stored page laid.is_page
+
 pub empty-page : (number : ℕ) → number < 2 ^ 64 → IsPage number [] (empty_page number)
 unfolding empty_page
 empty-page number h = record { number_fits = h; each = tt; within = lit≤ tt; bytes = refl }

@@ -7,5 +7,6 @@ pub mod Lists
 pub mod Rewritten
 pub mod Laid
 pub mod After
+pub mod Lent
 pub mod There
 pub mod SizeRows

@@ -2,13 +2,13 @@
 use Rattle.std.proofs.Common.{◌≡◌, ℕ, ◌+◌, ◌-◌, ◌<◌, ◌≤◌, ◌^◌, List, [], ◌++◌, length, take, drop, replicate, Option, None, Some, refl, sym, ap, ◌∙◌, arith, length-append, append_assoc, slice_index, cond, eqb}
 use Rattle.std.proofs.lemmas.List.{take_at, drop_at, drop-drop, get_or-drop, length-replicate}
 use Rattle.records.specs.declared.entries.TheConstants.{RECORD_HEADER, HASH_AT, KEY_LENGTH_AT, VALUE_LENGTH_AT, CAPACITY_AT, KIND_AT, RECORD_FORM_AT, LENGTH_BITS, RECORD_FORM, TOMBSTONE}
-use Rattle.records.specs.Fields.{u16_bytes, u64_bytes, u16_at, u64_at}
+use Rattle.records.specs.Fields.{u16_bytes, u32_bytes, u64_bytes, u16_at, u32_at, u64_at}
 use Rattle.records.specs.Records.{Stored, IsStored, value_bytes, kind_of, size_of, head, filled, spelling, fields_at}
-use Rattle.records.proofs.Numbers.{u16_at-front, u64_at-front, u16_at-add, u64_at-add}
+use Rattle.records.proofs.Numbers.{u16_at-front, u32_at-front, u64_at-front, u16_at-add, u32_at-add, u64_at-add}
 
-pub length-head : (link hash k v c kind : ℕ) → length (head link hash k v c kind) ≡ RECORD_HEADER
-unfolding head u16_bytes u64_bytes
-length-head link hash k v c kind = refl
+pub length-head : (link hash k kind v c : ℕ) → length (head link hash k kind v c) ≡ RECORD_HEADER
+unfolding head u16_bytes u32_bytes u64_bytes
+length-head link hash k kind v c = refl
 
 pub length-filled : (value : Option (List ℕ)) (capacity : ℕ) → length (value_bytes value) ≤ capacity → length (filled value capacity) ≡ capacity
 length-filled value capacity fits =
@@ -17,9 +17,9 @@ length-filled value capacity fits =
 pub length-spelling : (r : Stored) → length (value_bytes r.value) ≤ r.capacity → length (spelling r) ≡ size_of r
 unfolding spelling
 length-spelling r fits =
-    let front = length-append (head r.link r.hash (length r.key) (length (value_bytes r.value)) r.capacity (kind_of r.value)) (r.key ++ filled r.value r.capacity) in
+    let front = length-append (head r.link r.hash (length r.key) (kind_of r.value) (length (value_bytes r.value)) r.capacity) (r.key ++ filled r.value r.capacity) in
     let back = length-append r.key (filled r.value r.capacity) in
-    omega (arith, front, back, length-head r.link r.hash (length r.key) (length (value_bytes r.value)) r.capacity (kind_of r.value), length-filled r.value r.capacity fits)
+    omega (arith, front, back, length-head r.link r.hash (length r.key) (kind_of r.value) (length (value_bytes r.value)) r.capacity, length-filled r.value r.capacity fits)
 
 -- the fields of a record's bytes, whatever follows them
 pub link-is : (r : Stored) (rest : List ℕ) → r.link < 2 ^ 64 → u64_at (spelling r ++ rest) 0 ≡ r.link
@@ -30,17 +30,17 @@ pub hash-is : (r : Stored) (rest : List ℕ) → r.hash < 2 ^ 64 → u64_at (spe
 unfolding u64_at u64_bytes spelling head
 hash-is r rest h = u64_at-front r.hash [] h
 
-pub key_length-is : (r : Stored) (rest : List ℕ) → length r.key < 2 ^ LENGTH_BITS → u16_at (spelling r ++ rest) KEY_LENGTH_AT ≡ length r.key
+pub key_length-is : (r : Stored) (rest : List ℕ) → length r.key < 2 ^ 16 → u16_at (spelling r ++ rest) KEY_LENGTH_AT ≡ length r.key
 unfolding u16_at u16_bytes u64_bytes spelling head
 key_length-is r rest h = u16_at-front (length r.key) [] h
 
-pub value_length-is : (r : Stored) (rest : List ℕ) → length (value_bytes r.value) < 2 ^ LENGTH_BITS → u16_at (spelling r ++ rest) VALUE_LENGTH_AT ≡ length (value_bytes r.value)
-unfolding u16_at u16_bytes u64_bytes spelling head
-value_length-is r rest h = u16_at-front (length (value_bytes r.value)) [] h
+pub value_length-is : (r : Stored) (rest : List ℕ) → length (value_bytes r.value) < 2 ^ LENGTH_BITS → u32_at (spelling r ++ rest) VALUE_LENGTH_AT ≡ length (value_bytes r.value)
+unfolding u32_at u16_bytes u32_bytes u64_bytes spelling head
+value_length-is r rest h = u32_at-front (length (value_bytes r.value)) [] h
 
-pub capacity-is : (r : Stored) (rest : List ℕ) → r.capacity < 2 ^ LENGTH_BITS → u16_at (spelling r ++ rest) CAPACITY_AT ≡ r.capacity
-unfolding u16_at u16_bytes u64_bytes spelling head
-capacity-is r rest h = u16_at-front r.capacity [] h
+pub capacity-is : (r : Stored) (rest : List ℕ) → r.capacity < 2 ^ LENGTH_BITS → u32_at (spelling r ++ rest) CAPACITY_AT ≡ r.capacity
+unfolding u32_at u16_bytes u32_bytes u64_bytes spelling head
+capacity-is r rest h = u32_at-front r.capacity [] h
 
 pub kind-is : (r : Stored) (rest : List ℕ) → slice_index (spelling r ++ rest) KIND_AT ≡ kind_of r.value
 unfolding u16_bytes u64_bytes spelling head
@@ -51,7 +51,7 @@ unfolding u16_bytes u64_bytes spelling head
 form-is r rest = refl
 
 pub behind_head : (r : Stored) (rest : List ℕ) → drop RECORD_HEADER (spelling r ++ rest) ≡ r.key ++ (filled r.value r.capacity ++ rest)
-unfolding u16_bytes u64_bytes spelling head
+unfolding u16_bytes u32_bytes u64_bytes spelling head
 behind_head r rest = append_assoc r.key (filled r.value r.capacity) rest
 
 -- a place behind a part of the bytes
@@ -85,11 +85,11 @@ module _ (page : List ℕ) (offset : ℕ) (r : Stored) (rest : List ℕ) (here :
   pub key_length_at : u16_at page (offset + KEY_LENGTH_AT) ≡ length r.key
   key_length_at = u16_at-add page offset KEY_LENGTH_AT ∙ (ap (λ s. u16_at s KEY_LENGTH_AT) here ∙ key_length-is r rest (omega (arith, ok.key_fits)))
 
-  pub value_length_at : u16_at page (offset + VALUE_LENGTH_AT) ≡ length (value_bytes r.value)
-  value_length_at = u16_at-add page offset VALUE_LENGTH_AT ∙ (ap (λ s. u16_at s VALUE_LENGTH_AT) here ∙ value_length-is r rest (omega (arith, ok.value_fits, ok.capacity_fits)))
+  pub value_length_at : u32_at page (offset + VALUE_LENGTH_AT) ≡ length (value_bytes r.value)
+  value_length_at = u32_at-add page offset VALUE_LENGTH_AT ∙ (ap (λ s. u32_at s VALUE_LENGTH_AT) here ∙ value_length-is r rest (omega (arith, ok.value_fits, ok.capacity_fits)))
 
-  pub capacity_at : u16_at page (offset + CAPACITY_AT) ≡ r.capacity
-  capacity_at = u16_at-add page offset CAPACITY_AT ∙ (ap (λ s. u16_at s CAPACITY_AT) here ∙ capacity-is r rest ok.capacity_fits)
+  pub capacity_at : u32_at page (offset + CAPACITY_AT) ≡ r.capacity
+  capacity_at = u32_at-add page offset CAPACITY_AT ∙ (ap (λ s. u32_at s CAPACITY_AT) here ∙ capacity-is r rest ok.capacity_fits)
 
   pub kind_at : slice_index page (offset + KIND_AT) ≡ kind_of r.value
   kind_at = slice_index-add page offset KIND_AT ∙ (ap (λ s. slice_index s KIND_AT) here ∙ kind-is r rest)
@@ -104,10 +104,10 @@ module _ (page : List ℕ) (offset : ℕ) (r : Stored) (rest : List ℕ) (here :
   key_at : take (u16_at page (offset + KEY_LENGTH_AT)) (drop (offset + RECORD_HEADER) page) ≡ r.key
   key_at = ap (λ s. take (u16_at page (offset + KEY_LENGTH_AT)) s) behind ∙ take_at r.key (filled r.value r.capacity ++ rest) (u16_at page (offset + KEY_LENGTH_AT)) (sym key_length_at)
 
-  value_at : take (u16_at page (offset + VALUE_LENGTH_AT)) (drop (offset + RECORD_HEADER + u16_at page (offset + KEY_LENGTH_AT)) page) ≡ value_bytes r.value
+  value_at : take (u32_at page (offset + VALUE_LENGTH_AT)) (drop (offset + RECORD_HEADER + u16_at page (offset + KEY_LENGTH_AT)) page) ≡ value_bytes r.value
   value_at =
       let k : ℕ = u16_at page (offset + KEY_LENGTH_AT) in
-      let n : ℕ = u16_at page (offset + VALUE_LENGTH_AT) in
+      let n : ℕ = u32_at page (offset + VALUE_LENGTH_AT) in
       let spare : List ℕ = replicate (r.capacity - length (value_bytes r.value)) 0 ++ rest in
       let past_key : drop (offset + RECORD_HEADER + k) page ≡ filled r.value r.capacity ++ rest =
       sym (drop-drop k (offset + RECORD_HEADER) page) ∙ (ap (λ s. drop k s) behind ∙ drop_at r.key (filled r.value r.capacity ++ rest) k (sym key_length_at)) in
@@ -117,5 +117,5 @@ module _ (page : List ℕ) (offset : ℕ) (r : Stored) (rest : List ℕ) (here :
   unfolding fields_at
   fields_at-is =
       same_stored (fields_at page offset) r link_at hash_at key_at
-      (value_from r.value (slice_index page (offset + KIND_AT)) (u16_at page (offset + VALUE_LENGTH_AT)) (drop (offset + RECORD_HEADER + u16_at page (offset + KEY_LENGTH_AT)) page) kind_at value_at)
+      (value_from r.value (slice_index page (offset + KIND_AT)) (u32_at page (offset + VALUE_LENGTH_AT)) (drop (offset + RECORD_HEADER + u16_at page (offset + KEY_LENGTH_AT)) page) kind_at value_at)
       capacity_at

@@ -6,7 +6,7 @@ use Rattle.std.proofs.lemmas.List.{take_at}
 use borrow.Rule.Slice.PartMut.{put_mid}
 use Rattle.records.specs.declared.pages.TheConstants.{PAGE_SIZE, HEADER_SIZE}
 use Rattle.records.specs.declared.entries.TheConstants.{RECORD_HEADER, HASH_AT, KEY_LENGTH_AT, VALUE_LENGTH_AT, CAPACITY_AT, KIND_AT, RECORD_FORM_AT, RECORD_FORM}
-use Rattle.records.specs.Fields.{u16_at, u64_at}
+use Rattle.records.specs.Fields.{u16_at, u32_at, u64_at}
 use Rattle.records.specs.Page.{number_of, used_end}
 use Rattle.records.specs.Records.{Stored, IsStored, IsKindFor, value_of_kind, value_bytes, kind_of, size_of, spelling, end_from, placed, IsPage, fields_at, records_of, IsLaidOut, with_value, HasRoomAt, IsRecordAt}
 use Rattle.records.proofs.Spelling.{length-spelling, key_length_at, value_length_at, capacity_at, kind_at, form_at, fields_at-is}
@@ -29,8 +29,8 @@ pub record IsThere (page : List ℕ) (offset : ℕ) (r : Stored) : Type 0 where
   pub ends_in_page : used_end page ≤ PAGE_SIZE
   pub size : length page ≡ PAGE_SIZE
   pub key_length : u16_at page (offset + KEY_LENGTH_AT) ≡ length r.key
-  pub value_length : u16_at page (offset + VALUE_LENGTH_AT) ≡ length (value_bytes r.value)
-  pub capacity : u16_at page (offset + CAPACITY_AT) ≡ r.capacity
+  pub value_length : u32_at page (offset + VALUE_LENGTH_AT) ≡ length (value_bytes r.value)
+  pub capacity : u32_at page (offset + CAPACITY_AT) ≡ r.capacity
   pub kind : slice_index page (offset + KIND_AT) ≡ kind_of r.value
   pub form : slice_index page (offset + RECORD_FORM_AT) ≡ RECORD_FORM
   pub fields : fields_at page offset ≡ r
@@ -113,14 +113,14 @@ pub IsThere-IsRecordAt : (page : List ℕ) (offset : ℕ) (r : Stored) → IsThe
 IsThere-IsRecordAt page offset r t =
     let ok : IsStored r = t.ok in
     let value_fits : length (value_bytes r.value) ≤ r.capacity = ok.value_fits in
-    let sizes : RECORD_HEADER + u16_at page (offset + KEY_LENGTH_AT) + u16_at page (offset + CAPACITY_AT) ≡ size_of r = omega (arith, t.key_length, t.capacity) in
+    let sizes : RECORD_HEADER + u16_at page (offset + KEY_LENGTH_AT) + u32_at page (offset + CAPACITY_AT) ≡ size_of r = omega (arith, t.key_length, t.capacity) in
     record {
       ends_in_page = t.ends_in_page;
       past_header = t.past_header;
       used = omega (arith, t.within);
       aligned = t.aligned;
       form = t.form;
-      kind = kind-is-for r.value (slice_index page (offset + KIND_AT)) (u16_at page (offset + VALUE_LENGTH_AT)) t.kind t.value_length;
+      kind = kind-is-for r.value (slice_index page (offset + KIND_AT)) (u32_at page (offset + VALUE_LENGTH_AT)) t.kind t.value_length;
       key_length = omega (arith, t.key_length, ok.key_fits);
       value_length = omega (arith, t.value_length, t.capacity, value_fits);
       size = ap (λ n. n % 8) sizes ∙ ok.aligned;
@@ -138,7 +138,7 @@ read-listed page offset read e was r there = let is : IsThere page offset r = li
 -- what `record_at` reads
 pub read-fields : (page bytes key : List ℕ) (offset link hash k n capacity kind : ℕ) (value : Option (List ℕ))
     → bytes ≡ page → link ≡ u64_at bytes offset → hash ≡ u64_at bytes (offset + HASH_AT)
-    → k ≡ u16_at bytes (offset + KEY_LENGTH_AT) → n ≡ u16_at bytes (offset + VALUE_LENGTH_AT) → capacity ≡ u16_at bytes (offset + CAPACITY_AT) → kind ≡ slice_index bytes (offset + KIND_AT)
+    → k ≡ u16_at bytes (offset + KEY_LENGTH_AT) → n ≡ u32_at bytes (offset + VALUE_LENGTH_AT) → capacity ≡ u32_at bytes (offset + CAPACITY_AT) → kind ≡ slice_index bytes (offset + KIND_AT)
     → key ≡ take (offset + RECORD_HEADER + k - (offset + RECORD_HEADER)) (drop (offset + RECORD_HEADER) bytes)
     → value ≡ value_of_kind kind (take (offset + RECORD_HEADER + k + n - (offset + RECORD_HEADER + k)) (drop (offset + RECORD_HEADER + k) bytes))
     → let read : Stored = record { link = link; hash = hash; key = key; value = value; capacity = capacity } in read ≡ fields_at page offset
@@ -149,28 +149,28 @@ read-fields page bytes key offset link hash k n capacity kind value is_page is_l
     rw (is_key, is_value, key_cut, value_cut, is_link, is_hash, is_capacity, is_kind, is_k, is_n, is_page) refl
 
 -- the part of the page that holds the value which `record_at` reads
-module _ (page bytes : List ℕ) (offset k n : ℕ) (is_page : bytes ≡ page) (is_size : length bytes ≡ PAGE_SIZE) (within : offset + RECORD_HEADER + k + n ≤ PAGE_SIZE) (is_n : n ≡ u16_at bytes (offset + VALUE_LENGTH_AT)) where
-  value-length : length (take (offset + RECORD_HEADER + k + n - (offset + RECORD_HEADER + k)) (drop (offset + RECORD_HEADER + k) bytes)) ≡ u16_at page (offset + VALUE_LENGTH_AT)
+module _ (page bytes : List ℕ) (offset k n : ℕ) (is_page : bytes ≡ page) (is_size : length bytes ≡ PAGE_SIZE) (within : offset + RECORD_HEADER + k + n ≤ PAGE_SIZE) (is_n : n ≡ u32_at bytes (offset + VALUE_LENGTH_AT)) where
+  value-length : length (take (offset + RECORD_HEADER + k + n - (offset + RECORD_HEADER + k)) (drop (offset + RECORD_HEADER + k) bytes)) ≡ u32_at page (offset + VALUE_LENGTH_AT)
   value-length =
       let cut = length-take (offset + RECORD_HEADER + k + n - (offset + RECORD_HEADER + k)) (drop (offset + RECORD_HEADER + k) bytes) in
       let rest = length-drop (offset + RECORD_HEADER + k) bytes in
-      let same : u16_at bytes (offset + VALUE_LENGTH_AT) ≡ u16_at page (offset + VALUE_LENGTH_AT) = ap (λ (s : List ℕ). u16_at s (offset + VALUE_LENGTH_AT)) is_page in
+      let same : u32_at bytes (offset + VALUE_LENGTH_AT) ≡ u32_at page (offset + VALUE_LENGTH_AT) = ap (λ (s : List ℕ). u32_at s (offset + VALUE_LENGTH_AT)) is_page in
       omega (arith, cut, rest, same, is_n, is_size, within)
 
   same_kind : slice_index bytes (offset + KIND_AT) ≡ slice_index page (offset + KIND_AT)
   same_kind = ap (λ (s : List ℕ). slice_index s (offset + KIND_AT)) is_page
 
   pub kind-in_page : IsKindFor (slice_index bytes (offset + KIND_AT)) (length (take (offset + RECORD_HEADER + k + n - (offset + RECORD_HEADER + k)) (drop (offset + RECORD_HEADER + k) bytes)))
-      → IsKindFor (slice_index page (offset + KIND_AT)) (u16_at page (offset + VALUE_LENGTH_AT))
+      → IsKindFor (slice_index page (offset + KIND_AT)) (u32_at page (offset + VALUE_LENGTH_AT))
   kind-in_page h =
-      let P : ℕ → Type 0 = λ kind. IsKindFor kind (u16_at page (offset + VALUE_LENGTH_AT)) in
+      let P : ℕ → Type 0 = λ kind. IsKindFor kind (u32_at page (offset + VALUE_LENGTH_AT)) in
       let Q : ℕ → Type 0 = λ m. IsKindFor (slice_index bytes (offset + KIND_AT)) m in
       subst P same_kind (subst Q value-length h)
 
   pub kind-in_part : IsRecordAt page offset
       → IsKindFor (slice_index bytes (offset + KIND_AT)) (length (take (offset + RECORD_HEADER + k + n - (offset + RECORD_HEADER + k)) (drop (offset + RECORD_HEADER + k) bytes)))
   kind-in_part at =
-      let P : ℕ → Type 0 = λ kind. IsKindFor kind (u16_at page (offset + VALUE_LENGTH_AT)) in
+      let P : ℕ → Type 0 = λ kind. IsKindFor kind (u32_at page (offset + VALUE_LENGTH_AT)) in
       let Q : ℕ → Type 0 = λ m. IsKindFor (slice_index bytes (offset + KIND_AT)) m in
       subst Q (sym value-length) (subst P (sym same_kind) at.kind)
 
@@ -178,11 +178,11 @@ module _ (page bytes : List ℕ) (offset k n : ℕ) (is_page : bytes ≡ page) (
 pub read-key_length : (page bytes : List ℕ) (offset k : ℕ) (r : Stored) → IsThere page offset r → bytes ≡ page → k ≡ u16_at bytes (offset + KEY_LENGTH_AT) → k ≡ length r.key
 read-key_length page bytes offset k r t is_page is_k = is_k ∙ (ap (λ (s : List ℕ). u16_at s (offset + KEY_LENGTH_AT)) is_page ∙ t.key_length)
 
-pub read-capacity : (page bytes : List ℕ) (offset c : ℕ) (r : Stored) → IsThere page offset r → bytes ≡ page → c ≡ u16_at bytes (offset + CAPACITY_AT) → c ≡ r.capacity
-read-capacity page bytes offset c r t is_page is_c = is_c ∙ (ap (λ (s : List ℕ). u16_at s (offset + CAPACITY_AT)) is_page ∙ t.capacity)
+pub read-capacity : (page bytes : List ℕ) (offset c : ℕ) (r : Stored) → IsThere page offset r → bytes ≡ page → c ≡ u32_at bytes (offset + CAPACITY_AT) → c ≡ r.capacity
+read-capacity page bytes offset c r t is_page is_c = is_c ∙ (ap (λ (s : List ℕ). u32_at s (offset + CAPACITY_AT)) is_page ∙ t.capacity)
 
-pub read-value_length : (page bytes : List ℕ) (offset n : ℕ) (r : Stored) → IsThere page offset r → bytes ≡ page → n ≡ u16_at bytes (offset + VALUE_LENGTH_AT) → n ≡ length (value_bytes r.value)
-read-value_length page bytes offset n r t is_page is_n = is_n ∙ (ap (λ (s : List ℕ). u16_at s (offset + VALUE_LENGTH_AT)) is_page ∙ t.value_length)
+pub read-value_length : (page bytes : List ℕ) (offset n : ℕ) (r : Stored) → IsThere page offset r → bytes ≡ page → n ≡ u32_at bytes (offset + VALUE_LENGTH_AT) → n ≡ length (value_bytes r.value)
+read-value_length page bytes offset n r t is_page is_n = is_n ∙ (ap (λ (s : List ℕ). u32_at s (offset + VALUE_LENGTH_AT)) is_page ∙ t.value_length)
 
 -- the page after the steps of `overwrite`
 pub changed-by_steps : (page bytes slot : List ℕ) (offset k n c : ℕ) (r : Stored) (value : Option (List ℕ))

@@ -1,5 +1,5 @@
--- A page, as its bytes. It has 16,384 of them: a header of 16 bytes (page number, 8; end of the used part, 4;
--- form, 4, which is 1), records without gaps up to the end of the used part, and zero bytes after it.
+-- A page, as its bytes. It has 65,536 of them: a header of 16 bytes (page number, 8; end of the used part, 4;
+-- form, 4, which is 2), records without gaps up to the end of the used part, and zero bytes after it.
 use Rattle.std.specs.Prelude.{ℕ, List, ◌++◌, ◌-◌, replicate}
 use Rattle.records.specs.declared.pages.TheConstants.{PAGE_SIZE, HEADER_SIZE, USED_END_AT, PAGE_FORM}
 use Rattle.records.specs.Fields.{u32_bytes, u64_bytes, u32_at, u64_at}

@@ -1,13 +1,13 @@
 -- The records of a page, as in the log of FASTER (Chandramouli and others, 2018): each links to the next older one of its
--- hash bucket. The bytes are this project's own. A record has a header of 24 bytes (link, 8; hash of the key, 8; key length, 2; value
--- length, 2; value capacity, 2; kind, 1; form, 1), then the key, then as many bytes as its capacity: the value, then
--- zero bytes. Numbers are little-endian, the kind is 1 for a value and 2 for a tombstone, the form is 1, and a
+-- hash bucket. The bytes are this project's own. A record has a header of 28 bytes (link, 8; hash of the key, 8; key length, 2; kind, 1;
+-- form, 1; value length, 4; value capacity, 4), then the key, then as many bytes as its capacity: the value, then
+-- zero bytes. Numbers are little-endian, the kind is 1 for a value and 2 for a tombstone, the form is 2, and a
 -- record's size is a multiple of 8.
 use Rattle.std.specs.Prelude.{◌≡◌, ◌<◌, ◌≤◌, ◌⊎◌, ℕ, zero, suc, ◌+◌, ◌-◌, ◌*◌, ◌/◌, ◌%◌, ◌^◌, List, [], ◌∷◌, ◌++◌, length, take, drop, replicate, slice_index, Option, None, Some, unwrap_or, nat_lt, ◌==◌, if◌then◌else◌}
 use Rattle.std.specs.List.{All, AllByRecursion, AllPairs, Contains, flat_map}
 use Rattle.records.specs.declared.pages.TheConstants.{PAGE_SIZE, HEADER_SIZE}
 use Rattle.records.specs.declared.entries.TheConstants.{RECORD_HEADER, KEY_BYTES_MAX, HASH_AT, KEY_LENGTH_AT, VALUE_LENGTH_AT, CAPACITY_AT, KIND_AT, RECORD_FORM_AT, LENGTH_BITS, RECORD_FORM, VALUE, TOMBSTONE}
-use Rattle.records.specs.Fields.{u16_bytes, u64_bytes, u16_at, u64_at}
+use Rattle.records.specs.Fields.{u16_bytes, u32_bytes, u64_bytes, u16_at, u32_at, u64_at}
 use Rattle.records.specs.Page.{header, number_of, used_end}
 
 -- what a record says. The link is the address of the next older record of its bucket, or 0; a record with no value is
@@ -60,8 +60,8 @@ pub record IsStored (r : Stored) : Type 0 where
 
 -- the bytes of a record's header
 unfoldable pub head : ℕ → ℕ → ℕ → ℕ → ℕ → ℕ → List ℕ
-head link hash key_length value_length capacity kind =
-    u64_bytes link ++ (u64_bytes hash ++ (u16_bytes key_length ++ (u16_bytes value_length ++ (u16_bytes capacity ++ (kind ∷ RECORD_FORM ∷ [])))))
+head link hash key_length kind value_length capacity =
+    u64_bytes link ++ (u64_bytes hash ++ (u16_bytes key_length ++ (kind ∷ RECORD_FORM ∷ (u32_bytes value_length ++ u32_bytes capacity))))
 
 -- the bytes of a value and of the zeros after it, up to a capacity
 abbrev pub filled : Option (List ℕ) → ℕ → List ℕ
@@ -70,7 +70,7 @@ filled value capacity = value_bytes value ++ replicate (capacity - length (value
 -- the bytes of a record
 unfoldable pub spelling : Stored → List ℕ
 spelling r =
-    head r.link r.hash (length r.key) (length (value_bytes r.value)) r.capacity (kind_of r.value) ++ (r.key ++ filled r.value r.capacity)
+    head r.link r.hash (length r.key) (kind_of r.value) (length (value_bytes r.value)) r.capacity ++ (r.key ++ filled r.value r.capacity)
 
 -- the offset at which records end that stand one after the other from an offset on
 abbrev pub end_from : ℕ → List Stored → ℕ
@@ -93,13 +93,13 @@ pub record IsPage (number : ℕ) (records : List Stored) (page : List ℕ) : Typ
 unfoldable pub fields_at : List ℕ → ℕ → Stored
 fields_at page offset =
     let key_length : ℕ = u16_at page (offset + KEY_LENGTH_AT) in
-    let value_length : ℕ = u16_at page (offset + VALUE_LENGTH_AT) in
+    let value_length : ℕ = u32_at page (offset + VALUE_LENGTH_AT) in
     record {
       link = u64_at page offset;
       hash = u64_at page (offset + HASH_AT);
       key = take key_length (drop (offset + RECORD_HEADER) page);
       value = value_of_kind (slice_index page (offset + KIND_AT)) (take value_length (drop (offset + RECORD_HEADER + key_length) page));
-      capacity = u16_at page (offset + CAPACITY_AT);
+      capacity = u32_at page (offset + CAPACITY_AT);
     }
 
 -- the records from an offset to the end of the used part, each with its offset, and at most n of them
@@ -147,8 +147,8 @@ pub record IsRecordAt (page : List ℕ) (offset : ℕ) : Type 0 where
   pub used : offset < used_end page
   pub aligned : offset % 8 ≡ 0
   pub form : slice_index page (offset + RECORD_FORM_AT) ≡ RECORD_FORM
-  pub kind : IsKindFor (slice_index page (offset + KIND_AT)) (u16_at page (offset + VALUE_LENGTH_AT))
+  pub kind : IsKindFor (slice_index page (offset + KIND_AT)) (u32_at page (offset + VALUE_LENGTH_AT))
   pub key_length : u16_at page (offset + KEY_LENGTH_AT) ≤ KEY_BYTES_MAX
-  pub value_length : u16_at page (offset + VALUE_LENGTH_AT) ≤ u16_at page (offset + CAPACITY_AT)
-  pub size : (RECORD_HEADER + u16_at page (offset + KEY_LENGTH_AT) + u16_at page (offset + CAPACITY_AT)) % 8 ≡ 0
-  pub within : offset + (RECORD_HEADER + u16_at page (offset + KEY_LENGTH_AT) + u16_at page (offset + CAPACITY_AT)) ≤ used_end page
+  pub value_length : u32_at page (offset + VALUE_LENGTH_AT) ≤ u32_at page (offset + CAPACITY_AT)
+  pub size : (RECORD_HEADER + u16_at page (offset + KEY_LENGTH_AT) + u32_at page (offset + CAPACITY_AT)) % 8 ≡ 0
+  pub within : offset + (RECORD_HEADER + u16_at page (offset + KEY_LENGTH_AT) + u32_at page (offset + CAPACITY_AT)) ≤ used_end page

@@ -3,7 +3,7 @@
 ghost use Rattle.std.specs.Prelude.{◌≡◌, ◌<◌, ◌≤◌, ◌↔◌, ℕ, ◌+◌, ◌-◌, ◌*◌, ◌/◌, ◌%◌, ◌^◌, List, [], ◌∷◌, ◌++◌, length, drop, map, replicate, Option, IsTrue, IsErr, IfOk, IsOkAnd, OnOk, OnErr, MatchResult, Contains};
 ghost use Rattle.std.specs.Option.{option_copied};
 ghost use Rattle.records.specs.Page.{number_of, used_end};
-ghost use Rattle.records.specs.Fields.{u16_bytes, u64_bytes};
+ghost use Rattle.records.specs.Fields.{u16_bytes, u32_bytes, u64_bytes};
 ghost use Rattle.records.specs.Read.{shown};
 ghost use Rattle.records.specs.Records.{Stored, IsKindFor, value_of_kind, kind_of, size_of, size_for, new_record, value_bytes, filled, spelling, fields_at, records_of, IsLaidOut, HasRoomAt, IsRecordAt, with_value};
 
@@ -13,7 +13,7 @@ use std::error::Error;
 use std::fmt;
 
 /// The bytes of a record's header.
-pub const RECORD_HEADER: usize = RECORD_FORM_AT + 1;
+pub const RECORD_HEADER: usize = CAPACITY_AT + 4;
 
 /// The longest key, in bytes.
 pub const KEY_BYTES_MAX: usize = 512;
@@ -23,19 +23,19 @@ const HASH_AT: usize = 8;
 
 const KEY_LENGTH_AT: usize = HASH_AT + 8;
 
-const VALUE_LENGTH_AT: usize = KEY_LENGTH_AT + 2;
-
-const CAPACITY_AT: usize = VALUE_LENGTH_AT + 2;
-
-const KIND_AT: usize = CAPACITY_AT + 2;
+const KIND_AT: usize = KEY_LENGTH_AT + 2;
 
 const RECORD_FORM_AT: usize = KIND_AT + 1;
 
-/// The bits of each length in a record's header.
-const LENGTH_BITS: u32 = 16;
+const VALUE_LENGTH_AT: usize = RECORD_FORM_AT + 1;
+
+const CAPACITY_AT: usize = VALUE_LENGTH_AT + 4;
+
+/// The bits of a value's length and of its capacity in a record's header.
+const LENGTH_BITS: u32 = 32;
 
 /// The form of the records that this crate writes.
-const RECORD_FORM: u8 = 1;
+const RECORD_FORM: u8 = 2;
 
 /// The kind of a record with a value.
 const VALUE: u8 = 1;
@@ -122,8 +122,8 @@ pub fn record_at(page: &Page, offset: usize) -> Result<Record<'_>, NotARecord>
         return Err(NotARecord);
     }
     let key_length = fields::u16_at(bytes, offset + KEY_LENGTH_AT) as usize;
-    let value_length = fields::u16_at(bytes, offset + VALUE_LENGTH_AT) as usize;
-    let capacity = fields::u16_at(bytes, offset + CAPACITY_AT) as usize;
+    let value_length = fields::u32_at(bytes, offset + VALUE_LENGTH_AT) as usize;
+    let capacity = fields::u32_at(bytes, offset + CAPACITY_AT) as usize;
     let size = RECORD_HEADER + key_length + capacity;
     if key_length > KEY_BYTES_MAX
         || value_length > capacity
@@ -207,8 +207,8 @@ pub fn overwrite(page: &mut Page, offset: usize, value: Option<&[u8]>)
 {
     let bytes = page.bytes_mut();
     let key_length = fields::u16_at(bytes, offset + KEY_LENGTH_AT) as usize;
-    let old_length = fields::u16_at(bytes, offset + VALUE_LENGTH_AT) as usize;
-    let capacity = fields::u16_at(bytes, offset + CAPACITY_AT) as usize;
+    let old_length = fields::u32_at(bytes, offset + VALUE_LENGTH_AT) as usize;
+    let capacity = fields::u32_at(bytes, offset + CAPACITY_AT) as usize;
     let end = offset + RECORD_HEADER + key_length + capacity;
     rewrite_value(&mut bytes[offset..end], key_length, old_length, value);
 }
@@ -264,9 +264,9 @@ fn write_record(slot: &mut [u8], link: u64, hash: u64, key: &[u8], value: Option
     write_lengths(
         lengths,
         key.len() as u16,
-        length_of(value) as u16,
-        capacity as u16,
         kind_of(value),
+        length_of(value) as u32,
+        capacity as u32,
     );
     let (key_part, room) = rest.split_at_mut(key.len());
     key_part.copy_from_slice(key);
@@ -287,18 +287,18 @@ fn write_addresses(head: &mut [u8], link: u64, hash: u64)
 
 // Writes the other fields of a record.
 #[inline]
-#[tactic(auto, unfolding(crate::specs::Fields::u16_bytes))]
-fn write_lengths(head: &mut [u8], key_length: u16, value_length: u16, capacity: u16, kind: u8)
+#[tactic(auto, unfolding(crate::specs::Fields::u16_bytes, crate::specs::Fields::u32_bytes))]
+fn write_lengths(head: &mut [u8], key_length: u16, kind: u8, value_length: u32, capacity: u32)
     requires { length head.old ≡ RECORD_HEADER - KEY_LENGTH_AT }
-    ensures { head.new ≡ u16_bytes key_length ++ (u16_bytes value_length ++ (u16_bytes capacity ++ (kind ∷ RECORD_FORM ∷ []))) }
+    ensures { head.new ≡ u16_bytes key_length ++ (kind ∷ RECORD_FORM ∷ (u32_bytes value_length ++ u32_bytes capacity)) }
 {
-    let (key_field, rest) = head.split_at_mut(2);
+    let (key_field, rest) = head.split_at_mut(KIND_AT - KEY_LENGTH_AT);
     key_field.copy_from_slice(&key_length.to_le_bytes());
-    let (value_field, rest) = rest.split_at_mut(2);
+    let (kind_field, rest) = rest.split_at_mut(VALUE_LENGTH_AT - KIND_AT);
+    kind_field.copy_from_slice(&[kind, RECORD_FORM]);
+    let (value_field, capacity_field) = rest.split_at_mut(CAPACITY_AT - VALUE_LENGTH_AT);
     value_field.copy_from_slice(&value_length.to_le_bytes());
-    let (capacity_field, rest) = rest.split_at_mut(2);
     capacity_field.copy_from_slice(&capacity.to_le_bytes());
-    rest.copy_from_slice(&[kind, RECORD_FORM]);
 }
 
 // Writes a value, and leaves what follows it.
@@ -335,7 +335,7 @@ fn rewrite_value(slot: &mut [u8], key_length: usize, old_length: usize, value: O
     ensures { (r : Stored) → slot.old ≡ spelling r → length slot.old ≡ size_of r → key_length ≡ length r.key → old_length ≡ length (value_bytes r.value) → slot.new ≡ spelling (record r { value = option_copied value.entry }) }
 {
     let (head, rest) = slot.split_at_mut(RECORD_HEADER);
-    head[VALUE_LENGTH_AT..CAPACITY_AT].copy_from_slice(&(length_of(value) as u16).to_le_bytes());
+    head[VALUE_LENGTH_AT..CAPACITY_AT].copy_from_slice(&(length_of(value) as u32).to_le_bytes());
     head[KIND_AT] = kind_of(value);
     replace_value(&mut rest[key_length..], old_length, value);
 }

@@ -1,16 +1,19 @@
 // A page and its header.
 
-ghost use Rattle.std.specs.Prelude.{◌≡◌, ◌≤◌, [], ◌++◌, drop, length};
+ghost use Rattle.std.specs.Prelude.{◌≡◌, ◌≤◌, ℕ, List, [], length, replicate, IfOk, nat_eq, vec_len};
+ghost use Rattle.std.specs.Cmp.Lexicographic.{pointwise, nat_list_eq_equiv};
+ghost use Rattle.std.specs.Cmp;
 ghost use Rattle.std.specs.Borrow.{sem};
 ghost use Rattle.records.specs.Page.{header, empty_page, number_of, used_end};
 ghost use Rattle.records.specs.Records.{records_of, IsLaidOut};
-ghost use Rattle.records.specs.Lends.{LendsBytes};
+ghost use Rattle.records.specs.Lends.{LendsBytes, with_bytes};
 
 use crate::fields;
+use std::alloc::{AllocError, Global};
 use std::marker::Model;
 
 /// The bytes of a page.
-pub const PAGE_SIZE: usize = 16384;
+pub const PAGE_SIZE: usize = 65536;
 
 /// The bytes of a page's header.
 pub const HEADER_SIZE: usize = PAGE_FORM_AT + 4;
@@ -21,44 +24,72 @@ pub(crate) const USED_END_AT: usize = 8;
 pub(crate) const PAGE_FORM_AT: usize = USED_END_AT + 4;
 
 /// The form of the pages that this crate writes.
-const PAGE_FORM: u32 = 1;
+const PAGE_FORM: u32 = 2;
 
-/// A page: `PAGE_SIZE` bytes, held inline. A clause sees it as the list of its bytes.
+/// A page: `PAGE_SIZE` bytes in memory of their own. A clause sees it as the list of its bytes.
 ///
-/// A page takes no memory of its own, and a move of one copies its bytes: to fill a page where it
-/// lies, write `reset` or `copy_from`.
-#[derive(PartialEq, Eq, Drop)]
+/// A move of a page copies none of its bytes. Its memory serves again: to fill it anew, write `reset` or `copy_from`.
+#[derive(Drop)]
 pub struct Page {
-    bytes: [u8; PAGE_SIZE],
+    bytes: Vec<u8>,
 }
 
 impl Model for Page {
-    ghost use Rattle.std.specs.Prelude.{ℕ, List};
+    ghost use Rattle.std.specs.Prelude.{ℕ, List, ◌≡◌, length};
+    ghost use Rattle.records.specs.declared.pages.TheConstants.{PAGE_SIZE};
 
     ghost Value = { List ℕ };
 
-    ghost view = { λ p. p.bytes };
+    ghost view = { λ p. p.bytes.items };
 
-    ghost inverse = { λ bytes. record { bytes = bytes } };
+    ghost invariant = { λ p. length p.bytes.items ≡ PAGE_SIZE };
+}
+
+impl PartialEq for Page {
+    ghost eq = { pointwise nat_eq };
+
+    ghost laws = { Cmp.partial_equiv_from_equiv nat_list_eq_equiv };
+
+    fn eq(&self, other: &Page) -> bool {
+        self.bytes.as_slice() == other.bytes.as_slice()
+    }
+}
+
+impl Eq for Page {
+    ghost laws = { nat_list_eq_equiv };
 }
 
 impl Page {
     /// The page with this number and no record.
-    #[tactic(auto, unfolding(crate::specs::Page::empty_page))]
-    pub fn new(number: u64) -> Page
-        ensures empty { result ≡ empty_page number }
-        ensures number { number_of result ≡ number }
-        ensures end { used_end result ≡ HEADER_SIZE }
-        ensures records { records_of result ≡ [] }
-        ensures laid_out { IsLaidOut result }
+    ///
+    /// # Errors
+    ///
+    /// No memory for `PAGE_SIZE` bytes.
+    pub fn new(alloc: Global, number: u64) -> Result<Page, AllocError>
+        ensures empty { IfOk result (λ page. page ≡ empty_page number) }
+        ensures number { IfOk result (λ page. number_of page ≡ number) }
+        ensures end { IfOk result (λ page. used_end page ≡ HEADER_SIZE) }
+        ensures records { IfOk result (λ page. records_of page ≡ []) }
+        ensures laid_out { IfOk result (λ page. IsLaidOut page) }
     {
-        let mut bytes = [0; PAGE_SIZE];
-        begin(&mut bytes, number);
-        Page { bytes }
+        let mut bytes = zeros(alloc)?;
+        begin(bytes.as_mut_slice(), number);
+        Ok(Page { bytes })
+    }
+
+    /// A page with the bytes of this one.
+    ///
+    /// # Errors
+    ///
+    /// No memory for `PAGE_SIZE` bytes.
+    pub fn try_clone(&self, alloc: Global) -> Result<Page, AllocError>
+        ensures { IfOk result (λ copy. copy ≡ self.now) }
+    {
+        let bytes = Vec::from_slice(alloc, self.bytes.as_slice())?;
+        Ok(Page { bytes })
     }
 
     /// Makes this page what `Page::new(number)` gives, where it lies.
-    #[tactic(auto, unfolding(crate::specs::Page::empty_page))]
     pub fn reset(&mut self, number: u64)
         ensures empty { self.new ≡ empty_page number }
         ensures number { number_of self.new ≡ number }
@@ -66,8 +97,7 @@ impl Page {
         ensures records { records_of self.new ≡ [] }
         ensures laid_out { IsLaidOut self.new }
     {
-        fields::fill_zeros(&mut self.bytes);
-        begin(&mut self.bytes, number);
+        empty(self.bytes_mut(), number);
     }
 
     /// The page's bytes.
@@ -85,6 +115,7 @@ impl Page {
         ensures* writes_back { sem 𝓛 (LendsBytes self.entry result) }
         ensures bytes { result.now ≡ self.old }
         ensures size { length result.now ≡ PAGE_SIZE }
+        ensures as_written { (written : List ℕ) → length written ≡ PAGE_SIZE → with_bytes self.old written ≡ written }
     {
         self.bytes.as_mut_slice()
     }
@@ -94,7 +125,7 @@ impl Page {
     pub fn copy_from(&mut self, other: &Page)
         ensures { self.new ≡ other.now }
     {
-        self.bytes.copy_from_slice(&other.bytes);
+        self.bytes.copy_from_slice(other.bytes.as_slice());
     }
 
     /// The number in the page's header.
@@ -103,7 +134,7 @@ impl Page {
     pub fn number(&self) -> u64
         ensures { result ≡ number_of self.now }
     {
-        fields::u64_at(&self.bytes, 0)
+        fields::u64_at(self.bytes.as_slice(), 0)
     }
 
     /// Where the page's header says that its used part ends: for a laid-out page, where the next
@@ -113,15 +144,36 @@ impl Page {
     pub fn used_end(&self) -> u32
         ensures { result ≡ used_end self.now }
     {
-        fields::u32_at(&self.bytes, USED_END_AT)
+        fields::u32_at(self.bytes.as_slice(), USED_END_AT)
     }
+}
+
+// As many zero bytes as a page has.
+fn zeros(alloc: Global) -> Result<Vec<u8>, AllocError>
+    ensures bytes { IfOk result (λ bytes. bytes.items ≡ replicate PAGE_SIZE 0) }
+    ensures size { IfOk result (λ bytes. vec_len bytes ≡ PAGE_SIZE) }
+{
+    let mut bytes = Vec::with_capacity(alloc, PAGE_SIZE)?;
+    bytes.resize(PAGE_SIZE, 0)?;
+    Ok(bytes)
+}
+
+// Makes the bytes of a page those of the page with this number and no record.
+#[inline]
+fn empty(bytes: &mut [u8], number: u64)
+    requires { length bytes.old ≡ PAGE_SIZE }
+    ensures { bytes.new ≡ empty_page number }
+{
+    fields::fill_zeros(bytes);
+    begin(bytes, number);
 }
 
 // Writes the header of the page with this number and no record.
 #[inline]
+#[tactic(auto, unfolding(crate::specs::Page::empty_page))]
 fn begin(bytes: &mut [u8], number: u64)
-    requires { HEADER_SIZE ≤ length bytes.old }
-    ensures { bytes.new ≡ header number HEADER_SIZE ++ drop HEADER_SIZE bytes.old }
+    requires { bytes.old ≡ replicate PAGE_SIZE 0 }
+    ensures { bytes.new ≡ empty_page number }
 {
     write_header(&mut bytes[..HEADER_SIZE], number, HEADER_SIZE as u32);
 }

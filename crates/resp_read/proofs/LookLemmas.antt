@@ -16,7 +16,7 @@ use Rattle.resp_read.proofs.DataLemmas.{data_skips}
 use Rattle.resp_read.proofs.Steps.{data_part}
 
 -- a line is short
-pub line_is_short : (sign value width : ℕ) (bytes : Bytes) → BeginsWithLine sign value width bytes → value ≤ WORD_BYTES_MAX → width ≤ 7
+pub line_is_short : (sign value width : ℕ) (bytes : Bytes) → BeginsWithLine sign value width bytes → value ≤ WORD_BYTES_MAX → width ≤ 8
 unfolding header
 line_is_short sign value width bytes line fits =
     omega (
@@ -26,7 +26,7 @@ line_is_short sign value width bytes line fits =
       length-append (header sign value) (drop width bytes),
       length-append (decimal value) crlf,
       length-drop width bytes,
-      length-decimal-le 4 value (omega arith) (omega arith) (omega arith),
+      length-decimal-le 5 value (omega arith) (omega arith) (omega arith),
     )
 
 -- what stands in front of more bytes

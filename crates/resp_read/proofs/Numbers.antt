@@ -190,11 +190,11 @@ pub length_part : (left size : ℕ) (bytes digits : Bytes) (at n : ℕ) → byte
 length_part left size bytes digits at n e so_far past =
     length_front left size bytes digits at n e so_far ∙ ap (front_from (length_place left size at n)) (drop_all at digits past)
 
-length_few : (size : ℕ) (digits : Bytes) (at n : ℕ) → LengthSoFar size digits at n → length digits ≤ 4 + (length digits - at)
+length_few : (size : ℕ) (digits : Bytes) (at n : ℕ) → LengthSoFar size digits at n → length digits ≤ 5 + (length digits - at)
 length_few size digits at n (inl h) = omega arith
-length_few size digits at n (inr h) = digits_are_few digits at n 4 h.3 (omega arith) (omega arith) (omega arith)
+length_few size digits at n (inr h) = digits_are_few digits at n 5 h.3 (omega arith) (omega arith) (omega arith)
 
-pub length_part_few : (size : ℕ) (bytes digits : Bytes) (at n : ℕ) → bytes ≡ 36 ∷ digits → LengthSoFar size digits at n → length digits ≤ at → length bytes ≤ 6
+pub length_part_few : (size : ℕ) (bytes digits : Bytes) (at n : ℕ) → bytes ≡ 36 ∷ digits → LengthSoFar size digits at n → length digits ≤ at → length bytes ≤ 7
 length_part_few size bytes digits at n e so_far past = omega (arith, ap length e, length_few size digits at n so_far)
 
 -- the front at the byte that is read now

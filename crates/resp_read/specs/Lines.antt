@@ -29,10 +29,10 @@ TellsCount bytes (Number value width) = BeginsWithLine 42 value width bytes × (
 TellsCount bytes Part = (length bytes ≤ 6) × (stream.front bytes ≡ stream.Part)
 TellsCount bytes (Faulty fault) = stream.front bytes ≡ stream.Faulty fault
 
--- where the line of a word's length is due, and the words before it have this many bytes
+-- where the line of a word's length is due, and the words before it have this many bytes; a part of a line has at most 7 bytes
 abbrev pub TellsLength : ℕ → Bytes → Line → Type 0
 TellsLength size bytes (Number value width) = BeginsWithLine 36 value width bytes × (value ≤ WORD_BYTES_MAX) × (size + value ≤ REQUEST_BYTES_MAX)
-TellsLength size bytes Part = (length bytes ≤ 6) × ((left : ℕ) → stream.front_from (stream.Word left size) bytes ≡ stream.Part)
+TellsLength size bytes Part = (length bytes ≤ 7) × ((left : ℕ) → stream.front_from (stream.Word left size) bytes ≡ stream.Part)
 TellsLength size bytes (Faulty fault) = (left : ℕ) → stream.front_from (stream.Word left size) bytes ≡ stream.Faulty fault
 
 -- where this many bytes of a word and their line end are due

@@ -12,7 +12,7 @@ use Rattle.resp_read.specs.declared.look.Rest.TheVariants as rest
 
 -- the bytes begin with a word as a bulk string: after a line of `start` bytes it has `long` bytes, and the words before it `size`
 pub record HasWord (bytes : Bytes) (size start long : ℕ) : Type 0 where
-  pub line : start ≤ 7
+  pub line : start ≤ 8
   pub within : start + long + 2 ≤ length bytes
   pub short : long ≤ WORD_BYTES_MAX
   pub room : size + long ≤ REQUEST_BYTES_MAX

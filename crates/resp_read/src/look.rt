@@ -15,7 +15,7 @@ use words::reply::ProtocolFault;
 use words::word::{OutOfMemory, Word};
 
 /// The most bytes that are looked at for a line which stands in several pieces. No line within the
-/// limits has more than 7.
+/// limits has more than 8.
 const LINE_BYTES: usize = 8;
 
 /// What stands where a word is due.

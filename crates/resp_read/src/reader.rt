@@ -37,17 +37,17 @@ pub enum ReadFault {
 ///
 /// A request that stands whole in one piece is taken in one go. The bytes of a word are copied once, into
 /// their place, when it has come whole in however many pieces, and not looked at before. What is looked at
-/// again each time [`next`] is asked is a line that has not come whole, of at most 6 bytes, the length line
-/// of a word that has not, of at most 7, and the first byte of its line end. Where memory was refused for a
+/// again each time [`next`] is asked is a line that has not come whole, of at most 7 bytes, the length line
+/// of a word that has not, of at most 8, and the first byte of its line end. Where memory was refused for a
 /// word of a request that has not come whole, and only there, the word stays in the pieces until it can be
 /// kept: [`lacks_memory`] tells it.
 ///
 /// # Memory
 ///
-/// Where [`next`] gives `None`, at most [`PART_BYTES_MAX`] bytes are left, 66,694, those of the words
+/// Where [`next`] gives `None`, at most [`PART_BYTES_MAX`] bytes are left, 132,358, those of the words
 /// that are kept counted in. No piece is empty, so there are no more pieces than bytes, and the list
 /// takes 40 bytes for each, doubling as it grows. Where memory was not refused, what is left in the
-/// pieces is a part of one line or of one word: at most 8,200 bytes.
+/// pieces is a part of one line or of one word: at most 32,777 bytes.
 ///
 /// A piece keeps the block alive that it was cut from. So whoever feeds pieces cuts many small ones from
 /// one block, and uses a block again once none of its pieces is kept.

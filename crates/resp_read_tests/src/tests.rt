@@ -189,7 +189,7 @@ const FAULTS: &[(&[u8], &[u8])] = &[
     (b"*1\r\n$+1", b"-ERR Protocol error: bad length"),
     (b"*1\r\n$\r", b"-ERR Protocol error: bad length"),
     (b"*1\r\n$00", b"-ERR Protocol error: bad length"),
-    (b"*1\r\n$8193", b"-ERR Protocol error: bad length"),
+    (b"*1\r\n$32769", b"-ERR Protocol error: bad length"),
     (b"*1\r\n$4\n", b"-ERR Protocol error: bad length"),
     (b"*1\r\n$4\r4", b"-ERR Protocol error: missing line end"),
     (
@@ -251,11 +251,11 @@ fn the_most_words(rt: HostRuntime) -> Result<(), Fail> {
     check(&rt, alloc, &stream, &given)
 }
 
-/// Eight words of 8,192 bytes, which have as many as the words of a request may have, and what stands
+/// Four words of 32,768 bytes, which have as many as the words of a request may have, and what stands
 /// after them.
-fn nine_words(alloc: Global, last: &[u8]) -> Result<Vec<u8>, Fail> {
-    let word = repeated(alloc, b"$8192\r\n", b"wwwwwwww", 1024, b"\r\n")?;
-    repeated(alloc, b"*9\r\n", &word, 8, last)
+fn five_words(alloc: Global, last: &[u8]) -> Result<Vec<u8>, Fail> {
+    let word = repeated(alloc, b"$32768\r\n", b"wwwwwwww", 4096, b"\r\n")?;
+    repeated(alloc, b"*5\r\n", &word, 4, last)
 }
 
 /// Asserts what a reader gives for the long stream, in pieces, and cut in two at every place of the lines
@@ -265,7 +265,7 @@ fn check_long(rt: &impl Abort, alloc: Global, stream: &[u8], given: &[u8]) -> Re
         check_cut(rt, alloc, stream, Cut::Pieces(size), given)?;
     }
     for at in 0..stream.len() {
-        if at % 8_201 < 16 || at % 8_201 > 8_192 || at % 1_021 == 0 {
+        if at % 32_778 < 16 || at % 32_778 > 32_768 || at % 4_093 == 0 {
             check_cut(rt, alloc, stream, Cut::Two(at), given)?;
         }
     }
@@ -273,9 +273,9 @@ fn check_long(rt: &impl Abort, alloc: Global, stream: &[u8], given: &[u8]) -> Re
 }
 
 #[test]
-fn nine_words_that_pass_the_most_bytes(rt: HostRuntime) -> Result<(), Fail> {
+fn five_words_that_pass_the_most_bytes(rt: HostRuntime) -> Result<(), Fail> {
     let alloc = rt.alloc();
-    let stream = nine_words(alloc, b"$1")?;
+    let stream = five_words(alloc, b"$1")?;
     check_long(
         &rt,
         alloc,
@@ -285,11 +285,11 @@ fn nine_words_that_pass_the_most_bytes(rt: HostRuntime) -> Result<(), Fail> {
 }
 
 #[test]
-fn nine_words_of_the_most_bytes(rt: HostRuntime) -> Result<(), Fail> {
+fn five_words_of_the_most_bytes(rt: HostRuntime) -> Result<(), Fail> {
     let alloc = rt.alloc();
-    let word = repeated(alloc, b"", b"wwwwwwww", 1024, b",")?;
-    let given = repeated(alloc, b"", &word, 8, b",;")?;
-    let stream = nine_words(alloc, b"$0\r\n\r\n")?;
+    let word = repeated(alloc, b"", b"wwwwwwww", 4096, b",")?;
+    let given = repeated(alloc, b"", &word, 4, b",;")?;
+    let stream = five_words(alloc, b"$0\r\n\r\n")?;
     check_cut(&rt, alloc, &stream, Cut::Pieces(16_384), &given)
 }
 

@@ -248,7 +248,7 @@ fn faults(rt: HostRuntime) -> Result<(), Fail> {
 /// Integers, with the least and the greatest.
 const INTEGERS: [(i64, &[u8]); 5] = [
     (0, b":0\r\n"),
-    (8_192, b":8192\r\n"),
+    (32_768, b":32768\r\n"),
     (-1, b":-1\r\n"),
     (i64::MIN, b":-9223372036854775808\r\n"),
     (i64::MAX, b":9223372036854775807\r\n"),
@@ -291,9 +291,9 @@ fn values_without_a_reply(rt: HostRuntime) -> Result<(), Fail> {
     Ok(())
 }
 
-/// A value of the most bytes, 8,192.
+/// A value of the most bytes, 32,768.
 fn longest(alloc: Global) -> Result<Reply, AllocError> {
-    let value = bulk(alloc, &[b'x'; 8_192])?;
+    let value = bulk(alloc, &[b'x'; 32_768])?;
     Ok(Reply::Single(CommandReply::One(value)))
 }
 
@@ -307,7 +307,7 @@ fn encoded_len(alloc: Global, reply: &Reply) -> Result<usize, AllocError> {
 fn the_longest_bulk_string(rt: HostRuntime) -> Result<(), Fail> {
     let reply = longest(rt.alloc())?;
     let len = encoded_len(rt.alloc(), &reply)?;
-    assert_eq!(rt; len, 8_201);
+    assert_eq!(rt; len, 32_778);
     Ok(())
 }
 

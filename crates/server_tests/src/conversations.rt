@@ -122,17 +122,17 @@ fn goes_in_the_middle_of_a_reply(rt: &HostRuntime, port: u16) -> Option<bool> {
     Some(asked && begins)
 }
 
-/// Sends a SET of 8,192 bytes.
+/// Sends a SET of 32,768 bytes.
 fn sends_a_long_set(client: &TcpStream) -> bool {
-    sends(client, b"*3\r\n$3\r\nSET\r\n$1\r\nk\r\n$8192\r\n")
-        && sends(client, &[b'v'; 8_192])
+    sends(client, b"*3\r\n$3\r\nSET\r\n$1\r\nk\r\n$32768\r\n")
+        && sends(client, &[b'v'; 32_768])
         && sends(client, b"\r\n")
 }
 
-/// Sends 2,048 GETs at once.
+/// Sends 512 GETs at once.
 fn asks_often(alloc: Global, client: &TcpStream) -> bool {
     let mut requests = Vec::new(alloc);
-    for _ in 0..2_048 {
+    for _ in 0..512 {
         if requests.extend_from_slice(GET).is_err() {
             return false;
         }

@@ -18,10 +18,10 @@ use words::limits::PLACES_DEFAULT;
 const DEVICE_FAULT: &[u8] = b"-IOERR device fault\r\n";
 
 /// The bytes of a page.
-const PAGE: u64 = 16_384;
+const PAGE: u64 = 65_536;
 
 /// A key of the second page that was filled.
-const OLD: u32 = FIRST + 20;
+const OLD: u32 = FIRST + 80;
 
 /// The key that was stored last. Its page has a frame.
 const LAST: u32 = FIRST + COUNT - 1;
@@ -40,7 +40,7 @@ fn length_of<R: Files<File = File>>(rt: &R, path: &str) -> Option<u64> {
     Some(fs::metadata(rt, path).ok()?.len())
 }
 
-/// 3,000 values of 1,000 bytes take 200 pages, of which 12 have frames. The others lie in the file, and each value is
+/// 3,000 values of 1,000 bytes take 48 pages, of which 12 have frames. The others lie in the file, and each value is
 /// read as it was stored.
 #[test]
 fn a_store_larger_than_its_frames_lies_in_a_file(rt: HostRuntime) -> Result<(), Fail> {
@@ -52,7 +52,7 @@ fn a_store_larger_than_its_frames_lies_in_a_file(rt: HostRuntime) -> Result<(), 
         stores_and_reads_all,
     )?;
     assert!(rt; outcome.is_well(1));
-    assert!(rt; length_of(&rt, path).is_some_and(|length| length >= 188 * PAGE));
+    assert!(rt; length_of(&rt, path).is_some_and(|length| length >= 36 * PAGE));
     assert!(rt; fs::remove_file(&rt, path).is_ok());
     Ok(())
 }
@@ -78,7 +78,7 @@ fn cut<R: Files<File = File>>(rt: &R, path: &str, length: u64) -> Option<()> {
 fn write_over<R: Files<File = File>>(rt: &R, path: &str, pages: u32) -> Option<()> {
     let file = fs::OpenOptions::new().write(true).open(rt, path).ok()?;
     for place in 0..pages {
-        file.write_all_at(&[255; 16_384], u64::from(place) * PAGE)
+        file.write_all_at(&[255; 65_536], u64::from(place) * PAGE)
             .ok()?;
     }
     Some(())
@@ -97,7 +97,7 @@ impl Change {
     fn is_made<R: Files<File = File>>(self, rt: &R, path: &str) -> Option<()> {
         match self {
             Change::Cut => cut(rt, path, 100),
-            Change::WrittenOver => write_over(rt, path, 256),
+            Change::WrittenOver => write_over(rt, path, 64),
             Change::Replaced => replace(rt, path),
         }
     }
@@ -178,10 +178,10 @@ fn reply_of(stream: &TcpStream) -> Option<bool> {
     }
 }
 
-/// How many of ten pieces of thirty SETs are done.
-fn done_of_ten_pieces(alloc: Global, stream: &TcpStream) -> Option<u32> {
+/// How many of thirty pieces of thirty SETs are done.
+fn done_of_thirty_pieces(alloc: Global, stream: &TcpStream) -> Option<u32> {
     let mut done = 0u32;
-    for piece in 0..10 {
+    for piece in 0..30 {
         let sets = thirty_sets(alloc, FIRST + piece * 30).ok()?;
         if !sends(stream, &sets) {
             return None;
@@ -199,14 +199,14 @@ where
 {
     let stream = connect(rt, port)?;
     let alloc = rt.alloc();
-    let done = done_of_ten_pieces(alloc, &stream)?;
+    let done = done_of_thirty_pieces(alloc, &stream)?;
     let key = FIRST.checked_add(done)?;
     let stored = has(alloc, &stream, FIRST)? && has(alloc, &stream, key.checked_sub(1)?)?;
     let missing = get_is_answered(alloc, &stream, key, b"$-1\r\n")?;
-    Some(done == 180 && stored && missing)
+    Some(done == 756 && stored && missing)
 }
 
-/// The frames hold 12 pages of 15 values. No page can be written.
+/// The frames hold 12 pages of 63 values. No page can be written.
 #[test]
 fn a_full_disk_is_told_of_each_write_that_needs_a_page(rt: HostRuntime) -> Result<(), Fail> {
     let outcome = with_file(

@@ -13,10 +13,10 @@ use std::sync::Wait;
 use std::test::Fail;
 
 /// More pieces of thirty keys than there is room for: values of 1,000 bytes take 80 pages.
-const PIECES: u32 = 40;
+const PIECES: u32 = 168;
 
 /// How many of them are deleted.
-const DELETED: u32 = 4;
+const DELETED: u32 = 8;
 
 /// DELs of 30 keys of four digits, from this one on.
 fn thirty_dels(alloc: Global, first: u32) -> io::Result<Vec<u8>> {

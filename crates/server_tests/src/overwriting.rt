@@ -12,7 +12,7 @@ use std::thread;
 use std::time::Duration;
 
 /// How many pieces of thirty keys the store has. They take 20 pages.
-const PIECES: u32 = 10;
+const PIECES: u32 = 42;
 
 /// How often all of them are written. That takes ten times as many pages as there are places.
 const ROUNDS: u32 = 32;

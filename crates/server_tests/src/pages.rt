@@ -16,10 +16,10 @@ pub(crate) const FIRST: u32 = 1_000;
 /// How many pieces of thirty keys are stored.
 const PIECES: u32 = 100;
 
-/// How many keys are stored. With values of 1,000 bytes they take 200 pages.
+/// How many keys are stored. With values of 1,000 bytes they take 48 pages.
 pub(crate) const COUNT: u32 = 3_000;
 
-/// The options of a server with a store of one stripe, whose 12 frames hold a sixteenth of these pages, and with so many
+/// The options of a server with a store of one stripe, whose 12 frames hold a quarter of these pages, and with so many
 /// places for the others, and so many workers and connections.
 pub(crate) fn options(places: usize, workers: usize, accept: u32) -> Option<Options> {
     Options::new(

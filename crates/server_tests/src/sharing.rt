@@ -36,7 +36,7 @@ impl Shared {
     }
 
     /// Whether the client that fills is answered as is due, where there is one. It stores 2,400 values of 1,000 bytes,
-    /// which take 160 pages, and reads them.
+    /// which take 38 pages, and reads them.
     fn is_filled(self, alloc: Global, stream: &TcpStream) -> Option<bool> {
         match self {
             Shared::Wide | Shared::OneStripe => Some(true),

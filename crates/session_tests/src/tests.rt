@@ -499,10 +499,10 @@ fn a_transaction_of_too_many_words(rt: HostRuntime) -> Result<(), Fail> {
     Ok(())
 }
 
-/// A transaction of 8 requests of 8,192 bytes each, their names counted, is as large as one may be.
+/// A transaction of 8 requests of 16,384 bytes each, their names counted, is as large as one may be.
 #[test]
 fn a_transaction_of_too_many_bytes(rt: HostRuntime) -> Result<(), Fail> {
-    assert!(rt; are_most(rt.alloc(), b"ECHO ", b"x", 8_188, b"PING;EXEC")?);
+    assert!(rt; are_most(rt.alloc(), b"ECHO ", b"x", 16_380, b"PING;EXEC")?);
     Ok(())
 }
 

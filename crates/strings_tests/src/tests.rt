@@ -162,8 +162,8 @@ fn missing_and_present_keys(rt: HostRuntime) -> Result<(), Fail> {
 fn set_range_past_the_end(rt: HostRuntime) -> Result<(), Fail> {
     let lines =
         "SETRANGE k 5 Hi -> :7\nGET k -> $\0\0\0\0\0Hi\nSETRANGE j 3  -> :0\nEXISTS j -> :0\nSETRANGE k 1 ab -> :7\n\
-        GET k -> $\0ab\0\0Hi\nSETRANGE k -1 x -> -ERR offset is out of range\nSETRANGE k 8192 x -> -ERR string is too long\n\
-        SETRANGE k z x -> -ERR value is not an integer or out of range\nSETRANGE k 8191 x -> :8192";
+        GET k -> $\0ab\0\0Hi\nSETRANGE k -1 x -> -ERR offset is out of range\nSETRANGE k 32768 x -> -ERR string is too long\n\
+        SETRANGE k z x -> -ERR value is not an integer or out of range\nSETRANGE k 32767 x -> :32768";
     run_anew(&rt, rt.alloc(), lines)
 }
 
@@ -179,7 +179,7 @@ fn numbers_at_the_edges(rt: HostRuntime) -> Result<(), Fail> {
 #[test]
 fn append_to_the_longest_value(rt: HostRuntime) -> Result<(), Fail> {
     let lines =
-        "SETRANGE k 8190 z -> :8191\nAPPEND k x -> :8192\nAPPEND k y -> -ERR string is too long\nSTRLEN k -> :8192\n\
+        "SETRANGE k 32766 z -> :32767\nAPPEND k x -> :32768\nAPPEND k y -> -ERR string is too long\nSTRLEN k -> :32768\n\
         GETRANGE k -2 -1 -> $zx\nSET k Hello -> +OK\nGETRANGE k 1 -2 -> $ell\nGETRANGE k 0 -6 -> $\nGETRANGE k -100 100 -> $Hello";
     run_anew(&rt, rt.alloc(), lines)
 }
@@ -212,11 +212,11 @@ fn set_and_old_values(rt: HostRuntime) -> Result<(), Fail> {
 /// Runs requests to the heaviest writes that there may be, and one more.
 fn run_to_the_limit(rt: &impl Abort, alloc: Global, overlay: &mut Overlay<'_>) -> Result<(), Fail> {
     let lines =
-        "SET a 1 -> +OK\nSETRANGE a 8191 x -> :8192\nSETRANGE b 8191 x -> :8192\nSETRANGE c 8191 x -> :8192\n\
-        SETRANGE d 8191 x -> :8192\nSETRANGE e 8191 x -> :8192\nSETRANGE f 7897 x -> :7898";
+        "SET a 1 -> +OK\nSETRANGE a 32767 x -> :32768\nSETRANGE b 32767 x -> :32768\nSETRANGE c 32767 x -> :32768\n\
+        SETRANGE d 32767 x -> :32768\nSETRANGE e 32767 x -> :32768\nSETRANGE f 32473 x -> :32474";
     run_lines(rt, alloc, overlay, lines)?;
-    assert!(rt; overlay.writes.weight() == Some(49_152));
-    run_lines(rt, alloc, overlay, "APPEND f x -> :7899")?;
+    assert!(rt; overlay.writes.weight() == Some(196_608));
+    run_lines(rt, alloc, overlay, "APPEND f x -> :32475")?;
     assert!(rt; overlay.writes.weight().is_none());
     Ok(())
 }

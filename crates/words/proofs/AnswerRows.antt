@@ -75,14 +75,14 @@ lengths = refl
 
 -- a value of the most bytes, and one more
 longest_value :
-    wrote (Set (codes "k") (replicate 8191 97) Always ∷ commands ("APPEND k x" ∷ "APPEND k y" ∷ "STRLEN k" ∷ []))
-    ≡ codes "+OK\r\n:8192\r\n-ERR string is too long\r\n:8192\r\n"
+    wrote (Set (codes "k") (replicate 32767 97) Always ∷ commands ("APPEND k x" ∷ "APPEND k y" ∷ "STRLEN k" ∷ []))
+    ≡ codes "+OK\r\n:32768\r\n-ERR string is too long\r\n:32768\r\n"
 unfolding encodings encoding command_reply_encoding item_encoding bulk_string header digits
 longest_value = refl
 
 longest_value_appended :
-    wrote (Append (codes "k") (replicate 8192 97) ∷ commands ("APPEND k " ∷ "APPEND k y" ∷ "STRLEN k" ∷ []))
-    ≡ codes ":8192\r\n:8192\r\n-ERR string is too long\r\n:8192\r\n"
+    wrote (Append (codes "k") (replicate 32768 97) ∷ commands ("APPEND k " ∷ "APPEND k y" ∷ "STRLEN k" ∷ []))
+    ≡ codes ":32768\r\n:32768\r\n-ERR string is too long\r\n:32768\r\n"
 unfolding encodings encoding command_reply_encoding item_encoding bulk_string header digits
 longest_value_appended = refl
 
@@ -112,19 +112,19 @@ unfolding encodings encoding command_reply_encoding item_encoding bulk_string he
 set_range_of_nothing = refl
 
 set_range_refused :
-    said ("SETRANGE k -1 x" ∷ "SETRANGE k z x" ∷ "SETRANGE k 8192 x" ∷ "SETRANGE k 8191 x" ∷ "STRLEN k" ∷ [])
-    ≡ codes "-ERR offset is out of range\r\n-ERR value is not an integer or out of range\r\n-ERR string is too long\r\n:8192\r\n:8192\r\n"
+    said ("SETRANGE k -1 x" ∷ "SETRANGE k z x" ∷ "SETRANGE k 32768 x" ∷ "SETRANGE k 32767 x" ∷ "STRLEN k" ∷ [])
+    ≡ codes "-ERR offset is out of range\r\n-ERR value is not an integer or out of range\r\n-ERR string is too long\r\n:32768\r\n:32768\r\n"
 unfolding encodings encoding command_reply_encoding item_encoding bulk_string header digits
 set_range_refused = refl
 
-set_range_of_two_at_the_end : said ("SETRANGE k 8190 xy" ∷ "SETRANGE k 8191 xy" ∷ "STRLEN k" ∷ "GETRANGE k 8189 8191" ∷ [])
-    ≡ codes ":8192\r\n-ERR string is too long\r\n:8192\r\n$3\r\n" ++ (0 ∷ codes "xy\r\n")
+set_range_of_two_at_the_end : said ("SETRANGE k 32766 xy" ∷ "SETRANGE k 32767 xy" ∷ "STRLEN k" ∷ "GETRANGE k 32765 32767" ∷ [])
+    ≡ codes ":32768\r\n-ERR string is too long\r\n:32768\r\n$3\r\n" ++ (0 ∷ codes "xy\r\n")
 unfolding encodings encoding command_reply_encoding item_encoding bulk_string header digits
 set_range_of_two_at_the_end = refl
 
 set_range_of_the_most_bytes :
-    wrote (SetRange (codes "k") 0 (replicate 8192 97) ∷ SetRange (codes "k") 1 (replicate 8192 98) ∷ commands ("GETRANGE k 8191 8191" ∷ []))
-    ≡ codes ":8192\r\n-ERR string is too long\r\n$1\r\na\r\n"
+    wrote (SetRange (codes "k") 0 (replicate 32768 97) ∷ SetRange (codes "k") 1 (replicate 32768 98) ∷ commands ("GETRANGE k 32767 32767" ∷ []))
+    ≡ codes ":32768\r\n-ERR string is too long\r\n$1\r\na\r\n"
 unfolding encodings encoding command_reply_encoding item_encoding bulk_string header digits
 set_range_of_the_most_bytes = refl
 
@@ -280,7 +280,7 @@ nothing_written :
     writes_each
     (commands
     ("GET k" ∷ "STRLEN k" ∷ "EXISTS k" ∷ "GETRANGE k 0 1" ∷ "MGET k m" ∷ "SET k v NX" ∷ "SET m v XX" ∷ "SETNX k v" ∷ "GETDEL m" ∷ "DEL m"
-    ∷ "MSETNX m 1 k 2" ∷ "SETRANGE k 3 " ∷ "SETRANGE k 8192 x" ∷ "INCRBY k 9223372036854775807" ∷ "INCRBY k x" ∷ "PING" ∷ "ECHO k" ∷ "FOO"
+    ∷ "MSETNX m 1 k 2" ∷ "SETRANGE k 3 " ∷ "SETRANGE k 32768 x" ∷ "INCRBY k 9223372036854775807" ∷ "INCRBY k x" ∷ "PING" ∷ "ECHO k" ∷ "FOO"
     ∷ "SET k v EX" ∷ "UNWATCH" ∷ "SET k v NX GET" ∷ "SET m v GET XX" ∷ "RENAME m k" ∷ "RENAME m m" ∷ "RENAME k k" ∷ []))
     ≡ replicate 25 []
 unfolding digits

@@ -1,8 +1,8 @@
 -- Computed rows of histories: what they leave, what is due, what is dirty, which entries may stand, and which are a session's.
-use Rattle.std.specs.Prelude.{◌≡◌, true, false, List, [], ◌∷◌, ◌++◌, Some, None, refl, codes, replicate}
+use Rattle.std.specs.Prelude.{◌≡◌, ℕ, true, false, List, [], ◌∷◌, ◌++◌, Some, None, refl, codes, replicate}
 use Rattle.std.specs.Fmt.{digits}
 use Rattle.words.specs.declared.command.Command.{Command}
-use Rattle.words.specs.declared.command.Command.TheVariants.{MSet, Del, Exists, Session}
+use Rattle.words.specs.declared.command.Command.TheVariants.{MSet, Del, Exists, SetRange, Session}
 use Rattle.words.specs.declared.command.SessionCommand.TheVariants as session
 use Rattle.words.specs.declared.reply.Refusal.TheVariants.{NoSuchKey}
 use Rattle.words.specs.declared.reply.Line.TheVariants.{Done, Pong}
@@ -43,20 +43,32 @@ entries_of_nobody = refl
 
 abbrev five : List (Bytes × Bytes)
 five =
-    (codes "a", replicate 8192 120) ∷ (codes "b", replicate 8192 120) ∷ (codes "c", replicate 8192 120) ∷ (codes "d", replicate 8192 120)
-    ∷ (codes "e", replicate 8192 120) ∷ []
+    (codes "a", replicate 32768 120) ∷ (codes "b", replicate 32768 120) ∷ (codes "c", replicate 32768 120) ∷ (codes "d", replicate 32768 120)
+    ∷ (codes "e", replicate 32768 120) ∷ []
 
 abbrev heaviest : Command
-heaviest = MSet (five ++ (codes "f", replicate 7898 120) ∷ [])
+heaviest = MSet (five ++ (codes "f", replicate 32474 120) ∷ [])
 
 abbrev too_heavy : Command
-too_heavy = MSet (five ++ (codes "f", replicate 7899 120) ∷ [])
+too_heavy = MSet (five ++ (codes "f", replicate 32475 120) ∷ [])
 
 the_most_is_done : due [] (Run heaviest) ≡ ok
 the_most_is_done = refl
 
 one_more_is_not : due [] (Run too_heavy) ≡ too_much
 one_more_is_not = refl
+
+-- the same by values that grow: five keys to the most bytes, and a sixth
+abbrev grown_with : ℕ → List Command
+grown_with offset =
+    SetRange (codes "a") 32767 (codes "x") ∷ SetRange (codes "b") 32767 (codes "x") ∷ SetRange (codes "c") 32767 (codes "x")
+    ∷ SetRange (codes "d") 32767 (codes "x") ∷ SetRange (codes "e") 32767 (codes "x") ∷ SetRange (codes "f") offset (codes "x") ∷ []
+
+grown_to_the_most : due [] (Exec (grown_with 32473) []) ≡ Array (number 32768 ∷ number 32768 ∷ number 32768 ∷ number 32768 ∷ number 32768 ∷ number 32474 ∷ [])
+grown_to_the_most = refl
+
+grown_past_it : due [] (Exec (grown_with 32474) []) ≡ too_much
+grown_past_it = refl
 
 -- such an entry changes nothing
 abbrev after_too_much : History

@@ -8,33 +8,33 @@ use Rattle.words.specs.Sizes.{AreInRange}
 words_of_a_request : WORDS_MAX ≡ 128
 words_of_a_request = refl
 
-bytes_of_a_word : WORD_BYTES_MAX ≡ 8192
+bytes_of_a_word : WORD_BYTES_MAX ≡ 32768
 bytes_of_a_word = refl
 
 -- the bytes of a word, and the words of a request, that are held without an allocation
 inline : WORD_INLINE ∷ WORDS_INLINE ∷ [] ≡ 22 ∷ 4 ∷ []
 inline = refl
 
-bytes_of_a_request : REQUEST_BYTES_MAX ≡ 65536
+bytes_of_a_request : REQUEST_BYTES_MAX ≡ 131072
 bytes_of_a_request = refl
 
--- 6 for the count, 9 beside the data of each of 128 words, and the data
-bytes_of_a_part : PART_BYTES_MAX ≡ 66694
+-- 6 for the count, 10 beside the data of each of 128 words, and the data
+bytes_of_a_part : PART_BYTES_MAX ≡ 132358
 bytes_of_a_part = refl
 
 bytes_of_a_key : KEY_BYTES_MAX ≡ 512
 bytes_of_a_key = refl
 
-bytes_of_a_value : VALUE_BYTES_MAX ≡ 8192
+bytes_of_a_value : VALUE_BYTES_MAX ≡ 32768
 bytes_of_a_value = refl
 
-of_a_transaction : TRANSACTION_COMMANDS_MAX ∷ TRANSACTION_WORDS_MAX ∷ TRANSACTION_BYTES_MAX ∷ [] ≡ 128 ∷ 1024 ∷ 65536 ∷ []
+of_a_transaction : TRANSACTION_COMMANDS_MAX ∷ TRANSACTION_WORDS_MAX ∷ TRANSACTION_BYTES_MAX ∷ [] ≡ 128 ∷ 1024 ∷ 131072 ∷ []
 of_a_transaction = refl
 
 watched_keys : WATCHED_KEYS_MAX ≡ 128
 watched_keys = refl
 
-weights : WEIGHT_MAX ∷ WEIGHT_OF_KEY ∷ [] ≡ 49152 ∷ 48 ∷ []
+weights : WEIGHT_MAX ∷ WEIGHT_OF_KEY ∷ [] ≡ 196608 ∷ 48 ∷ []
 weights = refl
 
 -- the greatest number of each, and the default

@@ -29,7 +29,7 @@ impl ShownPage {
     ///
     /// # Errors
     ///
-    /// [`OutOfMemory`] where there is no memory for 16,384 bytes.
+    /// [`OutOfMemory`] where there is no memory to share the page.
     pub fn new(alloc: Global, page: Page) -> Result<ShownPage, OutOfMemory>
         ensures { IfOk result (λ shown. shown ≡ page) }
     {
@@ -43,11 +43,11 @@ impl ShownPage {
     ///
     /// # Errors
     ///
-    /// As [`new`](ShownPage::new).
+    /// [`OutOfMemory`] where there is no memory for 65,536 bytes.
     pub fn filled(alloc: Global, byte: u8) -> Result<ShownPage, OutOfMemory>
         ensures { IfOk result (λ shown. shown ≡ page_of byte) }
     {
-        ShownPage::new(alloc, page_filled(byte))
+        ShownPage::new(alloc, page_filled(alloc, byte)?)
     }
 
     /// The page.
@@ -59,12 +59,12 @@ impl ShownPage {
 }
 
 /// A page of which each byte is this.
-fn page_filled(byte: u8) -> Page
-    ensures { result ≡ page_of byte }
+fn page_filled(alloc: Global, byte: u8) -> Result<Page, OutOfMemory>
+    ensures { IfOk result (λ page. page ≡ page_of byte) }
 {
-    let mut page = Page::new(0);
+    let mut page = Page::new(alloc, 0)?;
     fill(page.bytes_mut(), byte);
-    page
+    Ok(page)
 }
 
 /// Makes each byte this.

@@ -17,6 +17,7 @@ use crate::works::{copy, evict, install, release, retire};
 use hybrid::Stripe;
 use plans::shard::Shard;
 use records::Page;
+use records::laws::empty_pages_have_no_record;
 use std::alloc::Global;
 use std::collections::VecDeque;
 use std::sync::Arc;
@@ -39,8 +40,7 @@ impl Lane<Shard<WorldReceipt>> {
             return Err(Stopped);
         };
         let _oldest = shard.counted().stripe().oldest();
-        // It has no record.
-        let _page = Page::new(0);
+        empty_pages_have_no_record();
         Ok(Lane {
             shard,
             queues: Queues {

@@ -85,7 +85,7 @@ struct Shelf {
     released: bool,
 }
 
-/// The world's device. A write fails for want of memory alone, and takes 16,384 bytes for its page; a read
+/// The world's device. A write fails for want of memory alone, and takes 65,536 bytes for its page; a read
 /// never fails. It is honest, and not steady.
 #[derive(Drop)]
 pub struct WorldDevice {
@@ -137,8 +137,7 @@ impl WorldDevice {
         ensures put { OnOk result (self.new ≡ with_shelf self.old page.now) }
         ensures unchanged { OnErr result (self.new ≡ self.old) }
     {
-        let mut copy = Page::new(0);
-        copy.copy_from(page);
+        let copy = page.try_clone(self.alloc)?;
         let shared = Arc::new(self.alloc, copy)?;
         let own = Arc::try_clone(&shared)?;
         let place = self.shelves.len() as u64;

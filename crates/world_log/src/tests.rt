@@ -113,7 +113,7 @@ fn holds(
     Err(Stopped)
 }
 
-/// Gives the keys of these numbers values of 8,190 bytes, each of which takes a page.
+/// Gives the keys of these numbers values of 32,766 bytes, each of which takes a page.
 fn fill(log: &mut WorldLog, alloc: Global, from: u8, to: u8) -> Result<(), Stopped>
     requires log { IsWorldLog log.old }
     ensures log { OnOk result (IsWorldLog log.new) }
@@ -122,7 +122,7 @@ fn fill(log: &mut WorldLog, alloc: Global, from: u8, to: u8) -> Result<(), Stopp
         let Ok(key) = Word::from_slice(alloc, &[number]) else {
             return Err(Stopped);
         };
-        let Ok(value) = Word::from_slice(alloc, &[number; 8190]) else {
+        let Ok(value) = Word::from_slice(alloc, &[number; 32_766]) else {
             return Err(Stopped);
         };
         set(log, &key, &value)?;
@@ -167,7 +167,7 @@ fn reads(log: &mut WorldLog, alloc: Global, key: &Word) -> Result<u64, Stopped>
     requires log { IsWorldLog log.old }
     ensures log { OnOk result (IsWorldLog log.new) }
 {
-    match holds(log, alloc, key, &[0; 8190])? {
+    match holds(log, alloc, key, &[0; 32_766])? {
         (true, count) => Ok(count),
         (false, _) => Err(Stopped),
     }
@@ -177,14 +177,15 @@ fn reads(log: &mut WorldLog, alloc: Global, key: &Word) -> Result<u64, Stopped>
 fn a_released_place_shows_its_page(rt: HostRuntime) -> Result<(), Fail> {
     let alloc = rt.alloc();
     let mut device = WorldDevice::new(alloc);
-    let Ok(receipt) = device.put(&Page::new(5)) else {
+    let (five, nine) = (Page::new(alloc, 5)?, Page::new(alloc, 9)?);
+    let Ok(receipt) = device.put(&five) else {
         return Err(Fail::from("no memory"));
     };
-    let mut page = Page::new(0);
+    let mut page = Page::new(alloc, 0)?;
     assert!(rt; device.read(&receipt, &mut page).is_ok());
-    assert!(rt; page == Page::new(5));
-    device.show(0, Arc::new(alloc, Page::new(9))?);
+    assert!(rt; page == five);
+    device.show(0, Arc::new(alloc, nine.try_clone(alloc)?)?);
     assert!(rt; device.read(&receipt, &mut page).is_ok());
-    assert!(rt; page == Page::new(9));
+    assert!(rt; page == nine);
     Ok(())
 }

@@ -38,10 +38,10 @@ pub(crate) fn copy(
     if !is_idle(&queues.flushing) || log.stripe().is_full() {
         return Ok(false);
     }
-    let mut page = Page::new(0);
-    match log.begin_flush(&mut page) {
+    let mut copy = empty_page(alloc)?;
+    match log.begin_flush(&mut copy) {
         Begun::Sealed(number) => {
-            let page = shared(alloc, page)?;
+            let page = shared(alloc, copy)?;
             queues.flushing = Flushing::Copied(number, page);
             Ok(true)
         }
@@ -61,9 +61,18 @@ fn is_idle(flushing: &Flushing) -> bool
 pub(crate) fn copied(alloc: Global, page: &Page) -> Result<Arc<Page>, Stopped>
     ensures { IfOk result (λ copy. arc_value copy ≡ page.now) }
 {
-    let mut copy = Page::new(0);
-    copy.copy_from(page);
-    shared(alloc, copy)
+    match page.try_clone(alloc) {
+        Ok(copy) => shared(alloc, copy),
+        Err(_) => Err(Stopped),
+    }
+}
+
+/// A page without a record.
+fn empty_page(alloc: Global) -> Result<Page, Stopped> {
+    match Page::new(alloc, 0) {
+        Ok(page) => Ok(page),
+        Err(_) => Err(Stopped),
+    }
 }
 
 /// A page that can be shared.

@@ -1,5 +1,5 @@
-//! Logs with pages. One stripe of 12 frames, in which client 0 has set the keys k0000 to k0149, each to 1,000
-//! times the letter v: 15 records a page, so that its log has the pages 0 to 9. The last 4 are mutable, and the
+//! Logs with pages. One stripe of 12 frames, in which client 0 has set the keys k0000 to k0629, each to 1,000
+//! times the letter v: 63 records a page, so that its log has the pages 0 to 9. The last 4 are mutable, and the
 //! pages 0 to 5 wait for the flusher. What client 1 asks for then is in page 0.
 
 ghost use Rattle.std.specs.Prelude.{IfSome, ◌<◌};
@@ -14,7 +14,7 @@ use world::World;
 use world_events::Event;
 
 /// How many keys are set.
-const KEYS: usize = 150;
+const KEYS: usize = 630;
 
 /// How many bytes each value has.
 const VALUE_BYTES: usize = 1_000;
@@ -125,7 +125,7 @@ fn a_cold_page_is_fetched(rt: HostRuntime) {
     let text =
         "do copy 0; do write 0; do install 0; do drop 0; do ask 1 GET k0000; do take 1 0; silent 1; \
         do give 1 0; do fetch 1; do take 1 0; do commit 1; do give 1 0";
-    row(&rt, rt.alloc(), text, true, 151);
+    row(&rt, rt.alloc(), text, true, 631);
 }
 
 /// Without the read nothing is committed.
@@ -134,17 +134,17 @@ fn a_cold_call_waits_for_its_page(rt: HostRuntime) {
     let text =
         "do copy 0; do write 0; do install 0; do drop 0; do ask 1 GET k0000; do take 1 0; not commit 1; \
         do give 1 0; not take 1 0; not commit 1; not give 1 0";
-    row(&rt, rt.alloc(), text, false, 150);
+    row(&rt, rt.alloc(), text, false, 630);
 }
 
 /// A page without a receipt stays.
 #[test]
 fn a_page_without_a_receipt_is_not_dropped(rt: HostRuntime) {
     let text = "not drop 0; do ask 1 GET k0000; do take 1 0; do commit 1; do give 1 0";
-    row(&rt, rt.alloc(), text, true, 151);
+    row(&rt, rt.alloc(), text, true, 631);
     let text =
         "do copy 0; not drop 0; do write 0; not drop 0; do ask 1 GET k0000; do take 1 0; do commit 1; do give 1 0";
-    row(&rt, rt.alloc(), text, true, 151);
+    row(&rt, rt.alloc(), text, true, 631);
 }
 
 /// The cleaner copies what counts of the oldest page to the tail, and its place is released.
@@ -153,7 +153,7 @@ fn a_place_is_released_and_shows_another_page(rt: HostRuntime) {
     let text =
         "do copy 0; do write 0; do install 0; do drop 0; do unlink 0; do retire 0; do drain 0; \
         do release 0 255; not release 0 255; do ask 1 GET k0000; do take 1 0; do commit 1; do give 1 0";
-    row(&rt, rt.alloc(), text, true, 151);
+    row(&rt, rt.alloc(), text, true, 631);
 }
 
 /// A place that a client may read is not drained before its stay ends.
@@ -163,7 +163,7 @@ fn a_stay_keeps_a_place(rt: HostRuntime) {
         "do copy 0; do write 0; do install 0; do drop 0; do ask 1 GET k0000; do take 1 0; do give 1 0; \
         do unlink 0; do retire 0; not drain 0; not release 0 255; \
         do fetch 1; do take 1 0; not drain 0; do commit 1; not drain 0; do give 1 0; do drain 0; do release 0 255";
-    row(&rt, rt.alloc(), text, true, 151);
+    row(&rt, rt.alloc(), text, true, 631);
 }
 
 /// The same where the page is fetched only after others have tried to release its place, three times; then the
@@ -176,7 +176,7 @@ fn a_plan_reads_after_three_rounds(rt: HostRuntime) {
         panic!(rt; "no world")
     };
     let world = follow(&rt, rt.alloc(), world, text);
-    if world.history().len() != 151 {
+    if world.history().len() != 631 {
         panic!(rt; "entries")
     }
     world.end();
@@ -190,14 +190,14 @@ fn events_of_a_stripe_that_are_not_enabled(rt: HostRuntime) {
         "not write 0; not install 0; not unlink 0; not retire 0; not drain 0; not release 0 255; not drop 0; \
         do ask 1 GET k0000; do take 1 0; not copy 0; not write 0; not install 0; not drop 0; not unlink 0; do commit 1; \
         not copy 0; do give 1 0";
-    row(&rt, rt.alloc(), text, true, 151);
+    row(&rt, rt.alloc(), text, true, 631);
     let text =
         "do copy 0; not copy 0; not install 0; not drop 0; not unlink 0; not retire 0; not drain 0; \
         not release 0 255; do ask 1 GET k0000; do take 1 0; do write 0; not write 0; not copy 0; not install 0; \
         not drop 0; do commit 1; do give 1 0; do install 0; not install 0; not unlink 0; do drop 0; not drop 0; \
         do unlink 0; not unlink 0; not drain 0; do retire 0; not retire 0; not release 0 255; do drain 0; not drain 0; \
         do release 0 255; not release 0 255";
-    row(&rt, rt.alloc(), text, true, 151);
+    row(&rt, rt.alloc(), text, true, 631);
 }
 
 /// Events of a client that are not enabled while pages are to be fetched for it, and before.
@@ -208,7 +208,7 @@ fn events_of_a_client_that_are_not_enabled(rt: HostRuntime) {
         not give 1 0; do take 1 0; not fetch 1; not commit 1; not take 1 0; do give 1 0; not commit 1; not take 1 0; \
         not give 1 0; do fetch 1; not fetch 1; do take 1 0; not take 1 0; not give 1 0; not fetch 1; do commit 1; \
         not commit 1; not fetch 1; do give 1 0; not give 1 0";
-    row(&rt, rt.alloc(), text, true, 151);
+    row(&rt, rt.alloc(), text, true, 631);
 }
 
 /// A receipt that comes when its page has left its frame is unlinked at once, and its place can be released.

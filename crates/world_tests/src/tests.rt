@@ -273,8 +273,8 @@ fn pages_that_are_shown(rt: HostRuntime) -> Result<(), Fail> {
     let alloc = rt.alloc();
     let filled = ShownPage::filled(alloc, 255)?;
     assert!(rt; is_of(filled.page(), 255));
-    let page = ShownPage::new(alloc, Page::new(7))?;
-    assert!(rt; *page.page() == Page::new(7));
+    let page = ShownPage::new(alloc, Page::new(alloc, 7)?)?;
+    assert!(rt; *page.page() == Page::new(alloc, 7)?);
     Ok(())
 }
 

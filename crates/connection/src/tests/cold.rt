@@ -124,7 +124,7 @@ fn run_cold<D: Device>(
     Ok((before, after))
 }
 
-/// 3,000 keys of 1,000 bytes take 200 pages, of which 12 have frames. Each key is read, whether its page is lent by its
+/// 3,000 keys of 1,000 bytes take 48 pages, of which 12 have frames. Each key is read, whether its page is lent by its
 /// receipt or not.
 #[test]
 fn all_keys_of_pages_without_frames_are_read(rt: HostRuntime) -> Result<(), Fail> {
@@ -237,30 +237,31 @@ fn lines_around(text: &[u8], line: &[u8], other: &[u8]) -> Option<(u32, u32)> {
 }
 
 /// A SET without an option reads nothing. It makes room at the tail, where the oldest page that was not written yet is
-/// written: of the SETs of 15 keys, which fill a page, one does so.
+/// written: of the SETs of 63 keys, which fill a page, one does so.
 #[test]
 fn a_set_whose_write_fails(rt: HostRuntime) -> Result<(), Fail> {
     let alloc = rt.alloc();
-    let input = sets(alloc, 30)?;
+    let input = sets(alloc, 126)?;
     let outcome = run_failing(&rt, alloc, &input)?;
     let around = lines_around(&outcome.text, b"+OK\r\n", DEVICE_FAULT);
-    let one_failed = matches!(around, Some((before, after)) if before < 15 && after == 29 - before);
+    let one_failed =
+        matches!(around, Some((before, after)) if before < 63 && after == 125 - before);
     assert!(rt; one_failed, "{around:?}");
     Ok(())
 }
 
-/// 76 pages have frames or places. Six of them are left to deletions and to the cleaner, and the others hold 1,050 keys of
+/// 76 pages have frames or places. Six of them are left to deletions and to the cleaner, and the others hold 4,410 keys of
 /// 1,000 bytes. Each further SET is told that no place is left, and what is stored is read.
 #[test]
 fn a_full_store_tells_so_and_is_read(rt: HostRuntime) -> Result<(), Fail> {
     let alloc = rt.alloc();
-    let input = gets(alloc, 1_051)?;
+    let input = gets(alloc, 4_411)?;
     let store = (&narrow(), memory(alloc, &narrow())?);
-    let (before, after) = run_cold(&rt, alloc, store, 1_300, &input)?;
-    let refused = repeated(alloc, STORE_FULL, 250, b"")?;
-    let stored = repeated(alloc, b"+OK\r\n", 1_050, &refused)?;
+    let (before, after) = run_cold(&rt, alloc, store, 4_500, &input)?;
+    let refused = repeated(alloc, STORE_FULL, 90, b"")?;
+    let stored = repeated(alloc, b"+OK\r\n", 4_410, &refused)?;
     check_outcome(&rt, &before, &stored, Ended::EndOfInput);
-    let mut found = values(alloc, 1_050)?;
+    let mut found = values(alloc, 4_410)?;
     found.extend_from_slice(b"$-1\r\n")?;
     check_outcome(&rt, &after, &found, Ended::EndOfInput);
     Ok(())

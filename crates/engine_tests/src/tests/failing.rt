@@ -108,7 +108,7 @@ fn finds_it_held<D: Device>(
     requires rests { Rests D.Receipt.is_steady engine.now pass }
 {
     let came = signal.meets_read();
-    let is_busy = is_busy(alloc, engine, &mut pass, "k0149", 0);
+    let is_busy = is_busy(alloc, engine, &mut pass, "k0629", 0);
     signal.let_go();
     came && is_busy
 }

@@ -14,8 +14,8 @@ use words::word::WORD_INLINE;
 /// A value that a word holds without memory.
 const SHORT: [u8; WORD_INLINE] = [b'v'; WORD_INLINE];
 
-/// How many keys are set: they fill 9 pages.
-const MANY: usize = 3_000;
+/// How many keys are set: they fill 8 pages.
+const MANY: usize = 10_000;
 
 /// A store whose oldest page is cold, and a pass that has read it once. `None` where there was no memory.
 fn warm_store<R: Wait>(rt: &R, alloc: Global) -> Option<(Engine<Opening>, Pass<Opening>)>

@@ -1,5 +1,5 @@
-//! The steps of the threads that work in the background, at an engine of one stripe. A page has 15 records of these tests, and
-//! of 12 frames 4 are mutable. So 150 keys fill 10 pages, of which 6 wait to be written.
+//! The steps of the threads that work in the background, at an engine of one stripe. A page has 63 records of these tests, and
+//! of 12 frames 4 are mutable. So 630 keys fill 10 pages, of which 6 wait to be written.
 
 ghost use Rattle.std.specs.Prelude.{⊤, ◌≡◌, All, IfSome, vec_len};
 ghost use Rattle.engine.specs.Passes.{Rests, stripe_count};
@@ -15,7 +15,7 @@ use words::limits::{FRAMES_MIN, Limits};
 use words::word::Word;
 
 /// How many keys are set.
-pub(super) const KEYS: usize = 150;
+pub(super) const KEYS: usize = 630;
 
 /// The value of these tests.
 pub(super) const VALUE: [u8; 1000] = [b'v'; 1000];

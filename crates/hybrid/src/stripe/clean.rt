@@ -81,8 +81,9 @@ impl<R: Shows> Stripe<R> {
     /// Copies the records of the oldest page that still count to the tail, and takes the page out of
     /// the log, where it is not resident. A tombstone is dropped, and its key is not looked up.
     ///
-    /// Room for `weigh_oldest` is enough, and so is room for `CLEAN_WEIGHT`.
-    pub fn clean_oldest(&mut self, staged: &Staged<R>, room: Room) -> Cleaned<R>
+    /// Room for `weigh_oldest` is enough, and so is room for `CLEAN_WEIGHT`. The page is gone over in `copy`: whatever that
+    /// holds is lost.
+    pub fn clean_oldest(&mut self, staged: &Staged<R>, room: Room, copy: &mut Page) -> Cleaned<R>
         requires { HasRoom self.old room.weight }
         ensures same { R.is_honest → AreRight staged.now → SameContents self.old self.new }
         ensures unlinked { MatchCleaned result (λ r. IsUnlinked self.old self.new room.weight × (receipt_of self.old self.old.oldest ≡ Some (record { identity = R.identity r; shown = R.shown r })) × ((k : Kept) → Contains self.new.kept (Some k) → k.shown ≢ R.shown r)) (λ number rest. ⊤) (λ weight. ⊤) ⊤ }
@@ -109,9 +110,8 @@ impl<R: Shows> Stripe<R> {
                     return Cleaned::Heavy(marks.weight);
                 }
                 // The log changes while its page is gone over, and the receipt may be what lends it.
-                let mut copy = Page::new(0);
                 copy.copy_from(page);
-                self.copy_live(&copy, &marks.live, room.weight);
+                self.copy_live(copy, &marks.live, room.weight);
                 Cleaned::Unlinked(self.forget_oldest())
             }
         }

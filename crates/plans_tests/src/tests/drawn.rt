@@ -82,12 +82,12 @@ fn draw_number(alloc: Global, draw: &mut Draw) -> Option<String> {
     format!(in alloc; "{number}").ok()
 }
 
-/// How long a value is: mostly some hundred bytes, and now and then the most that a value may have, 8,192.
+/// How long a value is: mostly some thousand bytes, and now and then the most that a value may have, 32,768.
 fn draw_length(draw: &mut Draw) -> u64 {
     match draw.below(40) {
-        0 => 8192,
-        1 | 2 => 1 + draw.below(8000),
-        _ => 1 + draw.below(900),
+        0 => 32_768,
+        1 | 2 => 1 + draw.below(32_000),
+        _ => 1 + draw.below(3600),
     }
 }
 

@@ -82,7 +82,7 @@ fn set(alloc: Global, both: &mut Small, number: u64, digit: u64) -> Option<bool>
 
 /// Sets keys from this number on until the stripe is full, and tells the number of the key that it did not take.
 fn fill_from(alloc: Global, both: &mut Small, first: u64) -> Option<u64> {
-    for number in first..4000 {
+    for number in first..6000 {
         if !set(alloc, both, number, 1)? {
             return Some(number);
         }
@@ -122,7 +122,7 @@ fn run_full(alloc: Global, both: &mut Small) -> Option<(u64, Option<bool>, u64, 
     let (epochs, mut seat) = epochs(alloc)?;
     let first = fill_from(alloc, both, 0)?;
     let again = set(alloc, both, first, 1);
-    let taken = delete(alloc, both, 120)?;
+    let taken = delete(alloc, both, 480)?;
     let steps = clean(alloc, &mut both.store, &epochs, &mut seat, 300);
     let next = fill_from(alloc, both, first)?;
     Some((first, again, taken, steps, next))
@@ -133,26 +133,26 @@ fn a_full_stripe_serves_again_once_keys_are_deleted(rt: HostRuntime) -> Result<(
     let alloc = rt.alloc();
     let mut both = small(alloc).ok_or("no store")?;
     let (first, again, taken, steps, next) = run_full(alloc, &mut both).ok_or("not full")?;
-    assert!(rt; 960 <= first && first <= 1140, "{first}");
+    assert!(rt; 4032 <= first && first <= 4788, "{first}");
     assert!(rt; again == Some(false));
-    assert!(rt; taken == 120, "{taken}");
+    assert!(rt; taken == 480, "{taken}");
     assert!(rt; steps > 200, "{steps}");
-    assert!(rt; first.wrapping_add(60) <= next, "{next}");
+    assert!(rt; first.wrapping_add(240) <= next, "{next}");
     let is_same = agree(alloc, &mut both, next);
     assert!(rt; is_same);
     Ok(())
 }
 
-/// Sets each of a hundred keys in turn, so many times, with four steps of the cleaner for each page. It tells how many were not taken.
+/// Sets each of 420 keys in turn, so many times, with four steps of the cleaner for each page. It tells how many were not taken.
 fn overwrite(alloc: Global, both: &mut Small, times: u64) -> Option<u64> {
     let (epochs, mut seat) = epochs(alloc)?;
     let mut refused: u64 = 0;
     for time in 0..times {
-        let number = time % 100;
+        let number = time % 420;
         if !set(alloc, both, number, time % 9)? {
             refused = refused.saturating_add(1);
         }
-        if number % 15 == 0 {
+        if number % 60 == 0 {
             clean(alloc, &mut both.store, &epochs, &mut seat, 4);
         }
     }
@@ -163,9 +163,9 @@ fn overwrite(alloc: Global, both: &mut Small, times: u64) -> Option<u64> {
 fn a_stripe_that_is_cleaned_is_overwritten_for_ever(rt: HostRuntime) -> Result<(), Fail> {
     let alloc = rt.alloc();
     let mut both = small(alloc).ok_or("no store")?;
-    let refused = overwrite(alloc, &mut both, 3000);
+    let refused = overwrite(alloc, &mut both, 12_600);
     assert!(rt; refused == Some(0));
-    let is_same = agree(alloc, &mut both, 101);
+    let is_same = agree(alloc, &mut both, 421);
     assert!(rt; is_same);
     Ok(())
 }

@@ -51,7 +51,7 @@ fn sixty_increments_in_one_transaction(rt: HostRuntime) -> Result<(), Fail> {
 /// The heaviest transaction, four times.
 fn run_heaviest<D: Device>(alloc: Global, both: &mut Both<D>) -> bool {
     let lines =
-        "SETRANGE a 8191 x\nSETRANGE b 8191 x\nSETRANGE c 8191 x\nSETRANGE d 8191 x\nSETRANGE e 8191 x\nSETRANGE f 7897 x";
+        "SETRANGE a 32767 x\nSETRANGE b 32767 x\nSETRANGE c 32767 x\nSETRANGE d 32767 x\nSETRANGE e 32767 x\nSETRANGE f 32473 x";
     for _ in 0..4 {
         if !run_both(alloc, both, lines) {
             return false;
@@ -63,7 +63,7 @@ fn run_heaviest<D: Device>(alloc: Global, both: &mut Both<D>) -> bool {
 /// Whether one that is a byte heavier is refused.
 fn refuses_heavier<D: Device>(alloc: Global, both: &mut Both<D>) -> Option<bool> {
     let lines =
-        "SETRANGE a 8191 y\nSETRANGE b 8191 x\nSETRANGE c 8191 x\nSETRANGE d 8191 x\nSETRANGE e 8191 x\nSETRANGE f 7898 x";
+        "SETRANGE a 32767 y\nSETRANGE b 32767 x\nSETRANGE c 32767 x\nSETRANGE d 32767 x\nSETRANGE e 32767 x\nSETRANGE f 32474 x";
     let told = answer_lines(alloc, &mut both.store, lines)?;
     Some(is_line(&told, "-ERR command writes too much"))
 }

@@ -21,7 +21,7 @@ type Away = Both<Faulty<MemoryDevice>>;
 
 /// Sets a key to a long value.
 fn fill_at(alloc: Global, both: &mut Away, number: u64) -> bool {
-    let Ok(line) = format!(in alloc; "SETRANGE f{number} 8000 {number}") else {
+    let Ok(line) = format!(in alloc; "SETRANGE f{number} 32000 {number}") else {
         return false;
     };
     run_both(alloc, both, line.as_str())
@@ -259,7 +259,7 @@ pub(super) fn meets_full<D: Device>(
 
 /// Sets a key, and tells the stripe that is full.
 fn fill_up_at(alloc: Global, both: &mut Away, number: u64) -> Option<Option<usize>> {
-    let line = format!(in alloc; "SETRANGE f{number} 8000 x").ok()?;
+    let line = format!(in alloc; "SETRANGE f{number} 32000 x").ok()?;
     meets_full(alloc, both, line.as_str())
 }
 

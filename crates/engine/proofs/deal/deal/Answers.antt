@@ -34,7 +34,7 @@ loop-gates-preserved g c =
         c.in-Some-pop.device ∷ inv.dealt.0,
         inv.dealt.1 ∙ ap (λ l. l ++ inv.dealt.0) c.in-Some-pop.ensures.items ∙ append_assoc c.pop-in-Some.new.self.items (c.in-Some-pop.device ∷ []) inv.dealt.0,
         subst (λ l. AreDealt s gates epochs left l (c.in-Some-pop.device ∷ inv.dealt.0)) (sym c.in_ok-insert.ensures.items)
-            (dealt_before s gates epochs left (vec_len c.loop-gates.passes) (record { gates = c.in-Some.gates; device = c.in-Some-pop.device; seat = Some c.in-Some-pop-2.seat; staged = c.new.result }) c.in-Some-pop.device c.loop-gates.dealt.items inv.dealt.0
-            (omega (arith, c.in-Some.ensures.cases)) (record { rests = record { rests = last.1; seated = (c.in-Some-pop-2.seat, refl, all_last (IsOutside epochs) c.pop-in-Some-2.new.self.items c.in-Some-pop-2.seat (subst (All (IsOutside epochs)) c.in-Some-pop-2.ensures.items inv.outside)); none_staged = c.new.ensures }; nothing = last.2 ∙ ap newcomer number; device = refl }) inv.dealt.2),
+            (dealt_before s gates epochs left (vec_len c.loop-gates.passes) (record { gates = c.in-Some.gates; device = c.in-Some-pop.device; seat = Some c.in-Some-pop-2.seat; staged = c.new-staged.result; page = c.in_ok-page.page }) c.in-Some-pop.device c.loop-gates.dealt.items inv.dealt.0
+            (omega (arith, c.in-Some.ensures.cases)) (record { rests = record { rests = last.1; seated = (c.in-Some-pop-2.seat, refl, all_last (IsOutside epochs) c.pop-in-Some-2.new.self.items c.in-Some-pop-2.seat (subst (All (IsOutside epochs)) c.in-Some-pop-2.ensures.items inv.outside)); none_staged = c.new-staged.ensures }; nothing = last.2 ∙ ap newcomer number; device = refl }) inv.dealt.2),
       );
     }

@@ -7,7 +7,7 @@ use Rattle.resp_read.proofs.look.end_across.Goals as goal
 
 pub overflow_add-end : goal.overflow_add-end
 overflow_add-end c =
-    let few : c.args.start ≤ 7 = line_is_short 36 c.args.long c.args.start (drop c.args.at (joined c.args.pieces.now)) c.requires.line c.requires.short in
+    let few : c.args.start ≤ 8 = line_is_short 36 c.args.long c.args.start (drop c.args.at (joined c.args.pieces.now)) c.requires.line c.requires.short in
     omega (arith, c.requires.short)
 
 pub returns-then-rest-end : goal.returns-then-rest-end
