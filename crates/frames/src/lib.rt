@@ -17,12 +17,14 @@ ghost use Rattle.frames.specs.Lends.{LendsPage, LendsPageIf};
 use records::Page;
 use std::alloc::{AllocError, Global};
 use std::marker::Model;
+use thiserror::Error;
 
 /// The number of a page is below 2 to this power, so that its address and all in it fit a `u64`.
 pub const NUMBER_BITS: u32 = 48;
 
 /// No frame is free.
-#[derive(Clone, Copy, Debug, PartialEq, Eq)]
+#[derive(Clone, Copy, Debug, PartialEq, Eq, Error)]
+#[error("no frame is free")]
 pub struct NoFrame;
 
 /// The resident pages of a log, numbered without gaps, each in a frame of its own.

@@ -11,6 +11,7 @@ use crate::says::Says;
 use crate::view::View;
 use atomic_table::{Refused, Seat, Table};
 use std::alloc::{AllocError, Global};
+use thiserror::Error;
 use words::word::OutOfMemory;
 
 /// The table's word that counts commits.
@@ -61,7 +62,8 @@ impl<T> Drop for Pass<T> {
 }
 
 /// No more commits are made: the commit word was read at 2^62 or more.
-#[derive(Clone, Copy, Debug, PartialEq, Eq)]
+#[derive(Clone, Copy, Debug, PartialEq, Eq, Error)]
+#[error("commit numbers are used up")]
 pub struct CommitsWornOut;
 
 /// The table's word of a stripe.

@@ -9,13 +9,16 @@ use device::{Device, Shows};
 use records::Page;
 use std::alloc::{AllocError, Global};
 use std::marker::Model;
+use thiserror::Error;
 
 /// Why no page was read.
-#[derive(Clone, Copy, Debug, PartialEq, Eq)]
+#[derive(Clone, Copy, Debug, PartialEq, Eq, Error)]
 pub enum ReadFault {
     /// No memory for the page. The device was not asked.
+    #[error("out of memory")]
     OutOfMemory,
     /// The device failed.
+    #[error("device fault")]
     DeviceFault,
 }
 

@@ -13,18 +13,21 @@ use crate::whole::request_in;
 use bytes::Bytes;
 use std::alloc::{AllocError, Global};
 use std::marker::Model;
+use thiserror::Error;
 use words::limits::{PART_BYTES_MAX, WORDS_MAX};
 use words::reply::ProtocolFault;
 use words::stream_laws::part_is_a_beginning;
 use words::word::{OutOfMemory, WORD_INLINE, WORDS_INLINE, Word, Words};
 
 /// Why the reader gives no request.
-#[derive(Clone, Copy, Debug, PartialEq, Eq)]
+#[derive(Clone, Copy, Debug, PartialEq, Eq, Error)]
 pub enum ReadFault {
     /// The bytes are no request. The reader answers this from now on.
+    #[error("protocol error")]
     Protocol(ProtocolFault),
     /// The allocator refused the room for the words of a whole request. It stays unread, and it can be
     /// tried again.
+    #[error("out of memory")]
     OutOfMemory,
 }
 

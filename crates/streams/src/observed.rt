@@ -8,6 +8,7 @@ ghost use Rattle.streams.specs.declared.observed.Told.TheVariants.{Failure};
 use crate::asked::{Asked, Trouble};
 use crate::ready::ReadReady;
 use std::io::{Read, Write};
+use thiserror::Error;
 
 /// What a stream has told.
 #[derive(Clone, Copy, Debug, PartialEq, Eq)]
@@ -32,7 +33,8 @@ pub enum Input {
 }
 
 /// A write failed, or took no byte.
-#[derive(Clone, Copy, Debug, PartialEq, Eq)]
+#[derive(Clone, Copy, Debug, PartialEq, Eq, Error)]
+#[error("write failed")]
 pub struct WriteFault;
 
 /// A stream, and what it has told. A call that was interrupted tells nothing. Since nothing may go on

@@ -8,6 +8,7 @@ ghost use Rattle.transact.specs.Calls.{answer_of, reply_to, watched_with, IsEarl
 use gates::Asks;
 use std::alloc::Global;
 use std::marker::Model;
+use thiserror::Error;
 use words::command::{Command, Keys};
 use words::history::Commands;
 use words::reply::{Fault, Line, Reply};
@@ -80,7 +81,8 @@ impl Answer {
 }
 
 /// A stripe of a call's keys that another pass held when the call was tried.
-#[derive(Clone, Copy, Debug, PartialEq, Eq)]
+#[derive(Clone, Copy, Debug, PartialEq, Eq, Error)]
+#[error("stripe {stripe} is held by another pass")]
 pub struct Busy {
     /// The stripe.
     pub stripe: usize,

@@ -10,6 +10,7 @@ ghost use Rattle.hybrid.specs.Shedding.{HasShed, IsFlushedBy};
 use crate::stripe::{CALL_PAGES, CLEAN_PAGES, CLOSED_MIN, LAST_PAGE, Stripe};
 use device::{Device, Shows};
 use records::PAGE_SIZE;
+use thiserror::Error;
 use words::limits::WEIGHT_MAX;
 
 /// Room for writes of this weight in all.
@@ -20,11 +21,13 @@ pub struct Room {
 }
 
 /// Why no room was found.
-#[derive(Clone, Copy, Debug, PartialEq, Eq)]
+#[derive(Clone, Copy, Debug, PartialEq, Eq, Error)]
 pub enum Fault {
     /// A call of the device failed.
+    #[error("device fault")]
     DeviceFault,
     /// The stripe's unreleased places have reached their limit, or its tail page is the last.
+    #[error("store is full")]
     StoreFull,
 }
 
