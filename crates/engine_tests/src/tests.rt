@@ -24,6 +24,7 @@ use words::number;
 use words::reply::{CommandReply, Fault, Item, Reply};
 use words::word::{OutOfMemory, Word, Words};
 
+mod beside;
 mod cleaning;
 mod cold;
 mod failing;
@@ -33,6 +34,7 @@ mod refused;
 mod steps;
 mod trying;
 mod waiting;
+mod watched;
 
 /// How often each of two threads adds to a key.
 const TIMES: u64 = 1_000;
