@@ -12,6 +12,8 @@ mod keys;
 #[cfg(test)]
 mod refused;
 #[cfg(test)]
+mod requests;
+#[cfg(test)]
 mod sizes;
 #[cfg(test)]
 mod talks;

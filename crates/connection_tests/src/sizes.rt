@@ -1,5 +1,6 @@
 //! Values of the most bytes, and of one more, by each command that can make one.
 
+use crate::requests::{add_reply, add_request, add_word};
 use crate::talks::{Source, run, run_two};
 use connection::Ended;
 use std::alloc::Global;
@@ -9,42 +10,8 @@ use std::process::Abort;
 use std::sync::Wait;
 use std::test::Fail;
 
-/// A request as its words with a space between two, and its reply as its lines with a comma between two. `#` stands for
-/// a value, as a word `@` for the offset of its last byte, `:#` for its length, and `$#` for the value as a reply.
+/// A request, and its reply.
 type Row = (&'static str, &'static str);
-
-/// Adds a value of so many bytes.
-fn add_value(alloc: Global, all: &mut Vec<u8>, size: usize) -> io::Result<()> {
-    let value = vec![in alloc; b'v'; size]?;
-    write!(all, "${size}\r\n")?;
-    Ok(all.extend_from_slice(&value)?)
-}
-
-/// Adds a word of a request.
-fn add_word(alloc: Global, all: &mut Vec<u8>, word: &str, size: usize) -> io::Result<()> {
-    if word == "#" {
-        add_value(alloc, all, size)?;
-    } else if word == "@" {
-        let offset = format!(in alloc; "{}", size.saturating_sub(1))?;
-        write!(all, "${}\r\n{offset}", offset.len())?;
-    } else {
-        write!(all, "${}\r\n{word}", word.len())?;
-    }
-    write!(all, "\r\n")
-}
-
-/// Adds a request.
-fn add_request(alloc: Global, all: &mut Vec<u8>, request: &str, size: usize) -> io::Result<()> {
-    let mut count = 0usize;
-    for _ in request.split(' ') {
-        count = count.saturating_add(1);
-    }
-    write!(all, "*{count}\r\n")?;
-    for word in request.split(' ') {
-        add_word(alloc, all, word, size)?;
-    }
-    Ok(())
-}
 
 /// The requests of these rows, where a value has so many bytes.
 fn requests(alloc: Global, rows: &[Row], size: usize) -> io::Result<Vec<u8>> {
@@ -62,21 +29,6 @@ fn replies(alloc: Global, rows: &[Row], size: usize) -> io::Result<Vec<u8>> {
         add_reply(alloc, &mut all, reply, size)?;
     }
     Ok(all)
-}
-
-/// Adds a reply.
-fn add_reply(alloc: Global, all: &mut Vec<u8>, reply: &str, size: usize) -> io::Result<()> {
-    for line in reply.split(',') {
-        if line == ":#" {
-            write!(all, ":{size}")?;
-        } else if line == "$#" {
-            add_value(alloc, all, size)?;
-        } else {
-            write!(all, "{line}")?;
-        }
-        write!(all, "\r\n")?;
-    }
-    Ok(())
 }
 
 /// Asserts that requests are answered so over a new engine.
