@@ -402,7 +402,9 @@ fn said_often(text: &[u8]) -> Option<[u32; 4]> {
             return Some(counts);
         }
         let (index, after) = first_said(rest)?;
-        counts[index] = counts[index].saturating_add(1);
+        if let Some(count) = counts.get_mut(index) {
+            *count = count.saturating_add(1);
+        }
         rest = after;
     }
     Some(counts)

@@ -642,6 +642,7 @@ fn with_two(
     ensures first { IfOk result (λ made. Rests ⊤ made.0 made.1) }
     ensures second { IfOk result (λ made. Rests ⊤ made.0 made.2) }
     ensures nothing { IfOk result (λ made. (knows (λ device. 0) made.1).watched ≡ []) }
+    ensures second_nothing { IfOk result (λ made. (knows (λ device. 0) made.2).watched ≡ []) }
 {
     let (engine, mut passes) = new_engine(alloc)?;
     let second = passes.swap_remove(1);
