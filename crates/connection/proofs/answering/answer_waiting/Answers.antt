@@ -80,6 +80,6 @@ returns-in-NoMemory-clause-paused g c = λ was fed before talk.
         taken.1,
         rw taken.3.1 step.2.0,
         rw taken.3.1 step.2.1,
-        rw taken.3.1 (conversing_says _ _ _ _ step.2.2 (ap (λ (t : List ℕ). t ++ c.answer_all.new.out.items) (append_assoc before so_far.1 step.0))),
+        rw taken.3.1 (conversing_says _ _ _ _ step.2.2 (ap (λ (t : List ℕ). t ++ c.answer_all.new.talk.out.items) (append_assoc before so_far.1 step.0))),
       ),
     )
