@@ -15,7 +15,7 @@ invariant-loop-talk g l = record {
       × Conversing (promises_of g.D.Receipt.Shows.is_steady g.D.Receipt.Shows.lends) was (knows g.D.Device.failures l.pass) fed l.talk.client ((before ++ sent) ++ l.talk.out.items);
   room : l.talk.room ≡ l.initial.talk.room;
   told : told_of l.writer ≡ told_of l.initial.writer;
-  rests : Rests g.D.Receipt.Shows.is_steady l.initial.store.engine l.pass;
+  rests : Rests g.D.Receipt.Shows.is_steady l.initial.store.engine.now l.pass;
   attends : Attends (knows g.D.Device.failures l.pass) l.talk.client;
 }
 

@@ -19,7 +19,7 @@ invariant-loop-paused g l = record {
   reads : reads_of l.reader ≤ reads_of l.initial.reader;
   few : reads_of l.initial.reader + l.talk.room.more ≤ reads_of l.reader + l.initial.talk.room.more;
   room : l.talk.room.items ≡ [];
-  rests : Rests g.D.Receipt.Shows.is_steady l.initial.store.engine l.pass;
+  rests : Rests g.D.Receipt.Shows.is_steady l.initial.store.engine.now l.pass;
   attends : Attends (knows g.D.Device.failures l.pass) l.talk.client;
 }
 

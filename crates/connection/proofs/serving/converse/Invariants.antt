@@ -20,7 +20,7 @@ invariant-loop-ended g l = record {
   room : l.talk.room.items ≡ [];
   reader_told : told_of l.reader ≡ told_of l.initial.reader;
   writer_told : told_of l.writer ≡ told_of l.initial.writer;
-  rests : Rests g.D.Receipt.Shows.is_steady l.initial.store.engine l.pass;
+  rests : Rests g.D.Receipt.Shows.is_steady l.initial.store.engine.now l.pass;
   attends : Attends (knows g.D.Device.failures l.pass) l.talk.client;
 }
 
