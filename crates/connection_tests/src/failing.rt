@@ -23,27 +23,14 @@ const DEVICE_FAULT: &[u8] = b"-IOERR device fault\r\n";
 
 const STORE_FULL: &[u8] = b"-FULL store is full\r\n";
 
-/// How many keys are stored, and how many of their pages have no frame.
-#[derive(Clone, Copy)]
-struct Stored {
-    keys: u32,
-    written: u64,
-}
+/// How many keys are stored. They take 48 pages.
+const KEYS: u32 = 3_000;
 
-/// Keys of 24 pages.
-const SOME: Stored = Stored {
-    keys: 1_512,
-    written: 12,
-};
-
-/// Keys of 48 pages.
-const MANY: Stored = Stored {
-    keys: 3_000,
-    written: 36,
-};
+/// How many of these pages have no frame.
+const WRITTEN: u64 = 36;
 
 /// Openings of a device in memory, each of which fails the call with this number.
-fn failing(
+pub(crate) fn failing(
     alloc: Global,
     limits: &Limits,
     call: u64,
@@ -124,73 +111,56 @@ fn is_right_after<D: Device>(
     Ok(outcome.is(&due, Ended::EndOfInput))
 }
 
-/// Which request fails where the call of the device with this number does, of SETs of so many keys and a GET of the
-/// first. `None` where an answer is not as is due.
-fn failed_at(rt: &impl Wait, alloc: Global, count: u32, call: u64) -> io::Result<Option<Failed>> {
+/// Which request fails where the call of the device with this number does, of SETs of the keys and a GET of the first.
+/// `None` where an answer is not as is due.
+fn failed_at(rt: &impl Wait, alloc: Global, input: &[u8], call: u64) -> io::Result<Option<Failed>> {
     let limits = wide();
-    let input = sets_and_get(alloc, count)?;
     let openings = failing(alloc, &limits, call)?;
     let (engine, pass, _other) = engine_over(alloc, &limits, openings)?;
-    let (pass, outcome) = talk(rt, alloc, Source::new(&input), &engine, pass);
+    let (pass, outcome) = talk(rt, alloc, Source::new(input), &engine, pass);
     let due = value(alloc, 0)?;
-    let Some(failed) = failed_of(&outcome.text, count, &due) else {
+    let Some(failed) = failed_of(&outcome.text, KEYS, &due) else {
         return Ok(None);
     };
     let is_right = is_right_after(rt, alloc, &engine, pass, failed)?;
     Ok(Some(failed).filter(|_| is_right))
 }
 
-/// SETs of so many keys, and a GET of the first.
-fn sets_and_get(alloc: Global, count: u32) -> io::Result<Vec<u8>> {
-    let mut input = sets(alloc, count)?;
+/// SETs of the keys, and a GET of the first.
+fn sets_and_get(alloc: Global) -> io::Result<Vec<u8>> {
+    let mut input = sets(alloc, KEYS)?;
     add_get(&mut input, 0)?;
     Ok(input)
 }
 
-impl Stored {
-    /// Whether this request may fail where this call of the device does: a SET where a page is written, the GET where one
-    /// is read, and none where there is no such call.
-    fn may_fail(self, call: u64, failed: Failed) -> bool {
-        match failed {
-            Failed::Set(_) => call < self.written,
-            Failed::Get => call >= self.written,
-            Failed::Nothing => call > self.written,
-        }
-    }
-}
-
-/// Which request fails where this call of the device does. Asserts that it may, and that all else is as is due.
-fn check_failing<R: Abort + Wait>(
-    rt: &R,
-    alloc: Global,
-    stored: Stored,
-    call: u64,
-) -> Result<Failed, Fail> {
-    let failed = failed_at(rt, alloc, stored.keys, call)?.ok_or("another answer")?;
-    assert!(rt; stored.may_fail(call, failed), "{call}: {failed:?}");
-    Ok(failed)
-}
-
-/// 12 of 24 pages are written, and some are read to find the first key. Each of these calls fails in turn, until there
-/// is no further one: one request is answered by the fault of the device, and each other one as is due.
+/// 36 of 48 pages are written, so that a SET has a frame. Each of these calls fails in turn: one SET is answered by the fault
+/// of the device, its key is missing then, and each other request is answered as is due.
 #[test]
-fn each_call_of_the_device_fails_in_turn(rt: HostRuntime) -> Result<(), Fail> {
-    for call in 0..100 {
-        if check_failing(&rt, rt.alloc(), SOME, call)? == Failed::Nothing {
-            return Ok(());
+fn each_write_of_the_device_fails_in_turn(rt: HostRuntime) -> Result<(), Fail> {
+    let input = sets_and_get(rt.alloc())?;
+    for call in 0..WRITTEN {
+        let failed = failed_at(&rt, rt.alloc(), &input, call)?;
+        assert!(rt;
+            matches!(failed, Some(Failed::Set(_))),
+            "{call}: {failed:?}"
+        );
+    }
+    Ok(())
+}
+
+/// Pages are read to find the first key. Each of these calls fails in turn, until there is no further one: the GET is answered
+/// by the fault of the device, and finds the value the next time.
+#[test]
+fn each_read_of_the_device_fails_in_turn(rt: HostRuntime) -> Result<(), Fail> {
+    let input = sets_and_get(rt.alloc())?;
+    for call in WRITTEN..100 {
+        match failed_at(&rt, rt.alloc(), &input, call)? {
+            Some(Failed::Get) => {}
+            Some(Failed::Nothing) if call > WRITTEN => return Ok(()),
+            failed => panic!(rt; "{call}: {failed:?}"),
         }
     }
     Err(Fail::from("more calls"))
-}
-
-/// Some calls of the device fail, where 36 of 48 pages are written: one request is answered by the fault of the
-/// device, and each other one as is due.
-#[test]
-fn calls_of_the_device_fail_where_pages_are_many(rt: HostRuntime) -> Result<(), Fail> {
-    for call in [0, 1, 18, 35, 36, 100] {
-        check_failing(&rt, rt.alloc(), MANY, call)?;
-    }
-    Ok(())
 }
 
 /// So many openings of a device in the file at this path as an engine of these limits has passes.
@@ -223,8 +193,8 @@ fn check_cut<D: Device, R: Abort + Wait + Files<File = File>>(
     requires rests { Rests D.Receipt.is_steady engine.now pass }
     requires watches { (knows D.failures pass).watched ≡ [] }
 {
-    let (input, again) = (sets_and_get(alloc, MANY.keys)?, gets_of_first(alloc)?);
-    let due = repeated(alloc, OK, MANY.keys, &value(alloc, 0)?)?;
+    let (input, again) = (sets_and_get(alloc)?, gets_of_first(alloc)?);
+    let due = repeated(alloc, OK, KEYS, &value(alloc, 0)?)?;
     let (pass, before) = talk(rt, alloc, Source::new(&input), engine, pass);
     cut(rt, path, 100)?;
     let (_pass, after) = talk(rt, alloc, Source::new(&again), engine, pass);

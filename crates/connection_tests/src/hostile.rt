@@ -11,7 +11,7 @@ const BAD_LENGTH: &[u8] = b"-ERR Protocol error: bad length\r\n";
 const MISSING_LINE_END: &[u8] = b"-ERR Protocol error: missing line end\r\n";
 
 /// Streams, each with what is written and how the connection ends.
-const STREAMS: &[(&[u8], &[u8], Ended)] = &[
+pub(crate) const STREAMS: &[(&[u8], &[u8], Ended)] = &[
     (b"*0", BAD_COUNT, Ended::ProtocolFault),
     (b"*-1", BAD_COUNT, Ended::ProtocolFault),
     (b"*\r", BAD_COUNT, Ended::ProtocolFault),

@@ -12,6 +12,10 @@ mod keys;
 #[cfg(test)]
 mod refused;
 #[cfg(test)]
+mod requests;
+#[cfg(test)]
+mod sizes;
+#[cfg(test)]
 mod talks;
 #[cfg(test)]
 mod watching;

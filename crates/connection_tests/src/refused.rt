@@ -3,8 +3,11 @@
 //! Each of these is meant for runs with each allocation refused in turn (`bench/refused`). Then each request has its
 //! reply or the out-of-memory line, and what follows goes by that.
 
+use crate::failing::failing;
+use crate::hostile::STREAMS;
 use crate::keys::repeated;
-use crate::talks::{Outcome, Source, run};
+use crate::requests::{add_reply, add_request};
+use crate::talks::{Outcome, Source, engine_over, run, talk, wide};
 use connection::Ended;
 use std::alloc::Global;
 use std::io;
@@ -103,4 +106,351 @@ const LINES_ANSWER: &[u8] = b"+OK\r\n-ERR MULTI inside MULTI\r\n-ERR WATCH insid
 #[test]
 fn lines_and_sessions_with_each_allocation_refused(rt: HostRuntime) {
     check(&rt, rt.alloc(), LINES, &[LINES_ANSWER], Ended::Quit);
+}
+
+/// Requests with a semicolon between two, and what may be said to them: each has its reply or the out-of-memory line, and
+/// what follows goes by that. A value has so many bytes.
+struct Refused {
+    requests: &'static str,
+    size: usize,
+    replies: &'static [&'static str],
+}
+
+/// The input of such requests.
+fn input_of(alloc: Global, refused: &Refused) -> io::Result<Vec<u8>> {
+    let mut input = Vec::new(alloc);
+    for request in refused.requests.split(';') {
+        add_request(alloc, &mut input, request, refused.size)?;
+    }
+    Ok(input)
+}
+
+/// Whether a connection may have come to one of these replies.
+fn may_be_said(alloc: Global, outcome: &Outcome, replies: &[&str]) -> io::Result<bool> {
+    for reply in replies {
+        let mut text = Vec::new(alloc);
+        add_reply(alloc, &mut text, reply, 0)?;
+        if may_be(outcome, &[text.as_slice()], Ended::EndOfInput) {
+            return Ok(true);
+        }
+    }
+    Ok(false)
+}
+
+/// Asserts that a connection over a new engine comes to one of them.
+fn check_refused<R: Abort + Wait>(rt: &R, alloc: Global, refused: &Refused) {
+    let Ok(input) = input_of(alloc, refused) else {
+        return;
+    };
+    let Ok(outcome) = run(rt, alloc, Source::new(&input)) else {
+        return;
+    };
+    let Ok(is_said) = may_be_said(alloc, &outcome, refused.replies) else {
+        return;
+    };
+    assert!(rt;
+        is_said,
+        "{}: {:?} {:?}",
+        refused.requests, outcome.ended, outcome.text
+    );
+}
+
+/// Lines that a command finds as it runs.
+const FOUND: &[Refused] = &[
+    // A stored value that is no number.
+    Refused {
+        requests: "SET a x;INCR a;GET a",
+        size: 0,
+        replies: &[
+            "+OK,-ERR value is not an integer or out of range,$1,x",
+            "-OOM out of memory,:1,$1,1",
+            "+OK,-OOM out of memory,$1,x",
+            "+OK,-ERR value is not an integer or out of range,-OOM out of memory",
+        ],
+    },
+    // A sum that is too large.
+    Refused {
+        requests: "SET n 9223372036854775807;INCR n;STRLEN n",
+        size: 0,
+        replies: &[
+            "+OK,-ERR increment or decrement would overflow,:19",
+            "-OOM out of memory,:1,:1",
+            "+OK,-OOM out of memory,:19",
+            "+OK,-ERR increment or decrement would overflow,-OOM out of memory",
+        ],
+    },
+    // A value that would be too long.
+    Refused {
+        requests: "SET k v;SETRANGE k 32768 x;APPEND k #;STRLEN k",
+        size: 32_768,
+        replies: &[
+            "+OK,-ERR string is too long,-ERR string is too long,:1",
+            "-OOM out of memory,-ERR string is too long,:32768,:32768",
+            "+OK,-OOM out of memory,-ERR string is too long,:1",
+            "+OK,-ERR string is too long,-OOM out of memory,:1",
+            "+OK,-ERR string is too long,-ERR string is too long,-OOM out of memory",
+        ],
+    },
+    // A key that is missing.
+    Refused {
+        requests: "RENAME a b;EXISTS b",
+        size: 0,
+        replies: &[
+            "-ERR no such key,:0",
+            "-OOM out of memory,:0",
+            "-ERR no such key,-OOM out of memory",
+        ],
+    },
+    // A key that is too long, alone and in a transaction.
+    Refused {
+        requests: "GET #;WATCH #;MULTI;GET #;EXEC",
+        size: 513,
+        replies: &[
+            "-ERR key is too long,-ERR key is too long,+OK,+QUEUED,*1,-ERR key is too long",
+            "-ERR key is too long,-ERR key is too long,+OK,-OOM out of memory,\
+            -EXECABORT transaction discarded because of earlier errors",
+            "-ERR key is too long,-ERR key is too long,+OK,+QUEUED,-OOM out of memory",
+        ],
+    },
+];
+
+#[test]
+fn lines_that_a_command_finds_with_each_allocation_refused(rt: HostRuntime) {
+    for refused in FOUND {
+        check_refused(&rt, rt.alloc(), refused);
+    }
+}
+
+/// Transactions that are too large: as they are queued, and as they run.
+const LARGE: &[Refused] = &[
+    // 131,072 bytes of words, and then four more.
+    Refused {
+        requests: "MULTI;ECHO #;ECHO #;ECHO #;ECHO #;PING;EXEC",
+        size: 32_764,
+        replies: &[
+            "+OK,+QUEUED,+QUEUED,+QUEUED,+QUEUED,-ERR transaction is too large,\
+            -EXECABORT transaction discarded because of earlier errors",
+            "+OK,-OOM out of memory,+QUEUED,+QUEUED,+QUEUED,+QUEUED,\
+            -EXECABORT transaction discarded because of earlier errors",
+            "+OK,+QUEUED,-OOM out of memory,+QUEUED,+QUEUED,+QUEUED,\
+            -EXECABORT transaction discarded because of earlier errors",
+            "+OK,+QUEUED,+QUEUED,-OOM out of memory,+QUEUED,+QUEUED,\
+            -EXECABORT transaction discarded because of earlier errors",
+            "+OK,+QUEUED,+QUEUED,+QUEUED,-OOM out of memory,+QUEUED,\
+            -EXECABORT transaction discarded because of earlier errors",
+        ],
+    },
+    // Writes that weigh 196,609.
+    Refused {
+        requests: "MULTI;SETRANGE a 32767 x;SETRANGE b 32767 x;SETRANGE c 32767 x;SETRANGE d 32767 x;SETRANGE e 32767 x;\
+            SETRANGE f 32474 x;EXEC;EXISTS a f",
+        size: 0,
+        replies: &[
+            "+OK,+QUEUED,+QUEUED,+QUEUED,+QUEUED,+QUEUED,+QUEUED,-ERR command writes too much,:0",
+            "+OK,-OOM out of memory,+QUEUED,+QUEUED,+QUEUED,+QUEUED,+QUEUED,\
+            -EXECABORT transaction discarded because of earlier errors,:0",
+            "+OK,+QUEUED,-OOM out of memory,+QUEUED,+QUEUED,+QUEUED,+QUEUED,\
+            -EXECABORT transaction discarded because of earlier errors,:0",
+            "+OK,+QUEUED,+QUEUED,-OOM out of memory,+QUEUED,+QUEUED,+QUEUED,\
+            -EXECABORT transaction discarded because of earlier errors,:0",
+            "+OK,+QUEUED,+QUEUED,+QUEUED,-OOM out of memory,+QUEUED,+QUEUED,\
+            -EXECABORT transaction discarded because of earlier errors,:0",
+            "+OK,+QUEUED,+QUEUED,+QUEUED,+QUEUED,-OOM out of memory,+QUEUED,\
+            -EXECABORT transaction discarded because of earlier errors,:0",
+            "+OK,+QUEUED,+QUEUED,+QUEUED,+QUEUED,+QUEUED,-OOM out of memory,\
+            -EXECABORT transaction discarded because of earlier errors,:0",
+            "+OK,+QUEUED,+QUEUED,+QUEUED,+QUEUED,+QUEUED,+QUEUED,-OOM out of memory,:0",
+            "+OK,+QUEUED,+QUEUED,+QUEUED,+QUEUED,+QUEUED,+QUEUED,-ERR command writes too much,-OOM out of memory",
+        ],
+    },
+];
+
+#[test]
+fn lines_of_large_transactions_with_each_allocation_refused(rt: HostRuntime) {
+    for refused in LARGE {
+        check_refused(&rt, rt.alloc(), refused);
+    }
+}
+
+/// 128 keys are watched, of two letters each and eight at once, and then one more.
+fn watches(alloc: Global) -> io::Result<Vec<u8>> {
+    let mut input = Vec::new(alloc);
+    for letter in b'a'..=b'p' {
+        repeated_watch(&mut input, letter)?;
+    }
+    add_request(alloc, &mut input, "WATCH more", 0)?;
+    Ok(input)
+}
+
+/// A WATCH of eight keys that begin with this letter.
+fn repeated_watch(input: &mut Vec<u8>, letter: u8) -> io::Result<()> {
+    input.extend_from_slice(b"*9\r\n$5\r\nWATCH\r\n")?;
+    for digit in b'0'..b'8' {
+        input.extend_from_slice(&[b'$', b'2', b'\r', b'\n', letter, digit, b'\r', b'\n'])?;
+    }
+    Ok(())
+}
+
+/// What is said to them where the WATCH with this number is refused, or none. Then there is room for one more.
+fn watched(alloc: Global, refused: u32) -> io::Result<Vec<u8>> {
+    let mut text = Vec::new(alloc);
+    for number in 0..16 {
+        let line = if number == refused {
+            "-OOM out of memory"
+        } else {
+            "+OK"
+        };
+        add_reply(alloc, &mut text, line, 0)?;
+    }
+    let line = match refused {
+        0..16 => "+OK",
+        16 => "-OOM out of memory",
+        _ => "-ERR too many watched keys",
+    };
+    add_reply(alloc, &mut text, line, 0)?;
+    Ok(text)
+}
+
+/// Whether a connection may have come to what is said where one of the WATCHes is refused, or none.
+fn may_be_watched(alloc: Global, outcome: &Outcome) -> io::Result<bool> {
+    for refused in 0..18 {
+        let text = watched(alloc, refused)?;
+        if may_be(outcome, &[text.as_slice()], Ended::EndOfInput) {
+            return Ok(true);
+        }
+    }
+    Ok(false)
+}
+
+#[test]
+fn too_many_watches_with_each_allocation_refused(rt: HostRuntime) {
+    let Ok(input) = watches(rt.alloc()) else {
+        return;
+    };
+    let Ok(outcome) = run(&rt, rt.alloc(), Source::new(&input)) else {
+        return;
+    };
+    let Ok(is_said) = may_be_watched(rt.alloc(), &outcome) else {
+        return;
+    };
+    assert!(rt; is_said, "{:?} {:?}", outcome.ended, outcome.text);
+}
+
+/// Each of these lines is said, whatever allocation is refused, unless the connection ends out of memory.
+#[test]
+fn faults_of_the_protocol_with_each_allocation_refused(rt: HostRuntime) {
+    for &(input, text, ended) in STREAMS {
+        check(&rt, rt.alloc(), input, &[text], ended);
+    }
+}
+
+/// Four words of 32,768 bytes, and one more.
+fn too_large(alloc: Global) -> io::Result<Vec<u8>> {
+    let mut input = repeated(alloc, b"*5\r\n", 1, b"")?;
+    for _ in 0..4 {
+        input.extend_from_slice(b"$32768\r\n")?;
+        input.extend_from_slice(&[b'x'; 32_768])?;
+        input.extend_from_slice(b"\r\n")?;
+    }
+    input.extend_from_slice(b"$1")?;
+    Ok(input)
+}
+
+#[test]
+fn a_request_that_is_too_large_with_each_allocation_refused(rt: HostRuntime) {
+    let Ok(input) = too_large(rt.alloc()) else {
+        return;
+    };
+    let text = b"-ERR Protocol error: request too large\r\n".as_slice();
+    check(&rt, rt.alloc(), &input, &[text], Ended::ProtocolFault);
+}
+
+/// SETs of so many keys to the longest value, each of which takes a page.
+fn long_sets(alloc: Global, count: u32) -> io::Result<Vec<u8>> {
+    let mut input = Vec::new(alloc);
+    for number in 0..count {
+        let request = format!(in alloc; "SET k{number} #")?;
+        add_request(alloc, &mut input, request.as_str(), 32_768)?;
+    }
+    Ok(input)
+}
+
+/// The lines that may be said to a SET.
+const SAID: [&[u8]; 4] = [
+    b"+OK\r\n",
+    b"-FULL store is full\r\n",
+    b"-IOERR device fault\r\n",
+    b"-OOM out of memory\r\n",
+];
+
+/// Which of these lines a text begins with, and what comes after it.
+fn first_said(text: &[u8]) -> Option<(usize, &[u8])> {
+    for (index, line) in SAID.iter().enumerate() {
+        if let Some(rest) = text.strip_prefix(*line) {
+            return Some((index, rest));
+        }
+    }
+    None
+}
+
+/// How often each of these lines is said. `None` where something else is.
+fn said_often(text: &[u8]) -> Option<[u32; 4]> {
+    let mut counts = [0u32; 4];
+    let mut rest = text;
+    for _ in 0..text.len() {
+        if rest.is_empty() {
+            return Some(counts);
+        }
+        let (index, after) = first_said(rest)?;
+        if let Some(count) = counts.get_mut(index) {
+            *count = count.saturating_add(1);
+        }
+        rest = after;
+    }
+    Some(counts)
+}
+
+/// What 16 SETs come to over a device whose first call fails. A page takes memory there, and one that finds none is a
+/// fault of the device too.
+fn over_failing(rt: &impl Wait, alloc: Global) -> io::Result<Outcome> {
+    let limits = wide();
+    let input = long_sets(alloc, 16)?;
+    let (engine, pass, _other) = engine_over(alloc, &limits, failing(alloc, &limits, 0)?)?;
+    let (_pass, outcome) = talk(rt, alloc, Source::new(&input), &engine, pass);
+    Ok(outcome)
+}
+
+#[test]
+fn a_fault_of_the_device_with_each_allocation_refused(rt: HostRuntime) {
+    let Ok(outcome) = over_failing(&rt, rt.alloc()) else {
+        return;
+    };
+    let is_said = match said_often(&outcome.text) {
+        Some([_, 0, _, _]) if outcome.ended == Ended::NoMemory => true,
+        Some([15, 0, 1, 0] | [14, 0, 2, 0] | [14, 0, 1, 1]) => outcome.ended == Ended::EndOfInput,
+        _ => false,
+    };
+    assert!(rt; is_said, "{:?} {:?}", outcome.ended, outcome.text);
+}
+
+/// What 80 SETs come to in a store of 76 pages. Six are left to deletions and to the cleaner, and a SET of the longest value
+/// is reckoned to need two.
+fn over_full(rt: &impl Wait, alloc: Global) -> io::Result<Outcome> {
+    let input = long_sets(alloc, 80)?;
+    Ok(run(rt, alloc, Source::new(&input))?)
+}
+
+#[test]
+fn a_full_store_with_each_allocation_refused(rt: HostRuntime) {
+    let Ok(outcome) = over_full(&rt, rt.alloc()) else {
+        return;
+    };
+    let is_said = match said_often(&outcome.text) {
+        Some([done, _, _, _]) if outcome.ended == Ended::NoMemory => done <= 69,
+        Some([69, 11, 0, 0] | [69, 10, 1, 0] | [69, 10, 0, 1]) => {
+            outcome.ended == Ended::EndOfInput
+        }
+        _ => false,
+    };
+    assert!(rt; is_said, "{:?} {:?}", outcome.ended, outcome.text);
 }

@@ -6,7 +6,10 @@ use Rattle.words.specs.History.{keys_of_pairs}
 use Rattle.words.specs.Watches.{with_keys}
 use Rattle.words.specs.Session.{Watch}
 use Rattle.engine.specs.Passes.{Known}
-use Rattle.engine.specs.Calls.{IsDone}
+use Rattle.engine.specs.Calls.{Promises, IsDone, IsUndone}
+use Rattle.words.specs.declared.reply.Fault.{Fault}
+use Rattle.words.specs.declared.command.Command.{Command}
+use Rattle.words.specs.Session.Asked as asked
 
 -- a pass that watched nothing watches one key alone
 pub watches_one : (stripes : List ℕ) (keys : List Bytes) (key : Bytes) (reply : Reply) (was now : Known) → IsDone stripes (Some (Watch keys)) reply was now
@@ -15,3 +18,13 @@ watches_one stripes keys key reply was now done nothing one =
     ap keys_of_pairs done.watched
     ∙ ap (λ pairs. keys_of_pairs (with_keys pairs keys (length (done.others ++ was.seen)))) nothing
     ∙ ap (λ ks. keys_of_pairs (with_keys [] ks (length (done.others ++ was.seen)))) one
+
+-- a pass that is answered a command watches what it did
+pub reads_on : (stripes : List ℕ) (command : Command) (reply : Reply) (was now : Known) → IsDone stripes (Some (asked.Run command)) reply was now
+    → now.watched ≡ was.watched
+reads_on stripes command reply was now done = done.watched
+
+-- and so does one that is answered by a fault
+pub fails_on : (promises : Promises) (stripes : List ℕ) (command : Command) (fault : Fault) (was now : Known) → IsUndone promises stripes (Some (asked.Run command)) fault was now
+    → now.watched ≡ was.watched
+fails_on promises stripes command fault was now undone = undone.watched

@@ -24,6 +24,7 @@ use words::number;
 use words::reply::{CommandReply, Fault, Item, Reply};
 use words::word::{OutOfMemory, Word, Words};
 
+mod beside;
 mod cleaning;
 mod cold;
 mod failing;
@@ -33,6 +34,7 @@ mod refused;
 mod steps;
 mod trying;
 mod waiting;
+mod watched;
 
 /// How often each of two threads adds to a key.
 const TIMES: u64 = 1_000;
@@ -640,6 +642,7 @@ fn with_two(
     ensures first { IfOk result (λ made. Rests ⊤ made.0 made.1) }
     ensures second { IfOk result (λ made. Rests ⊤ made.0 made.2) }
     ensures nothing { IfOk result (λ made. (knows (λ device. 0) made.1).watched ≡ []) }
+    ensures second_nothing { IfOk result (λ made. (knows (λ device. 0) made.2).watched ≡ []) }
 {
     let (engine, mut passes) = new_engine(alloc)?;
     let second = passes.swap_remove(1);

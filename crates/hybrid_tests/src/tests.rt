@@ -328,12 +328,16 @@ fn fill_long(shelf: &mut Shelf, to: u16) -> Result<u16, Fault> {
     Ok(to)
 }
 
-// Whether the keys below a number have their values. A page that was read stays at hand.
+// Whether every fourth of the keys below a number has its value, and the last one. A page that was read stays at hand. A
+// page has an odd number of these records, so each place of a page is looked at in one of four pages.
 fn are_there(shelf: &mut Shelf, alloc: Global, count: u16) -> bool {
     let mut staged = Staged::new(alloc);
     for number in 0..count {
         let value = [(number % 128) as u8; 1000];
-        if shelf.holds_with(&mut staged, &key_of(number), Some(&value)) != Some(true) {
+        let is_looked_at = number % 4 == 0 || number == count - 1;
+        if is_looked_at
+            && shelf.holds_with(&mut staged, &key_of(number), Some(&value)) != Some(true)
+        {
             return false;
         }
     }
@@ -352,9 +356,18 @@ fn three_thousand_keys_in_twelve_frames(rt: HostRuntime) -> Result<(), Fail> {
     Ok(())
 }
 
+// Whether these pages have frames, and the ones beside them have none.
+fn are_resident(stripe: &Stripe<Receipt>, first: u64, last: u64) -> bool {
+    stripe.page(first.saturating_sub(1)).is_none()
+        && stripe.page(first).is_some()
+        && stripe.page(last).is_some()
+        && stripe.page(last.saturating_add(1)).is_none()
+}
+
+// They take 48 pages, since 63 stand in each.
 fn keeps_three_thousand_keys(shelf: &mut Shelf, alloc: Global, rt: &impl Abort) {
     assert!(rt; fills(shelf, 3000));
-    assert!(rt; shelf.stripe.page(0).is_none());
+    assert!(rt; are_resident(&shelf.stripe, 36, 47));
     assert!(rt; are_there(shelf, alloc, 3000));
     assert!(rt; has(shelf, alloc, &key_of(3000), None));
 }

@@ -31,7 +31,7 @@ fn shards_of<D: Device>(
     count: usize,
     places: usize,
 ) -> Option<Vec<Shard<D::Receipt>>> {
-    let limits = Limits::new(count, 64, 12, places, 4)?;
+    let limits = Limits::new(count, 256, 12, places, 4)?;
     let mut shards = Vec::new(alloc);
     for _ in 0..count {
         let shard = Shard::new(alloc, &limits).ok()?;

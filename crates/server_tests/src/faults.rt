@@ -235,19 +235,19 @@ fn stores_and_has(alloc: Global, stream: &TcpStream, pieces: u32) -> Option<bool
     Some(true)
 }
 
-/// Whether 150 keys are stored, the flusher comes to write their pages after it failed, and keys of 40 pages are stored and
+/// Whether 630 keys are stored, the flusher comes to write their pages after it failed, and keys of 40 pages are stored and
 /// read then.
 fn stores_beside_faults<R>(rt: &R, port: u16, tally: &Tally) -> Option<bool>
 where
     R: AllocGlobal + Clock + Net<Stream = TcpStream>,
 {
     let stream = connect(rt, port)?;
-    let stores = stores_and_has(rt.alloc(), &stream, 5)?;
+    let stores = stores_and_has(rt.alloc(), &stream, 21)?;
     let comes = tally.comes_to_write(rt);
-    Some(stores && comes && stores_and_has(rt.alloc(), &stream, 20)?)
+    Some(stores && comes && stores_and_has(rt.alloc(), &stream, 84)?)
 }
 
-/// 150 keys fill 10 pages, of which 6 wait for the flusher. It fails three times, and then it writes them.
+/// 630 keys fill 10 pages, of which 6 wait for the flusher. It fails three times, and then it writes them.
 #[test]
 fn a_fault_of_the_flusher_is_told_to_nobody(rt: HostRuntime) -> Result<(), Fail> {
     let tally = Tally::new();

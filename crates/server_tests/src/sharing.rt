@@ -31,12 +31,12 @@ impl Shared {
         match self {
             Shared::Wide => options_with(0, 4, 16, 4),
             Shared::OneStripe => options_with(0, 4, 1, 4),
-            Shared::Filling => options(256, 4, 4),
+            Shared::Filling => options(64, 4, 4),
         }
     }
 
-    /// Whether the client that fills is answered as is due, where there is one. It stores 2,400 values of 1,000 bytes,
-    /// which take 38 pages, and reads them.
+    /// Whether the client that fills is answered as is due, where there is one. It stores 3,600 values of 1,000 bytes,
+    /// which take 58 pages, and reads them: more than half of the 64 places are used then, and the cleaner works.
     fn is_filled(self, alloc: Global, stream: &TcpStream) -> Option<bool> {
         match self {
             Shared::Wide | Shared::OneStripe => Some(true),
@@ -45,14 +45,14 @@ impl Shared {
     }
 }
 
-/// Whether eighty pieces of thirty keys are stored, and each has its value then.
+/// Whether 120 pieces of thirty keys are stored, and each has its value then.
 fn fills_and_reads(alloc: Global, stream: &TcpStream) -> Option<bool> {
-    for piece in 0..80 {
+    for piece in 0..120 {
         if !sets_thirty(alloc, stream, FIRST + piece * 30)? {
             return Some(false);
         }
     }
-    for piece in 0..80 {
+    for piece in 0..120 {
         if !has_thirty(alloc, stream, FIRST + piece * 30)? {
             return Some(false);
         }

@@ -9,7 +9,7 @@ use std::thread::Threads;
 use std::{fs, thread};
 use words::limits::PLACES_DEFAULT;
 
-/// How many pieces of thirty keys each of three clients stores. With values of 1,000 bytes they take 198 pages together.
+/// How many pieces of thirty keys each of three clients stores. With values of 1,000 bytes they take 48 pages together.
 const PIECES: u32 = 33;
 
 /// The first key of the second client, and that of the third.

@@ -90,7 +90,7 @@ fn check_long<R: Abort + Wait>(
     ended: Ended,
 ) -> Result<(), Fail> {
     let input = long_words(alloc)?;
-    let text = long_replies(alloc, b"-ERR key is too long\r\n+OK\r\n", 20)?;
+    let text = long_replies(alloc, b"-ERR key is too long\r\n+OK\r\n", 5)?;
     let outcome = run_ready(rt, alloc, &input, (true, None), written)?;
     let count = text.len().min(written.unwrap_or(text.len()));
     check_outcome(rt, &outcome, &text[..count], ended);

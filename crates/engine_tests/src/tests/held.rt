@@ -156,7 +156,7 @@ fn a_call_that_is_held_at_each_point_does_not_stop_another(rt: HostRuntime) -> R
 const ROUNDS: u64 = 20;
 
 /// Whether a step of the flusher, one of the evictor and one of the cleaner are done.
-fn three_steps<R: Wait>(
+pub(super) fn three_steps<R: Wait>(
     rt: &R,
     engine: &Engine<MemoryDevice>,
     pass: &mut Pass<MemoryDevice>,

@@ -21,35 +21,45 @@ use words::reply::{CommandReply, Item, Reply};
 use words::word::{OutOfMemory, Word};
 
 /// How often each of two passes moves, and a third one reads.
-const MOVES: u64 = 400;
+pub(super) const MOVES: u64 = 500;
 
 /// What the two keys have together.
-const WHOLE: i64 = 2_000;
+const WHOLE: i64 = 1_000;
 
-/// The commands that move a number from the key `b` to the key `a`. `None` where there was no memory.
-fn moving(alloc: Global, number: i64) -> Option<Commands>
+/// What the two keys are set to before, and what they have when each of two passes has moved 1 so often.
+pub(super) const BEFORE: Exchange<'static> = Exchange {
+    request: "MSET a 1000 b 0",
+    due: "+OK",
+};
+
+pub(super) const AFTER: Exchange<'static> = Exchange {
+    request: "MGET a b",
+    due: "$0 $1000",
+};
+
+/// The commands that move 1 from the key `a` to the key `b`. `None` where there was no memory.
+fn moving(alloc: Global) -> Option<Commands>
     ensures { IfSome result (λ commands. MayAllBeQueued commands × AreBounded commands) }
 {
-    let to = Word::from_slice(alloc, b"a").ok()?;
-    let from = Word::from_slice(alloc, b"b").ok()?;
-    let commands = vec![in alloc; Command::Add(to, number), Command::Subtract(from, number)];
+    let from = Word::from_slice(alloc, b"a").ok()?;
+    let to = Word::from_slice(alloc, b"b").ok()?;
+    let commands = vec![in alloc; Command::Subtract(from, 1), Command::Add(to, 1)];
     Some(Commands::from_vec(commands.ok()?))
 }
 
-/// Moves a number once, and says whether it was done.
+/// Moves 1 once, and says whether it was done.
 fn moves<R: Wait>(
     rt: &R,
     alloc: Global,
     engine: &Engine<MemoryDevice>,
     pass: &mut Pass<MemoryDevice>,
-    number: i64,
 ) -> bool
     requires rests { Rests ⊤ engine.now pass.old }
     requires nothing { (knows (λ device. 0) pass.old).watched ≡ [] }
     ensures rests { Rests ⊤ engine.now pass.new }
     ensures nothing { (knows (λ device. 0) pass.new).watched ≡ [] }
 {
-    let Some(commands) = moving(alloc, number) else {
+    let Some(commands) = moving(alloc) else {
         return false;
     };
     let watching = Watching::none(alloc);
@@ -57,24 +67,24 @@ fn moves<R: Wait>(
     matches!(&answer, Answer::Reply(Reply::Array(_)))
 }
 
-/// Moves a number over and over, and says how often it was done.
+/// Moves 1 over and over, and says how often it was done.
 fn moves_often<R: Wait>(
     rt: &R,
     alloc: Global,
     engine: &Engine<MemoryDevice>,
     mut pass: Pass<MemoryDevice>,
-    number: i64,
-) -> u64
+) -> (Pass<MemoryDevice>, u64)
     requires rests { Rests ⊤ engine.now pass }
     requires nothing { (knows (λ device. 0) pass).watched ≡ [] }
+    ensures rests { Rests ⊤ engine.now result.0 }
 {
     let mut done = 0u64;
     for _n in 0..MOVES {
-        if moves(rt, alloc, engine, &mut pass, number) {
+        if moves(rt, alloc, engine, &mut pass) {
             done = done.saturating_add(1);
         }
     }
-    done
+    (pass, done)
 }
 
 /// The sum of items that are numbers.
@@ -133,6 +143,9 @@ fn sums_often<R: Wait>(
     (pass, done)
 }
 
+/// A pass, and how often it was answered as is due.
+pub(super) type Told = (Pass<MemoryDevice>, u64);
+
 /// One pass moves while another reads: how often each was done.
 fn moves_and_reads<R: Threads + Wait + Sync>(
     rt: &R,
@@ -140,22 +153,59 @@ fn moves_and_reads<R: Threads + Wait + Sync>(
     engine: &Engine<MemoryDevice>,
     mover: Pass<MemoryDevice>,
     reader: Pass<MemoryDevice>,
-) -> (u64, (Pass<MemoryDevice>, u64))
+) -> (Told, Told)
     requires mover { Rests ⊤ engine.now mover }
     requires nothing { (knows (λ device. 0) mover).watched ≡ [] }
     requires reader { Rests ⊤ engine.now reader }
+    ensures mover { Rests ⊤ engine.now result.0.0 }
     ensures reader { Rests ⊤ engine.now result.1.0 }
 {
     join(
         rt,
-        move || -> u64
+        move || -> Told
             requires rests { Rests ⊤ engine.now mover }
             requires nothing { (knows (λ device. 0) mover).watched ≡ [] }
-        { moves_often(rt, alloc, engine, mover, -3) },
-        move || -> (Pass<MemoryDevice>, u64)
+            ensures { Rests ⊤ engine.entry.now result.0 }
+        { moves_often(rt, alloc, engine, mover) },
+        move || -> Told
             requires { Rests ⊤ engine.now reader }
             ensures { Rests ⊤ engine.entry.now result.0 }
         { sums_often(rt, alloc, engine, reader) },
+    )
+}
+
+/// Two passes move while a third reads: how often each was done.
+pub(super) fn all_move<R: Threads + Wait + Sync>(
+    rt: &R,
+    alloc: Global,
+    engine: &Engine<MemoryDevice>,
+    one: Pass<MemoryDevice>,
+    two: Pass<MemoryDevice>,
+    reader: Pass<MemoryDevice>,
+) -> (Told, (Told, Told))
+    requires one { Rests ⊤ engine.now one }
+    requires one_nothing { (knows (λ device. 0) one).watched ≡ [] }
+    requires two { Rests ⊤ engine.now two }
+    requires two_nothing { (knows (λ device. 0) two).watched ≡ [] }
+    requires reader { Rests ⊤ engine.now reader }
+    ensures one { Rests ⊤ engine.now result.0.0 }
+    ensures two { Rests ⊤ engine.now result.1.0.0 }
+    ensures reader { Rests ⊤ engine.now result.1.1.0 }
+{
+    join(
+        rt,
+        move || -> Told
+            requires rests { Rests ⊤ engine.now one }
+            requires nothing { (knows (λ device. 0) one).watched ≡ [] }
+            ensures { Rests ⊤ engine.entry.now result.0 }
+        { moves_often(rt, alloc, engine, one) },
+        move || -> (Told, Told)
+            requires mover { Rests ⊤ engine.now two }
+            requires nothing { (knows (λ device. 0) two).watched ≡ [] }
+            requires reader { Rests ⊤ engine.now reader }
+            ensures mover { Rests ⊤ engine.entry.now result.0.0 }
+            ensures reader { Rests ⊤ engine.entry.now result.1.0 }
+        { moves_and_reads(rt, alloc, engine, two, reader) },
     )
 }
 
@@ -184,44 +234,18 @@ fn with_three(
     Ok((engine, first, second, third))
 }
 
-/// Whether each of two passes moved, and a third one found the whole each time.
+/// Whether each of two passes moved, a third one found the whole each time, and once they have met the one that moved first
+/// and the one that reads find what is left.
 fn whole_is_kept<R: Threads + Wait + Sync>(rt: &R, alloc: Global) -> Result<bool, OutOfMemory> {
     let (engine, one, two, mut three) = with_three(alloc)?;
-    let request = "MSET a 1000 b 1000";
-    let due = "+OK";
-    let set = is_due(
-        rt,
-        alloc,
-        &Open,
-        &engine,
-        &mut three,
-        Exchange { request, due },
+    let set = is_due(rt, alloc, &Open, &engine, &mut three, BEFORE);
+    let ((mut first, moved), ((_second, also), (mut reader, found))) = all_move(
+        rt, alloc, &engine, one, two, three,
     );
-    let shared = &engine;
-    let (first, (second, (mut reader, found))) = join(
-        rt,
-        move || -> u64
-            requires rests { Rests ⊤ shared.now one }
-            requires nothing { (knows (λ device. 0) one).watched ≡ [] }
-        { moves_often(rt, alloc, shared, one, 7) },
-        move || -> (u64, (Pass<MemoryDevice>, u64))
-            requires mover { Rests ⊤ shared.now two }
-            requires nothing { (knows (λ device. 0) two).watched ≡ [] }
-            requires reader { Rests ⊤ shared.now three }
-            ensures { Rests ⊤ shared.entry.now result.1.0 }
-        { moves_and_reads(rt, alloc, shared, two, three) },
-    );
-    let request = "MGET a b";
-    let due = "$2600 $-600";
-    let all = is_due(
-        rt,
-        alloc,
-        &Open,
-        &engine,
-        &mut reader,
-        Exchange { request, due },
-    );
-    Ok(set && all && first == MOVES && second == MOVES && found == MOVES)
+    engine.meet(&mut first, &mut reader);
+    let all = is_due(rt, alloc, &Open, &engine, &mut first, AFTER)
+        && is_due(rt, alloc, &Open, &engine, &mut reader, AFTER);
+    Ok(set && all && moved == MOVES && also == MOVES && found == MOVES)
 }
 
 #[test]

@@ -3,12 +3,12 @@
 use super::*;
 
 // A copy of page 0.
-fn copy_of_page_0(stripe: &Stripe<Receipt>) -> Page {
-    let mut copy = Page::new(0);
+fn copy_of_page_0(alloc: Global, stripe: &Stripe<Receipt>) -> Result<Page, AllocError> {
+    let mut copy = Page::new(alloc, 0)?;
     if let Some(page) = stripe.page(0) {
         copy.copy_from(page);
     }
-    copy
+    Ok(copy)
 }
 
 // Page 0 is written once more: its receipt is given back, and nothing changes.
@@ -24,9 +24,9 @@ fn refuses_another_receipt(shelf: &mut Shelf, rt: &impl Abort, page: &Page) -> R
 }
 
 // The same of a page that has a receipt and its frame, and then of one that has left it.
-fn refuses_both(shelf: &mut Shelf, rt: &impl Abort) -> Result<(), Fail> {
-    assert!(rt; fills(shelf, 150));
-    let page = copy_of_page_0(&shelf.stripe);
+fn refuses_both(shelf: &mut Shelf, alloc: Global, rt: &impl Abort) -> Result<(), Fail> {
+    assert!(rt; fills(shelf, 630));
+    let page = copy_of_page_0(alloc, &shelf.stripe)?;
     assert!(rt; shelf.flush() == Some(true));
     refuses_another_receipt(shelf, rt, &page)?;
     assert!(rt; shelf.stripe.unreleased() == 2);
@@ -39,5 +39,5 @@ fn refuses_both(shelf: &mut Shelf, rt: &impl Abort) -> Result<(), Fail> {
 #[test]
 fn a_page_that_has_a_receipt_keeps_it(rt: HostRuntime) -> Result<(), Fail> {
     let mut shelf = new_shelf(rt.alloc(), 4096, 64)?;
-    refuses_both(&mut shelf, &rt)
+    refuses_both(&mut shelf, rt.alloc(), &rt)
 }

@@ -76,9 +76,9 @@ fn draw_key(alloc: Global, draw: &mut Draw) -> Option<String> {
     format!(in alloc; "key:{number}").ok()
 }
 
-/// A number below 3,000.
+/// A number below 12,000.
 fn draw_number(alloc: Global, draw: &mut Draw) -> Option<String> {
-    let number = draw.below(3000);
+    let number = draw.below(12_000);
     format!(in alloc; "{number}").ok()
 }
 
