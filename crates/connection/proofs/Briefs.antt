@@ -1,5 +1,5 @@
 -- The turn of a client whose request goes to the engine with its words as they lie, or is a PING without a text.
-use Rattle.std.proofs.Common.{◌≡◌, ℕ, List, [], ◌∷◌, ◌++◌, Some, refl, ap, subst, IsTrue}
+use Rattle.std.proofs.Common.{◌≡◌, ℕ, List, Some, refl, ap, subst, IsTrue}
 use Rattle.std.specs.Prelude.{Result, IfOk}
 use Rattle.words.specs.declared.command.Command.{Command}
 use Rattle.words.specs.declared.command.Command.TheVariants.{Get, Set}

@@ -15,10 +15,10 @@ ghost use Rattle.std.specs.Io.KnownBytes.{Appends, Consumes};
 
 use crate::client::{Client, Front, Next};
 use crate::output::{flush, say_line, say_spent, say_value};
-use crate::reading::{MORE_PIECES, Room, Waiting, take_waiting};
-use crate::serving::Ended;
+use crate::reading::{MORE_PIECES, Waiting, take_waiting};
+use crate::serving::{Ended, Store, Talk};
 use device::Device;
-use engine::{Engine, Pass};
+use engine::Pass;
 use gates::Latch;
 use session::watches_follow_entries;
 use std::io::Write;
@@ -51,26 +51,24 @@ pub(crate) enum Due {
 /// Answers the client's next request, if there is a whole one. It is taken up into these words.
 #[inline]
 fn answer_next<T: Wait, L: Latch, D: Device>(
-    rt: &T,
-    latch: &L,
+    store: &Store<T, L, D>,
     client: &mut Client,
     words: &mut Words,
-    engine: &Engine<D>,
     pass: &mut Pass<D>,
 ) -> Due
-    requires rests { Rests D.Receipt.is_steady engine.now pass.old }
+    requires rests { Rests D.Receipt.is_steady store.now.engine.now pass.old }
     requires attends { Attends (knows D.failures pass.old) client.old }
     ensures turned { HasTurned client.old result client.new }
     ensures due { IsDue (promises_of D.Receipt.is_steady D.Receipt.lends) (knows D.failures pass.old) (knows D.failures pass.new) client.old result client.new }
-    ensures rests { Rests D.Receipt.is_steady engine.now pass.new }
+    ensures rests { Rests D.Receipt.is_steady store.now.engine.now pass.new }
     ensures attends { Attends (knows D.failures pass.new) client.new }
 {
     match client.take_up(words) {
         Front::Request => {
             if client.is_idle() {
-                answer_idle(rt, latch, client, words, engine, pass)
+                answer_idle(store, client, words, pass)
             } else {
-                answer_obeyed(rt, latch, client, words, engine, pass)
+                answer_obeyed(store, client, words, pass)
             }
         }
         Front::Input => Due::Input,
@@ -85,20 +83,18 @@ fn answer_next<T: Wait, L: Latch, D: Device>(
 /// to them than to hand them on. A PING without a text is answered at once.
 #[inline]
 fn answer_idle<T: Wait, L: Latch, D: Device>(
-    rt: &T,
-    latch: &L,
+    store: &Store<T, L, D>,
     client: &mut Client,
     words: &Words,
-    engine: &Engine<D>,
     pass: &mut Pass<D>,
 ) -> Due
-    requires rests { Rests D.Receipt.is_steady engine.now pass.old }
+    requires rests { Rests D.Receipt.is_steady store.now.engine.now pass.old }
     requires attends { Attends (knows D.failures pass.old) client.old }
     requires idle { IsIdle client.old.stage }
     requires request { IsRequest words.now }
     ensures turned { HasTurned (before words.now client.old) result client.new }
     ensures due { IsDue (promises_of D.Receipt.is_steady D.Receipt.lends) (knows D.failures pass.old) (knows D.failures pass.new) (before words.now client.old) result client.new }
-    ensures rests { Rests D.Receipt.is_steady engine.now pass.new }
+    ensures rests { Rests D.Receipt.is_steady store.now.engine.now pass.new }
     ensures attends { Attends (knows D.failures pass.new) client.new }
 {
     match Brief::of(words) {
@@ -106,7 +102,7 @@ fn answer_idle<T: Wait, L: Latch, D: Device>(
             watches_follow_entries();
             commands_are_bounded();
             let key = &words.as_slice()[1];
-            match engine.get(rt, pass, key, latch) {
+            match store.engine.get(store.rt, pass, key, store.latch) {
                 Ok(value) => Due::Value(value),
                 Err(fault) => Due::Line(Line::Faulty(fault)),
             }
@@ -116,10 +112,10 @@ fn answer_idle<T: Wait, L: Latch, D: Device>(
             commands_are_bounded();
             let key = &words.as_slice()[1];
             let value = &words.as_slice()[2];
-            Due::Line(line_of(engine.set(rt, pass, key, value, latch)))
+            Due::Line(line_of(store.engine.set(store.rt, pass, key, value, store.latch)))
         }
         Brief::Ping => Due::Line(Line::Pong),
-        Brief::Other => answer_obeyed(rt, latch, client, words, engine, pass),
+        Brief::Other => answer_obeyed(store, client, words, pass),
     }
 }
 
@@ -136,20 +132,18 @@ fn line_of(told: Result<Line, Fault>) -> Line
 /// Answers the request of these words, which was taken off.
 #[inline(never)]
 fn answer_obeyed<T: Wait, L: Latch, D: Device>(
-    rt: &T,
-    latch: &L,
+    store: &Store<T, L, D>,
     client: &mut Client,
     words: &Words,
-    engine: &Engine<D>,
     pass: &mut Pass<D>,
 ) -> Due
-    requires rests { Rests D.Receipt.is_steady engine.now pass.old }
+    requires rests { Rests D.Receipt.is_steady store.now.engine.now pass.old }
     requires attends { Attends (knows D.failures pass.old) client.old }
     requires is_open { IsOpen (mode_of client.old.stage) }
     requires request { IsRequest words.now }
     ensures turned { HasTurned (before words.now client.old) result client.new }
     ensures due { IsDue (promises_of D.Receipt.is_steady D.Receipt.lends) (knows D.failures pass.old) (knows D.failures pass.new) (before words.now client.old) result client.new }
-    ensures rests { Rests D.Receipt.is_steady engine.now pass.new }
+    ensures rests { Rests D.Receipt.is_steady store.now.engine.now pass.new }
     ensures attends { Attends (knows D.failures pass.new) client.new }
 {
     match client.obey(words) {
@@ -158,7 +152,7 @@ fn answer_obeyed<T: Wait, L: Latch, D: Device>(
         Next::SaysOutOfMemory => Due::Reply(Reply::line(Line::Faulty(Fault::OutOfMemory))),
         Next::Calls(call) => {
             watches_follow_entries();
-            let answer = engine.submit_with(rt, pass, call, latch);
+            let answer = store.engine.submit_with(store.rt, pass, call, store.latch);
             Due::Reply(client.resume(answer))
         }
         Next::Malformed(fault) => Due::Malformed(fault),
@@ -184,48 +178,45 @@ pub(crate) enum Paused {
     Closed,
 }
 
-/// Answers all whole requests that the client was fed. Each is taken up into these words. The replies go into
-/// the output buffer, and to the writer where it is full.
+/// Answers all whole requests that the client was fed. The replies go into the output buffer, and to the writer where
+/// it is full.
 pub(crate) fn answer_all<T: Wait, L: Latch, W: Write, D: Device>(
-    rt: &T,
-    latch: &L,
-    client: &mut Client,
-    words: &mut Words,
-    out: &mut Vec<u8>,
+    store: &Store<T, L, D>,
+    talk: &mut Talk,
     writer: &mut Noted<W>,
-    engine: &Engine<D>,
     pass: &mut Pass<D>,
 ) -> Paused
-    requires rests { Rests D.Receipt.is_steady engine.now pass.old }
-    requires attends { Attends (knows D.failures pass.old) client.old }
+    requires rests { Rests D.Receipt.is_steady store.now.engine.now pass.old }
+    requires attends { Attends (knows D.failures pass.old) talk.old.client }
     ensures paused { (was : Known) (fed before : List ℕ)
-        → Conversing (promises_of D.Receipt.is_steady D.Receipt.lends) was (knows D.failures pass.old) fed client.old (before ++ out.old.items)
+        → Conversing (promises_of D.Receipt.is_steady D.Receipt.lends) was (knows D.failures pass.old) fed talk.old.client (before ++ talk.old.out.items)
         → (sent : List ℕ)
         × Appends (W.contents (stream_of writer.old)) (W.contents (stream_of writer.new)) sent
-        × HasPaused (promises_of D.Receipt.is_steady D.Receipt.lends) was (knows D.failures pass.new) fed result client.new (before ++ sent) out.new.items }
+        × HasPaused (promises_of D.Receipt.is_steady D.Receipt.lends) was (knows D.failures pass.new) fed result talk.new.client (before ++ sent) talk.new.out.items }
+    ensures room { talk.new.room ≡ talk.old.room }
     ensures fed { IsFed result }
-    ensures stands { StandsAt result client.new }
+    ensures stands { StandsAt result talk.new.client }
     ensures told { told_of writer.new ≡ paused_told result (told_of writer.old) }
-    ensures rests { Rests D.Receipt.is_steady engine.now pass.new }
-    ensures attends { Attends (knows D.failures pass.new) client.new }
+    ensures rests { Rests D.Receipt.is_steady store.now.engine.now pass.new }
+    ensures attends { Attends (knows D.failures pass.new) talk.new.client }
 {
     loop {
-        if client.wants_input() {
+        if talk.client.wants_input() {
             return Paused::Input;
         }
-        match answer_next(rt, latch, client, words, engine, pass) {
+        match answer_next(store, &mut talk.client, &mut talk.words, pass) {
             Due::Reply(reply) => {
-                if let Err(_) = say_spent(reply, out, writer) {
+                if let Err(_) = say_spent(reply, &mut talk.out, writer) {
                     return Paused::WriteFailed;
                 }
             }
             Due::Line(line) => {
-                if let Err(_) = say_line(line, out, writer) {
+                if let Err(_) = say_line(line, &mut talk.out, writer) {
                     return Paused::WriteFailed;
                 }
             }
             Due::Value(value) => {
-                if let Err(_) = say_value(value, out, writer) {
+                if let Err(_) = say_value(value, &mut talk.out, writer) {
                     return Paused::WriteFailed;
                 }
             }
@@ -239,46 +230,40 @@ pub(crate) fn answer_all<T: Wait, L: Latch, W: Write, D: Device>(
 
 /// Answers all whole requests that the client was fed, and of what is there already: it is read and fed
 /// where no whole request is left, at most [`MORE_PIECES`] times, so that no reply waits for more reads than these.
-/// Each request is taken up into these words. The replies go into the output buffer, and to the writer where it is
-/// full.
+/// The replies go into the output buffer, and to the writer where it is full.
 fn answer_waiting<T: Wait, L: Latch, R: ReadReady, W: Write, D: Device>(
-    rt: &T,
-    latch: &L,
-    client: &mut Client,
-    words: &mut Words,
-    room: &mut Room,
-    out: &mut Vec<u8>,
+    store: &Store<T, L, D>,
+    talk: &mut Talk,
     reader: &mut Noted<R>,
     writer: &mut Noted<W>,
-    engine: &Engine<D>,
     pass: &mut Pass<D>,
 ) -> Paused
-    requires rests { Rests D.Receipt.is_steady engine.now pass.old }
-    requires attends { Attends (knows D.failures pass.old) client.old }
-    requires room { room.old.items ≡ [] }
-    requires few { room.old.more ≤ MORE_PIECES }
+    requires rests { Rests D.Receipt.is_steady store.now.engine.now pass.old }
+    requires attends { Attends (knows D.failures pass.old) talk.old.client }
+    requires room { talk.old.room.items ≡ [] }
+    requires few { talk.old.room.more ≤ MORE_PIECES }
     ensures paused { (was : Known) (fed before : List ℕ)
-        → Conversing (promises_of D.Receipt.is_steady D.Receipt.lends) was (knows D.failures pass.old) fed client.old (before ++ out.old.items)
+        → Conversing (promises_of D.Receipt.is_steady D.Receipt.lends) was (knows D.failures pass.old) fed talk.old.client (before ++ talk.old.out.items)
         → (bytes sent : List ℕ)
         × Consumes (R.remaining (stream_of reader.old)) (R.remaining (stream_of reader.new)) bytes
         × Appends (W.contents (stream_of writer.old)) (W.contents (stream_of writer.new)) sent
-        × HasPaused (promises_of D.Receipt.is_steady D.Receipt.lends) was (knows D.failures pass.new) (fed ++ bytes) result client.new (before ++ sent)
-        out.new.items }
-    ensures stands { StandsAt result client.new }
+        × HasPaused (promises_of D.Receipt.is_steady D.Receipt.lends) was (knows D.failures pass.new) (fed ++ bytes) result talk.new.client (before ++ sent)
+        talk.new.out.items }
+    ensures stands { StandsAt result talk.new.client }
     ensures told { told_of writer.new ≡ paused_told result (told_of writer.old) }
     ensures reader_told { told_of reader.new ≡ told_of reader.old }
     ensures reads { reads_of reader.new ≤ reads_of reader.old }
     ensures few { reads_of reader.old ≤ reads_of reader.new + MORE_PIECES }
-    ensures room { LeavesAt result room.new.items }
-    ensures rests { Rests D.Receipt.is_steady engine.now pass.new }
-    ensures attends { Attends (knows D.failures pass.new) client.new }
+    ensures room { LeavesAt result talk.new.room.items }
+    ensures rests { Rests D.Receipt.is_steady store.now.engine.now pass.new }
+    ensures attends { Attends (knows D.failures pass.new) talk.new.client }
 {
     loop {
-        match answer_all(rt, latch, client, words, out, writer, engine, pass) {
+        match answer_all(store, talk, writer, pass) {
             Paused::Input => {}
             paused => return paused,
         }
-        match take_waiting(reader, room, client) {
+        match take_waiting(reader, &mut talk.room, &mut talk.client) {
             Waiting::Fed => {}
             Waiting::Nothing => return Paused::Input,
             Waiting::NoMemory => return Paused::Unfed,
@@ -343,42 +328,35 @@ pub(crate) fn conclude<W: Write, D: Device>(
 }
 
 /// Answers all whole requests that the client was fed, and of what is there already, and writes the
-/// replies. Each request is taken up into these words. `None` where the connection goes on.
+/// replies. `None` where the connection goes on.
 pub(crate) fn answer_piece<T: Wait, L: Latch, R: ReadReady, W: Write, D: Device>(
-    rt: &T,
-    latch: &L,
-    client: &mut Client,
-    words: &mut Words,
-    room: &mut Room,
-    out: &mut Vec<u8>,
+    store: &Store<T, L, D>,
+    talk: &mut Talk,
     reader: &mut Noted<R>,
     writer: &mut Noted<W>,
-    engine: &Engine<D>,
     pass: &mut Pass<D>,
 ) -> Option<Ended>
-    requires rests { Rests D.Receipt.is_steady engine.now pass.old }
-    requires attends { Attends (knows D.failures pass.old) client.old }
-    requires room { room.old.items ≡ [] }
-    requires few { room.old.more ≤ MORE_PIECES }
-    requires empty { out.old.items ≡ [] }
+    requires rests { Rests D.Receipt.is_steady store.now.engine.now pass.old }
+    requires attends { Attends (knows D.failures pass.old) talk.old.client }
+    requires room { talk.old.room.items ≡ [] }
+    requires few { talk.old.room.more ≤ MORE_PIECES }
+    requires empty { talk.old.out.items ≡ [] }
     ensures answered { (was : Known) (fed before : List ℕ)
-        → Conversing (promises_of D.Receipt.is_steady D.Receipt.lends) was (knows D.failures pass.old) fed client.old before
+        → Conversing (promises_of D.Receipt.is_steady D.Receipt.lends) was (knows D.failures pass.old) fed talk.old.client before
         → (bytes sent : List ℕ)
         × Consumes (R.remaining (stream_of reader.old)) (R.remaining (stream_of reader.new)) bytes
         × Appends (W.contents (stream_of writer.old)) (W.contents (stream_of writer.new)) sent
-        × HasAnswered (promises_of D.Receipt.is_steady D.Receipt.lends) was (knows D.failures pass.new) (fed ++ bytes) result client.new (before ++ sent) }
-    ensures goes_on { GoesOn result client.new out.new.items }
+        × HasAnswered (promises_of D.Receipt.is_steady D.Receipt.lends) was (knows D.failures pass.new) (fed ++ bytes) result talk.new.client (before ++ sent) }
+    ensures goes_on { GoesOn result talk.new.client talk.new.out.items }
     ensures ends { EndsAnswering result }
     ensures told { told_of writer.new ≡ answered_told result (told_of writer.old) }
     ensures reader_told { told_of reader.new ≡ told_of reader.old }
     ensures reads { reads_of reader.new ≤ reads_of reader.old }
     ensures few { reads_of reader.old ≤ reads_of reader.new + MORE_PIECES }
-    ensures room { IfNone result (room.new.items ≡ []) }
-    ensures rests { Rests D.Receipt.is_steady engine.now pass.new }
-    ensures attends { Attends (knows D.failures pass.new) client.new }
+    ensures room { IfNone result (talk.new.room.items ≡ []) }
+    ensures rests { Rests D.Receipt.is_steady store.now.engine.now pass.new }
+    ensures attends { Attends (knows D.failures pass.new) talk.new.client }
 {
-    let paused = answer_waiting(
-        rt, latch, client, words, room, out, reader, writer, engine, pass,
-    );
-    conclude::<W, D>(paused, out, writer)
+    let paused = answer_waiting(store, talk, reader, writer, pass);
+    conclude::<W, D>(paused, &mut talk.out, writer)
 }

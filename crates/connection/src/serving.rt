@@ -63,57 +63,70 @@ impl Ended {
     }
 }
 
-/// Reads, answers and writes, until the connection ends.
-fn converse<T: Wait, L: Latch, R: ReadReady, W: Write, D: Device>(
-    rt: &T,
-    latch: &L,
-    client: &mut Client,
-    room: &mut Room,
-    out: &mut Vec<u8>,
-    reader: &mut Noted<R>,
-    writer: &mut Noted<W>,
-    engine: &Engine<D>,
-    pass: &mut Pass<D>,
-) -> Ended
-    requires rests { Rests D.Receipt.is_steady engine.now pass.old }
-    requires watches { (knows D.failures pass.old).watched ≡ [] }
-    requires begins { client.old ≡ beginning }
-    requires room { room.old.items ≡ [] }
-    requires empty { out.old.items ≡ [] }
-    ensures served { (bytes text : List ℕ)
-        × Consumes (R.remaining (stream_of reader.old)) (R.remaining (stream_of reader.new)) bytes
-        × Appends (W.contents (stream_of writer.old)) (W.contents (stream_of writer.new)) text
-        × Served (promises_of D.Receipt.is_steady D.Receipt.lends) (knows D.failures pass.old) (knows D.failures pass.new) result bytes text }
-    ensures end { result ≡ Ended.EndOfInput → IsAtEnd (R.remaining (stream_of reader.new)) }
-    ensures reader_told { told_of reader.new ≡ reader_told result (told_of reader.old) }
-    ensures writer_told { told_of writer.new ≡ writer_told result (told_of writer.old) }
-    ensures rests { Rests D.Receipt.is_steady engine.now pass.new }
-    ensures attends { Attends (knows D.failures pass.new) client.new }
-{
-    let mut words = client.no_words();
-    converse_with(
-        rt, latch, client, &mut words, room, out, reader, writer, engine, pass,
-    )
+/// The store that a connection's requests are put to, and what its calls need to wait for others.
+#[derive(Drop)]
+pub(crate) struct Store<'a, T: Wait, L: Latch, D: Device> {
+    /// By what a call waits.
+    pub(crate) rt: &'a T,
+    /// Which pass goes first where two meet.
+    pub(crate) latch: &'a L,
+    pub(crate) engine: &'a Engine<D>,
 }
 
-/// Does what [`converse`] says. Each request is taken up into these words.
-fn converse_with<T: Wait, L: Latch, R: ReadReady, W: Write, D: Device>(
-    rt: &T,
-    latch: &L,
-    client: &mut Client,
-    words: &mut Words,
-    room: &mut Room,
-    out: &mut Vec<u8>,
+/// What a connection keeps from piece to piece.
+pub(crate) struct Talk {
+    pub(crate) client: Client,
+    /// The words of the request that was taken up last.
+    pub(crate) words: Words,
+    /// What is read into.
+    pub(crate) room: Room,
+    /// The replies that are not written yet.
+    pub(crate) out: Vec<u8>,
+}
+
+impl Talk {
+    /// A connection that was fed nothing, with this output buffer. It takes no memory.
+    pub(crate) fn new(alloc: Global, out: Vec<u8>) -> Talk
+        ensures begins { result.client ≡ beginning }
+        ensures room { result.room.items ≡ [] }
+        ensures out { result.out ≡ out }
+    {
+        let client = Client::new(alloc);
+        Talk {
+            words: client.no_words(),
+            client,
+            room: Room::new(alloc),
+            out,
+        }
+    }
+
+    /// The client. All else is let go.
+    pub(crate) fn into_client(self) -> Client
+        ensures { result ≡ self.client }
+    {
+        let Talk {
+            client,
+            words: _words,
+            room: _room,
+            out: _out,
+        } = self;
+        client
+    }
+}
+
+/// Reads, answers and writes, until the connection ends.
+fn converse<T: Wait, L: Latch, R: ReadReady, W: Write, D: Device>(
+    store: &Store<T, L, D>,
+    talk: &mut Talk,
     reader: &mut Noted<R>,
     writer: &mut Noted<W>,
-    engine: &Engine<D>,
     pass: &mut Pass<D>,
 ) -> Ended
-    requires rests { Rests D.Receipt.is_steady engine.now pass.old }
+    requires rests { Rests D.Receipt.is_steady store.now.engine.now pass.old }
     requires watches { (knows D.failures pass.old).watched ≡ [] }
-    requires begins { client.old ≡ beginning }
-    requires room { room.old.items ≡ [] }
-    requires empty { out.old.items ≡ [] }
+    requires begins { talk.old.client ≡ beginning }
+    requires room { talk.old.room.items ≡ [] }
+    requires empty { talk.old.out.items ≡ [] }
     ensures served { (bytes text : List ℕ)
         × Consumes (R.remaining (stream_of reader.old)) (R.remaining (stream_of reader.new)) bytes
         × Appends (W.contents (stream_of writer.old)) (W.contents (stream_of writer.new)) text
@@ -121,40 +134,36 @@ fn converse_with<T: Wait, L: Latch, R: ReadReady, W: Write, D: Device>(
     ensures end { result ≡ Ended.EndOfInput → IsAtEnd (R.remaining (stream_of reader.new)) }
     ensures reader_told { told_of reader.new ≡ reader_told result (told_of reader.old) }
     ensures writer_told { told_of writer.new ≡ writer_told result (told_of writer.old) }
-    ensures rests { Rests D.Receipt.is_steady engine.now pass.new }
-    ensures attends { Attends (knows D.failures pass.new) client.new }
+    ensures rests { Rests D.Receipt.is_steady store.now.engine.now pass.new }
+    ensures attends { Attends (knows D.failures pass.new) talk.new.client }
 {
     loop {
-        if let Some(ended) = take_piece(reader, room, client) {
+        if let Some(ended) = take_piece(reader, &mut talk.room, &mut talk.client) {
             return ended;
         }
-        if let Some(ended) = answer_piece(
-            rt, latch, client, words, room, out, reader, writer, engine, pass,
-        ) {
+        if let Some(ended) = answer_piece(store, talk, reader, writer, pass) {
             return ended;
         }
-        client.let_go(words);
+        talk.client.let_go(&mut talk.words);
     }
 }
 
 /// Ends a client, and what it watches.
 pub(crate) fn forget<T: Wait, L: Latch, D: Device>(
-    rt: &T,
-    latch: &L,
+    store: &Store<T, L, D>,
     client: Client,
-    engine: &Engine<D>,
     pass: &mut Pass<D>,
 )
-    requires rests { Rests D.Receipt.is_steady engine.now pass.old }
+    requires rests { Rests D.Receipt.is_steady store.now.engine.now pass.old }
     requires attends { Attends (knows D.failures pass.old) client }
-    ensures rests { Rests D.Receipt.is_steady engine.now pass.new }
+    ensures rests { Rests D.Receipt.is_steady store.now.engine.now pass.new }
     ensures watches { (knows D.failures pass.new).watched ≡ [] }
     ensures went { Went (knows D.failures pass.old) (knows D.failures pass.new) [] }
     ensures no_failure { (knows D.failures pass.new).failures ≡ (knows D.failures pass.old).failures }
 {
     if let Some(call) = client.close() {
         // A call that ends watches cannot fail, and is told nothing.
-        let _ = engine.submit_with(rt, pass, call, latch);
+        let _ = store.engine.submit_with(store.rt, pass, call, store.latch);
     }
 }
 
@@ -225,19 +234,9 @@ pub fn serve<T: Wait, L: Latch, R: ReadReady, W: Write, D: Device>(
     };
     // More room where memory serves: it saves writes.
     let _ = out.reserve(OUTPUT_BYTES);
-    let mut room = Room::new(alloc);
-    let mut client = Client::new(alloc);
-    let ended = converse(
-        rt,
-        latch,
-        &mut client,
-        &mut room,
-        &mut out,
-        reader,
-        writer,
-        engine,
-        &mut pass,
-    );
-    forget(rt, latch, client, engine, &mut pass);
+    let mut talk = Talk::new(alloc, out);
+    let store = Store { rt, latch, engine };
+    let ended = converse(&store, &mut talk, reader, writer, &mut pass);
+    forget(&store, talk.into_client(), &mut pass);
     (pass, ended)
 }

@@ -6,8 +6,7 @@ ghost use Rattle.connection.specs.Served.{Attends};
 
 use super::*;
 use crate::answering::{answer_all, conclude};
-use crate::client::Client;
-use crate::serving::forget;
+use crate::serving::{Store, Talk, forget};
 use bytes::Bytes;
 
 /// Requests of transactions and watches, and what may be said to them where one allocation is refused at
@@ -120,28 +119,22 @@ const DELETER: &[&[u8]] = &[b":0\r\n", b"-OOM out of memory\r\n"];
 
 /// Feeds a client a piece, and writes the answers. How its connection ended, where it did.
 fn say<R: Wait, D: Device>(
-    rt: &R,
-    alloc: Global,
-    client: &mut Client,
+    store: &Store<R, Open, D>,
+    talk: &mut Talk,
     writer: &mut Noted<Sink>,
-    engine: &Engine<D>,
     pass: &mut Pass<D>,
     piece: &'static [u8],
 ) -> Option<Ended>
-    requires rests { Rests D.Receipt.is_steady engine.now pass.old }
-    requires attends { Attends (knows D.failures pass.old) client.old }
-    ensures rests { Rests D.Receipt.is_steady engine.now pass.new }
-    ensures attends { Attends (knows D.failures pass.new) client.new }
+    requires rests { Rests D.Receipt.is_steady store.now.engine.now pass.old }
+    requires attends { Attends (knows D.failures pass.old) talk.old.client }
+    ensures rests { Rests D.Receipt.is_steady store.now.engine.now pass.new }
+    ensures attends { Attends (knows D.failures pass.new) talk.new.client }
 {
-    if let Err(_) = client.feed(Bytes::from_static(piece)) {
+    if let Err(_) = talk.client.feed(Bytes::from_static(piece)) {
         return Some(Ended::NoMemory);
     }
-    let mut words = client.no_words();
-    let mut out = Vec::new(alloc);
-    let paused = answer_all(
-        rt, &Open, client, &mut words, &mut out, writer, engine, pass,
-    );
-    conclude::<Sink, D>(paused, &mut out, writer)
+    let paused = answer_all(store, talk, writer, pass);
+    conclude::<Sink, D>(paused, &mut talk.out, writer)
 }
 
 /// Whether one of these texts was said, or a beginning of one where the connection ended out of memory.
@@ -157,24 +150,22 @@ fn was_said(writer: Noted<Sink>, ended: Option<Ended>, texts: &[&[u8]]) -> bool 
 
 /// The end of what the watcher says, unless its connection has ended.
 fn say_last<R: Wait, D: Device>(
-    rt: &R,
-    alloc: Global,
-    client: &mut Client,
+    store: &Store<R, Open, D>,
+    talk: &mut Talk,
     writer: &mut Noted<Sink>,
-    engine: &Engine<D>,
     pass: &mut Pass<D>,
     ended: Option<Ended>,
 ) -> Option<Ended>
-    requires rests { Rests D.Receipt.is_steady engine.now pass.old }
-    requires attends { Attends (knows D.failures pass.old) client.old }
-    ensures rests { Rests D.Receipt.is_steady engine.now pass.new }
-    ensures attends { Attends (knows D.failures pass.new) client.new }
+    requires rests { Rests D.Receipt.is_steady store.now.engine.now pass.old }
+    requires attends { Attends (knows D.failures pass.old) talk.old.client }
+    ensures rests { Rests D.Receipt.is_steady store.now.engine.now pass.new }
+    ensures attends { Attends (knows D.failures pass.new) talk.new.client }
 {
     if ended.is_some() {
         return ended;
     }
     let last = b"*1\r\n$5\r\nMULTI\r\n*1\r\n$4\r\nEXEC\r\n";
-    say(rt, alloc, client, writer, engine, pass, last)
+    say(store, talk, writer, pass, last)
 }
 
 /// Whether each of the two is answered as it may be, of an engine of theirs.
@@ -188,41 +179,22 @@ fn both_are_answered<R: Wait, D: Device>(
     requires rests { Rests D.Receipt.is_steady engine.now passes.0 × Rests D.Receipt.is_steady engine.now passes.1 }
     requires watches { ((knows D.failures passes.0).watched ≡ []) × ((knows D.failures passes.1).watched ≡ []) }
 {
+    let store = Store {
+        rt,
+        latch: &Open,
+        engine,
+    };
     let mut to_watcher = Noted::new(sinks.0);
     let mut to_deleter = Noted::new(sinks.1);
-    let mut watcher = Client::new(alloc);
-    let mut deleter = Client::new(alloc);
+    let mut watcher = Talk::new(alloc, Vec::new(alloc));
+    let mut deleter = Talk::new(alloc, Vec::new(alloc));
     let watch = b"*2\r\n$5\r\nWATCH\r\n$1\r\nk\r\n";
-    let ended = say(
-        rt,
-        alloc,
-        &mut watcher,
-        &mut to_watcher,
-        engine,
-        &mut passes.0,
-        watch,
-    );
+    let ended = say(&store, &mut watcher, &mut to_watcher, &mut passes.0, watch);
     let delete = b"*2\r\n$3\r\nDEL\r\n$1\r\nk\r\n";
-    let other = say(
-        rt,
-        alloc,
-        &mut deleter,
-        &mut to_deleter,
-        engine,
-        &mut passes.1,
-        delete,
-    );
-    let ended = say_last(
-        rt,
-        alloc,
-        &mut watcher,
-        &mut to_watcher,
-        engine,
-        &mut passes.0,
-        ended,
-    );
-    forget(rt, &Open, watcher, engine, &mut passes.0);
-    forget(rt, &Open, deleter, engine, &mut passes.1);
+    let other = say(&store, &mut deleter, &mut to_deleter, &mut passes.1, delete);
+    let ended = say_last(&store, &mut watcher, &mut to_watcher, &mut passes.0, ended);
+    forget(&store, watcher.into_client(), &mut passes.0);
+    forget(&store, deleter.into_client(), &mut passes.1);
     was_said(to_watcher, ended, WATCHER) && was_said(to_deleter, other, DELETER)
 }
 

@@ -1,5 +1,6 @@
 use Rattle.std.proofs.Common.{◌++◌, ◌∙◌, ℕ, List, ap, sym, append_assoc, arith, None}
 use Rattle.streams.specs.Laws.{Appends-then, Consumes-then}
+use Rattle.connection.specs.Rooms.{Reading}
 use Rattle.connection.specs.Served.{paused_told}
 use Rattle.connection.proofs.Conversing.{conversing_fed, conversing_none, conversing_says, conversing_grouped, paused_says, leaves_at, attends_taken}
 use Rattle.connection.proofs.answering.answer_waiting.Goals as goal
@@ -20,7 +21,7 @@ returns-in_default g c = record {
   reader_told = c.loop-paused.invariant.reader_told;
   reads = c.loop-paused.invariant.reads;
   few = omega (arith, c.loop-paused.invariant.few, c.requires.few);
-  room = leaves_at c.answer_all.result _ c.loop-paused.invariant.room;
+  room = leaves_at c.answer_all.result _ (rw c.answer_all.ensures.room c.loop-paused.invariant.room);
   rests = c.answer_all.ensures.rests;
   attends = c.answer_all.ensures.attends;
 }
@@ -41,7 +42,7 @@ loop-paused-preserved g c =
       told = c.in-Input.ensures.told ∙ c.loop-paused.invariant.told;
       reader_told = c.in-Fed.ensures.told ∙ c.loop-paused.invariant.reader_told;
       reads = omega (arith, c.in-Fed.ensures.reads, c.loop-paused.invariant.reads);
-      few = omega (arith, c.in-Fed.ensures.reads, c.in-Fed.ensures.more, c.loop-paused.invariant.few);
+      few = omega (arith, c.in-Fed.ensures.reads, c.in-Fed.ensures.more, c.loop-paused.invariant.few, ap (λ (room : Reading). room.more) c.answer_all.ensures.room);
       room = c.in-Fed.ensures.empty;
       rests = c.answer_all.ensures.rests;
       attends = attends_taken _ None taken.0 _ _ c.answer_all.ensures.attends taken.3.1;
@@ -80,6 +81,6 @@ returns-in-NoMemory-clause-paused g c = λ was fed before talk.
         taken.1,
         rw taken.3.1 step.2.0,
         rw taken.3.1 step.2.1,
-        rw taken.3.1 (conversing_says _ _ _ _ step.2.2 (ap (λ (t : List ℕ). t ++ c.answer_all.new.out.items) (append_assoc before so_far.1 step.0))),
+        rw taken.3.1 (conversing_says _ _ _ _ step.2.2 (ap (λ (t : List ℕ). t ++ c.answer_all.new.talk.out.items) (append_assoc before so_far.1 step.0))),
       ),
     )

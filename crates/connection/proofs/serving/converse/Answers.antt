@@ -1,7 +1,7 @@
 use Rattle.std.proofs.Common.{[], ◌++◌, ◌∙◌, refl, Some, None}
 use Rattle.streams.specs.Laws.{Keeps-same, Appends-none, Appends-then, Consumes-none, Consumes-then}
 use Rattle.connection.proofs.Conversing.{conversing_begins, conversing_fed, front-none, served_taken, attends_taken, attends_begins}
-use Rattle.connection.proofs.serving.converse_with.Goals as goal
+use Rattle.connection.proofs.serving.converse.Goals as goal
 
 pub loop-ended-init : goal.loop-ended-init
 loop-ended-init g c = record {
