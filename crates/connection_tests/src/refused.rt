@@ -3,17 +3,21 @@
 //! Each of these is meant for runs with each allocation refused in turn (`bench/refused`). Then each request has its
 //! reply or the out-of-memory line, and what follows goes by that.
 
+ghost use Rattle.std.specs.Prelude.{◌≡◌, []};
+ghost use Rattle.engine.specs.Passes.{knows, Rests};
+
 use crate::failing::failing;
 use crate::hostile::STREAMS;
 use crate::keys::repeated;
 use crate::requests::{add_reply, add_request};
-use crate::talks::{Outcome, Source, engine_over, run, talk, wide};
+use crate::talks::{Outcome, Source, engine_over, memory, narrow, talk_to, wide};
 use connection::Ended;
-use std::alloc::Global;
+use device::Device;
+use engine::{Engine, Pass};
+use std::alloc::{AllocError, Global};
 use std::io;
 use std::process::Abort;
 use std::sync::Wait;
-use std::test::Fail;
 
 /// Whether a connection may have come to this: to one of the texts, or to a beginning of one where the connection ended
 /// out of memory. All texts end so.
@@ -25,10 +29,33 @@ fn may_be(outcome: &Outcome, texts: &[&[u8]], ended: Ended) -> bool {
     }
 }
 
+/// Serves a connection over an engine. The writer has room for all that is said, so that it takes no memory.
+fn talk_with_room<D: Device>(
+    rt: &impl Wait,
+    alloc: Global,
+    input: &[u8],
+    engine: &Engine<D>,
+    pass: Pass<D>,
+) -> Result<Outcome, AllocError>
+    requires rests { Rests D.Receipt.is_steady engine.now pass }
+    requires watches { (knows D.failures pass).watched ≡ [] }
+{
+    let writer = Vec::with_capacity(alloc, 16_384)?;
+    let (_pass, text, ended) = talk_to(rt, alloc, Source::new(input), writer, engine, pass);
+    Ok(Outcome { text, ended })
+}
+
+/// Serves a connection over a new engine in memory.
+fn run(rt: &impl Wait, alloc: Global, input: &[u8]) -> Result<Outcome, AllocError> {
+    let limits = narrow();
+    let (engine, pass, _other) = engine_over(alloc, &limits, memory(alloc, &limits)?)?;
+    talk_with_room(rt, alloc, input, &engine, pass)
+}
+
 /// Asserts that a connection over a new engine comes to one of these texts. Where there is no memory for the engine
 /// there is none.
 fn check<R: Abort + Wait>(rt: &R, alloc: Global, input: &[u8], texts: &[&[u8]], ended: Ended) {
-    let Ok(outcome) = run(rt, alloc, Source::new(input)) else {
+    let Ok(outcome) = run(rt, alloc, input) else {
         return;
     };
     assert!(rt;
@@ -142,7 +169,7 @@ fn check_refused<R: Abort + Wait>(rt: &R, alloc: Global, refused: &Refused) {
     let Ok(input) = input_of(alloc, refused) else {
         return;
     };
-    let Ok(outcome) = run(rt, alloc, Source::new(&input)) else {
+    let Ok(outcome) = run(rt, alloc, &input) else {
         return;
     };
     let Ok(is_said) = may_be_said(alloc, &outcome, refused.replies) else {
@@ -327,7 +354,7 @@ fn too_many_watches_with_each_allocation_refused(rt: HostRuntime) {
     let Ok(input) = watches(rt.alloc()) else {
         return;
     };
-    let Ok(outcome) = run(&rt, rt.alloc(), Source::new(&input)) else {
+    let Ok(outcome) = run(&rt, rt.alloc(), &input) else {
         return;
     };
     let Ok(is_said) = may_be_watched(rt.alloc(), &outcome) else {
@@ -416,8 +443,7 @@ fn over_failing(rt: &impl Wait, alloc: Global) -> io::Result<Outcome> {
     let limits = wide();
     let input = long_sets(alloc, 16)?;
     let (engine, pass, _other) = engine_over(alloc, &limits, failing(alloc, &limits, 0)?)?;
-    let (_pass, outcome) = talk(rt, alloc, Source::new(&input), &engine, pass);
-    Ok(outcome)
+    Ok(talk_with_room(rt, alloc, &input, &engine, pass)?)
 }
 
 #[test]
@@ -437,7 +463,7 @@ fn a_fault_of_the_device_with_each_allocation_refused(rt: HostRuntime) {
 /// is reckoned to need two.
 fn over_full(rt: &impl Wait, alloc: Global) -> io::Result<Outcome> {
     let input = long_sets(alloc, 80)?;
-    Ok(run(rt, alloc, Source::new(&input))?)
+    Ok(run(rt, alloc, &input)?)
 }
 
 #[test]
