@@ -5,7 +5,7 @@ ghost use Rattle.engine.specs.Passes.{knows, Rests};
 ghost use Rattle.engine.specs.declared.TheConstants.{BACKGROUND_PASSES};
 
 use crate::keys::{add_get, add_set, get, gets, repeated, sets, value, values};
-use crate::talks::{Outcome, Source, engine_over, memory, narrow, talk, wide};
+use crate::talks::{Outcome, Source, engine_over, many_buckets, memory, narrow, talk, wide};
 use connection::Ended;
 use device::{Device, Faulty, FileDevice, MemoryDevice, OpenFault};
 use engine::{BACKGROUND_PASSES, Engine, Pass};
@@ -113,10 +113,17 @@ fn is_right_after<D: Device>(
 
 /// Which request fails where the call of the device with this number does, of SETs of the keys and a GET of the first.
 /// `None` where an answer is not as is due.
-fn failed_at(rt: &impl Wait, alloc: Global, input: &[u8], call: u64) -> io::Result<Option<Failed>> {
-    let limits = wide();
-    let openings = failing(alloc, &limits, call)?;
-    let (engine, pass, _other) = engine_over(alloc, &limits, openings)?;
+fn failed_at(
+    rt: &impl Wait,
+    alloc: Global,
+    limits: &Limits,
+    input: &[u8],
+    call: u64,
+) -> io::Result<Option<Failed>>
+    requires { limits.now.clients ≡ 2 }
+{
+    let openings = failing(alloc, limits, call)?;
+    let (engine, pass, _other) = engine_over(alloc, limits, openings)?;
     let (pass, outcome) = talk(rt, alloc, Source::new(input), &engine, pass);
     let due = value(alloc, 0)?;
     let Some(failed) = failed_of(&outcome.text, KEYS, &due) else {
@@ -133,13 +140,12 @@ fn sets_and_get(alloc: Global) -> io::Result<Vec<u8>> {
     Ok(input)
 }
 
-/// 36 of 48 pages are written, so that a SET has a frame. Each of these calls fails in turn: one SET is answered by the fault
-/// of the device, its key is missing then, and each other request is answered as is due.
-#[test]
-fn each_write_of_the_device_fails_in_turn(rt: HostRuntime) -> Result<(), Fail> {
-    let input = sets_and_get(rt.alloc())?;
-    for call in 0..WRITTEN {
-        let failed = failed_at(&rt, rt.alloc(), &input, call)?;
+/// Asserts that one SET fails where the write with this number does, for each of some numbers. Its key is missing then, and
+/// each other request is answered as is due.
+fn check_writes<R: Abort + Wait>(rt: &R, alloc: Global, first: u64, end: u64) -> Result<(), Fail> {
+    let (limits, input) = (many_buckets(), sets_and_get(alloc)?);
+    for call in first..end {
+        let failed = failed_at(rt, alloc, &limits, &input, call)?;
         assert!(rt;
             matches!(failed, Some(Failed::Set(_))),
             "{call}: {failed:?}"
@@ -148,15 +154,27 @@ fn each_write_of_the_device_fails_in_turn(rt: HostRuntime) -> Result<(), Fail> {
     Ok(())
 }
 
-/// Pages are read to find the first key. Each of these calls fails in turn, until there is no further one: the GET is answered
-/// by the fault of the device, and finds the value the next time.
+/// 36 of 48 pages are written, so that a SET has a frame. Each of these calls fails in turn, here and in the next test: one SET
+/// is answered by the fault of the device.
 #[test]
-fn each_read_of_the_device_fails_in_turn(rt: HostRuntime) -> Result<(), Fail> {
-    let input = sets_and_get(rt.alloc())?;
+fn each_of_the_first_writes_fails_in_turn(rt: HostRuntime) -> Result<(), Fail> {
+    check_writes(&rt, rt.alloc(), 0, WRITTEN / 2)
+}
+
+#[test]
+fn each_of_the_later_writes_fails_in_turn(rt: HostRuntime) -> Result<(), Fail> {
+    check_writes(&rt, rt.alloc(), WRITTEN / 2, WRITTEN)
+}
+
+/// Pages are read to find the first key, behind others of its bucket. Each of these calls fails in turn, until there is no
+/// further one: the GET is answered by the fault of the device, and finds the value the next time.
+#[test]
+fn each_of_the_reads_fails_in_turn(rt: HostRuntime) -> Result<(), Fail> {
+    let (limits, input) = (wide(), sets_and_get(rt.alloc())?);
     for call in WRITTEN..100 {
-        match failed_at(&rt, rt.alloc(), &input, call)? {
+        match failed_at(&rt, rt.alloc(), &limits, &input, call)? {
             Some(Failed::Get) => {}
-            Some(Failed::Nothing) if call > WRITTEN => return Ok(()),
+            Some(Failed::Nothing) if call > WRITTEN + 3 => return Ok(()),
             failed => panic!(rt; "{call}: {failed:?}"),
         }
     }

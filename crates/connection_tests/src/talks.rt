@@ -95,6 +95,19 @@ pub(crate) fn wide() -> Limits
     }
 }
 
+/// The same with so many buckets that few keys share one.
+pub(crate) fn many_buckets() -> Limits
+    ensures { result.clients ≡ 2 }
+{
+    Limits {
+        stripes: 1,
+        buckets: 4_096,
+        frames: FRAMES_MIN,
+        places: 256,
+        clients: 2,
+    }
+}
+
 /// A store of one stripe with 12 frames, places for 64 pages more, and two clients.
 pub(crate) fn narrow() -> Limits
     ensures { result.clients ≡ 2 }
