@@ -187,12 +187,12 @@ impl<R: Shows> Stripe<R> {
         self.free() < CALL_PAGES
     }
 
-    /// Whether fewer frames than the cleaning of a page can want are free or may be had: for places that are not taken, or
-    /// whose receipts wait to be released. A deletion that opened a page near the limit of places leaves the stripe so.
-    pub fn lacks_clean_frames(&self) -> bool
-        ensures { IsTrue result ↔ (expected self.now < CLEAN_PAGES) }
+    /// Whether fewer frames than values leave are free or may be had, for places that are not taken or whose receipts wait
+    /// to be released: a deletion has opened a page, and the next one that wants a page finds none before one is cleaned.
+    pub fn lacks_spare_frames(&self) -> bool
+        ensures { IsTrue result ↔ (expected self.now < CLEAN_PAGES + 1) }
     {
-        self.places - self.kept < CLEAN_PAGES.saturating_sub(self.free())
+        self.places - self.kept < (CLEAN_PAGES + 1).saturating_sub(self.free())
     }
 
     /// The number of the oldest page.
