@@ -6,8 +6,7 @@ use Rattle.words.specs.History.{keys_of_pairs}
 use Rattle.words.specs.Watches.{with_keys}
 use Rattle.words.specs.Session.{Watch}
 use Rattle.engine.specs.Passes.{Known}
-use Rattle.engine.specs.Calls.{Promises, IsDone, IsUndone}
-use Rattle.words.specs.declared.reply.Fault.{Fault}
+use Rattle.engine.specs.Calls.{IsDone}
 use Rattle.words.specs.declared.command.Command.{Command}
 use Rattle.words.specs.Session.Asked as asked
 
@@ -23,8 +22,3 @@ watches_one stripes keys key reply was now done nothing one =
 pub reads_on : (stripes : List ℕ) (command : Command) (reply : Reply) (was now : Known) → IsDone stripes (Some (asked.Run command)) reply was now
     → now.watched ≡ was.watched
 reads_on stripes command reply was now done = done.watched
-
--- and so does one that is answered by a fault
-pub fails_on : (promises : Promises) (stripes : List ℕ) (command : Command) (fault : Fault) (was now : Known) → IsUndone promises stripes (Some (asked.Run command)) fault was now
-    → now.watched ≡ was.watched
-fails_on promises stripes command fault was now undone = undone.watched

@@ -10,7 +10,6 @@ ghost use Rattle.engine.specs.Passes.{knows, Rests};
 use super::{has_place, watches, watching_of, with_two};
 use device::MemoryDevice;
 use engine::{Engine, Pass};
-use gates::Open;
 use std::alloc::Global;
 use std::sync::Wait;
 use std::test::Fail;
@@ -18,16 +17,50 @@ use std::thread::{Threads, join};
 use transact::call::{Answer, Call};
 use words::command::{Command, When};
 use words::history::Commands;
-use words::limits::KEY_BYTES_MAX;
 use words::number;
-use words::reply::Reply;
+use words::reply::{CommandReply, Item, Reply};
 use words::word::Word;
 
 /// How often each of two passes tries to add 1.
 const TRIES: u64 = 500;
 
+/// The reply to a command, where it is not answered by a fault. The pass watches what it did then.
+#[tactic(auto, using(crate::proofs::Watching::reads_on))]
+fn reply_to<R: Wait>(
+    rt: &R,
+    engine: &Engine<MemoryDevice>,
+    pass: &mut Pass<MemoryDevice>,
+    command: Command,
+) -> Option<Reply>
+    requires rests { Rests ⊤ engine.now pass.old }
+    requires place { IsTrue (touches_keys command) × IsBounded command }
+    ensures rests { Rests ⊤ engine.now pass.new }
+    ensures watches { IsSome result → (knows (λ device. 0) pass.new).watched ≡ (knows (λ device. 0) pass.old).watched }
+{
+    match engine.submit(rt, pass, Call::One(command)) {
+        Answer::Reply(reply) => Some(reply),
+        Answer::Fault(_) => None,
+    }
+}
+
+/// The number that a reply gives, which is 0 where the key is missing.
+fn number_of(reply: &Reply) -> Option<i64> {
+    match reply {
+        Reply::Single(CommandReply::One(Item::Bulk(word))) => number::parse(word.as_slice()),
+        Reply::Single(CommandReply::One(Item::Null)) => Some(0),
+        _ => None,
+    }
+}
+
+/// The command that gets a key. `None` where there was no memory.
+fn getting(key: &Word) -> Option<Command>
+    ensures { IfSome result (λ command. IsTrue (touches_keys command) × IsBounded command) }
+{
+    let command = Command::Get(key.clone().ok()?);
+    Some(command).filter(|command| has_place(command))
+}
+
 /// The number that a key has, which is 0 where it is missing. The pass watches what it did.
-#[tactic(auto, using(crate::proofs::Watching::reads_on, crate::proofs::Watching::fails_on))]
 pub(super) fn number_at<R: Wait>(
     rt: &R,
     engine: &Engine<MemoryDevice>,
@@ -36,16 +69,10 @@ pub(super) fn number_at<R: Wait>(
 ) -> Option<i64>
     requires { Rests ⊤ engine.now pass.old }
     ensures rests { Rests ⊤ engine.now pass.new }
-    ensures watches { (knows (λ device. 0) pass.new).watched ≡ (knows (λ device. 0) pass.old).watched }
+    ensures watches { IsSome result → (knows (λ device. 0) pass.new).watched ≡ (knows (λ device. 0) pass.old).watched }
 {
-    if key.len() > KEY_BYTES_MAX {
-        return None;
-    }
-    match engine.get(rt, pass, key, &Open) {
-        Ok(Some(word)) => number::parse(word.as_slice()),
-        Ok(None) => Some(0),
-        Err(_) => None,
-    }
+    let reply = reply_to(rt, engine, pass, getting(key)?)?;
+    number_of(&reply)
 }
 
 /// The command that sets a key to a number. `None` where there was no memory.
