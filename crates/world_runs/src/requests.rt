@@ -13,12 +13,12 @@ const KEYS: [u8; 64] = *b"0123456789abcdefghijklmnopqrstuvwxyzABCDEFGHIJKLMNOPQR
 const OFTEN: usize = 8;
 
 /// A value of this many bytes or more has a page for itself.
-const LARGE: usize = 8_170;
+const LARGE: usize = 32_731;
 
 /// How many lengths a large value may have, and a small one.
 const LARGE_LENGTHS: usize = 20;
 
-const SMALL_LENGTHS: usize = 2_000;
+const SMALL_LENGTHS: usize = 8_000;
 
 /// A random request: a GET, an MGET of two keys, a DEL, a WATCH, a SET of a random value, an MSET of two small ones; or
 /// the four of a transaction with a SET and a GET. Where logs grow, a SET three of four times.
