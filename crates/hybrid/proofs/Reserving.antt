@@ -1,5 +1,5 @@
 -- What the loop of flushes and drops keeps.
-use Rattle.std.proofs.Common.{◌≡◌, ◌⊎◌, ℕ, zero, suc, ◌+◌, ◌-◌, ◌/◌, ◌<◌, ◌≤◌, cond, inl, inr, List, length, drop, Option, Some, None, [], ◌∷◌, refl, sym, ap, ◌∙◌, subst, arith, length-set, true, false}
+use Rattle.std.proofs.Common.{◌≡◌, ◌⊎◌, ℕ, suc, ◌+◌, ◌-◌, ◌/◌, ◌<◌, ◌≤◌, cond, inl, inr, List, length, drop, Option, Some, None, [], ◌∷◌, refl, sym, ap, ◌∙◌, subst, arith, length-set, true, false}
 use Rattle.std.specs.Bool.{OnFalse}
 use Rattle.std.specs.Prelude.{Bool, Result, Ok, Err, OnErr, slice_index_or, IsSome, nat_lt, if◌then◌else◌}
 use Rattle.std.proofs.lemmas.List.{get_or-set_other, length-drop, drop-drop}

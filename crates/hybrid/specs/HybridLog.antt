@@ -1,5 +1,5 @@
 -- What a stripe is seen as: a hybrid log (FASTER, "HybridLog") whose oldest pages are on a device, and its index.
-use Rattle.std.specs.Prelude.{◌≡◌, ◌⊎◌, ℕ, suc, ◌+◌, ◌-◌, ◌*◌, ◌/◌, ◌%◌, ◌^◌, ◌<◌, ◌≤◌, List, [], ◌∷◌, ◌++◌, length, map, take, drop, replicate, slice_index, slice_index_or, slice_set, nat_lt, ◌&&◌, if◌then◌else◌, Option, Some, None, IsSome}
+use Rattle.std.specs.Prelude.{◌≡◌, ◌⊎◌, ℕ, suc, ◌+◌, ◌-◌, ◌*◌, ◌/◌, ◌%◌, ◌^◌, ◌<◌, ◌≤◌, List, [], ◌∷◌, ◌++◌, length, map, take, drop, replicate, slice_index, slice_index_or, slice_set, nat_lt, if◌then◌else◌, Option, Some, None, IsSome}
 use Rattle.std.specs.List.{All, Contains}
 use Rattle.records.specs.Records.{Stored, records_of, IsLaidOut}
 use Rattle.records.specs.declared.pages.TheConstants.{PAGE_SIZE, HEADER_SIZE}

@@ -4,7 +4,7 @@ ghost use Rattle.std.specs.Prelude.{◌≡◌, ◌+◌, ◌-◌, ◌<◌, ◌≤
 ghost use Rattle.std.specs.Bool.{OnTrue, OnFalse};
 ghost use Rattle.records.specs.Page.{used_end};
 ghost use Rattle.frames.specs.Resident.{IsResident, next_number, page_of};
-ghost use Rattle.hybrid.specs.HybridLog.{HybridLog, IsHybridLog, IsSealed, count_kept, empty_log, expected, free, log_of, receipt_at, receipt_of};
+ghost use Rattle.hybrid.specs.HybridLog.{HybridLog, IsHybridLog, IsSealed, count_kept, empty_log, free, log_of, receipt_at, receipt_of};
 ghost use Rattle.hybrid.specs.Log.{contents};
 ghost use Rattle.hybrid.specs.Reserving.{IsFull};
 ghost use Rattle.hybrid.specs.declared.stripe.TheConstants.{CALL_PAGES};
@@ -185,14 +185,6 @@ impl<R: Shows> Stripe<R> {
         ensures { IsTrue result ↔ (free self.now < CALL_PAGES) }
     {
         self.free() < CALL_PAGES
-    }
-
-    /// Whether fewer frames than the cleaning of a page can want are free or may be had: for places that are not taken, or
-    /// whose receipts wait to be released. A deletion that opened a page near the limit of places leaves the stripe so.
-    pub fn lacks_clean_frames(&self) -> bool
-        ensures { IsTrue result ↔ (expected self.now < CLEAN_PAGES) }
-    {
-        self.places - self.kept < CLEAN_PAGES.saturating_sub(self.free())
     }
 
     /// The number of the oldest page.

@@ -324,13 +324,13 @@ fn a_trace_without_events(rt: HostRuntime) {
 
 #[test]
 fn a_schedule_without_events(rt: HostRuntime) {
-    assert!(rt; prints(rt.alloc(), b"world 3 1 12\n", b"0:\n1:\n2:\nentries 0\n"));
+    assert!(rt; prints(rt.alloc(), b"world 3 1 256\n", b"0:\n1:\n2:\nentries 0\n"));
 }
 
 /// A pipelined `PING` and a fault are answered in one piece, and a client that was closed hears no more.
 #[test]
 fn a_closed_client_hears_no_more(rt: HostRuntime) {
-    let schedule = b"world 1 64 256
+    let schedule = b"world 1 64 12
 piece 0 2a310d0a24340d0a50494e470d0a
 close 0
 piece 0 2a310d0a24340d0a50494e470d0a
