@@ -1,6 +1,6 @@
 //! Requests where an allocation is refused.
 //!
-//! Each of these is meant for runs with each allocation refused in turn (`bench/refused`). Then each request has its
+//! Each of these is meant for runs with each allocation refused in turn (`bench/refused/tests`). Then each request has its
 //! reply or the out-of-memory line, and what follows goes by that.
 
 ghost use Rattle.std.specs.Prelude.{◌≡◌, []};

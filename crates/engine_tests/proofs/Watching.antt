@@ -8,7 +8,7 @@ use Rattle.words.specs.Session.{Watch}
 use Rattle.engine.specs.Passes.{Known}
 use Rattle.engine.specs.Calls.{IsDone}
 use Rattle.words.specs.declared.command.Command.{Command}
-use Rattle.words.specs.Session.Asked as asked
+use Rattle.words.specs.Session as asked
 
 -- a pass that watched nothing watches one key alone
 pub watches_one : (stripes : List ℕ) (keys : List Bytes) (key : Bytes) (reply : Reply) (was now : Known) → IsDone stripes (Some (Watch keys)) reply was now

@@ -23,39 +23,37 @@ use words::word::Word;
 /// How often the keys of `steps` are set at most. Each time they take ten pages.
 const ROUNDS: u64 = 300;
 
-/// An engine of one stripe of 12 frames, with its five passes.
-fn narrow_of_five(alloc: Global) -> Option<(Engine<MemoryDevice>, Vec<Pass<MemoryDevice>>)>
-    ensures count { IfSome result (λ made. vec_len made.1 ≡ 5) }
+/// An engine of one stripe of 12 frames, with its four passes.
+fn narrow_of_four(alloc: Global) -> Option<(Engine<MemoryDevice>, Vec<Pass<MemoryDevice>>)>
+    ensures count { IfSome result (λ made. vec_len made.1 ≡ 4) }
     ensures stripes { IfSome result (λ made. stripe_count made.0 ≡ 1) }
     ensures rest { IfSome result (λ made. All (Rests ⊤ made.0) made.1.items) }
     ensures watch { IfSome result (λ made. All (λ pass. (knows (λ device. 0) pass).watched ≡ []) made.1.items) }
 {
-    let limits = Limits::new(1, 64, FRAMES_MIN, 4096, 2)?;
-    let openings = MemoryDevice::openings(alloc, 2 + BACKGROUND_PASSES).ok()?;
+    let limits = Limits::new(1, 64, FRAMES_MIN, 4096, 1)?;
+    let openings = MemoryDevice::openings(alloc, 1 + BACKGROUND_PASSES).ok()?;
     match Engine::new(alloc, &limits, openings) {
         Ok(made) => Some(made),
         Err(_) => None,
     }
 }
 
-/// Fills pages by one pass and makes steps of the background by another, over and over until the others have ended: how
-/// often pages were filled and three steps were done.
+/// Fills pages and makes steps of the background, over and over until the others have ended: how often pages were filled and
+/// three steps were done.
 fn works_until<R: Wait>(
     rt: &R,
     alloc: Global,
     engine: &Engine<MemoryDevice>,
-    mut filler: Pass<MemoryDevice>,
-    mut background: Pass<MemoryDevice>,
+    mut pass: Pass<MemoryDevice>,
     ended: &AtomicBool,
 ) -> u64
     requires one { stripe_count engine.now ≡ 1 }
-    requires filler { Rests ⊤ engine.now filler }
-    requires background { Rests ⊤ engine.now background }
+    requires rests { Rests ⊤ engine.now pass }
 {
     let mut done = 0u64;
     for _round in 0..ROUNDS {
-        let set = fill(rt, alloc, engine, &mut filler, &VALUE, KEYS);
-        if three_steps(rt, engine, &mut background) && set == Some(KEYS) {
+        let set = fill(rt, alloc, engine, &mut pass, &VALUE, KEYS);
+        if three_steps(rt, engine, &mut pass) && set == Some(KEYS) {
             done = done.saturating_add(1);
         }
         if ended.load(Ordering::SeqCst) {
@@ -73,7 +71,6 @@ fn all_move_beside<R: Threads + Wait + Sync>(
     one: Pass<MemoryDevice>,
     two: Pass<MemoryDevice>,
     three: Pass<MemoryDevice>,
-    filler: Pass<MemoryDevice>,
     background: Pass<MemoryDevice>,
 ) -> (u64, (Told, (Told, Told)))
     requires stripes { stripe_count engine.now ≡ 1 }
@@ -82,7 +79,6 @@ fn all_move_beside<R: Threads + Wait + Sync>(
     requires two { Rests ⊤ engine.now two }
     requires two_nothing { (knows (λ device. 0) two).watched ≡ [] }
     requires three { Rests ⊤ engine.now three }
-    requires filler { Rests ⊤ engine.now filler }
     requires background { Rests ⊤ engine.now background }
     ensures one { Rests ⊤ engine.now result.1.0.0 }
     ensures three { Rests ⊤ engine.now result.1.1.1.0 }
@@ -93,9 +89,8 @@ fn all_move_beside<R: Threads + Wait + Sync>(
         rt,
         move || -> u64
             requires stripes { stripe_count engine.now ≡ 1 }
-            requires filler { Rests ⊤ engine.now filler }
             requires background { Rests ⊤ engine.now background }
-        { works_until(rt, alloc, engine, filler, background, told) },
+        { works_until(rt, alloc, engine, background, told) },
         move || -> (Told, (Told, Told))
             requires one { Rests ⊤ engine.now one }
             requires one_nothing { (knows (λ device. 0) one).watched ≡ [] }
@@ -115,15 +110,14 @@ fn all_move_beside<R: Threads + Wait + Sync>(
 /// Whether each of two passes moved beside the background, a third one found the whole each time, and once they have met
 /// the one that moved first and the one that reads find what is left. `None` where there was no memory.
 fn whole_is_kept_beside<R: Threads + Wait + Sync>(rt: &R, alloc: Global) -> Option<bool> {
-    let (engine, mut passes) = narrow_of_five(alloc)?;
-    let background = passes.swap_remove(4);
-    let filler = passes.swap_remove(3);
+    let (engine, mut passes) = narrow_of_four(alloc)?;
+    let background = passes.swap_remove(3);
     let mut three = passes.swap_remove(2);
     let two = passes.swap_remove(1);
     let one = passes.swap_remove(0);
     let set = is_due(rt, alloc, &Open, &engine, &mut three, BEFORE);
     let (done, ((mut first, moved), ((_second, also), (mut reader, found)))) = all_move_beside(
-        rt, alloc, &engine, one, two, three, filler, background,
+        rt, alloc, &engine, one, two, three, background,
     );
     engine.meet(&mut first, &mut reader);
     let all = is_due(rt, alloc, &Open, &engine, &mut first, AFTER)
@@ -145,7 +139,6 @@ fn both_add_beside<R: Threads + Wait + Sync>(
     engine: &Engine<MemoryDevice>,
     one: Pass<MemoryDevice>,
     two: Pass<MemoryDevice>,
-    filler: Pass<MemoryDevice>,
     background: Pass<MemoryDevice>,
     key: &Word,
 ) -> (u64, (Added, Added))
@@ -154,7 +147,6 @@ fn both_add_beside<R: Threads + Wait + Sync>(
     requires one_nothing { (knows (λ device. 0) one).watched ≡ [] }
     requires two { Rests ⊤ engine.now two }
     requires two_nothing { (knows (λ device. 0) two).watched ≡ [] }
-    requires filler { Rests ⊤ engine.now filler }
     requires background { Rests ⊤ engine.now background }
     ensures one { Rests ⊤ engine.now result.1.0.0 }
     ensures two { Rests ⊤ engine.now result.1.1.0 }
@@ -165,9 +157,8 @@ fn both_add_beside<R: Threads + Wait + Sync>(
         rt,
         move || -> u64
             requires stripes { stripe_count engine.now ≡ 1 }
-            requires filler { Rests ⊤ engine.now filler }
             requires background { Rests ⊤ engine.now background }
-        { works_until(rt, alloc, engine, filler, background, told) },
+        { works_until(rt, alloc, engine, background, told) },
         move || -> (Added, Added)
             requires one { Rests ⊤ engine.now one }
             requires one_nothing { (knows (λ device. 0) one).watched ≡ [] }
@@ -186,12 +177,11 @@ fn both_add_beside<R: Threads + Wait + Sync>(
 /// Whether each addition that was not null counts beside the background. `None` where an answer was not as is due.
 fn is_counted_beside<R: Threads + Wait + Sync>(rt: &R, alloc: Global) -> Option<bool> {
     let key = Word::from_slice(alloc, b"n").ok()?;
-    let (engine, mut passes) = narrow_of_five(alloc)?;
-    let background = passes.swap_remove(4);
-    let filler = passes.swap_remove(3);
+    let (engine, mut passes) = narrow_of_four(alloc)?;
+    let background = passes.swap_remove(3);
     let two = passes.swap_remove(1);
     let one = passes.swap_remove(0);
-    let (done, added) = both_add_beside(rt, alloc, &engine, one, two, filler, background, &key);
+    let (done, added) = both_add_beside(rt, alloc, &engine, one, two, background, &key);
     let all = counts_all(rt, &engine, added, &key)?;
     Some(all && done > 0)
 }
