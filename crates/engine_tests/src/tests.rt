@@ -635,6 +635,21 @@ fn a_refused_growth_changes_nothing(rt: HostRuntime) -> Result<(), Fail> {
     Ok(())
 }
 
+/// An engine, and two passes of it, which watch nothing.
+fn with_two_idle(
+    alloc: Global,
+) -> Result<(Engine<MemoryDevice>, Pass<MemoryDevice>, Pass<MemoryDevice>), OutOfMemory>
+    ensures first { IfOk result (λ made. Rests ⊤ made.0 made.1) }
+    ensures second { IfOk result (λ made. Rests ⊤ made.0 made.2) }
+    ensures nothing { IfOk result (λ made. (knows (λ device. 0) made.1).watched ≡ []) }
+    ensures second_nothing { IfOk result (λ made. (knows (λ device. 0) made.2).watched ≡ []) }
+{
+    let (engine, mut passes) = new_engine(alloc)?;
+    let second = passes.swap_remove(1);
+    let first = passes.swap_remove(0);
+    Ok((engine, first, second))
+}
+
 /// An engine, and two passes of it.
 fn with_two(
     alloc: Global,
@@ -642,7 +657,6 @@ fn with_two(
     ensures first { IfOk result (λ made. Rests ⊤ made.0 made.1) }
     ensures second { IfOk result (λ made. Rests ⊤ made.0 made.2) }
     ensures nothing { IfOk result (λ made. (knows (λ device. 0) made.1).watched ≡ []) }
-    ensures second_nothing { IfOk result (λ made. (knows (λ device. 0) made.2).watched ≡ []) }
 {
     let (engine, mut passes) = new_engine(alloc)?;
     let second = passes.swap_remove(1);

@@ -7,7 +7,7 @@ ghost use Rattle.words.specs.Commands.{touches_keys};
 ghost use Rattle.words.specs.History.{MayAllBeQueued, keys_of_pairs};
 ghost use Rattle.engine.specs.Passes.{knows, Rests};
 
-use super::{has_place, watches, watching_of, with_two};
+use super::{has_place, watches, watching_of, with_two_idle};
 use device::MemoryDevice;
 use engine::{Engine, Pass};
 use std::alloc::Global;
@@ -219,7 +219,7 @@ pub(super) fn counts_all<R: Wait>(
 /// Whether it is so of an engine of sixteen stripes. `None` where an answer was not as is due.
 fn is_counted<R: Threads + Wait + Sync>(rt: &R, alloc: Global) -> Option<bool> {
     let key = Word::from_slice(alloc, b"n").ok()?;
-    let (engine, one, two) = with_two(alloc).ok()?;
+    let (engine, one, two) = with_two_idle(alloc).ok()?;
     let added = both_add(rt, alloc, &engine, one, two, &key);
     counts_all(rt, &engine, added, &key)
 }
