@@ -1081,10 +1081,36 @@ fn null_after_two<R: Wait>(
 ) -> Option<bool> {
     let key = Word::from_slice(alloc, b"k").ok()?;
     let (engine, mut first, mut second) = with_two(alloc).ok()?;
-    if !is_due(rt, alloc, &Open, &engine, &mut second, before) {
+    null_between(
+        rt,
+        alloc,
+        &engine,
+        &mut first,
+        &mut second,
+        &key,
+        (before, exchange),
+    )
+}
+
+/// [`null_after`], where the second pass made a call before the watch began.
+fn null_between<R: Wait>(
+    rt: &R,
+    alloc: Global,
+    engine: &Engine<MemoryDevice>,
+    first: &mut Pass<MemoryDevice>,
+    second: &mut Pass<MemoryDevice>,
+    key: &Word,
+    exchanges: (Exchange<'_>, Exchange<'_>),
+) -> Option<bool>
+    requires first { Rests ⊤ engine.now first.old }
+    requires second { Rests ⊤ engine.now second.old }
+    requires nothing { (knows (λ device. 0) first.old).watched ≡ [] }
+{
+    let (before, exchange) = exchanges;
+    if !is_due(rt, alloc, &Open, engine, second, before) {
         return None;
     }
-    null_after(rt, alloc, &engine, &mut first, &mut second, &key, exchange)
+    null_after(rt, alloc, engine, first, second, key, exchange)
 }
 
 /// What a RENAME by another pass is answered after SET of a key, and whether it writes the key `k`, which is watched
