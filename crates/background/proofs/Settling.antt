@@ -1,18 +1,18 @@
 -- What is told of a step of the cleaner, and what its pass and its seat then know.
-use Rattle.std.proofs.Common.{◌≡◌, ◌∙◌, ◌+◌, ℕ, Bool, true, false, Option, Some, List, [], ◌∷◌, ◌++◌, Result, Ok, Err, IfOk, IfErr, OnOk, inl, inr, None, append_assoc, refl, sym, ap, subst, cond}
+use Rattle.std.proofs.Common.{◌≡◌, ◌∙◌, ◌+◌, ℕ, zero, suc, Bool, true, false, Option, Some, List, [], ◌∷◌, ◌++◌, Result, Ok, Err, IfOk, IfErr, OnOk, None, append_assoc, refl, sym, ap, subst, cond}
 use Rattle.std.specs.Prelude.{⊤}
 use Rattle.std.proofs.lemmas.Bool.{le-ltb}
 use Rattle.epoch.specs.declared.view.View.{View}
 use Rattle.epoch.specs.declared.view.Note.{Note}
 use Rattle.epoch.specs.declared.view.Note.TheVariants.{Worn}
-use Rattle.epoch.specs.Seats.{AdvancedPast, WasWorn}
+use Rattle.epoch.specs.Seats.{WasWorn}
 use Rattle.words.specs.declared.reply.Fault.{Fault}
 use Rattle.words.specs.declared.reply.Fault.TheVariants as fault
 use Rattle.gates.specs.declared.view.Knowledge.{Knowledge}
 use Rattle.gates.specs.declared.view.Note.TheVariants as note
 use Rattle.gates.specs.declared.view.Work.TheVariants.{Clean}
 use Rattle.gates.specs.declared.view.Refused.{Refused}
-use Rattle.gates.specs.Background.{AreRefused, IsIdle, IsStep, IsToldOf, notes_of}
+use Rattle.gates.specs.Background.{AreRefused, IsIdle, IsSpent, IsStep, IsToldOf, notes_of}
 use Rattle.gates.specs.Pages.{IsFull, Pages}
 use Rattle.gates.specs.Passes.{Learned, ToldBusy}
 use Rattle.gates.specs.Plays.{kept}
@@ -22,12 +22,15 @@ use Rattle.hybrid.specs.Staging.{IsMissing, StagedPage}
 use Rattle.plans.specs.declared.cleaning.Stepped.{Stepped}
 use Rattle.plans.specs.declared.cleaning.Stepped.TheVariants as stepped
 use Rattle.plans.specs.declared.shard.Shard.{Shard}
-use Rattle.plans.specs.Cleaning.{HasTried, MatchFault, MatchStepped}
+use Rattle.plans.specs.Cleaning.{MatchFault, MatchStepped}
+use Rattle.plans.specs.Flushing.{MatchUnflushed}
+use Rattle.plans.specs.declared.flushing.Unflushed.{Unflushed}
+use Rattle.plans.specs.declared.flushing.Unflushed.TheVariants as unflushed
 use Rattle.plans.specs.Shards.{shard_meaning, shard_pages}
 use Rattle.background.specs.declared.clean.Round.{Round}
 use Rattle.background.specs.declared.clean.Round.TheVariants as round
-use Rattle.background.specs.Heard.{HasHeard, HasHeardWorn}
-use Rattle.background.specs.Visits.{HasCleaned, HasLooked, MatchRound, MayTell, Visited, none_refused, report_for, round_for}
+use Rattle.plans.specs.Heard.{HasHeard, HasHeardWorn, HasTried, worn_times}
+use Rattle.background.specs.Visits.{HasCleaned, HasLooked, MatchRound, MayTell, Visited, WasFull, none_refused, report_for, round_for}
 use Rattle.background.proofs.Visiting.{visited, visited_twice}
 
 -- what holds of what was made holds in another form
@@ -36,40 +39,40 @@ ok_as (Ok x) P Q to p = to x p
 ok_as (Err e) P Q to p = tt
 
 -- and so does what holds of the page that is wanted
-pub cold_as : (came : Result Stepped Fault) (P Q : ℕ → Type 0) → ((number : ℕ) → P number → Q number) → IfOk came (λ step. MatchStepped step ⊤ (λ refused. ⊤) P)
-    → IfOk came (λ step. MatchStepped step ⊤ (λ refused. ⊤) Q)
+pub cold_as : (came : Result Stepped Fault) (P Q : ℕ → Type 0) → ((number : ℕ) → P number → Q number) → IfOk came (λ step. MatchStepped step ⊤ (λ refused. ⊤) (λ refused. ⊤) P)
+    → IfOk came (λ step. MatchStepped step ⊤ (λ refused. ⊤) (λ refused. ⊤) Q)
 cold_as (Ok stepped.Done) P Q to p = tt
 cold_as (Ok (stepped.Idle refused)) P Q to p = tt
+cold_as (Ok (stepped.Full refused)) P Q to p = tt
 cold_as (Ok (stepped.Cold number)) P Q to p = to number p
 cold_as (Err fault) P Q to p = tt
 
--- and what holds where the store is full
-pub full_as : (came : Result Stepped Fault) (memory device P Q : Type 0) → (P → Q) → IfErr came (λ fault. MatchFault fault memory device P) → IfErr came (λ fault. MatchFault fault memory device Q)
-full_as (Ok step) memory device P Q to p = tt
-full_as (Err fault.OutOfMemory) memory device P Q to p = p
-full_as (Err fault.DeviceFault) memory device P Q to p = p
-full_as (Err fault.StoreFull) memory device P Q to p = to p
-full_as (Err fault.CommitsWornOut) memory device P Q to p = p
-
 -- what a step came to may be told
-pub may_tell : (came : Result Stepped Fault) (was now : Pages) (memory device same : Type 0)
-    → IfOk came (λ step. MatchStepped step ((refused : Refused) → IsStep (Clean refused) was now) (λ refused. IsIdle (Clean refused) now × AreRefused (Clean refused) was now) (λ number. ⊤))
-    → IfErr came (λ fault. MatchFault fault memory device (IsFull now × same)) → MayTell came was now
-may_tell (Ok stepped.Done) was now memory device same step full = step
-may_tell (Ok (stepped.Idle refused)) was now memory device same step full = step
-may_tell (Ok (stepped.Cold number)) was now memory device same step full = tt
-may_tell (Err fault.OutOfMemory) was now memory device same step full = tt
-may_tell (Err fault.DeviceFault) was now memory device same step full = tt
-may_tell (Err fault.StoreFull) was now memory device same step full = full.0
-may_tell (Err fault.CommitsWornOut) was now memory device same step full = tt
+pub may_tell : (came : Result Stepped Fault) (was now : Pages)
+    → IfOk came (λ step. MatchStepped step ((refused : Refused) → IsStep (Clean refused) was now) (λ refused. IsIdle (Clean refused) now × AreRefused (Clean refused) was now) (λ refused. IsFull now × IsSpent refused was now) (λ number. ⊤))
+    → MayTell came was now
+may_tell (Ok stepped.Done) was now step = step
+may_tell (Ok (stepped.Idle refused)) was now step = step
+may_tell (Ok (stepped.Full refused)) was now step = step
+may_tell (Ok (stepped.Cold number)) was now step = tt
+may_tell (Err fault.OutOfMemory) was now step = tt
+may_tell (Err fault.DeviceFault) was now step = tt
+may_tell (Err fault.StoreFull) was now step = tt
+may_tell (Err fault.CommitsWornOut) was now step = tt
+
+-- by why a page was not written
+pub unflushed_as : (r : Result Bool Unflushed) (D E : Type 0) (P Q : Refused → Type 0) → (D → E) → ((refused : Refused) → P refused → Q refused) → IfErr r (λ fault. MatchUnflushed fault D P) → IfErr r (λ fault. MatchUnflushed fault E Q)
+unflushed_as (Ok done) D E P Q one two is = tt
+unflushed_as (Err unflushed.DeviceFault) D E P Q one two is = one is
+unflushed_as (Err (unflushed.Full refused)) D E P Q one two is = two refused is
 
 -- what was made is this
 pub ok_is : {A E : Type 0} (r : Result A E) (x y : A) → r ≡ Ok x → x ≡ y → r ≡ Ok y
 ok_is {A} {E} r x y is same = subst (λ (z : A). r ≡ Ok z) same is
 
 -- the page that is wanted
-pub cold_is : (came : Result Stepped Fault) (number : ℕ) (P : ℕ → Type 0) → came ≡ Ok (stepped.Cold number) → IfOk came (λ step. MatchStepped step ⊤ (λ refused. ⊤) P) → P number
-cold_is came number P is p = subst (λ (r : Result Stepped Fault). IfOk r (λ step. MatchStepped step ⊤ (λ refused. ⊤) P)) is p
+pub cold_is : (came : Result Stepped Fault) (number : ℕ) (P : ℕ → Type 0) → came ≡ Ok (stepped.Cold number) → IfOk came (λ step. MatchStepped step ⊤ (λ refused. ⊤) (λ refused. ⊤) P) → P number
+cold_is came number P is p = subst (λ (r : Result Stepped Fault). IfOk r (λ step. MatchStepped step ⊤ (λ refused. ⊤) (λ refused. ⊤) P)) is p
 
 -- what was not refused
 pub on_ok_is : (came : Result Stepped Fault) (step : Stepped) (P : Type 0) → came ≡ Ok step → OnOk came P → P
@@ -84,30 +87,35 @@ pub may_be_told : {R : Type 0} (trusted : Type 0) (stripe : ℕ) (came : Result 
     → part_at took stripe ≡ Some (moment, old) → part_at parts stripe ≡ Some new → MayTell came (shard_pages old) (shard_pages new) → IsToldOf (shard_meaning trusted) took parts (report_for stripe came)
 may_be_told trusted stripe (Ok stepped.Done) took parts old new moment was is may = record { part = new; there = is; is = ((moment, old), was, may none_refused) }
 may_be_told trusted stripe (Ok (stepped.Idle refused)) took parts old new moment was is may = record { part = new; there = is; is = (may.0, (moment, old), was, may.1) }
+may_be_told trusted stripe (Ok (stepped.Full refused)) took parts old new moment was is may = record { part = new; there = is; is = (may.0, (moment, old), was, may.1) }
 may_be_told trusted stripe (Ok (stepped.Cold number)) took parts old new moment was is may = tt
-may_be_told trusted stripe (Err fault.StoreFull) took parts old new moment was is may = record { part = new; there = is; is = may }
+may_be_told trusted stripe (Err fault.StoreFull) took parts old new moment was is may = tt
 may_be_told trusted stripe (Err fault.DeviceFault) took parts old new moment was is may = tt
 may_be_told trusted stripe (Err fault.OutOfMemory) took parts old new moment was is may = tt
 may_be_told trusted stripe (Err fault.CommitsWornOut) took parts old new moment was is may = tt
 
 -- what a seat was told before it tried stands
-heard_by : (before later : View) → HasTried before later → HasHeard before later
-heard_by before later tried = elim tried [
-  | inl same ↦ record { more = []; notes = ap (λ (v : View). v.notes) same }
-  | inr (inl past) ↦ record { more = []; notes = past.1.notes }
-  | inr (inr worn) ↦ record { more = Worn ∷ []; notes = worn.notes }
-]
+abbrev worn_list : ℕ → List Note
+worn_list zero = []
+worn_list (suc n) = Worn ∷ worn_list n
+
+worn_is : (n : ℕ) (notes : List Note) → worn_times n notes ≡ worn_list n ++ notes
+worn_is zero notes = refl
+worn_is (suc n) notes = ap (λ (l : List Note). Worn ∷ l) (worn_is n notes)
+
+pub heard_by : (before later : View) → HasTried before later → HasHeard before later
+heard_by before later tried = record { more = worn_list tried.times; notes = tried.notes ∙ worn_is tried.times before.notes }
 
 worn_by : (before later : View) → WasWorn before later → HasHeardWorn before later
 worn_by before later worn = record { more = []; notes = worn.notes }
 
-heard_both : (one two three : View) → HasHeard one two → HasHeard two three → HasHeard one three
+pub heard_both : (one two three : View) → HasHeard one two → HasHeard two three → HasHeard one three
 heard_both one two three first second = record {
   more = second.more ++ first.more;
   notes = second.notes ∙ ap (λ (l : List Note). second.more ++ l) first.notes ∙ sym (append_assoc second.more first.more one.notes);
 }
 
-worn_later : (one two three : View) → HasHeard one two → HasHeardWorn two three → HasHeardWorn one three
+pub worn_later : (one two three : View) → HasHeard one two → HasHeardWorn two three → HasHeardWorn one three
 worn_later one two three first second = record {
   more = second.more ++ first.more;
   notes = second.notes ∙ ap (λ (l : List Note). Worn ∷ (second.more ++ l)) first.notes ∙ ap (λ (l : List Note). Worn ∷ l) (sym (append_assoc second.more first.more one.notes));
@@ -115,18 +123,19 @@ worn_later one two three first second = record {
 
 -- what a round comes to whose step came to this
 pub settled : (lends : Type 0) (stripes : List ℕ) (stripe : ℕ) (came : Result Stepped Fault) (reads : Bool) (f0 f1 : ℕ) (before held later : Knowledge) (u v : View) → Learned before held
-    → ToldBusy stripes before held → later ≡ kept false (notes_of (report_for stripe came)) held → IfErr came (λ fault. MatchFault fault ((lends → ⊥) × (f1 ≡ f0)) (f1 ≡ f0 + 1) (f1 ≡ f0)) → OnOk came (f1 ≡ f0)
-    → IfOk came (λ step. MatchStepped step ⊤ (λ refused. refused.retire ≡ true → WasWorn u v) (λ number. ⊤)) → IfOk came (λ step. MatchStepped step ⊤ (λ refused. ⊤) (λ number. (reads ≡ false) × (lends → ⊥)))
+    → ToldBusy stripes before held → later ≡ kept false (notes_of (report_for stripe came)) held → IfErr came (λ fault. MatchFault fault ((lends → ⊥) × (f1 ≡ f0)) (f1 ≡ f0 + 1) ⊥) → OnOk came (f1 ≡ f0)
+    → IfOk came (λ step. MatchStepped step ⊤ (λ refused. refused.retire ≡ true → WasWorn u v) (λ refused. refused.retire ≡ true → HasHeardWorn u v) (λ number. ⊤)) → IfOk came (λ step. MatchStepped step ⊤ (λ refused. ⊤) (λ refused. ⊤) (λ number. (reads ≡ false) × (lends → ⊥)))
     → HasTried u v
     → MatchRound (round_for came) (λ ended. HasCleaned lends stripes stripe ended f0 f1 before later u v) ((reads ≡ false) × HasLooked stripes f0 f1 before later u v)
 settled lends stripes stripe (Ok stepped.Done) reads f0 f1 before held later u v learned busy is failed fine worn cold tried =
     (fine, none_refused, visited stripes (note.Done stripe (Clean none_refused) ∷ []) before held later learned busy is)
 settled lends stripes stripe (Ok (stepped.Idle refused)) reads f0 f1 before held later u v learned busy is failed fine worn cold tried =
     (fine, refused, visited stripes (note.Idle stripe (Clean refused) ∷ []) before held later learned busy is, λ retire. worn_by u v (worn retire))
+settled lends stripes stripe (Ok (stepped.Full refused)) reads f0 f1 before held later u v learned busy is failed fine worn cold tried =
+    (fine, record { refused = refused; visited = visited stripes (note.Full stripe refused ∷ []) before held later learned busy is; worn = worn })
 settled lends stripes stripe (Ok (stepped.Cold number)) reads f0 f1 before held later u v learned busy is failed fine worn cold tried =
     (cold.0, record { failures = fine; visited = visited stripes [] before held later learned busy is; heard_more = heard_by u v tried })
-settled lends stripes stripe (Err fault.StoreFull) reads f0 f1 before held later u v learned busy is failed fine worn cold tried =
-    (failed, visited stripes (note.Full stripe ∷ []) before held later learned busy is)
+settled lends stripes stripe (Err fault.StoreFull) reads f0 f1 before held later u v learned busy is failed fine worn cold tried = absurd failed
 settled lends stripes stripe (Err fault.DeviceFault) reads f0 f1 before held later u v learned busy is failed fine worn cold tried =
     (failed, visited stripes [] before held later learned busy is)
 settled lends stripes stripe (Err fault.OutOfMemory) reads f0 f1 before held later u v learned busy is failed fine worn cold tried =
@@ -154,6 +163,14 @@ looked_outside lends stripes stripe (Err fault.OutOfMemory) reads f0 f1 f2 befor
     (unlent, failed ∙ same, visited stripes [] before held later learned busy is)
 looked_outside lends stripes stripe (Err fault.CommitsWornOut) reads f0 f1 f2 before held later u v inside w learned busy is same outside unlent tried enters leaves again failed fine = failed
 
+-- a visit that told nothing, and then the store was full
+pub full_later : (stripes : List ℕ) (stripe : ℕ) (a b c : Knowledge) (u v w : View) → Visited stripes [] a b → HasHeard u v → WasFull stripes stripe b c v w → WasFull stripes stripe a c u w
+full_later stripes stripe a b c u v w first heard full = record {
+  refused = full.refused;
+  visited = visited_twice stripes (note.Full stripe full.refused ∷ []) a b c first full.visited;
+  worn = λ retire. worn_later u v w heard (full.worn retire);
+}
+
 -- a look that told nothing, and then a round that ended
 pub cleaned_later : (lends : Type 0) (stripes : List ℕ) (stripe : ℕ) (ended : Result Bool Fault) (f0 f1 f2 : ℕ) (a b c : Knowledge) (u v w : View) → HasLooked stripes f0 f1 a b u v
     → HasCleaned lends stripes stripe ended f1 f2 b c v w → HasCleaned lends stripes stripe ended f0 f2 a c u w
@@ -166,7 +183,7 @@ cleaned_later lends stripes stripe (Ok false) f0 f1 f2 a b c u v w looked cleane
   λ retire. worn_later u v w looked.heard_more (cleaned.3 retire),
 )
 cleaned_later lends stripes stripe (Err fault.StoreFull) f0 f1 f2 a b c u v w looked cleaned =
-    (cleaned.0 ∙ looked.failures, visited_twice stripes (note.Full stripe ∷ []) a b c looked.visited cleaned.1)
+    (cleaned.0 ∙ looked.failures, full_later stripes stripe a b c u v w looked.visited looked.heard_more cleaned.1)
 cleaned_later lends stripes stripe (Err fault.DeviceFault) f0 f1 f2 a b c u v w looked cleaned =
     (cleaned.0 ∙ ap (λ (n : ℕ). n + 1) looked.failures, visited_twice stripes [] a b c looked.visited cleaned.1)
 cleaned_later lends stripes stripe (Err fault.OutOfMemory) f0 f1 f2 a b c u v w looked cleaned =
@@ -194,8 +211,9 @@ pub kept_of : (log : HybridLog) (staged : List StagedPage) (number : ℕ) (missi
 kept_of log staged number missing = ap (λ t. cond t None (receipt_of log number)) (le-ltb number log.oldest missing.live) ∙ missing.has
 
 -- a step that reads wants no page
-pub never_again : (lends : Type 0) (came : Result Stepped Fault) → IfOk came (λ step. MatchStepped step ⊤ (λ refused. ⊤) (λ number. (true ≡ false) × (lends → ⊥))) → round_for came ≡ Ok round.Again → ⊥
+pub never_again : (lends : Type 0) (came : Result Stepped Fault) → IfOk came (λ step. MatchStepped step ⊤ (λ refused. ⊤) (λ refused. ⊤) (λ number. (true ≡ false) × (lends → ⊥))) → round_for came ≡ Ok round.Again → ⊥
 never_again lends (Ok stepped.Done) cold is = cc is
 never_again lends (Ok (stepped.Idle refused)) cold is = cc is
+never_again lends (Ok (stepped.Full refused)) cold is = cc is
 never_again lends (Ok (stepped.Cold number)) cold is = cc cold.0
 never_again lends (Err fault) cold is = cc is

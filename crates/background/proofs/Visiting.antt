@@ -6,7 +6,7 @@ use Rattle.words.specs.Store.{Bytes}
 use Rattle.words.specs.Watches.{Marks}
 use Rattle.gates.specs.declared.view.Knowledge.{Knowledge}
 use Rattle.gates.specs.declared.view.Note.{Note}
-use Rattle.gates.specs.declared.view.Note.TheVariants.{Busy, Worn, Full, Idle, Done}
+use Rattle.gates.specs.declared.view.Note.TheVariants.{Busy, Worn, Full, Idle, Done, Seen}
 use Rattle.words.specs.History.{History}
 use Rattle.gates.specs.declared.gates.Gates.{Gates}
 use Rattle.gates.specs.declared.held.Held.{Held}
@@ -59,9 +59,10 @@ busy_both : (stripes : List ℕ) (one two : List Note) → AreBusy stripes one �
 busy_both stripes [] two first second = second
 busy_both stripes (Busy stripe ∷ one) two first second = (first.0, busy_both stripes one two first.1 second)
 busy_both stripes (Worn ∷ one) two first second = absurd first
-busy_both stripes (Full stripe ∷ one) two first second = absurd first
+busy_both stripes (Full stripe refused ∷ one) two first second = absurd first
 busy_both stripes (Idle stripe work ∷ one) two first second = absurd first
 busy_both stripes (Done stripe work ∷ one) two first second = absurd first
+busy_both stripes (Seen stripe look ∷ one) two first second = absurd first
 
 -- a visit that told nothing, and another one
 pub visited_twice : (stripes : List ℕ) (told : List Note) (a b c : Knowledge) → Visited stripes [] a b → Visited stripes told b c → Visited stripes told a c

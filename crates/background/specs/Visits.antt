@@ -13,11 +13,13 @@ use Rattle.gates.specs.declared.view.Note.{Note}
 use Rattle.gates.specs.declared.view.Note.TheVariants as note
 use Rattle.gates.specs.declared.report.Report.{Report}
 use Rattle.gates.specs.declared.report.Report.TheVariants as report
-use Rattle.gates.specs.Background.{AreRefused, IsIdle, IsStep}
+use Rattle.gates.specs.Background.{AreRefused, IsIdle, IsSpent, IsStep}
 use Rattle.gates.specs.Pages.{IsFull, Pages}
 use Rattle.gates.specs.Passes.{AreBusy}
 use Rattle.gates.specs.Rule.{Meaning}
 use Rattle.hybrid.specs.HybridLog.{Kept, receipt_at}
+use Rattle.plans.specs.declared.flushing.Ending.{Ending}
+use Rattle.plans.specs.declared.flushing.Ending.TheVariants as ending
 use Rattle.plans.specs.declared.cleaning.Stepped.{Stepped}
 use Rattle.plans.specs.declared.cleaning.Stepped.TheVariants as stepped
 use Rattle.background.specs.declared.cells.Began.{Began}
@@ -27,7 +29,7 @@ use Rattle.plans.specs.declared.shard.Shard.{Shard}
 use Rattle.plans.specs.Shards.{shard_log}
 use Rattle.background.specs.declared.clean.Round.{Round}
 use Rattle.background.specs.declared.clean.Round.TheVariants as round
-use Rattle.background.specs.Heard.{HasHeard, HasHeardWorn}
+use Rattle.plans.specs.Heard.{HasHeard, HasHeardWorn}
 
 -- The pass was told this last, and before it that others had stripes of these, and nothing else. It made no entry, and watches what it did.
 pub record Visited (stripes : List ℕ) (last : List Note) (was now : Knowledge) : Type 0 where
@@ -53,31 +55,45 @@ abbrev pub told : Work → (stripe : ℕ) → (done : Bool) → List Note
 told work stripe true = note.Done stripe work ∷ []
 told work stripe false = note.Idle stripe work ∷ []
 
--- what is told where a flush begins
-abbrev pub told_at_begin : (stripe : ℕ) → Began → List Note
-told_at_begin stripe began.Idle = note.Idle stripe Flush ∷ []
-told_at_begin stripe began.Full = note.Full stripe ∷ []
-told_at_begin stripe (began.Sealed flight) = []
-
 -- by what began
-abbrev pub MatchBegan : Began → (idle full : Type 0) → (sealed : Flight → Type 0) → Type 0
+abbrev pub MatchBegan : Began → (idle : Type 0) → (full : Refused → Type 0) → (sealed : Flight → Type 0) → Type 0
 MatchBegan began.Idle idle full sealed = idle
-MatchBegan began.Full idle full sealed = full
+MatchBegan (began.Full refused) idle full sealed = full refused
 MatchBegan (began.Sealed flight) idle full sealed = sealed flight
 
--- what is told where one ends
-abbrev pub told_at_end : (stripe : ℕ) → (done : Bool) → List Note
-told_at_end stripe true = note.Done stripe Flush ∷ []
-told_at_end stripe false = note.Full stripe ∷ []
+-- The pass was told last that the stripe is full, and none of its places could be released but for what the epochs refused. A retirement was
+-- refused only where the seat was told that the epoch word is worn out.
+pub record WasFull (stripes : List ℕ) (stripe : ℕ) (was now : Knowledge) (heard hears : View) : Type 0 where
+  pub refused : Refused
+  pub visited : Visited stripes (note.Full stripe refused ∷ []) was now
+  pub worn : refused.retire ≡ true → HasHeardWorn heard hears
+
+-- What a flush that begins came to: there was nothing to do, or the store is full, each of which was told last; or a page is on its way, and nothing
+-- was told.
+abbrev pub HasBegun : (stripes : List ℕ) (stripe : ℕ) → Began → (was now : Knowledge) → (heard hears : View) → Type 0
+HasBegun stripes stripe began.Idle was now heard hears = Visited stripes (note.Idle stripe Flush ∷ []) was now
+HasBegun stripes stripe (began.Full refused) was now heard hears = WasFull stripes stripe was now heard hears
+HasBegun stripes stripe (began.Sealed flight) was now heard hears = Visited stripes [] was now
+
+-- what is told where a flush ends
+abbrev pub told_at_end : {R : Type 0} → (stripe : ℕ) → Ending R → List Note
+told_at_end stripe ending.Landed = note.Done stripe Flush ∷ []
+told_at_end stripe (ending.Again receipt) = []
+told_at_end stripe (ending.Full refused) = note.Full stripe refused ∷ []
+
+-- What the end of a flush came to: it was done, which was told last, or the store is full.
+abbrev pub HasEnded : (stripes : List ℕ) (stripe : ℕ) → (done : Bool) → (was now : Knowledge) → (heard hears : View) → Type 0
+HasEnded stripes stripe true was now heard hears = Visited stripes (note.Done stripe Flush ∷ []) was now
+HasEnded stripes stripe false was now heard hears = WasFull stripes stripe was now heard hears
 
 -- What the flusher's step came to: it was done, there was nothing to do, or the store is full, each of which was told last; or the write
 -- failed. Only then has a call of the device failed. There is no other fault.
-abbrev pub HasFlushed : (stripes : List ℕ) (stripe : ℕ) → Result Bool Fault → (failed_before failed : ℕ) → (was now : Knowledge) → Type 0
-HasFlushed stripes stripe (Ok done) failed_before failed was now = (failed ≡ failed_before) × Visited stripes (told Flush stripe done) was now
-HasFlushed stripes stripe (Err fault.StoreFull) failed_before failed was now = (failed ≡ failed_before) × Visited stripes (note.Full stripe ∷ []) was now
-HasFlushed stripes stripe (Err fault.DeviceFault) failed_before failed was now = (failed ≡ failed_before + 1) × Visited stripes [] was now
-HasFlushed stripes stripe (Err fault.OutOfMemory) failed_before failed was now = ⊥
-HasFlushed stripes stripe (Err fault.CommitsWornOut) failed_before failed was now = ⊥
+abbrev pub HasFlushed : (stripes : List ℕ) (stripe : ℕ) → Result Bool Fault → (failed_before failed : ℕ) → (was now : Knowledge) → (heard hears : View) → Type 0
+HasFlushed stripes stripe (Ok done) failed_before failed was now heard hears = (failed ≡ failed_before) × Visited stripes (told Flush stripe done) was now
+HasFlushed stripes stripe (Err fault.StoreFull) failed_before failed was now heard hears = (failed ≡ failed_before) × WasFull stripes stripe was now heard hears
+HasFlushed stripes stripe (Err fault.DeviceFault) failed_before failed was now heard hears = (failed ≡ failed_before + 1) × Visited stripes [] was now
+HasFlushed stripes stripe (Err fault.OutOfMemory) failed_before failed was now heard hears = ⊥
+HasFlushed stripes stripe (Err fault.CommitsWornOut) failed_before failed was now heard hears = ⊥
 
 -- What the cleaner's step came to: it was done, there was nothing to do, or the store is full, each of which was told last; or a call of
 -- the device failed, or there was no memory for a page, which receipts did not lend. Only where a call of the device failed has one been
@@ -87,7 +103,7 @@ HasCleaned lends stripes stripe (Ok true) failed_before failed was now heard hea
     (failed ≡ failed_before) × (refused : Refused) × Visited stripes (note.Done stripe (Clean refused) ∷ []) was now
 HasCleaned lends stripes stripe (Ok false) failed_before failed was now heard hears =
     (failed ≡ failed_before) × (refused : Refused) × Visited stripes (note.Idle stripe (Clean refused) ∷ []) was now × (refused.retire ≡ true → HasHeardWorn heard hears)
-HasCleaned lends stripes stripe (Err fault.StoreFull) failed_before failed was now heard hears = (failed ≡ failed_before) × Visited stripes (note.Full stripe ∷ []) was now
+HasCleaned lends stripes stripe (Err fault.StoreFull) failed_before failed was now heard hears = (failed ≡ failed_before) × WasFull stripes stripe was now heard hears
 HasCleaned lends stripes stripe (Err fault.DeviceFault) failed_before failed was now heard hears = (failed ≡ failed_before + 1) × Visited stripes [] was now
 HasCleaned lends stripes stripe (Err fault.OutOfMemory) failed_before failed was now heard hears = (lends → ⊥) × (failed ≡ failed_before) × Visited stripes [] was now
 HasCleaned lends stripes stripe (Err fault.CommitsWornOut) failed_before failed was now heard hears = ⊥
@@ -102,8 +118,9 @@ pub record HasLooked (stripes : List ℕ) (failed_before failed : ℕ) (was now 
 abbrev pub MayTell : Result Stepped Fault → (was now : Pages) → Type 0
 MayTell (Ok stepped.Done) was now = (refused : Refused) → IsStep (Clean refused) was now
 MayTell (Ok (stepped.Idle refused)) was now = IsIdle (Clean refused) now × AreRefused (Clean refused) was now
+MayTell (Ok (stepped.Full refused)) was now = IsFull now × IsSpent refused was now
 MayTell (Ok (stepped.Cold number)) was now = Unit {0}
-MayTell (Err fault.StoreFull) was now = IsFull now
+MayTell (Err fault.StoreFull) was now = Unit {0}
 MayTell (Err fault.DeviceFault) was now = Unit {0}
 MayTell (Err fault.OutOfMemory) was now = Unit {0}
 MayTell (Err fault.CommitsWornOut) was now = Unit {0}
@@ -116,8 +133,9 @@ none_refused = record { retire = false; drain = false }
 abbrev pub report_for : (stripe : ℕ) → Result Stepped Fault → Report
 report_for stripe (Ok stepped.Done) = report.Done stripe (Clean none_refused)
 report_for stripe (Ok (stepped.Idle refused)) = report.Idle stripe (Clean refused)
+report_for stripe (Ok (stepped.Full refused)) = report.Full stripe refused
 report_for stripe (Ok (stepped.Cold number)) = report.Nothing
-report_for stripe (Err fault.StoreFull) = report.Full stripe
+report_for stripe (Err fault.StoreFull) = report.Nothing
 report_for stripe (Err fault.DeviceFault) = report.Nothing
 report_for stripe (Err fault.OutOfMemory) = report.Nothing
 report_for stripe (Err fault.CommitsWornOut) = report.Nothing
@@ -126,6 +144,7 @@ report_for stripe (Err fault.CommitsWornOut) = report.Nothing
 abbrev pub round_for : Result Stepped Fault → Result Round Fault
 round_for (Ok stepped.Done) = Ok (round.Ended true)
 round_for (Ok (stepped.Idle refused)) = Ok (round.Ended false)
+round_for (Ok (stepped.Full refused)) = Err fault.StoreFull
 round_for (Ok (stepped.Cold number)) = Ok round.Again
 round_for (Err fault) = Err fault
 

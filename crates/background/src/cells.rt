@@ -3,25 +3,26 @@
 ghost use Rattle.std.specs.Prelude.{⊤, ◌≡◌, ◌+◌, IsSome, IfOk, IfErr, OnErr, OnOk, Some, true, false};
 ghost use Rattle.std.specs.Bool.{OnTrue, OnFalse};
 ghost use Rattle.epoch.specs.Seats.{IsOutside, WasWorn, known};
-ghost use Rattle.gates.specs.Background.{IsIdle, IsStep};
+ghost use Rattle.gates.specs.Background.{IsIdle, IsSpent, IsStep};
 ghost use Rattle.gates.specs.Pages.{IsFull};
 ghost use Rattle.gates.specs.declared.view.Work.TheVariants.{Evict, Flush};
 ghost use Rattle.hybrid.specs.HybridLog.{Kept, receipt_at, with_dropped};
-ghost use Rattle.hybrid.specs.Reserving.{MatchFault};
 ghost use Rattle.hybrid.specs.Staging.{AreRight, IsMissing};
-ghost use Rattle.plans.specs.Cleaning.{HasTried, MatchStepped};
+ghost use Rattle.plans.specs.Cleaning.{MatchStepped};
 ghost use Rattle.plans.specs.Cleaning as cleaned;
-ghost use Rattle.plans.specs.Counted.{HasFlushed, HasLanded, IsFirstSealed, claimed, with_flight, without_flight};
+ghost use Rattle.plans.specs.Counted.{Counted, HasFlushed, HasLanded, IsFirstSealed, claimed, with_flight, without_flight};
+ghost use Rattle.plans.specs.Flushing.{HasFreedFirst, HasRefreed, MatchEnding, MatchUnflushed};
+ghost use Rattle.plans.specs.Heard.{HasHeardWorn, HasTried};
 ghost use Rattle.plans.specs.Receipts.{kept_by};
 ghost use Rattle.plans.specs.Shards.{shard_counted, shard_log, shard_meaning, shard_pages};
 ghost use Rattle.background.specs.Visits.{HasStepped, Keeps, MatchBegan, MayTell};
 
 use device::{Device, Shows};
 use epoch::{EpochSeat, Epochs};
-use gates::Parts;
-use hybrid::{Fault, Staged};
+use gates::{Parts, Refused};
+use hybrid::Staged;
 use plans::cleaning::Stepped;
-use plans::counted::Begun;
+use plans::flushing::{Beginning, Ending, Unflushed};
 use plans::shard::Shard;
 use records::Page;
 use std::alloc::AllocError;
@@ -30,15 +31,15 @@ use words::reply;
 /// A page that is on its way to the device, with a place counted for it; contracts see the page's number. It is no value
 /// that can be dropped: it ends where the page's receipt comes back, or where its write failed.
 pub(crate) struct Flight {
-    number: u64,
+    pub(crate) number: u64,
 }
 
 /// What begins at the oldest page that waits to be written.
 pub(crate) enum Began {
     /// None waits.
     Idle,
-    /// One waits, and no place may be taken for it.
-    Full,
+    /// One waits, no place may be taken for it, and none can be released, but for what the epochs refused.
+    Full(Refused),
     /// It was copied, and a place is counted for it.
     Sealed(Flight),
 }
@@ -54,42 +55,62 @@ pub(crate) fn evict_at<R: Shows, P: Parts<Shard<R>>>(parts: &mut P, stripe: usiz
     parts.part(stripe).drop_oldest()
 }
 
-/// Copies the oldest page of a stripe that waits to be written, and counts a place for it.
-pub(crate) fn begin_at<R: Shows, P: Parts<Shard<R>>>(
+/// Copies the oldest page of a stripe that waits to be written, and counts a place for it. Where none may be taken, each place
+/// that can be released is released first.
+pub(crate) fn begin_at<R: Shows, D: Device<Receipt = R>, P: Parts<Shard<R>>>(
     parts: &mut P,
     stripe: usize,
     page: &mut Page,
+    epochs: &Epochs,
+    seat: &mut EpochSeat,
+    device: &mut D,
 ) -> Began
     requires open { P.is_open parts.old }
     requires there { IsSome (P.part_of parts.old stripe) }
-    ensures stepped { HasStepped (shard_meaning R.is_steady) stripe (P.part_of parts.old) (P.part_of parts.new) (λ was now. MatchBegan result (IsIdle Flush (shard_pages now)) (IsFull (shard_pages now)) (λ flight. ⊤) × MatchBegan result (now ≡ was) (now ≡ was) (λ flight. IsFirstSealed (shard_log was) flight.number page.new × (shard_counted now ≡ with_flight (shard_counted was)))) }
+    requires outside { IsOutside epochs.now seat.old }
+    ensures stepped { HasStepped (shard_meaning R.is_steady) stripe (P.part_of parts.old) (P.part_of parts.new) (λ was now. MatchBegan result (IsIdle Flush (shard_pages now)) (λ refused. IsFull (shard_pages now) × IsSpent refused (shard_pages was) (shard_pages now)) (λ flight. ⊤) × MatchBegan result (HasFreedFirst (shard_counted was) (shard_counted now)) (λ refused. HasFreedFirst (shard_counted was) (shard_counted now)) (λ flight. (mid : Counted) × HasFreedFirst (shard_counted was) mid × IsFirstSealed mid.log flight.number page.new × (shard_counted now ≡ with_flight mid))) }
+    ensures outside { IsOutside epochs.now seat.new }
+    ensures worn { MatchBegan result ⊤ (λ refused. refused.retire ≡ true → HasHeardWorn (known seat.old) (known seat.new)) (λ flight. ⊤) }
+    ensures tried { HasTried (known seat.old) (known seat.new) }
+    ensures no_fault { D.failures device.new ≡ D.failures device.old }
     ensures open { P.is_open parts.new }
     ensures keeps { P.keeps parts.old parts.new }
 {
-    match parts.part(stripe).begin_flush(page) {
-        Begun::Idle => Began::Idle,
-        Begun::Full => Began::Full,
-        Begun::Sealed(number) => Began::Sealed(Flight { number }),
+    match parts.part(stripe).begin_freeing(page, epochs, seat, device) {
+        Beginning::Idle => Began::Idle,
+        Beginning::Full(refused) => Began::Full(refused),
+        Beginning::Sealed(number) => Began::Sealed(Flight { number }),
     }
 }
 
-/// Keeps the receipt of a page that was written, or counts its place as unlinked.
-pub(crate) fn end_at<R: Shows, P: Parts<Shard<R>>>(
+/// Keeps the receipt of a page that was written, or counts its place as unlinked. Where no place is counted for it and none may
+/// be taken, each place that can be released is released, and the receipt has to land in another hold.
+pub(crate) fn end_at<R: Shows, D: Device<Receipt = R>, P: Parts<Shard<R>>>(
     parts: &mut P,
     stripe: usize,
-    flight: Flight,
+    number: u64,
     page: &Page,
     receipt: R,
-) -> bool
+    epochs: &Epochs,
+    seat: &mut EpochSeat,
+    device: &mut D,
+) -> Ending<R>
     requires open { P.is_open parts.old }
     requires there { IsSome (P.part_of parts.old stripe) }
     requires shown { R.shown receipt ≡ page.now }
-    ensures stepped { HasStepped (shard_meaning R.is_steady) stripe (P.part_of parts.old) (P.part_of parts.new) (λ was now. OnTrue result (IsStep Flush (shard_pages was) (shard_pages now)) × OnFalse result (IsFull (shard_pages now)) × OnTrue result (HasLanded (claimed (shard_counted was)) flight.number page.now (kept_by R.identity R.shown receipt) (shard_counted now)) × OnFalse result (now ≡ was)) }
+    requires outside { IsOutside epochs.now seat.old }
+    ensures stepped { HasStepped (shard_meaning R.is_steady) stripe (P.part_of parts.old) (P.part_of parts.new) (λ was now. MatchEnding result (IsStep Flush (shard_pages was) (shard_pages now)) (λ again. ⊤) (λ refused. IsFull (shard_pages now) × IsSpent refused (shard_pages was) (shard_pages now)) × MatchEnding result (HasLanded (claimed (shard_counted was)) number page.now (kept_by R.identity R.shown receipt) (shard_counted now)) (λ again. (again ≡ receipt) × ((mid : Counted) × HasRefreed (shard_counted was) mid × (shard_counted now ≡ claimed mid))) (λ refused. HasRefreed (shard_counted was) (shard_counted now))) }
+    ensures again { MatchEnding result ⊤ (λ again. again ≡ receipt) (λ refused. ⊤) }
+    ensures outside { IsOutside epochs.now seat.new }
+    ensures worn { MatchEnding result ⊤ (λ again. ⊤) (λ refused. refused.retire ≡ true → HasHeardWorn (known seat.old) (known seat.new)) }
+    ensures tried { HasTried (known seat.old) (known seat.new) }
+    ensures no_fault { D.failures device.new ≡ D.failures device.old }
     ensures open { P.is_open parts.new }
     ensures keeps { P.keeps parts.old parts.new }
 {
-    let Flight { number } = flight;
-    parts.part(stripe).end_flush(number, page, receipt)
+    parts
+        .part(stripe)
+        .end_freeing(number, page, receipt, epochs, seat, device)
 }
 
 /// Counts a place off whose page could not be written.
@@ -105,22 +126,27 @@ pub(crate) fn fail_at<R: Shows, P: Parts<Shard<R>>>(parts: &mut P, stripe: usize
 }
 
 /// Writes the oldest page of a stripe that waits for it to the device, and keeps its receipt, all while the stripe is
-/// held.
+/// held. Where no place may be taken for it, each place that can be released is released first.
 pub(crate) fn flush_at<R: Shows, D: Device<Receipt = R>, P: Parts<Shard<R>>>(
     parts: &mut P,
     stripe: usize,
     page: &mut Page,
+    epochs: &Epochs,
+    seat: &mut EpochSeat,
     device: &mut D,
-) -> Result<bool, Fault>
+) -> Result<bool, Unflushed>
     requires open { P.is_open parts.old }
     requires there { IsSome (P.part_of parts.old stripe) }
-    ensures stepped { HasStepped (shard_meaning R.is_steady) stripe (P.part_of parts.old) (P.part_of parts.new) (λ was now. IfOk result (λ done. OnTrue done (IsStep Flush (shard_pages was) (shard_pages now))) × IfOk result (λ done. OnFalse done (IsIdle Flush (shard_pages now))) × IfErr result (λ fault. MatchFault fault (D.failures device.new ≡ D.failures device.old + 1) (IsFull (shard_pages now) × (D.failures device.new ≡ D.failures device.old))) × IfOk result (λ done. OnTrue done (HasFlushed (shard_counted was) (shard_counted now))) × IfOk result (λ done. OnFalse done (now ≡ was)) × OnErr result (shard_counted now ≡ shard_counted was)) }
-    ensures fault { IfErr result (λ fault. MatchFault fault (D.failures device.new ≡ D.failures device.old + 1) (D.failures device.new ≡ D.failures device.old)) }
+    requires outside { IsOutside epochs.now seat.old }
+    ensures stepped { HasStepped (shard_meaning R.is_steady) stripe (P.part_of parts.old) (P.part_of parts.new) (λ was now. IfOk result (λ done. OnTrue done (IsStep Flush (shard_pages was) (shard_pages now))) × IfOk result (λ done. OnFalse done (IsIdle Flush (shard_pages now))) × IfErr result (λ fault. MatchUnflushed fault ⊤ (λ refused. IsFull (shard_pages now) × IsSpent refused (shard_pages was) (shard_pages now))) × IfOk result (λ done. OnTrue done ((mid : Counted) × HasFreedFirst (shard_counted was) mid × HasFlushed mid (shard_counted now))) × IfOk result (λ done. OnFalse done (HasFreedFirst (shard_counted was) (shard_counted now))) × OnErr result (HasFreedFirst (shard_counted was) (shard_counted now))) }
+    ensures outside { IsOutside epochs.now seat.new }
+    ensures fault { IfErr result (λ fault. MatchUnflushed fault (D.failures device.new ≡ D.failures device.old + 1) (λ refused. (refused.retire ≡ true → HasHeardWorn (known seat.old) (known seat.new)) × (D.failures device.new ≡ D.failures device.old))) }
+    ensures tried { HasTried (known seat.old) (known seat.new) }
     ensures no_fault { OnOk result (D.failures device.new ≡ D.failures device.old) }
     ensures open { P.is_open parts.new }
     ensures keeps { P.keeps parts.old parts.new }
 {
-    parts.part(stripe).flush(page, device)
+    parts.part(stripe).flush(page, epochs, seat, device)
 }
 
 /// Does the first of the cleaner's steps that can be done. Where `reads`, pages that are wanted are read meanwhile.
@@ -137,13 +163,13 @@ pub(crate) fn clean_at<R: Shows, D: Device<Receipt = R>, P: Parts<Shard<R>>>(
     requires there { IsSome (P.part_of parts.old stripe) }
     requires outside { IsOutside epochs.now seat.old }
     requires right { R.is_steady → AreRight staged.old }
-    ensures stepped { HasStepped (shard_meaning R.is_steady) stripe (P.part_of parts.old) (P.part_of parts.new) (λ was now. MayTell result (shard_pages was) (shard_pages now) × IfOk result (λ step. MatchStepped step ⊤ (λ refused. ⊤) (λ number. IsMissing (shard_log now) staged.new number))) }
+    ensures stepped { HasStepped (shard_meaning R.is_steady) stripe (P.part_of parts.old) (P.part_of parts.new) (λ was now. MayTell result (shard_pages was) (shard_pages now) × IfOk result (λ step. MatchStepped step ⊤ (λ refused. ⊤) (λ refused. ⊤) (λ number. IsMissing (shard_log now) staged.new number))) }
     ensures outside { IsOutside epochs.now seat.new }
     ensures right { R.is_steady → AreRight staged.new }
-    ensures worn { IfOk result (λ step. MatchStepped step ⊤ (λ refused. refused.retire ≡ true → WasWorn (known seat.old) (known seat.new)) (λ number. ⊤)) }
+    ensures worn { IfOk result (λ step. MatchStepped step ⊤ (λ refused. refused.retire ≡ true → WasWorn (known seat.old) (known seat.new)) (λ refused. refused.retire ≡ true → HasHeardWorn (known seat.old) (known seat.new)) (λ number. ⊤)) }
     ensures tried { HasTried (known seat.old) (known seat.new) }
-    ensures cold { IfOk result (λ step. MatchStepped step ⊤ (λ refused. ⊤) (λ number. (reads ≡ false) × (R.lends → ⊥))) }
-    ensures fault { IfErr result (λ fault. cleaned.MatchFault fault ((R.lends → ⊥) × (D.failures device.new ≡ D.failures device.old)) (D.failures device.new ≡ D.failures device.old + 1) (D.failures device.new ≡ D.failures device.old)) }
+    ensures cold { IfOk result (λ step. MatchStepped step ⊤ (λ refused. ⊤) (λ refused. ⊤) (λ number. (reads ≡ false) × (R.lends → ⊥))) }
+    ensures fault { IfErr result (λ fault. cleaned.MatchFault fault ((R.lends → ⊥) × (D.failures device.new ≡ D.failures device.old)) (D.failures device.new ≡ D.failures device.old + 1) ⊥) }
     ensures no_fault { OnOk result (D.failures device.new ≡ D.failures device.old) }
     ensures open { P.is_open parts.new }
     ensures keeps { P.keeps parts.old parts.new }

@@ -46,8 +46,9 @@ fn report_of(stripe: usize, came: &Result<Stepped, Fault>) -> Report
     match came {
         Ok(Stepped::Done) => Report::Done(stripe as u64, Work::Clean(NOTHING)),
         Ok(Stepped::Idle(refused)) => Report::Idle(stripe as u64, Work::Clean(*refused)),
+        Ok(Stepped::Full(refused)) => Report::Full(stripe as u64, *refused),
         Ok(Stepped::Cold(_)) => Report::Nothing,
-        Err(Fault::StoreFull) => Report::Full(stripe as u64),
+        Err(Fault::StoreFull) => Report::Nothing,
         Err(Fault::DeviceFault) => Report::Nothing,
         Err(Fault::OutOfMemory) => Report::Nothing,
         Err(Fault::CommitsWornOut) => Report::Nothing,
@@ -61,6 +62,7 @@ fn round_of(came: Result<Stepped, Fault>) -> Result<Round, Fault>
     match came {
         Ok(Stepped::Done) => Ok(Round::Ended(true)),
         Ok(Stepped::Idle(_)) => Ok(Round::Ended(false)),
+        Ok(Stepped::Full(_)) => Err(Fault::StoreFull),
         Ok(Stepped::Cold(_)) => Ok(Round::Again),
         Err(fault) => Err(fault),
     }
@@ -135,7 +137,7 @@ fn clean_round<R: Shows, D: Device<Receipt = R>, W: Wait>(
 /// # Errors
 ///
 /// [`Fault::OutOfMemory`] where there is no memory for a page that is read, so not where receipts lend their pages; [`Fault::DeviceFault`] where a call of the device
-/// failed; [`Fault::StoreFull`] where what lives in the oldest page has no room.
+/// failed; [`Fault::StoreFull`] where what lives in the oldest page has no room, and no place can be released.
 pub fn clean_one<R: Shows, D: Device<Receipt = R>, W: Wait>(
     rt: &W,
     gates: &Gates<Shard<R>>,

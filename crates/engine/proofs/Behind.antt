@@ -10,7 +10,7 @@ use Rattle.transact.specs.Plans.{made}
 use Rattle.words.specs.Session.{Asked, operation_of, watched_at_fault}
 use Rattle.gates.specs.declared.view.Knowledge.{Knowledge}
 use Rattle.gates.specs.declared.view.Note.{Note}
-use Rattle.gates.specs.declared.view.Note.TheVariants.{Busy, Worn, Full, Idle, Done}
+use Rattle.gates.specs.declared.view.Note.TheVariants.{Busy, Worn, Full, Idle, Done, Seen}
 use Rattle.gates.specs.Passes.{AreBusy, Learned, ToldBusy}
 use Rattle.transact.specs.declared.call.Answer.{Answer}
 use Rattle.transact.specs.declared.call.Answer.TheVariants as answer
@@ -23,25 +23,27 @@ any_busy : (stripes : List ℕ) (told : List Note) → AreBusy [] told → AreBu
 any_busy stripes [] busy = tt
 any_busy stripes (Busy stripe ∷ told) busy = absurd (omega (arith, busy.0))
 any_busy stripes (Worn ∷ told) busy = absurd busy
-any_busy stripes (Full stripe ∷ told) busy = absurd busy
+any_busy stripes (Full stripe refused ∷ told) busy = absurd busy
 any_busy stripes (Idle stripe work ∷ told) busy = absurd busy
 any_busy stripes (Done stripe work ∷ told) busy = absurd busy
+any_busy stripes (Seen stripe look ∷ told) busy = absurd busy
 
 -- notes of busy stripes, behind others
 pub busy_both : (stripes : List ℕ) (one two : List Note) → AreBusy stripes one → AreBusy stripes two → AreBusy stripes (one ++ two)
 busy_both stripes [] two first second = second
 busy_both stripes (Busy stripe ∷ one) two first second = (first.0, busy_both stripes one two first.1 second)
 busy_both stripes (Worn ∷ one) two first second = absurd first
-busy_both stripes (Full stripe ∷ one) two first second = absurd first
+busy_both stripes (Full stripe refused ∷ one) two first second = absurd first
 busy_both stripes (Idle stripe work ∷ one) two first second = absurd first
 busy_both stripes (Done stripe work ∷ one) two first second = absurd first
+busy_both stripes (Seen stripe look ∷ one) two first second = absurd first
 
 -- what a call came to that was told of no stripe that it was busy
 module _ (stripes : List ℕ) where
   any_cause : (promises : Promises) (fault : Fault) (asked : Asked) (was now : Known) (told : List Note) → IsCause promises fault [] asked was now told → IsCause promises fault stripes asked was now told
   any_cause promises fault.OutOfMemory asked was now told cause = (cause.0, cause.1, any_busy stripes told cause.2)
   any_cause promises fault.DeviceFault asked was now told cause = (cause.0, any_busy stripes told cause.1)
-  any_cause promises fault.StoreFull asked was now told cause = record { stripe = cause.stripe; earlier = cause.earlier; full = cause.full; busy = any_busy stripes cause.earlier cause.busy; writes = cause.writes; failures = cause.failures }
+  any_cause promises fault.StoreFull asked was now told cause = record { stripe = cause.stripe; refused = cause.refused; earlier = cause.earlier; full = cause.full; busy = any_busy stripes cause.earlier cause.busy; writes = cause.writes; failures = cause.failures }
   any_cause promises fault.CommitsWornOut asked was now told cause = (cause.0, cause.1, cause.2, any_busy stripes cause.0 cause.3)
 
   any_done : (asked : Option Asked) (reply : Reply) (was now : Known) → IsDone [] asked reply was now → IsDone stripes asked reply was now
@@ -98,6 +100,7 @@ module _ (stripes : List ℕ) (was mid : Knowledge) (f : ℕ) (now : Known) (lea
   cause_behind promises fault.DeviceFault asked told cause = (cause.0, busy_both stripes told heard.0 cause.1 heard.2)
   cause_behind promises fault.StoreFull asked told cause = record {
     stripe = cause.stripe;
+    refused = cause.refused;
     earlier = cause.earlier ++ heard.0;
     full = ap (λ (l : List Note). l ++ heard.0) cause.full;
     busy = busy_both stripes cause.earlier heard.0 cause.busy heard.2;

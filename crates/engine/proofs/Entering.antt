@@ -1,5 +1,5 @@
 -- What is held before, between and after the steps of a call.
-use Rattle.std.proofs.Common.{◌≡◌, ◌≢◌, ◌+◌, ◌≤◌, ◌∙◌, ⊎_elim, inl, inr, arith, option_map, None, ℕ, List, [], ◌∷◌, ◌++◌, length, Bool, true, false, Option, Some, IsSome, refl, sym, ap, subst}
+use Rattle.std.proofs.Common.{◌≡◌, ◌≢◌, ◌+◌, ◌≤◌, ◌∙◌, ⊎_elim, inl, inr, arith, option_map, map, ◌-◌, None, ℕ, List, [], ◌∷◌, ◌++◌, length, Bool, true, false, Option, Some, IsSome, refl, sym, ap, subst}
 use Rattle.std.specs.Borrow.{Bor, MutBor}
 use Rattle.words.specs.declared.reply.Reply.{Reply}
 use Rattle.words.specs.declared.reply.Fault.{Fault}
@@ -20,13 +20,15 @@ use Rattle.gates.specs.declared.view.Note.{Note}
 use Rattle.gates.specs.declared.view.Note.TheVariants.{Full, Worn}
 use Rattle.gates.specs.declared.report.Report.{Report}
 use Rattle.gates.specs.declared.report.Report.TheVariants as report
-use Rattle.gates.specs.Background.{IsAt, IsToldOf, notes_of}
+use Rattle.gates.specs.Background.{IsAt, IsSpent, IsToldOf, notes_of}
+use Rattle.gates.specs.declared.view.Refused.{Refused}
+use Rattle.std.specs.Option.{is_some}
 use Rattle.gates.specs.Pages as pages
 use Rattle.hybrid.specs.HybridLog.{HybridLog}
 use Rattle.hybrid.specs.Reserving.{IsFull}
 use Rattle.gates.specs.Sets.{part_at}
 use Rattle.gates.specs.Plays.{kept}
-use Rattle.gates.specs.Passes.{AllFit, Committed, KeysHeld, WasTold, stripes_of}
+use Rattle.gates.specs.Passes.{AllFit, AreAsTaken, Committed, KeysHeld, WasTold, stripes_of}
 use Rattle.gates.specs.Helds.{HasTaken, IsOpen, SameHold, borrow_of, gates_of, has_committed, held_parts, held_taken, known_to, number_of, operation_asked}
 use Rattle.transact.specs.declared.call.Answer.{Answer}
 use Rattle.transact.specs.declared.call.Answer.TheVariants as answer
@@ -35,7 +37,10 @@ use Rattle.transact.specs.declared.call.Call.TheVariants.{One, Watch, Exec, Forg
 use Rattle.plans.specs.declared.shard.Shard.{Shard}
 use Rattle.transact.specs.Calls.{asked_of, call_keys}
 use Rattle.transact.specs.Plans.{EndsAll, IsEntry, IsInstalled, IsPlan, made}
-use Rattle.plans.specs.Shards.{logs_of, shard_log, shard_meaning, shard_pages}
+use Rattle.plans.specs.Counted.{Waiting}
+use Rattle.plans.specs.Freeing.{IsSpentAt}
+use Rattle.plans.specs.Rooms.{IsFullAt}
+use Rattle.plans.specs.Shards.{SameLogs, SameWaits, logs_of, shard_log, shard_meaning, shard_pages, shard_waiting}
 use Rattle.plans.specs.declared.stop.Stop.{Stop}
 use Rattle.plans.specs.declared.stop.Stop.TheVariants as stop
 use Rattle.plans.specs.Stops.{IfCold, IfFull, IfNoMemory, faults}
@@ -45,7 +50,7 @@ use Rattle.engine.specs.Calls.{Forgot, HasItsPlace, IsCause, IsDone, IsUndone, P
 use Rattle.engine.specs.Entering.{MayBeGiven, MayEnter, at_fault}
 use Rattle.engine.specs.Memory.{AsksNoMemory}
 use Rattle.engine.specs.Passes.{Known, know}
-use Rattle.engine.specs.Stops.{IsFullOf, fault_of, report_of}
+use Rattle.engine.specs.Stops.{IfSpent, IsOfCall, fault_of, report_of}
 use Rattle.engine.proofs.Parts.{some_is, there_after}
 use Rattle.engine.proofs.Fit.{forgot_all, installed_all, kept_all, keys_held, stand_of}
 
@@ -67,12 +72,27 @@ named (Watch keys) watched entry ends = refl
 named (Exec commands watching) watched entry ends = ap (λ (l : List Bytes). keys_of_all commands ++ l) (sym ends)
 named (Forget watching) watched entry ends = absurd entry
 
--- a stripe that is full is so while logs stay
-pub full_still : (before later : ℕ → Option HybridLog) (report : Report) → ((i : ℕ) → later i ≡ before i) → IsFullOf before report → IsFullOf later report
-full_still before later report.Nothing same full = tt
-full_still before later (report.Full stripe) same full = record { log = full.log; there = same stripe ∙ full.there; full = full.full }
-full_still before later (report.Idle stripe work) same full = absurd full
-full_still before later (report.Done stripe work) same full = absurd full
+some_log : (a b : HybridLog) → Some a ≡ Some b → a ≡ b
+some_log a b e = cc e
+
+some_wait : (a b : Waiting) → Some a ≡ Some b → a ≡ b
+some_wait a b e = cc e
+
+-- the pages of a shard with this log, beside which this waits
+abbrev pub pages_by : HybridLog → Waiting → pages.Pages
+pages_by log w = record {
+  oldest = log.oldest;
+  first = log.resident.oldest;
+  tail = log.resident.oldest + length log.resident.pages - 1;
+  frames = log.resident.frames;
+  receipts = map is_some log.kept;
+  unlinked = length w.unlinked;
+  retired = length w.retired;
+  drained = length w.drained;
+  refused = w.refused;
+  unreleased = log.unreleased;
+  places = log.places;
+}
 
 module _ {R : Type 0} (steady : Type 0) where
   -- what is held fits
@@ -244,18 +264,63 @@ module _ {R : Type 0} (steady : Type 0) where
   full_pages : (p : Shard R) → IsFull (shard_log p) → pages.IsFull (shard_pages p)
   full_pages p full = ⊎_elim (λ same. inl same) (λ last. inr (omega (arith, last))) full
 
-  full_at : (parts : List (ℕ × Shard R)) (stripe : ℕ) (o : Option (Shard R)) → part_at parts stripe ≡ o → (log : HybridLog) → option_map shard_log o ≡ Some log → IsFull log
-      → IsAt parts stripe (λ part. pages.IsFull (shard_pages part))
-  full_at parts stripe None is log there full = absurd (cc there)
-  full_at parts stripe (Some part) is log there full =
-      record { part = part; there = is; is = full_pages part (subst IsFull (sym (some_is (shard_log part) log there)) full) }
+  -- a report that says that a stripe is full, of whose places none can be released, is true
+  pub told_spent : (before later : List (ℕ × Shard R)) (took : List (ℕ × (ℕ × Shard R))) (stripe : ℕ) (refused : Refused) → AreAsTaken took before → IsFullAt (logs_of (part_at later)) stripe
+      → IsSpentAt refused stripe (part_at before) (part_at later) → IsToldOf (shard_meaning steady) took later (report.Full stripe refused)
+  told_spent before later took stripe refused taken full spent =
+      let lent = taken stripe spent.old spent.was in
+      let same : shard_log spent.new ≡ full.log = some_log (shard_log spent.new) full.log (sym (ap (option_map shard_log) spent.is) ∙ full.there) in
+      record { part = spent.new; there = spent.is; is = (full_pages spent.new (subst IsFull (sym same) full.full), (lent.0, spent.old), lent.1, spent.spent) }
 
-  -- a report that says that a stripe is full is true
-  pub told_full : (parts : List (ℕ × Shard R)) (took : List (ℕ × (ℕ × Shard R))) (report : Report) → IsFullOf (logs_of (part_at parts)) report → IsToldOf (shard_meaning steady) took parts report
-  told_full parts took report.Nothing full = tt
-  told_full parts took (report.Full stripe) full = full_at parts stripe (part_at parts stripe) refl full.log full.there full.full
-  told_full parts took (report.Idle stripe work) full = absurd full
-  told_full parts took (report.Done stripe work) full = absurd full
+  -- the same of why a plan was not made
+  pub told_stop : (before later : List (ℕ × Shard R)) (took : List (ℕ × (ℕ × Shard R))) (s : Stop R) (refused : Refused) → AreAsTaken took before
+      → IfFull s (λ stripe. IsFullAt (logs_of (part_at later)) stripe × IsSpentAt refused stripe (part_at before) (part_at later)) → IsToldOf (shard_meaning steady) took later (report_of s refused)
+  told_stop before later took stop.OutOfMemory refused taken full = tt
+  told_stop before later took stop.DeviceFault refused taken full = tt
+  told_stop before later took (stop.StoreFull stripe) refused taken full = told_spent before later took stripe refused taken full.0 full.1
+  told_stop before later took (stop.Cold receipts) refused taken full = tt
+
+  -- what is told of a stripe goes by its log and by what waits
+  pages_same : (one two : Shard R) → shard_log two ≡ shard_log one → shard_waiting two ≡ shard_waiting one → shard_pages two ≡ shard_pages one
+  pages_same one two logs waits = ap (λ (log : HybridLog). pages_by log (shard_waiting two)) logs ∙ ap (λ (w : Waiting). pages_by (shard_log one) w) waits
+
+  still_at : (o : Option (Shard R)) (part : Shard R) → option_map shard_log o ≡ Some (shard_log part) → option_map shard_waiting o ≡ Some (shard_waiting part)
+      → (now : Shard R) × (o ≡ Some now) × (shard_pages now ≡ shard_pages part)
+  still_at None part logs waits = absurd (cc logs)
+  still_at (Some now) part logs waits = (now, refl, pages_same part now (some_log (shard_log now) (shard_log part) logs) (some_wait (shard_waiting now) (shard_waiting part) waits))
+
+  -- what a call tells is so while logs and what waits stay
+  pub told_still : (before later : List (ℕ × Shard R)) (took : List (ℕ × (ℕ × Shard R))) (report : Report) → IsOfCall report → SameLogs (part_at before) (part_at later) → SameWaits (part_at before) (part_at later)
+      → IsToldOf (shard_meaning steady) took before report → IsToldOf (shard_meaning steady) took later report
+  told_still before later took report.Nothing call logs waits told = tt
+  told_still before later took (report.Full stripe refused) call logs waits told =
+      let now = still_at (part_at later stripe) told.part (logs stripe ∙ ap (option_map shard_log) told.there) (waits stripe ∙ ap (option_map shard_waiting) told.there) in
+      record {
+        part = now.0;
+        there = now.1;
+        is = (
+          subst pages.IsFull (sym now.2) told.is.0,
+          told.is.1,
+          told.is.2,
+          subst (λ (p : pages.Pages). IsSpent refused (shard_pages told.is.1.1) p) (sym now.2) told.is.3,
+        );
+      }
+  told_still before later took (report.Idle stripe work) call logs waits told = absurd call
+  told_still before later took (report.Done stripe work) call logs waits told = absurd call
+  told_still before later took (report.Seen stripe look) call logs waits told = absurd call
+
+pub of_call : {R : Type 0} (s : Stop R) (refused : Refused) → IsOfCall (report_of s refused)
+of_call stop.OutOfMemory refused = tt
+of_call stop.DeviceFault refused = tt
+of_call (stop.StoreFull stripe) refused = tt
+of_call (stop.Cold receipts) refused = tt
+
+-- where a stripe is full, this of what the epochs refused
+pub spent_of : {R : Type 0} (P : Refused → Type 0) (s : Stop R) (refused : Refused) → IfFull s (λ stripe. P refused) → IfSpent (report_of s refused) P
+spent_of P stop.OutOfMemory refused full = tt
+spent_of P stop.DeviceFault refused full = tt
+spent_of P (stop.StoreFull stripe) refused full = full
+spent_of P (stop.Cold receipts) refused full = tt
 
 -- all that was watched is forgotten
 pub forgot_by : (start last : Knowledge) (f0 f1 : ℕ) → last ≡ start → f1 ≡ f0 → Forgot [] (know start f0) (know (kept true [] last) f1)
@@ -301,6 +366,7 @@ cause_same promises fault.OutOfMemory stripes asked was now other told seen fail
 cause_same promises fault.DeviceFault stripes asked was now other told seen failures cause = (failures ∙ cause.0, cause.1)
 cause_same promises fault.StoreFull stripes asked was now other told seen failures cause = record {
   stripe = cause.stripe;
+  refused = cause.refused;
   earlier = cause.earlier;
   full = cause.full;
   busy = cause.busy;
@@ -335,25 +401,25 @@ unended (Exec commands watching) watched entry never = absurd (never commands wa
 unended (Forget watching) watched entry never = absurd entry
 
 -- the plan was not made, and that was told
-pub stopped_by : {R : Type 0} (promises : Promises) (call : Call) (stop : Stop R) (start mid last : Knowledge) (f0 f1 : ℕ) → IsEntry call
-    → last ≡ at_fault (asked_for call) (record mid { notes = notes_of (report_of stop) ++ mid.notes }) → mid ≡ start → IfCold stop (λ receipts. ⊥) → f1 ≡ f0 + faults stop
+pub stopped_by : {R : Type 0} (promises : Promises) (call : Call) (stop : Stop R) (refused : Refused) (start mid last : Knowledge) (f0 f1 : ℕ) → IsEntry call
+    → last ≡ at_fault (asked_for call) (record mid { notes = notes_of (report_of stop refused) ++ mid.notes }) → mid ≡ start → IfCold stop (λ receipts. ⊥) → f1 ≡ f0 + faults stop
     → IfNoMemory stop (¬ AsksNoMemory (promises.steady × promises.lends) (after start.seen) (asked_for call))
     → IfFull stop (λ stripe. promises.steady → made start.seen (operation_of start.watched (asked_for call)) ≢ [])
     → IsUndone promises [] (asked_of call) (fault_of stop) (know start f0) (know last f1)
-stopped_by promises call stop.OutOfMemory start mid last f0 f1 entry is same cold failures memory full =
+stopped_by promises call stop.OutOfMemory refused start mid last f0 f1 entry is same cold failures memory full =
     let none : f1 ≡ f0 = omega (arith, failures) in
     undone_by promises call fault.OutOfMemory start mid last f0 f1 [] entry is (ap (λ (k : Knowledge). k.number) same) (ap (λ (k : Knowledge). k.seen) same)
     (ap (λ (k : Knowledge). k.mine) same) (ap (λ (k : Knowledge). k.watched) same) (ap (λ (k : Knowledge). k.notes) same) (memory, none, tt)
-stopped_by promises call stop.DeviceFault start mid last f0 f1 entry is same cold failures memory full =
+stopped_by promises call stop.DeviceFault refused start mid last f0 f1 entry is same cold failures memory full =
     undone_by promises call fault.DeviceFault start mid last f0 f1 [] entry is (ap (λ (k : Knowledge). k.number) same) (ap (λ (k : Knowledge). k.seen) same)
     (ap (λ (k : Knowledge). k.mine) same) (ap (λ (k : Knowledge). k.watched) same) (ap (λ (k : Knowledge). k.notes) same) (failures, tt)
-stopped_by promises call (stop.StoreFull stripe) start mid last f0 f1 entry is same cold failures memory full =
+stopped_by promises call (stop.StoreFull stripe) refused start mid last f0 f1 entry is same cold failures memory full =
     let none : f1 ≡ f0 = omega (arith, failures) in
-    undone_by promises call fault.StoreFull start (record mid { notes = Full stripe ∷ mid.notes }) last f0 f1 (Full stripe ∷ []) entry is (ap (λ (k : Knowledge). k.number) same)
+    undone_by promises call fault.StoreFull start (record mid { notes = Full stripe refused ∷ mid.notes }) last f0 f1 (Full stripe refused ∷ []) entry is (ap (λ (k : Knowledge). k.number) same)
     (ap (λ (k : Knowledge). k.seen) same)
-    (ap (λ (k : Knowledge). k.mine) same) (ap (λ (k : Knowledge). k.watched) same) (ap (λ (k : Knowledge). Full stripe ∷ k.notes) same)
-    (record { stripe = stripe; earlier = []; full = refl; busy = tt; writes = full; failures = none })
-stopped_by promises call (stop.Cold receipts) start mid last f0 f1 entry is same cold failures memory full = absurd cold
+    (ap (λ (k : Knowledge). k.mine) same) (ap (λ (k : Knowledge). k.watched) same) (ap (λ (k : Knowledge). Full stripe refused ∷ k.notes) same)
+    (record { stripe = stripe; refused = refused; earlier = []; full = refl; busy = tt; writes = full; failures = none })
+stopped_by promises call (stop.Cold receipts) refused start mid last f0 f1 entry is same cold failures memory full = absurd cold
 
 -- commits were worn out
 pub was_worn : (promises : Promises) (call : Call) (start mid told later last : Knowledge) (f0 f1 : ℕ) → IsEntry call → last ≡ at_fault (asked_for call) later → later ≡ told → mid ≡ start

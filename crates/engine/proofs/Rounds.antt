@@ -55,9 +55,9 @@ pub read_stopped : {R : Type 0} (promises : Promises) (call : Call) (s : Stop R)
     → IfCold s (λ receipts. ⊥) → IfFull s (λ stripe. ⊥) → f1 ≡ f0 + faults s → ¬ AsksNoMemory (promises.steady × promises.lends) (after taken.seen) (asked_for call)
     → IsUndone promises [] (asked_of call) (fault_of s) (know taken f0) (know last f1)
 read_stopped {R} promises call stop.OutOfMemory taken last f0 f1 entry is cold full failures wants =
-    stopped_by {R = R} promises call stop.OutOfMemory taken taken last f0 f1 entry is refl cold failures wants tt
+    stopped_by {R = R} promises call stop.OutOfMemory (record { retire = false; drain = false }) taken taken last f0 f1 entry is refl cold failures wants tt
 read_stopped {R} promises call stop.DeviceFault taken last f0 f1 entry is cold full failures wants =
-    stopped_by {R = R} promises call stop.DeviceFault taken taken last f0 f1 entry is refl cold failures tt tt
+    stopped_by {R = R} promises call stop.DeviceFault (record { retire = false; drain = false }) taken taken last f0 f1 entry is refl cold failures tt tt
 read_stopped promises call (stop.StoreFull stripe) taken last f0 f1 entry is cold full failures wants = absurd full
 read_stopped promises call (stop.Cold receipts) taken last f0 f1 entry is cold full failures wants = absurd cold
 

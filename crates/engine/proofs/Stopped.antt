@@ -9,7 +9,6 @@ use Rattle.words.specs.Store.{Bytes, Store, Write}
 use Rattle.words.specs.declared.history.Operation.TheVariants.{Run}
 use Rattle.words.specs.declared.reply.Line.TheVariants.{Done}
 use Rattle.gates.specs.declared.view.Knowledge.{Knowledge}
-use Rattle.hybrid.specs.HybridLog.{HybridLog}
 use Rattle.transact.specs.declared.call.Call.{Call}
 use Rattle.transact.specs.declared.call.Call.TheVariants.{One, Watch, Exec, Forget}
 use Rattle.transact.specs.Calls.{asked_of}
@@ -17,14 +16,14 @@ use Rattle.transact.specs.Plans.{IsEntry, IsPlan, made}
 use Rattle.transact.specs.Submits.{asked_for}
 use Rattle.plans.specs.declared.stop.Stop.{Stop}
 use Rattle.plans.specs.declared.stop.Stop.TheVariants as stop
-use Rattle.plans.specs.Rooms.{IsFullAt}
 use Rattle.plans.specs.Sizes.{IsPlaced}
 use Rattle.plans.specs.Stops.{IfCold, IfFull, IfNoMemory, faults}
 use Rattle.engine.specs.Calls.{HasItsPlace, IsUndone, Promises}
 use Rattle.engine.specs.Entering.{given}
 use Rattle.engine.specs.Passes.{know}
 use Rattle.engine.specs.Memory.{AsksNoMemory, NeedsNoMemory, set_call}
-use Rattle.engine.specs.Stops.{IsFullOf, fault_of, report_of}
+use Rattle.engine.specs.Stops.{fault_of, report_of}
+use Rattle.gates.specs.declared.view.Refused.{Refused}
 use Rattle.engine.proofs.Entering.{stopped_by}
 
 -- a call that has its place in the history has it whatever its session watches
@@ -38,13 +37,6 @@ some_writes : (write : Write) (writes : List Write) → write ∷ writes ≡ [] 
 some_writes write writes e = absurd (cc e)
 
 module _ {R : Type 0} where
-  -- a stripe that is full is told of
-  pub full_report : (logs : ℕ → Option HybridLog) (s : Stop R) → IfFull s (IsFullAt logs) → IsFullOf logs (report_of s)
-  full_report logs stop.OutOfMemory full = tt
-  full_report logs stop.DeviceFault full = tt
-  full_report logs (stop.StoreFull stripe) full = full
-  full_report logs (stop.Cold receipts) full = tt
-
   -- what would be written where a stripe is full
   pub full_writes : (steady : Type 0) {W : ℕ → Type 0} (s : Stop R) (asked : Asked) (start : Knowledge)
       → (steady → (i : ℕ) → W i → made start.seen (operation_of start.watched asked) ≢ []) → (steady → IfFull s W)
@@ -67,27 +59,20 @@ module _ {R : Type 0} where
       → IfCold s (λ receipts. ⊥) → IfFull s (λ stripe. ⊥) → f1 ≡ f0 + faults s → IfNoMemory s (¬ AsksNoMemory (promises.steady × promises.lends) (after start.seen) (asked_for call))
       → IsUndone promises [] (asked_of call) (fault_of s) (know start f0) (know mid f1)
   stopped_quietly promises call stop.OutOfMemory start mid f0 f1 entry kept same cold full failures memory =
-      stopped_by {R = R} promises call stop.OutOfMemory start mid mid f0 f1 entry (ap (λ (w : List Pair). record mid { watched = w }) (sym kept)) same cold failures memory tt
+      stopped_by {R = R} promises call stop.OutOfMemory (record { retire = false; drain = false }) start mid mid f0 f1 entry (ap (λ (w : List Pair). record mid { watched = w }) (sym kept)) same cold failures memory tt
   stopped_quietly promises call stop.DeviceFault start mid f0 f1 entry kept same cold full failures memory =
-      stopped_by {R = R} promises call stop.DeviceFault start mid mid f0 f1 entry (ap (λ (w : List Pair). record mid { watched = w }) (sym kept)) same cold failures memory tt
+      stopped_by {R = R} promises call stop.DeviceFault (record { retire = false; drain = false }) start mid mid f0 f1 entry (ap (λ (w : List Pair). record mid { watched = w }) (sym kept)) same cold failures memory tt
   stopped_quietly promises call (stop.StoreFull stripe) start mid f0 f1 entry kept same cold full failures memory = absurd full
   stopped_quietly promises call (stop.Cold receipts) start mid f0 f1 entry kept same cold full failures memory = absurd cold
 
-  -- a stripe for which room was asked is full
-  pub set_full : (stripe : ℕ) (logs : ℕ → Option HybridLog) (s : Stop R) → IfFull s (λ i. (i ≡ stripe) × IsFullAt logs i) → IfFull s (IsFullAt logs)
-  set_full stripe logs stop.OutOfMemory full = tt
-  set_full stripe logs stop.DeviceFault full = tt
-  set_full stripe logs (stop.StoreFull i) full = full.1
-  set_full stripe logs (stop.Cold receipts) full = tt
-
   -- there was no room for what a SET without an option writes
-  pub set_stopped : (promises : Promises) (key value : Bytes) (s : Stop R) (start mid : Knowledge) (f0 f1 : ℕ) → mid ≡ start → IfCold s (λ receipts. ⊥) → IfNoMemory s ⊥ → f1 ≡ f0 + faults s
+  pub set_stopped : (promises : Promises) (key value : Bytes) (s : Stop R) (refused : Refused) (start mid : Knowledge) (f0 f1 : ℕ) → mid ≡ start → IfCold s (λ receipts. ⊥) → IfNoMemory s ⊥ → f1 ≡ f0 + faults s
       → IsPlan start.seen (Run (Set key value Always)) (line_reply Done) ((key, Some value) ∷ [])
-      → IsUndone promises [] (asked_of (set_call key value)) (fault_of s) (know start f0) (know (given false (report_of s) mid) f1)
-  set_stopped promises key value stop.OutOfMemory start mid f0 f1 same cold memory failures plan = absurd memory
-  set_stopped promises key value stop.DeviceFault start mid f0 f1 same cold memory failures plan =
-      stopped_by {R = R} promises (set_call key value) stop.DeviceFault start mid mid f0 f1 refl refl same cold failures tt tt
-  set_stopped promises key value (stop.StoreFull stripe) start mid f0 f1 same cold memory failures plan =
-      stopped_by {R = R} promises (set_call key value) (stop.StoreFull stripe) start mid (given false (report_of {R = R} (stop.StoreFull stripe)) mid) f0 f1 refl refl same cold failures tt
+      → IsUndone promises [] (asked_of (set_call key value)) (fault_of s) (know start f0) (know (given false (report_of s refused) mid) f1)
+  set_stopped promises key value stop.OutOfMemory refused start mid f0 f1 same cold memory failures plan = absurd memory
+  set_stopped promises key value stop.DeviceFault refused start mid f0 f1 same cold memory failures plan =
+      stopped_by {R = R} promises (set_call key value) stop.DeviceFault refused start mid mid f0 f1 refl refl same cold failures tt tt
+  set_stopped promises key value (stop.StoreFull stripe) refused start mid f0 f1 same cold memory failures plan =
+      stopped_by {R = R} promises (set_call key value) (stop.StoreFull stripe) refused start mid (given false (report_of {R = R} (stop.StoreFull stripe) refused) mid) f0 f1 refl refl same cold failures tt
       (λ t none. absurd (some_writes (key, Some value) [] (plan.writes_due ∙ none)))
-  set_stopped promises key value (stop.Cold receipts) start mid f0 f1 same cold memory failures plan = absurd cold
+  set_stopped promises key value (stop.Cold receipts) refused start mid f0 f1 same cold memory failures plan = absurd cold

@@ -8,6 +8,7 @@ use Rattle.words.specs.History.{History, Pair, HasPlace, after}
 use Rattle.words.specs.Watches.{watched_after}
 use Rattle.words.specs.Session.{Asked, operation_of, watched_at_fault}
 use Rattle.gates.specs.declared.view.Note.{Note}
+use Rattle.gates.specs.declared.view.Refused.{Refused}
 use Rattle.gates.specs.declared.view.Note.TheVariants.{Full, Worn}
 use Rattle.gates.specs.Passes.{AreBusy}
 use Rattle.transact.specs.Plans.{made}
@@ -46,11 +47,13 @@ pub record Did (stripes : List ℕ) (asked : Asked) (reply : Reply) (was now : K
   pub busy : AreBusy stripes told
   pub failures : now.failures ≡ was.failures
 
--- The pass was told that a stripe is full, which was told last, and what was asked would write where the history stood that it has seen.
+-- The pass was told that a stripe is full, and that none of its places could be released but for what the epochs refused; this was told last. And
+-- what was asked would write where the history stood that it has seen.
 pub record MetFull (steady : Type 0) (stripes : List ℕ) (asked : Asked) (was now : Known) (told : List Note) : Type 0 where
   pub stripe : ℕ
   pub earlier : List Note
-  pub full : told ≡ Full stripe ∷ earlier
+  pub refused : Refused
+  pub full : told ≡ Full stripe refused ∷ earlier
   pub busy : AreBusy stripes earlier
   pub writes : steady → made now.seen (operation_of was.watched asked) ≢ []
   pub failures : now.failures ≡ was.failures

@@ -12,7 +12,7 @@ ghost use Rattle.engine.specs.Calls.{HasItsPlace, IsDone, IsUndone, promises_of}
 ghost use Rattle.engine.specs.Entering.{WasAbandoned};
 ghost use Rattle.engine.specs.Passes.{HasSeat, know};
 
-use crate::enter::{Entered, enter_at_once, enter_call, give_back, refuse, told_of};
+use crate::enter::{Entered, NOTHING, enter_at_once, enter_call, give_back, refuse, told_of};
 use crate::outside::{ROUNDS, read_outside};
 use device::{Device, Shows};
 use epoch::{EpochSeat, Epochs, Inside};
@@ -91,7 +91,20 @@ fn submit_in_rounds<T: Wait, L: Latch, R: Shows, D: Device<Receipt = R>>(
     ) {
         Ok(answer) => answer,
         Err(inside) => {
-            let answer = later_rounds(rt, alloc, gates, pass, device, staged, &wanted, call, latch);
+            let mut inside = inside;
+            let answer = later_rounds(
+                rt,
+                alloc,
+                gates,
+                epochs,
+                pass,
+                device,
+                &mut inside,
+                staged,
+                &wanted,
+                call,
+                latch,
+            );
             *seat = Some(epochs.leave(inside));
             answer
         }
@@ -136,11 +149,15 @@ fn first_round<T: Wait, L: Latch, R: Shows, D: Device<Receipt = R>>(
 {
     stripes_hold_keys::<R>();
     let stripes = gates.stripes();
+    let Some(mut own) = seat.take() else {
+        unreachable!()
+    };
     let mut held = (&*gates).take(rt, &mut *pass, &*wanted);
     match enter_call(
-        alloc, &mut held, stripes, device, call, staged, false, latch,
+        alloc, &mut held, stripes, device, call, staged, false, epochs, &mut own, latch,
     ) {
         Ok(entered) => {
+            *seat = Some(own);
             let Entered {
                 answer,
                 ends,
@@ -150,15 +167,12 @@ fn first_round<T: Wait, L: Latch, R: Shows, D: Device<Receipt = R>>(
             Ok(answer)
         }
         Err(receipts) => {
-            let Some(own) = seat.take() else {
-                unreachable!()
-            };
             let inside = epochs.enter(rt, own);
             match read_outside(held, device, staged, receipts) {
                 Ok(()) => Err(inside),
                 Err(stop) => {
                     *seat = Some(epochs.leave(inside));
-                    let fault = told_of(stop).fault;
+                    let fault = told_of(stop, NOTHING).fault;
                     Ok(abandon(rt, gates, pass, wanted, call, fault))
                 }
             }
@@ -171,8 +185,10 @@ fn later_rounds<T: Wait, L: Latch, R: Shows, D: Device<Receipt = R>>(
     rt: &T,
     alloc: Global,
     gates: &Gates<Shard<R>>,
+    epochs: &Epochs,
     pass: &mut Pass<Shard<R>>,
     device: &mut D,
+    inside: &mut Inside,
     staged: &mut Staged<R>,
     wanted: &Sorted,
     call: &Call,
@@ -184,6 +200,8 @@ fn later_rounds<T: Wait, L: Latch, R: Shows, D: Device<Receipt = R>>(
     requires wanted { wanted.now ≡ stripes_asked (stripes_of gates.now) call.now }
     requires below { AreBelow (stripes_of gates.now) wanted.now }
     requires right { R.is_steady → AreRight staged.old }
+    requires stay { IsInside epochs.now inside.old }
+    ensures stay { IsInside epochs.now inside.new }
     ensures rests { IsResting R.is_steady gates.now pass.new }
     ensures done { IfReply result (λ reply. IsDone (stripes_asked (stripes_of gates.now) call.now) (asked_of call.now) reply (know (known pass.old) (D.failures device.old)) (know (known pass.new) (D.failures device.new))) }
     ensures undone { IfFault result (λ fault. IsUndone (promises_of R.is_steady R.lends) (stripes_asked (stripes_of gates.now) call.now) (asked_of call.now) fault (know (known pass.old) (D.failures device.old)) (know (known pass.new) (D.failures device.new))) }
@@ -192,7 +210,7 @@ fn later_rounds<T: Wait, L: Latch, R: Shows, D: Device<Receipt = R>>(
     'rounds: loop {
         let reads = round == ROUNDS;
         if let Some(answer) = later_round(
-            rt, alloc, gates, pass, device, staged, wanted, call, reads, latch,
+            rt, alloc, gates, epochs, pass, device, inside, staged, wanted, call, reads, latch,
         ) {
             return answer;
         }
@@ -206,8 +224,10 @@ fn later_round<T: Wait, L: Latch, R: Shows, D: Device<Receipt = R>>(
     rt: &T,
     alloc: Global,
     gates: &Gates<Shard<R>>,
+    epochs: &Epochs,
     pass: &mut Pass<Shard<R>>,
     device: &mut D,
+    inside: &mut Inside,
     staged: &mut Staged<R>,
     wanted: &Sorted,
     call: &Call,
@@ -220,6 +240,8 @@ fn later_round<T: Wait, L: Latch, R: Shows, D: Device<Receipt = R>>(
     requires wanted { wanted.now ≡ stripes_asked (stripes_of gates.now) call.now }
     requires below { AreBelow (stripes_of gates.now) wanted.now }
     requires right { R.is_steady → AreRight staged.old }
+    requires stay { IsInside epochs.now inside.old }
+    ensures stay { IsInside epochs.now inside.new }
     ensures rests { IsResting R.is_steady gates.now pass.new }
     ensures right { R.is_steady → AreRight staged.new }
     ensures done { IfSome result (λ answer. IfReply answer (λ reply. IsDone (stripes_asked (stripes_of gates.now) call.now) (asked_of call.now) reply (know (known pass.old) (D.failures device.old)) (know (known pass.new) (D.failures device.new)))) }
@@ -233,7 +255,7 @@ fn later_round<T: Wait, L: Latch, R: Shows, D: Device<Receipt = R>>(
     let stripes = gates.stripes();
     let mut held = (&*gates).take(rt, &mut *pass, &*wanted);
     match enter_call(
-        alloc, &mut held, stripes, device, call, staged, reads, latch,
+        alloc, &mut held, stripes, device, call, staged, reads, epochs, inside, latch,
     ) {
         Ok(entered) => {
             let Entered {
@@ -247,7 +269,7 @@ fn later_round<T: Wait, L: Latch, R: Shows, D: Device<Receipt = R>>(
         Err(receipts) => match read_outside(held, device, staged, receipts) {
             Ok(()) => None,
             Err(stop) => {
-                let fault = told_of(stop).fault;
+                let fault = told_of(stop, NOTHING).fault;
                 Some(abandon(rt, gates, pass, wanted, call, fault))
             }
         },
@@ -295,16 +317,20 @@ fn abandon<T: Wait, R: Shows>(
 pub(crate) fn try_submit<R: Shows, D: Device<Receipt = R>>(
     alloc: Global,
     gates: &Gates<Shard<R>>,
+    epochs: &Epochs,
     pass: &mut Pass<Shard<R>>,
     device: &mut D,
+    seat: &mut Option<EpochSeat>,
     staged: &mut Staged<R>,
     call: Call,
 ) -> Result<Answer, (Busy, Call)>
     requires rests { IsResting R.is_steady gates.now pass.old }
     requires place { HasItsPlace (known pass.old).watched (asked_of call) }
     requires ends { EndsAll call (known pass.old).watched }
+    requires seat { HasSeat epochs.now seat.old }
     requires none { staged.old ≡ [] }
     ensures rests { IsResting R.is_steady gates.now pass.new }
+    ensures seat { HasSeat epochs.now seat.new }
     ensures none { staged.new ≡ [] }
     ensures done { IfOk result (λ answer. IfReply answer (λ reply. IsDone [] (asked_of call) reply (know (known pass.old) (D.failures device.old)) (know (known pass.new) (D.failures device.new)))) }
     ensures undone { IfOk result (λ answer. IfFault answer (λ fault. IsUndone (promises_of R.is_steady R.lends) [] (asked_of call) fault (know (known pass.old) (D.failures device.old)) (know (known pass.new) (D.failures device.new)))) }
@@ -318,12 +344,18 @@ pub(crate) fn try_submit<R: Shows, D: Device<Receipt = R>>(
     let wanted = keys_of(&call, stripes);
     match gates.try_take(pass, &wanted) {
         Ok(()) => {
+            let Some(mut own) = seat.take() else {
+                unreachable!()
+            };
             let mut held = gates.hold(pass, &wanted);
             let Entered {
                 answer,
                 ends,
                 report,
-            } = enter_at_once(alloc, &mut held, stripes, device, &call, staged);
+            } = enter_at_once(
+                alloc, &mut held, stripes, device, &call, staged, epochs, &mut own,
+            );
+            *seat = Some(own);
             give_back(held, ends, &report);
             staged.clear();
             call.spend();

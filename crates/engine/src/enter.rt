@@ -1,10 +1,11 @@
 //! Calls over the stripes that a pass holds: from what is held to what may be given back.
 
-ghost use Rattle.std.specs.Prelude.{◌≡◌, [], IfOk, OnErr};
+ghost use Rattle.std.specs.Prelude.{◌≡◌, [], IfOk, OnErr, true};
 ghost use Rattle.words.specs.Store.{Bytes};
-ghost use Rattle.gates.specs.Passes.{IsResting, known, stripes_of};
+ghost use Rattle.gates.specs.Passes.{AreAsTaken, IsResting, known, stripes_of};
 ghost use Rattle.gates.specs.Plays.{kept};
-ghost use Rattle.gates.specs.Helds.{gates_of, held_parts, known_to};
+ghost use Rattle.gates.specs.Background.{IsToldOf};
+ghost use Rattle.gates.specs.Helds.{gates_of, held_parts, held_taken, known_to};
 ghost use Rattle.transact.specs.Calls.{asked_of};
 ghost use Rattle.transact.specs.Plans.{EndsAll, IsEntry};
 ghost use Rattle.transact.specs.Submits.{IfFault, IfReply, asked_for};
@@ -13,18 +14,20 @@ ghost use Rattle.engine.specs.Entering.{MayBeGiven, MayEnter, WasCold, at_fault,
 ghost use Rattle.hybrid.specs.Staging.{AreRight};
 ghost use Rattle.engine.specs.Memory.{set_call};
 ghost use Rattle.engine.specs.Passes.{know};
-ghost use Rattle.engine.specs.Stops.{IsFullOf, fault_of, report_of};
-ghost use Rattle.gates.specs.Sets.{part_at};
-ghost use Rattle.plans.specs.Shards.{logs_of};
+ghost use Rattle.engine.specs.Stops.{IfSpent, IsOfCall, fault_of, report_of};
+ghost use Rattle.plans.specs.Heard.{HasHeard, HasHeardWorn};
+ghost use Rattle.plans.specs.Shards.{shard_meaning};
 ghost use Rattle.plans.specs.Stops.{IfCold};
 
 use crate::short::enter_set;
 use device::{Device, Shows};
-use gates::{Held, Latch, Open, Point, Report};
+use epoch::Epochs;
+use gates::{Held, Latch, Open, Point, Refused, Report};
 use hybrid::Staged;
+use plans::freeing::{Halt, plan_freeing};
 use plans::laws::writes_install_a_call;
 use plans::marks::forget;
-use plans::reading::plan_staged;
+use plans::retires::Retires;
 use plans::shard::Shard;
 use plans::stop::{Receipts, Stop};
 use std::alloc::Global;
@@ -32,6 +35,12 @@ use transact::call::{Answer, Call};
 use words::bounds::values_are_bounded;
 use words::command::{Command, When};
 use words::reply::{Fault, Line, Reply};
+
+/// Nothing was refused.
+pub(crate) const NOTHING: Refused = Refused {
+    retire: false,
+    drain: false,
+};
 
 /// What a call came to whose stripes are still held.
 pub(crate) struct Entered {
@@ -50,7 +59,7 @@ pub(crate) struct Entered {
 ///
 /// Copies of the receipts of the pages that are wanted, where they may not be read: nothing has changed then. A call that
 /// ends watches wants none, nor does a SET without an option.
-pub(crate) fn enter_call<L: Latch, R: Shows, D: Device<Receipt = R>>(
+pub(crate) fn enter_call<L: Latch, R: Shows, D: Device<Receipt = R>, S: Retires>(
     alloc: Global,
     held: &mut Held<'_, Shard<R>>,
     stripes: usize,
@@ -58,12 +67,19 @@ pub(crate) fn enter_call<L: Latch, R: Shows, D: Device<Receipt = R>>(
     call: &Call,
     staged: &mut Staged<R>,
     reads: bool,
+    epochs: &Epochs,
+    own: &mut S,
     latch: &L,
 ) -> Result<Entered, Receipts<R>>
     requires may { MayEnter R.is_steady stripes call.now held.old }
+    requires lent { AreAsTaken (held_taken held.old) (held_parts held.old) }
+    requires is { S.is_of epochs.now own.old }
     requires place { HasItsPlace (known_to held.old).watched (asked_of call.now) }
     requires ends { EndsAll call.now (known_to held.old).watched }
     requires right { R.is_steady → AreRight staged.old }
+    ensures is { S.is_of epochs.now own.new }
+    ensures heard { HasHeard (S.knows own.old) (S.knows own.new) }
+    ensures worn { IfOk result (λ entered. IfSpent entered.report (λ refused. refused.retire ≡ true → HasHeardWorn (S.knows own.old) (S.knows own.new))) }
     ensures right { R.is_steady → AreRight staged.new }
     ensures back { IfOk result (λ entered. MayBeGiven R.is_steady entered.ends entered.report stripes held.old held.new) }
     ensures done { IfOk result (λ entered. IfReply entered.answer (λ reply. IsDone [] (asked_of call.now) reply (know (known_to held.old) (D.failures device.old)) (know (given entered.ends entered.report (known_to held.new)) (D.failures device.new)))) }
@@ -83,35 +99,46 @@ pub(crate) fn enter_call<L: Latch, R: Shows, D: Device<Receipt = R>>(
         }
         Call::One(Command::Set(key, value, When::Always)) => {
             latch.at(held.number(), Point::Holding);
-            let (line, report) = enter_set(held, stripes, device, key, value);
+            let (line, report) = enter_set(held, stripes, device, key, value, epochs, own);
             Ok(Entered {
                 answer: Answer::of_line(line),
                 ends: false,
                 report,
             })
         }
-        call => enter(alloc, held, stripes, device, call, staged, reads, latch),
+        call => enter(
+            alloc, held, stripes, device, call, staged, reads, epochs, own, latch,
+        ),
     }
 }
 
 /// Enters a call as [`enter_call`] does, and reads the pages that it wants while its stripes are held.
-pub(crate) fn enter_at_once<R: Shows, D: Device<Receipt = R>>(
+pub(crate) fn enter_at_once<R: Shows, D: Device<Receipt = R>, S: Retires>(
     alloc: Global,
     held: &mut Held<'_, Shard<R>>,
     stripes: usize,
     device: &mut D,
     call: &Call,
     staged: &mut Staged<R>,
+    epochs: &Epochs,
+    own: &mut S,
 ) -> Entered
     requires may { MayEnter R.is_steady stripes call.now held.old }
+    requires lent { AreAsTaken (held_taken held.old) (held_parts held.old) }
+    requires is { S.is_of epochs.now own.old }
     requires place { HasItsPlace (known_to held.old).watched (asked_of call.now) }
     requires ends { EndsAll call.now (known_to held.old).watched }
     requires right { R.is_steady → AreRight staged.old }
+    ensures is { S.is_of epochs.now own.new }
+    ensures heard { HasHeard (S.knows own.old) (S.knows own.new) }
+    ensures worn { IfSpent result.report (λ refused. refused.retire ≡ true → HasHeardWorn (S.knows own.old) (S.knows own.new)) }
     ensures back { MayBeGiven R.is_steady result.ends result.report stripes held.old held.new }
     ensures done { IfReply result.answer (λ reply. IsDone [] (asked_of call.now) reply (know (known_to held.old) (D.failures device.old)) (know (given result.ends result.report (known_to held.new)) (D.failures device.new))) }
     ensures undone { IfFault result.answer (λ fault. IsUndone (promises_of R.is_steady R.lends) [] (asked_of call.now) fault (know (known_to held.old) (D.failures device.old)) (know (given result.ends result.report (known_to held.new)) (D.failures device.new))) }
 {
-    match enter_call(alloc, held, stripes, device, call, staged, true, &Open) {
+    match enter_call(
+        alloc, held, stripes, device, call, staged, true, epochs, own, &Open,
+    ) {
         Ok(entered) => entered,
         Err(_receipts) => unreachable!(),
     }
@@ -132,7 +159,7 @@ pub(crate) fn give_back<R: Shows>(held: Held<'_, Shard<R>>, ends: bool, report: 
 
 /// Runs a call over the parts that are held: plans it, commits its one entry, and installs what it writes. With a fault
 /// nothing was committed, and values are as they were.
-fn enter<L: Latch, R: Shows, D: Device<Receipt = R>>(
+fn enter<L: Latch, R: Shows, D: Device<Receipt = R>, S: Retires>(
     alloc: Global,
     held: &mut Held<'_, Shard<R>>,
     stripes: usize,
@@ -140,14 +167,21 @@ fn enter<L: Latch, R: Shows, D: Device<Receipt = R>>(
     call: &Call,
     staged: &mut Staged<R>,
     reads: bool,
+    epochs: &Epochs,
+    own: &mut S,
     latch: &L,
 ) -> Result<Entered, Receipts<R>>
     requires may { MayEnter R.is_steady stripes call.now held.old }
+    requires lent { AreAsTaken (held_taken held.old) (held_parts held.old) }
+    requires is { S.is_of epochs.now own.old }
     requires entry { IsEntry call.now }
     requires place { HasItsPlace (known_to held.old).watched (asked_of call.now) }
     requires ends { EndsAll call.now (known_to held.old).watched }
     requires other { (key value : Bytes) → call.now ≡ set_call key value → ⊥ }
     requires right { R.is_steady → AreRight staged.old }
+    ensures is { S.is_of epochs.now own.new }
+    ensures heard { HasHeard (S.knows own.old) (S.knows own.new) }
+    ensures worn { IfOk result (λ entered. IfSpent entered.report (λ refused. refused.retire ≡ true → HasHeardWorn (S.knows own.old) (S.knows own.new))) }
     ensures right { R.is_steady → AreRight staged.new }
     ensures back { IfOk result (λ entered. MayBeGiven R.is_steady entered.ends entered.report stripes held.old held.new) }
     ensures done { IfOk result (λ entered. IfReply entered.answer (λ reply. IsDone [] (asked_of call.now) reply (know (known_to held.old) (D.failures device.old)) (know (given entered.ends entered.report (known_to held.new)) (D.failures device.new)))) }
@@ -158,13 +192,17 @@ fn enter<L: Latch, R: Shows, D: Device<Receipt = R>>(
     values_are_bounded();
     writes_install_a_call::<R>();
     let seat = held.number();
-    let planned = match plan_staged(alloc, held, stripes, seat, call, staged, reads, device) {
+    let planned = match plan_freeing(
+        alloc, held, stripes, seat, call, staged, reads, epochs, own, device,
+    ) {
         Ok(planned) => planned,
-        Err(Stop::Cold(receipts)) => return Err(receipts),
-        Err(stop) => {
-            let Stopped { fault, report } = told_of(stop);
-            return Ok(refuse(held, stripes, call, fault, report));
-        }
+        Err(Halt { stop, refused }) => match stop {
+            Stop::Cold(receipts) => return Err(receipts),
+            stop => {
+                let Stopped { fault, report } = told_of(stop, refused);
+                return Ok(refuse(held, stripes, call, fault, report));
+            }
+        },
     };
     latch.at(seat, Point::Holding);
     match held.commit(call, &planned.reply) {
@@ -192,11 +230,11 @@ pub(crate) struct Stopped {
     pub(crate) report: Report,
 }
 
-/// How a call is answered whose plan was not made, and what is told of it.
-pub(crate) fn told_of<R: Shows>(stop: Stop<R>) -> Stopped
+/// How a call is answered whose plan was not made, and what is told of it, where the epochs have refused this.
+pub(crate) fn told_of<R: Shows>(stop: Stop<R>, refused: Refused) -> Stopped
     requires never_cold { IfCold stop (λ receipts. ⊥) }
     ensures fault { result.fault ≡ fault_of stop }
-    ensures report { result.report ≡ report_of stop }
+    ensures report { result.report ≡ report_of stop refused }
     ensures never_cold { IfCold stop (λ receipts. ⊥) }
 {
     match stop {
@@ -210,7 +248,7 @@ pub(crate) fn told_of<R: Shows>(stop: Stop<R>) -> Stopped
         },
         Stop::StoreFull(stripe) => Stopped {
             fault: Fault::StoreFull,
-            report: Report::Full(stripe as u64),
+            report: Report::Full(stripe as u64, refused),
         },
         Stop::Cold(_) => unreachable!(),
     }
@@ -227,7 +265,8 @@ pub(crate) fn refuse<R: Shows>(
     requires may { MayEnter R.is_steady stripes call.now held.old }
     requires entry { IsEntry call.now }
     requires ends { EndsAll call.now (known_to held.old).watched }
-    requires full { IsFullOf (logs_of (part_at (held_parts held.old))) report }
+    requires told { IsToldOf (shard_meaning R.is_steady) (held_taken held.old) (held_parts held.old) report }
+    requires of_call { IsOfCall report }
     ensures back { MayBeGiven R.is_steady result.ends result.report stripes held.old held.new }
     ensures answer { result.answer ≡ Answer.Fault fault }
     ensures report { result.report ≡ report }

@@ -106,7 +106,7 @@ impl<D: Device> Engine<D> {
     ///
     /// [`Answer::Fault`], and no key was changed, and there is no entry. It has [`Fault::OutOfMemory`] where a growth
     /// was refused, [`Fault::DeviceFault`] where a call of the device failed, [`Fault::StoreFull`] where a stripe that it
-    /// writes has no place left on the device, and [`Fault::CommitsWornOut`] where the commit word was read at 2^62 or more.
+    /// writes has no place left on the device, once each was released that could be, and [`Fault::CommitsWornOut`] where the commit word was read at 2^62 or more.
     /// A call that ends watches is not answered so.
     ///
     /// [`Fault::OutOfMemory`]: words::reply::Fault::OutOfMemory
@@ -221,8 +221,10 @@ impl<D: Device> Engine<D> {
         let answer = submit_set(
             rt,
             &self.gates,
+            &self.epochs,
             &mut pass.gates,
             &mut pass.device,
+            &mut pass.seat,
             key,
             value,
             latch,
@@ -252,8 +254,10 @@ impl<D: Device> Engine<D> {
         try_submit(
             self.alloc,
             &self.gates,
+            &self.epochs,
             &mut pass.gates,
             &mut pass.device,
+            &mut pass.seat,
             &mut pass.staged,
             call,
         )

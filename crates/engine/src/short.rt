@@ -1,15 +1,15 @@
 //! The short ways of a GET and of a SET without an option, whose key and value stay the caller's.
 
-ghost use Rattle.std.specs.Prelude.{◌≡◌, [], ℕ, false, IfErr, IfNone, IfOk, IfSome, OnErr, OnOk};
+ghost use Rattle.std.specs.Prelude.{◌≡◌, [], ℕ, false, true, IfErr, IfNone, IfOk, IfSome, OnErr, OnOk};
 ghost use Rattle.epoch.specs.Seats.{IsInside};
 ghost use Rattle.hybrid.specs.Staging.{AreRight};
 ghost use Rattle.words.specs.declared.history.Operation.TheVariants.{Run};
 ghost use Rattle.words.specs.Bounds.{IsBounded};
 ghost use Rattle.words.specs.History.{History, due, keys_named, too_much};
 ghost use Rattle.words.specs.Session.{line_reply};
-ghost use Rattle.gates.specs.Passes.{IsResting, KeysHeld, Learned, ToldBusy, known, stripes_of};
+ghost use Rattle.gates.specs.Passes.{AreAsTaken, IsResting, KeysHeld, Learned, ToldBusy, known, stripes_of};
 ghost use Rattle.gates.specs.Sets.{AreBelow};
-ghost use Rattle.gates.specs.Helds.{HasCommitted, IsOpen, gates_of, has_committed, held_parts, known_to, operation_asked};
+ghost use Rattle.gates.specs.Helds.{HasCommitted, IsOpen, gates_of, has_committed, held_parts, held_taken, known_to, operation_asked};
 ghost use Rattle.gates.specs.declared.report.Report.TheVariants.{Nothing};
 ghost use Rattle.transact.specs.Calls.{answer_of, answer_with, asked_of};
 ghost use Rattle.transact.specs.Plans.{IsPlan};
@@ -18,17 +18,21 @@ ghost use Rattle.engine.specs.Calls.{IsDone, IsUndone, promises_of};
 ghost use Rattle.engine.specs.Entering.{MayBeGiven, MayEnter, WasCold, given};
 ghost use Rattle.engine.specs.Memory.{get_call, set_call};
 ghost use Rattle.engine.specs.Passes.{HasSeat, know};
+ghost use Rattle.engine.specs.Stops.{IfSpent};
+ghost use Rattle.plans.specs.Heard.{HasHeard, HasHeardWorn};
 
-use crate::enter::{Stopped, told_of};
+use crate::enter::{NOTHING, Stopped, told_of};
 use crate::outside::{ROUNDS, read_outside};
 use device::{Device, Shows};
 use epoch::{EpochSeat, Epochs, Inside};
 use gates::{Asks, CommitsWornOut, Gates, Held, Latch, Pass, Point, Report, Says, Sorted};
 use hybrid::Staged;
+use plans::freeing::reserve_freeing;
 use plans::laws::{stripes_hold_keys, writes_install_a_command};
 use plans::reading::value_staged;
+use plans::retires::Retires;
 use plans::shard::Shard;
-use plans::short::{install_set, reserve_set};
+use plans::short::install_set;
 use plans::stop::{Receipts, Stop};
 use std::alloc::Global;
 use std::sync::Wait;
@@ -198,7 +202,7 @@ fn first_get<T: Wait, L: Latch, R: Shows, D: Device<Receipt = R>>(
                 Ok(()) => Err(inside),
                 Err(stop) => {
                     *seat = Some(epochs.leave(inside));
-                    Ok(Err(told_of(stop).fault))
+                    Ok(Err(told_of(stop, NOTHING).fault))
                 }
             }
         }
@@ -276,7 +280,7 @@ fn later_get<T: Wait, L: Latch, R: Shows, D: Device<Receipt = R>>(
         }
         Err(receipts) => match read_outside(held, device, staged, receipts) {
             Ok(()) => None,
-            Err(stop) => Some(Err(told_of(stop).fault)),
+            Err(stop) => Some(Err(told_of(stop, NOTHING).fault)),
         },
     }
 }
@@ -289,15 +293,19 @@ fn later_get<T: Wait, L: Latch, R: Shows, D: Device<Receipt = R>>(
 pub(crate) fn submit_set<T: Wait, L: Latch, R: Shows, D: Device<Receipt = R>>(
     rt: &T,
     gates: &Gates<Shard<R>>,
+    epochs: &Epochs,
     pass: &mut Pass<Shard<R>>,
     device: &mut D,
+    seat: &mut Option<EpochSeat>,
     key: &Word,
     value: &Word,
     latch: &L,
 ) -> Result<Line, Fault>
     requires rests { IsResting R.is_steady gates.now pass.old }
     requires place { IsBounded (Command.Set key.now value.now When.Always) }
+    requires seat { HasSeat epochs.now seat.old }
     ensures rests { IsResting R.is_steady gates.now pass.new }
+    ensures seat { HasSeat epochs.now seat.new }
     ensures done { IfReply (answer_of result) (λ reply. IsDone (stripes_asked (stripes_of gates.now) (set_call key.now value.now)) (asked_of (set_call key.now value.now)) reply (know (known pass.old) (D.failures device.old)) (know (known pass.new) (D.failures device.new))) }
     ensures undone { IfFault (answer_of result) (λ fault. IsUndone (promises_of R.is_steady R.lends) (stripes_asked (stripes_of gates.now) (set_call key.now value.now)) (asked_of (set_call key.now value.now)) fault (know (known pass.old) (D.failures device.old)) (know (known pass.new) (D.failures device.new))) }
 {
@@ -305,9 +313,13 @@ pub(crate) fn submit_set<T: Wait, L: Latch, R: Shows, D: Device<Receipt = R>>(
     let stripes = gates.stripes();
     let number = pass.number();
     let wanted = stripe_of_key(key, stripes);
+    let Some(mut own) = seat.take() else {
+        unreachable!()
+    };
     let mut held = gates.take(rt, pass, &wanted);
     latch.at(number, Point::Holding);
-    let (answer, report) = enter_set(&mut held, stripes, device, key, value);
+    let (answer, report) = enter_set(&mut held, stripes, device, key, value, epochs, &mut own);
+    *seat = Some(own);
     held.give(&report);
     answer
 }
@@ -315,15 +327,22 @@ pub(crate) fn submit_set<T: Wait, L: Latch, R: Shows, D: Device<Receipt = R>>(
 /// Runs a SET without an option over the parts that are held: makes room for its key and value, commits its one entry, and
 /// copies them into the page. It looks nothing up, and takes no memory. A value that weighs too much is refused by the
 /// reply. Beside the answer it gives what is told where the stripes are given back.
-pub(crate) fn enter_set<R: Shows, D: Device<Receipt = R>>(
+pub(crate) fn enter_set<R: Shows, D: Device<Receipt = R>, S: Retires>(
     held: &mut Held<'_, Shard<R>>,
     stripes: usize,
     device: &mut D,
     key: &Word,
     value: &Word,
+    epochs: &Epochs,
+    own: &mut S,
 ) -> (Result<Line, Fault>, Report)
     requires may { MayEnter R.is_steady stripes (set_call key.now value.now) held.old }
+    requires lent { AreAsTaken (held_taken held.old) (held_parts held.old) }
     requires place { IsBounded (Command.Set key.now value.now When.Always) }
+    requires is { S.is_of epochs.now own.old }
+    ensures is { S.is_of epochs.now own.new }
+    ensures heard { HasHeard (S.knows own.old) (S.knows own.new) }
+    ensures worn { IfSpent result.1 (λ refused. refused.retire ≡ true → HasHeardWorn (S.knows own.old) (S.knows own.new)) }
     ensures back { MayBeGiven R.is_steady false result.1 stripes held.old held.new }
     ensures done { IfReply (answer_of result.0) (λ reply. IsDone [] (asked_of (set_call key.now value.now)) reply (know (known_to held.old) (D.failures device.old)) (know (given false result.1 (known_to held.new)) (D.failures device.new))) }
     ensures undone { IfFault (answer_of result.0) (λ fault. IsUndone (promises_of R.is_steady R.lends) [] (asked_of (set_call key.now value.now)) fault (know (known_to held.old) (D.failures device.old)) (know (given false result.1 (known_to held.new)) (D.failures device.new))) }
@@ -332,8 +351,8 @@ pub(crate) fn enter_set<R: Shows, D: Device<Receipt = R>>(
     if weighs_too_much(key, value) {
         return (refuse_set(held, stripes, key, value), Report::Nothing);
     }
-    if let Err(stop) = reserve_set(held, stripes, key, value, device) {
-        let Stopped { fault, report } = told_of(stop);
+    if let Err(halt) = reserve_freeing(held, stripes, key, value, epochs, own, device) {
+        let Stopped { fault, report } = told_of(halt.stop, halt.refused);
         return (Err(fault), report);
     }
     match commit_line(held, key, value, Line::Done) {
@@ -375,7 +394,7 @@ fn enter_get<L: Latch, R: Shows, D: Device<Receipt = R>>(
     let value = match value_staged(alloc, held, stripes, key, staged, reads, device) {
         Ok(value) => value,
         Err(Stop::Cold(receipts)) => return Err(receipts),
-        Err(stop) => return Ok(Err(told_of(stop).fault)),
+        Err(stop) => return Ok(Err(told_of(stop, NOTHING).fault)),
     };
     latch.at(held.number(), Point::Holding);
     match held.commit(&Getting { key }, &Found { value: &value }) {

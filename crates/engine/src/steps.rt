@@ -5,7 +5,10 @@ ghost use Rattle.std.specs.Prelude.{◌≡◌, ◌<◌, [], ◌∷◌, Some, IfE
 ghost use Rattle.epoch.specs.Seats as seats;
 ghost use Rattle.epoch.specs.declared.epochs.EpochSeat.{EpochSeat};
 ghost use Rattle.gates.specs.Passes.{WasBusy, known};
+ghost use Rattle.gates.specs.declared.view.Look.TheVariants.{FewerFree, HalfUsed, Used};
+ghost use Rattle.gates.specs.declared.view.Note.TheVariants as note;
 ghost use Rattle.gates.specs.declared.view.Work.TheVariants.{Evict};
+ghost use Rattle.hybrid.specs.declared.stripe.TheConstants.{CALL_PAGES};
 ghost use Rattle.background.specs.Visits.{HasCleaned, HasFlushed, Visited, told};
 ghost use Rattle.engine.specs.Passes.{Rests, stripe_count};
 
@@ -28,11 +31,13 @@ impl<D: Device> Engine<D> {
     }
 
     /// The flusher's step at a stripe: its oldest read-only page without a receipt is written to the device while nobody
-    /// waits for the stripe, and its receipt is kept. False where no page waits for that. It may wait for calls of other passes.
+    /// waits for the stripe, and its receipt is kept. Where no place may be taken, each place of the stripe that can be released is
+    /// released first. False where no page waits for that. It may wait for calls of other passes.
     ///
     /// # Errors
     ///
-    /// [`Fault::DeviceFault`] where the write failed, [`Fault::StoreFull`] where no place may be taken for the page.
+    /// [`Fault::DeviceFault`] where the write failed, [`Fault::StoreFull`] where no place may be taken for the page, and none can be
+    /// released.
     pub fn flush_one<T: Wait>(
         &self,
         rt: &T,
@@ -42,16 +47,23 @@ impl<D: Device> Engine<D> {
         requires rests { Rests D.Receipt.is_steady self.now pass.old }
         requires below { stripe < stripe_count self.now }
         ensures rests { Rests D.Receipt.is_steady self.now pass.new }
-        ensures flushed { HasFlushed (stripe ∷ []) stripe result (D.failures pass.old.device) (D.failures pass.new.device) (known pass.old.gates) (known pass.new.gates) }
+        ensures flushed { (was now : EpochSeat) → pass.old.seat ≡ Some was → pass.new.seat ≡ Some now → HasFlushed (stripe ∷ []) stripe result (D.failures pass.old.device) (D.failures pass.new.device) (known pass.old.gates) (known pass.new.gates) (seats.known was) (seats.known now) }
     {
-        flush_one(
+        let Some(mut seat) = pass.seat.take() else {
+            unreachable!()
+        };
+        let result = flush_one(
             rt,
             &self.gates,
             &mut pass.gates,
             &mut pass.device,
+            &self.epochs,
+            &mut seat,
             &mut pass.page,
             stripe,
-        )
+        );
+        pass.seat = Some(seat);
+        result
     }
 
     /// The same as [`flush_one`](Engine::flush_one) without waiting. The page is written while the stripe is held.
@@ -67,17 +79,24 @@ impl<D: Device> Engine<D> {
         requires rests { Rests D.Receipt.is_steady self.now pass.old }
         requires below { stripe < stripe_count self.now }
         ensures rests { Rests D.Receipt.is_steady self.now pass.new }
-        ensures flushed { IfOk result (λ done. HasFlushed [] stripe done (D.failures pass.old.device) (D.failures pass.new.device) (known pass.old.gates) (known pass.new.gates)) }
+        ensures flushed { (was now : EpochSeat) → pass.old.seat ≡ Some was → pass.new.seat ≡ Some now → IfOk result (λ done. HasFlushed [] stripe done (D.failures pass.old.device) (D.failures pass.new.device) (known pass.old.gates) (known pass.new.gates) (seats.known was) (seats.known now)) }
         ensures busy { IfErr result (λ busy. (busy.stripe ≡ stripe) × WasBusy stripe (known pass.old.gates) (known pass.new.gates)) }
         ensures not_asked { IfErr result (λ busy. pass.new.device ≡ pass.old.device) }
     {
-        try_flush_one(
+        let Some(mut seat) = pass.seat.take() else {
+            unreachable!()
+        };
+        let result = try_flush_one(
             &self.gates,
             &mut pass.gates,
             &mut pass.device,
+            &self.epochs,
+            &mut seat,
             &mut pass.page,
             stripe,
-        )
+        );
+        pass.seat = Some(seat);
+        result
     }
 
     /// The evictor's step at a stripe: its oldest resident page leaves its frame, where its receipt is kept; false where none
@@ -131,7 +150,8 @@ impl<D: Device> Engine<D> {
     /// # Errors
     ///
     /// [`Fault::OutOfMemory`] where there is no memory for a page that is read, so not where receipts lend their pages;
-    /// [`Fault::DeviceFault`] where a call of the device failed; [`Fault::StoreFull`] where what lives in the oldest page has no room.
+    /// [`Fault::DeviceFault`] where a call of the device failed; [`Fault::StoreFull`] where what lives in the oldest page has no room, and no
+    /// place can be released.
     pub fn clean_one<T: Wait>(
         &self,
         rt: &T,
@@ -201,7 +221,7 @@ impl<D: Device> Engine<D> {
         requires rests { Rests D.Receipt.is_steady self.now pass.old }
         requires below { stripe < stripe_count self.now }
         ensures rests { Rests D.Receipt.is_steady self.now pass.new }
-        ensures told { Visited (stripe ∷ []) [] (known pass.old.gates) (known pass.new.gates) }
+        ensures told { Visited (stripe ∷ []) (note.Seen stripe (HalfUsed result) ∷ []) (known pass.old.gates) (known pass.new.gates) }
         ensures device { pass.new.device ≡ pass.old.device }
     {
         is_half_used(rt, &self.gates, &mut pass.gates, stripe)
@@ -212,7 +232,7 @@ impl<D: Device> Engine<D> {
         requires rests { Rests D.Receipt.is_steady self.now pass.old }
         requires below { stripe < stripe_count self.now }
         ensures rests { Rests D.Receipt.is_steady self.now pass.new }
-        ensures told { Visited (stripe ∷ []) [] (known pass.old.gates) (known pass.new.gates) }
+        ensures told { Visited (stripe ∷ []) (note.Seen stripe (Used result) ∷ []) (known pass.old.gates) (known pass.new.gates) }
         ensures device { pass.new.device ≡ pass.old.device }
     {
         used_places(rt, &self.gates, &mut pass.gates, stripe)
@@ -224,7 +244,7 @@ impl<D: Device> Engine<D> {
         requires rests { Rests D.Receipt.is_steady self.now pass.old }
         requires below { stripe < stripe_count self.now }
         ensures rests { Rests D.Receipt.is_steady self.now pass.new }
-        ensures told { Visited (stripe ∷ []) [] (known pass.old.gates) (known pass.new.gates) }
+        ensures told { Visited (stripe ∷ []) (note.Seen stripe (FewerFree CALL_PAGES result) ∷ []) (known pass.old.gates) (known pass.new.gates) }
         ensures device { pass.new.device ≡ pass.old.device }
     {
         is_short_of_frames(rt, &self.gates, &mut pass.gates, stripe)

@@ -31,6 +31,7 @@ mod failing;
 mod held;
 mod moving;
 mod refused;
+mod releasing;
 mod steps;
 mod trying;
 mod waiting;

@@ -10,7 +10,7 @@ use Rattle.words.specs.Locality.{NamesNone}
 use Rattle.words.specs.Watches.{touched, mark_at, mark_after, watched_after}
 use Rattle.words.specs.Stripes.{IsPart, stripe_of}
 use Rattle.gates.specs.declared.view.Note.{Note}
-use Rattle.gates.specs.declared.view.Note.TheVariants.{Busy, Worn, Full, Idle, Done}
+use Rattle.gates.specs.declared.view.Note.TheVariants.{Busy, Worn, Full, Idle, Done, Seen}
 use Rattle.gates.specs.declared.view.Knowledge.{Knowledge}
 use Rattle.gates.specs.declared.view.View.{View}
 use Rattle.gates.specs.Sets.{part_at, times, without}
@@ -357,9 +357,10 @@ busy_both : (stripes : List ℕ) (one two : List Note) → AreBusy stripes one �
 busy_both stripes [] two first second = second
 busy_both stripes (Busy stripe ∷ one) two first second = (first.0, busy_both stripes one two first.1 second)
 busy_both stripes (Worn ∷ one) two first second = absurd first
-busy_both stripes (Full x ∷ one) two first second = absurd first
+busy_both stripes (Full x refused ∷ one) two first second = absurd first
 busy_both stripes (Idle x y ∷ one) two first second = absurd first
 busy_both stripes (Done x y ∷ one) two first second = absurd first
+busy_both stripes (Seen x y ∷ one) two first second = absurd first
 
 busy_among : (stripe : ℕ) (stripes : List ℕ) (notes : List Note) → 0 < times stripe stripes → AreBusy (stripe ∷ []) notes → AreBusy stripes notes
 busy_among stripe stripes [] among all = tt
@@ -368,9 +369,10 @@ busy_among stripe stripes (Busy other ∷ notes) among all = (
   busy_among stripe stripes notes among all.1,
 )
 busy_among stripe stripes (Worn ∷ notes) among all = absurd all
-busy_among stripe stripes (Full x ∷ notes) among all = absurd all
+busy_among stripe stripes (Full x refused ∷ notes) among all = absurd all
 busy_among stripe stripes (Idle x y ∷ notes) among all = absurd all
 busy_among stripe stripes (Done x y ∷ notes) among all = absurd all
+busy_among stripe stripes (Seen x y ∷ notes) among all = absurd all
 
 pub told_nothing : (stripes : List ℕ) (a b : Knowledge) → b.notes ≡ a.notes → ToldBusy stripes a b
 told_nothing stripes a b same = ([], same, tt)

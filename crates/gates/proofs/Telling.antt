@@ -12,6 +12,7 @@ none_at {T} parts stripe P none at = absurd (cc (ap (λ (l : List (ℕ × T)). p
 -- nothing is told where nothing is held
 pub none_told : {T : Type 0} (contents : Meaning T) (took : List (ℕ × (ℕ × T))) (parts : List (ℕ × T)) (told : Report) → parts ≡ [] → IsToldOf contents took parts told → notes_of told ≡ []
 none_told {T} contents took parts report.Nothing none is = refl
-none_told {T} contents took parts (report.Full stripe) none is = absurd (none_at parts stripe _ none is)
+none_told {T} contents took parts (report.Full stripe refused) none is = absurd (none_at parts stripe _ none is)
 none_told {T} contents took parts (report.Idle stripe work) none is = absurd (none_at parts stripe _ none is)
 none_told {T} contents took parts (report.Done stripe work) none is = absurd (none_at parts stripe _ none is)
+none_told {T} contents took parts (report.Seen stripe look) none is = absurd (none_at parts stripe _ none is)

@@ -13,8 +13,8 @@ pub record Pages : Type 0 where
   pub unlinked : ℕ
   pub retired : ℕ
   pub drained : ℕ
-  -- how often a word that was read blocked the drain of a place that is retired
-  pub refusals : ℕ
+  -- of each place that is retired, the oldest first, how often a word that was read blocked its drain
+  pub refused : List ℕ
   -- places that were taken and not released, and the most of them
   pub unreleased : ℕ
   pub places : ℕ
@@ -32,6 +32,10 @@ pub record IsSealed (p : Pages) (number : ℕ) : Type 0 where
 -- no place may be taken on the device, or no page may be opened
 abbrev pub IsFull : Pages → Type 0
 IsFull p = (p.unreleased ≡ p.places) ⊎ (2 ^ 46 ≤ p.tail)
+
+abbrev pub total : List ℕ → ℕ
+total [] = 0
+total (n ∷ rest) = n + total rest
 
 abbrev pub count_true : List Bool → ℕ
 count_true [] = 0

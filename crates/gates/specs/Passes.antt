@@ -8,7 +8,7 @@ use Rattle.words.specs.History.{History, Pair, Legal, after, subhistory, keys_of
 use Rattle.words.specs.Watches.{watched_at, watched_after, mark_at, mark_after}
 use Rattle.words.specs.Stripes.{stripe_of, IsPart}
 use Rattle.gates.specs.declared.view.Note.{Note}
-use Rattle.gates.specs.declared.view.Note.TheVariants.{Busy, Worn, Full, Idle, Done}
+use Rattle.gates.specs.declared.view.Note.TheVariants.{Busy, Worn, Full, Idle, Done, Seen}
 use Rattle.gates.specs.declared.view.Knowledge.{Knowledge}
 use Rattle.gates.specs.declared.view.View.{View}
 use Rattle.gates.specs.declared.gates.Gates.{Gates}
@@ -117,9 +117,10 @@ abbrev pub AreBusy : (stripes : List ℕ) → List Note → Type 0
 AreBusy stripes [] = Unit {0}
 AreBusy stripes (Busy stripe ∷ notes) = (0 < times stripe stripes) × AreBusy stripes notes
 AreBusy stripes (Worn ∷ notes) = ⊥
-AreBusy stripes (Full stripe ∷ notes) = ⊥
+AreBusy stripes (Full stripe refused ∷ notes) = ⊥
 AreBusy stripes (Idle stripe work ∷ notes) = ⊥
 AreBusy stripes (Done stripe work ∷ notes) = ⊥
+AreBusy stripes (Seen stripe look ∷ notes) = ⊥
 
 -- the pass was told since that stripes of these were others', and nothing else
 abbrev pub ToldBusy : (stripes : List ℕ) → (before later : Knowledge) → Type 0

@@ -38,4 +38,4 @@ pub use part::{Part, Parts};
 pub use report::Report;
 pub use says::Says;
 pub use sorted::Sorted;
-pub use view::{Refused, Work};
+pub use view::{Look, Refused, Work};

@@ -18,7 +18,7 @@ no_pages =
       unlinked = 0;
       retired = 0;
       drained = 0;
-      refusals = 0;
+      refused = [];
       unreleased = 0;
       places = 1;
     }

@@ -2,6 +2,7 @@
 use Rattle.std.specs.Prelude.{ℕ, ◌≡◌, ◌≢◌, Option, Some, List, [], ◌∷◌, ◌++◌}
 use Rattle.words.specs.Store.{Bytes}
 use Rattle.words.specs.History.{History}
+use Rattle.gates.specs.declared.view.Refused.{Refused}
 use Rattle.gates.specs.declared.view.Work.TheVariants.{Evict}
 use Rattle.gates.specs.declared.view.Knowledge.{Knowledge}
 use Rattle.gates.specs.declared.view.Note.{Note}
@@ -13,16 +14,16 @@ use Rattle.gates_tests.specs.declared.pages.Outcome.{Outcome}
 use Rattle.gates_tests.specs.declared.pages.Outcome.TheVariants.{Done, Idle, Full}
 
 -- one of three, by what a step came to
-abbrev pub MatchOutcome : Outcome → (done idle full : Type 0) → Type 0
+abbrev pub MatchOutcome : Outcome → (done idle : Type 0) → (full : Refused → Type 0) → Type 0
 MatchOutcome Done done idle full = done
 MatchOutcome Idle done idle full = idle
-MatchOutcome Full done idle full = full
+MatchOutcome (Full refused) done idle full = full refused
 
 -- what a pass is told of a step
 abbrev pub told : Outcome → (stripe : ℕ) → List Note
 told Done stripe = note.Done stripe Evict ∷ []
 told Idle stripe = note.Idle stripe Evict ∷ []
-told Full stripe = note.Full stripe ∷ []
+told (Full refused) stripe = note.Full stripe refused ∷ []
 
 -- The pass was told this last, and before it that others had the stripe; it made no entry, and watches what it did.
 pub record Visited (stripe : ℕ) (last : List Note) (before later : Knowledge) : Type 0 where

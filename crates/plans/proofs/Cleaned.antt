@@ -23,11 +23,11 @@ fault_more fault.StoreFull M D N E memory device is = absurd is
 fault_more fault.CommitsWornOut M D N E memory device is = absurd is
 
 -- what was weighed, where no page was wanted
-pub weighed_by : (w : Weighed) (C X : ℕ → Type 0) (S : Type 0) → ((n : ℕ) → w ≡ weighed.Cold n → ⊥) → MatchWeighed w (λ weight. weight ≤ CLEAN_WEIGHT) (λ n. ⊤) ⊤
-    → MatchWeighed w X X S → MatchWeighed w (λ weight. weight ≤ CLEAN_WEIGHT) C S
-weighed_by (weighed.Live weight) C X S never most resident = most
-weighed_by (weighed.Cold n) C X S never most resident = absurd (never n refl)
-weighed_by weighed.Resident C X S never most resident = resident
+pub weighed_by : (w : Weighed) (C X : ℕ → Type 0) (L S : Type 0) → ((n : ℕ) → w ≡ weighed.Cold n → ⊥) → MatchWeighed w (λ weight. weight ≤ CLEAN_WEIGHT) (λ n. ⊤) ⊤
+    → MatchWeighed w (λ weight. L) X S → MatchWeighed w (λ weight. (weight ≤ CLEAN_WEIGHT) × L) C S
+weighed_by (weighed.Live weight) C X L S never most resident = (most, resident)
+weighed_by (weighed.Cold n) C X L S never most resident = absurd (never n refl)
+weighed_by weighed.Resident C X L S never most resident = resident
 
 -- what the step at the oldest page came to, where no page was wanted
 pub cleaned_by : (came : Cleaning) (A A2 U S S2 : Type 0) (H H2 C X : ℕ → Type 0) → ((n : ℕ) → came ≡ cleaning.Cold n → ⊥) → (A → A2) → ((w : ℕ) → U → H w → H2 w) → (U → S → S2)
@@ -59,7 +59,7 @@ same_waiting one two same = record {
   in_flight = ap (λ (c : Counted). c.in_flight) same;
   retired = ap (λ (c : Counted). c.retired) same;
   drained = ap (λ (c : Counted). c.drained) same;
-  refusals = ap (λ (c : Counted). c.refusals) same;
+  refused = ap (λ (c : Counted). c.refused) same;
 }
 
 -- what waits but for the unlinked receipts is the same, whatever the step at the oldest page came to
@@ -69,38 +69,8 @@ waiting_by cleaning.Unlinked old new weight has same = record {
   in_flight = ap (λ (c : Counted). c.in_flight) has.is;
   retired = ap (λ (c : Counted). c.retired) has.is;
   drained = ap (λ (c : Counted). c.drained) has.is;
-  refusals = ap (λ (c : Counted). c.refusals) has.is;
+  refused = ap (λ (c : Counted). c.refused) has.is;
 }
 waiting_by (cleaning.Cold n) old new weight has same = same_waiting old new same
 waiting_by (cleaning.Heavy w) old new weight has same = same_waiting old new same
 waiting_by cleaning.Resident old new weight has same = same_waiting old new same
-
--- and so after two steps
-pub waiting_both : (one two three : Counted) → SameWaiting one two → SameWaiting two three → SameWaiting one three
-waiting_both one two three first second = record {
-  in_flight = second.in_flight ∙ first.in_flight;
-  retired = second.retired ∙ first.retired;
-  drained = second.drained ∙ first.drained;
-  refusals = second.refusals ∙ first.refusals;
-}
-
--- room was made, and then the oldest page left
-pub page_left : (old mid new : Counted) (weight : ℕ) → mid.log.oldest ≡ old.log.oldest → mid.unlinked ≡ old.unlinked → HasUnlinked mid new weight → HasUnlinkedPage old new
-page_left old mid new weight oldest unlinked has = record {
-  left = has.left.oldest ∙ ap (λ (n : ℕ). n + 1) oldest;
-  kept = has.kept;
-  unlinked = ap (λ (c : Counted). c.unlinked) has.is ∙ ap (λ (l : List Kept). l ++ has.kept ∷ []) unlinked;
-}
-
--- by more that is so of what a step came to that was not too heavy
-pub cleaning_more : (came : Cleaning) (A A2 S S2 : Type 0) (C C2 H : ℕ → Type 0) → (A → A2) → ((n : ℕ) → C n → C2 n) → ((w : ℕ) → came ≡ cleaning.Heavy w → H w → ⊥) → (S → S2)
-    → MatchCleaning came A C H S → MatchCleaning came A2 C2 (λ w. ⊥) S2
-cleaning_more cleaning.Unlinked A A2 S S2 C C2 H one two three four is = one is
-cleaning_more (cleaning.Cold n) A A2 S S2 C C2 H one two three four is = two n is
-cleaning_more (cleaning.Heavy w) A A2 S S2 C C2 H one two three four is = three w refl is
-cleaning_more cleaning.Resident A A2 S S2 C C2 H one two three four is = four is
-
-pub ok_cleaning : (r : Result Cleaning Fault) (A A2 S S2 : Type 0) (C C2 H : ℕ → Type 0) → (A → A2) → ((n : ℕ) → C n → C2 n) → ((w : ℕ) → H w → ⊥) → (S → S2)
-    → IfOk r (λ came. MatchCleaning came A C H S) → IfOk r (λ came. MatchCleaning came A2 C2 (λ w. ⊥) S2)
-ok_cleaning (Ok came) A A2 S S2 C C2 H one two three four is = cleaning_more came A A2 S S2 C C2 H one two (λ w same. three w) four is
-ok_cleaning (Err f) A A2 S S2 C C2 H one two three four is = tt

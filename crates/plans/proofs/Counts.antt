@@ -4,13 +4,13 @@ use Rattle.std.specs.Prelude.{OnOk, OnErr, slice_index_or}
 use Rattle.std.specs.Option.{is_some}
 use Rattle.std.specs.Bool.{OnTrue, OnFalse}
 use Rattle.std.specs.Prelude.{if◌then◌else◌}
-use Rattle.plans.specs.Counted.{Counted, HasDrained, HasLanded, HasReleased, HasRetired, HasTaken, HasUnlinked, IsCounted, WasRefused, claimed, with_flight}
+use Rattle.plans.specs.Counted.{Counted, HasDrained, HasLanded, HasReleased, HasRetired, HasTaken, HasTurned, HasUnlinked, IsCounted, WasRefused, claimed, with_flight}
 use Rattle.hybrid.specs.Staging.{IsUnlinked}
 use Rattle.std.specs.List.{Contains}
 use Rattle.hybrid.specs.HybridLog.{HybridLog, Kept, IsHybridLog, count_kept, receipt_of, with_dropped, with_receipt}
 use Rattle.hybrid.specs.HybridLog as hybrid
 use Rattle.frames.specs.Resident.{next_number}
-use Rattle.gates.specs.Pages.{count_true}
+use Rattle.gates.specs.Pages.{count_true, total}
 
 -- what is so of a log either way is so of one that is the same
 pub either_way : {X E L Q : Type 0} (P : L → Type 0) (a b : L) (r : Result X E) → a ≡ b → OnOk r (P a) → OnErr r (Q → P a) → Q → P b
@@ -66,15 +66,24 @@ unlinked_if true c = refl
 unlinked_if false c = refl
 
 -- a page that was written has a receipt, or one place more is unlinked
-pub landed : (old claims new : Counted) (number : ℕ) (page : List ℕ) (k : Kept) → claims ≡ claimed old → IsHybridLog claims.log → HasLanded claims number page k new
+pub landed : (old new : Counted) (number : ℕ) (page : List ℕ) (k : Kept) → IsHybridLog old.log → HasLanded old number page k new
     → (count_true (map is_some new.log.kept) ≡ count_true (map is_some old.log.kept) + 1) ⊎ (length new.unlinked ≡ length old.unlinked + 1)
-landed old claims new number page k is log has =
+landed old new number page k log has = ⊎_elim
+    (λ one. inl (ap (λ (c : Counted). count_true (map is_some c.log.kept)) one.1 ∙ kept_more old.log number k log one.0.0))
+    (λ late. inr (ap (λ (c : Counted). length c.unlinked) late.1 ∙ length-append old.unlinked (k ∷ [])))
+    has.how
+
+-- and so since before its place was counted
+pub claimed_step : (old claims new : Counted) → claims ≡ claimed old
+    → (count_true (map is_some new.log.kept) ≡ count_true (map is_some claims.log.kept) + 1) ⊎ (length new.unlinked ≡ length claims.unlinked + 1)
+    → (count_true (map is_some new.log.kept) ≡ count_true (map is_some old.log.kept) + 1) ⊎ (length new.unlinked ≡ length old.unlinked + 1)
+claimed_step old claims new is step =
     let kept : claims.log.kept ≡ old.log.kept = ap (λ (c : Counted). c.log.kept) is ∙ kept_if (nat_lt 0 old.in_flight) old in
     let unlinked : claims.unlinked ≡ old.unlinked = ap (λ (c : Counted). c.unlinked) is ∙ unlinked_if (nat_lt 0 old.in_flight) old in
     ⊎_elim
-    (λ one. inl (ap (λ (c : Counted). count_true (map is_some c.log.kept)) one.1 ∙ kept_more claims.log number k log one.0.0 ∙ ap (λ (l : List (Option Kept)). count_true (map is_some l) + 1) kept))
-    (λ late. inr (ap (λ (c : Counted). length c.unlinked) late.1 ∙ length-append claims.unlinked (k ∷ []) ∙ ap (λ (l : List Kept). length l + 1) unlinked))
-    has.how
+    (λ one. inl (one ∙ ap (λ (l : List (Option Kept)). count_true (map is_some l) + 1) kept))
+    (λ late. inr (late ∙ ap (λ (l : List Kept). length l + 1) unlinked))
+    step
 
 -- a page may have left its frame: receipts, and counts of places, are the same
 pub dropped_same : (b : Bool) (old new : HybridLog) → OnTrue b (new ≡ with_dropped old) → OnFalse b (new ≡ old)
@@ -88,9 +97,9 @@ pub taken_by : (was old new : Counted) (kept : Kept) (others : List Kept) → wa
     → new ≡ record was { unlinked = others; in_flight = was.in_flight + 1 } → HasTaken old kept new
 taken_by was old new kept others same had is = subst (λ (o : Counted). HasTaken o kept new) same (record { others = others; had = had; is = is })
 
-pub retired_by_step : (was old new : Counted) (kept : Kept) (others : List Kept) → was ≡ old → was.unlinked ≡ kept ∷ others
-    → new ≡ record was { unlinked = others; retired = was.retired ++ kept ∷ []; refusals = new.refusals } → HasRetired old new
-retired_by_step was old new kept others same had is = subst (λ (o : Counted). HasRetired o new) same (record { kept = kept; others = others; had = had; is = is })
+pub retired_by_step : (was old new : Counted) (kept : Kept) (others : List Kept) (count : ℕ) → was ≡ old → was.unlinked ≡ kept ∷ others
+    → new ≡ record was { unlinked = others; retired = was.retired ++ kept ∷ []; refused = was.refused ++ count ∷ [] } → HasRetired old new
+retired_by_step was old new kept others count same had is = subst (λ (o : Counted). HasRetired o new) same (record { kept = kept; others = others; had = had; count = count; is = is })
 
 pub unlinked_by : (was old new : Counted) (weight : ℕ) (kept : Kept) → was ≡ old → receipt_of was.log was.log.oldest ≡ Some kept → IsUnlinked was.log new.log weight
     → ((k : Kept) → Contains new.log.kept (Some k) → k.shown ≢ kept.shown) → new ≡ record was { log = new.log; unlinked = was.unlinked ++ kept ∷ [] } → HasUnlinked old new weight
@@ -116,9 +125,35 @@ pub released_step : {R D : Type 0} (P Q S : Type 0) (serves : D → R → Type 0
 released_step P Q S serves identity true old new before after counted released = inr (inr (inr (released_one serves identity old new before after counted released)))
 released_step P Q S serves identity false old new before after counted released = tt
 
-pub drained_by_step : (was old new : Counted) (kept : Kept) (others : List Kept) → was ≡ old → was.retired ≡ kept ∷ others
-    → new ≡ record was { retired = others; drained = was.drained ++ kept ∷ []; refusals = new.refusals } → HasDrained old new
-drained_by_step was old new kept others same had is = subst (λ (o : Counted). HasDrained o new) same (record { kept = kept; others = others; had = had; is = is })
+pub drained_by_step : (was old new : Counted) (kept : Kept) (others : List Kept) (count : ℕ) (counts : List ℕ) → was ≡ old → was.retired ≡ kept ∷ others → was.refused ≡ count ∷ counts
+    → new ≡ record was { retired = others; drained = was.drained ++ kept ∷ []; refused = counts } → HasDrained old new
+drained_by_step was old new kept others count counts same had counted is =
+    subst (λ (o : Counted). HasDrained o new) same (record { kept = kept; others = others; had = had; count = count; counts = counts; counted = counted; is = is })
 
-pub refused_by : (was old new : Counted) → was ≡ old → was.refusals < new.refusals → new ≡ record was { refusals = new.refusals } → WasRefused old new
-refused_by was old new same more is = subst (λ (o : Counted). WasRefused o new) same (record { more = more; is = is })
+pub turned_drained : (was old new : Counted) (kept : Kept) (others : List Kept) (count : ℕ) (counts : List ℕ) → was ≡ old → was.retired ≡ kept ∷ others → was.refused ≡ count ∷ counts
+    → new ≡ record was { retired = others; drained = was.drained ++ kept ∷ []; refused = counts } → HasTurned old new
+turned_drained was old new kept others count counts same had counted is =
+    subst (λ (o : Counted). HasTurned o new) same (record { kept = kept; others = others; had = had; count = count; counts = counts; counted = counted; how = inl is })
+
+pub turned_refused : (was old new : Counted) (kept : Kept) (others : List Kept) (count now : ℕ) (counts : List ℕ) → was ≡ old → was.retired ≡ kept ∷ others → was.refused ≡ count ∷ counts → count < now
+    → new ≡ record was { retired = others ++ kept ∷ []; refused = counts ++ now ∷ [] } → HasTurned old new
+turned_refused was old new kept others count now counts same had counted more is =
+    subst (λ (o : Counted). HasTurned o new) same (record { kept = kept; others = others; had = had; count = count; counts = counts; counted = counted; how = inr (now, more, is) })
+
+-- one count is greater, and so are all together
+pub more_in_all : (was new : List ℕ) (count now : ℕ) (counts : List ℕ) → was ≡ count ∷ counts → new ≡ now ∷ counts → count < now → total was < total new
+more_in_all was new count now counts one two more = omega (arith, ap total one, ap total two, more)
+
+pub refused_by : (was old new : Counted) (count now : ℕ) (counts : List ℕ) → was ≡ old → was.refused ≡ count ∷ counts → count < now → new ≡ record was { refused = now ∷ counts } → WasRefused old new
+refused_by was old new count now counts same counted more is =
+    subst (λ (o : Counted). WasRefused o new) same (record { count = count; counts = counts; counted = counted; now = now; more = more; is = is })
+
+-- what is counted, by what is retired and its counts
+abbrev pub counted_with : (log : HybridLog) (in_flight : ℕ) (unlinked drained retired : List Kept) (refused : List ℕ) → Counted
+counted_with log in_flight unlinked drained retired refused =
+    record { log = log; in_flight = in_flight; unlinked = unlinked; retired = retired; drained = drained; refused = refused }
+
+pub both_lists : (log : HybridLog) (in_flight : ℕ) (unlinked drained a b : List Kept) (x y : List ℕ) → a ≡ b → x ≡ y
+    → counted_with log in_flight unlinked drained a x ≡ counted_with log in_flight unlinked drained b y
+both_lists log in_flight unlinked drained a b x y one two =
+    ap (λ (l : List Kept). counted_with log in_flight unlinked drained l x) one ∙ ap (λ (l : List ℕ). counted_with log in_flight unlinked drained b l) two

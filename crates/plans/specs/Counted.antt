@@ -19,8 +19,8 @@ pub record Counted : Type 0 where
   pub unlinked : List Kept
   pub retired : List Kept
   pub drained : List Kept
-  -- how often a word that was read blocked the drain of one that is retired
-  pub refusals : ℕ
+  -- of each that is retired, how often a word that was read blocked its drain
+  pub refused : List ℕ
 
 -- Each place that was taken and not released is that of a receipt which the log keeps, of one that somebody else has, or of a page that is
 -- not in the log.
@@ -33,9 +33,14 @@ pub record Waiting : Type 0 where
   pub unlinked : List Kept
   pub retired : List Kept
   pub drained : List Kept
+  pub refused : List ℕ
 
 abbrev pub waiting_of : Counted → Waiting
-waiting_of c = record { in_flight = c.in_flight; unlinked = c.unlinked; retired = c.retired; drained = c.drained }
+waiting_of c = record { in_flight = c.in_flight; unlinked = c.unlinked; retired = c.retired; drained = c.drained; refused = c.refused }
+
+-- how many places wait for their release
+abbrev pub places_waiting : Waiting → ℕ
+places_waiting w = length w.unlinked + length w.retired + length w.drained
 
 -- one place more is counted, for a page that is to be written
 abbrev pub with_flight : Counted → Counted
@@ -111,19 +116,38 @@ pub record HasRetired (old new : Counted) : Type 0 where
   pub kept : Kept
   pub others : List Kept
   pub had : old.unlinked ≡ kept ∷ others
-  pub is : new ≡ record old { unlinked = others; retired = old.retired ++ kept ∷ []; refusals = new.refusals }
+  pub count : ℕ
+  pub is : new ≡ record old { unlinked = others; retired = old.retired ++ kept ∷ []; refused = old.refused ++ count ∷ [] }
 
 -- the oldest retired receipt is the newest of the drained ones
 pub record HasDrained (old new : Counted) : Type 0 where
   pub kept : Kept
   pub others : List Kept
   pub had : old.retired ≡ kept ∷ others
-  pub is : new ≡ record old { retired = others; drained = old.drained ++ kept ∷ []; refusals = new.refusals }
+  pub count : ℕ
+  pub counts : List ℕ
+  pub counted : old.refused ≡ count ∷ counts
+  pub is : new ≡ record old { retired = others; drained = old.drained ++ kept ∷ []; refused = counts }
+
+-- The oldest retired receipt is the newest of the drained ones; or a word that was read blocked its drain, and it is the newest of the retired ones.
+pub record HasTurned (old new : Counted) : Type 0 where
+  pub kept : Kept
+  pub others : List Kept
+  pub had : old.retired ≡ kept ∷ others
+  pub count : ℕ
+  pub counts : List ℕ
+  pub counted : old.refused ≡ count ∷ counts
+  pub how : (new ≡ record old { retired = others; drained = old.drained ++ kept ∷ []; refused = counts })
+      ⊎ ((now : ℕ) × (count < now) × (new ≡ record old { retired = others ++ kept ∷ []; refused = counts ++ now ∷ [] }))
 
 -- a word that was read blocked its drain, and all is as it was
 pub record WasRefused (old new : Counted) : Type 0 where
-  pub more : old.refusals < new.refusals
-  pub is : new ≡ record old { refusals = new.refusals }
+  pub count : ℕ
+  pub counts : List ℕ
+  pub counted : old.refused ≡ count ∷ counts
+  pub now : ℕ
+  pub more : count < now
+  pub is : new ≡ record old { refused = now ∷ counts }
 
 -- The oldest drained receipt went back to its device, which serves all that it served but this one and its copies. Its place is counted off.
 pub record HasReleased {R D : Type 0} (serves : D → R → Type 0) (identity : R → List ℕ) (old : Counted) (before : D) (new : Counted) (after : D) : Type 0 where

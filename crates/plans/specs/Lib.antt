@@ -1,5 +1,8 @@
 pub mod Counted
 pub mod Cleaning
+pub mod Freeing
+pub mod Flushing
+pub mod Heard
 pub mod Receipts
 pub mod Shards
 pub mod Rooms

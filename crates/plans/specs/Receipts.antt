@@ -1,5 +1,5 @@
 -- Receipts, as contracts see them.
-use Rattle.std.specs.Prelude.{ℕ, ◌+◌, List, [], ◌∷◌, Option, None, Some, map}
+use Rattle.std.specs.Prelude.{ℕ, List, [], ◌∷◌, Option, None, Some, map}
 use Rattle.epoch.specs.Seats.{refusals, retired_value}
 use Rattle.epoch.specs.declared.epochs.Retired.{Retired}
 use Rattle.device.specs.Releases.{released_value}
@@ -23,7 +23,6 @@ retired_by identity shown retired = kept_by identity shown (retired_value retire
 abbrev pub drained_by : {R : Type 0} → (identity shown : R → List ℕ) → Releasable R → Kept
 drained_by identity shown drained = kept_by identity shown (released_value drained)
 
--- how often a word that was read blocked the drain of one of these
-abbrev pub refusals_of : {R : Type 0} → List (Retired R) → ℕ
-refusals_of [] = 0
-refusals_of (retired ∷ others) = refusals retired + refusals_of others
+-- of each of these, how often a word that was read blocked its drain
+abbrev pub refused_of : {R : Type 0} → List (Retired R) → List ℕ
+refused_of {R} retired = map (λ (one : Retired R). refusals one) retired

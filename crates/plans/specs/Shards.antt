@@ -54,7 +54,7 @@ module _ {R : Type 0} where
     unlinked = length shard.log.unlinked;
     retired = length shard.log.retired;
     drained = length shard.log.drained;
-    refusals = shard.log.refusals;
+    refused = shard.log.refused;
     unreleased = shard.log.log.unreleased;
     places = shard.log.log.places;
   }

@@ -1,6 +1,6 @@
 //! The log of a stripe, with what becomes of its places on the device.
 
-ghost use Rattle.std.specs.Prelude.{◌≡◌, ◌+◌, ◌-◌, ◌<◌, ◌≤◌, ◌⊎◌, ℕ, List, [], None, IsSome, IsTrue, ⊤, ◌↔◌, IfOk, IfErr, IfSome, IfNone, OnOk, OnErr};
+ghost use Rattle.std.specs.Prelude.{◌≡◌, ◌+◌, ◌-◌, ◌<◌, ◌≤◌, ◌⊎◌, ℕ, List, [], None, IsSome, IsTrue, ⊤, ◌↔◌, IfOk, IfErr, IfSome, IfNone, OnOk, OnErr, length};
 ghost use Rattle.std.specs.Map.{update};
 ghost use Rattle.std.specs.Bool.{OnTrue, OnFalse};
 ghost use Rattle.std.specs.Str.{bytes_eq};
@@ -15,12 +15,14 @@ ghost use Rattle.hybrid.specs.Shedding.{HasShed};
 ghost use Rattle.hybrid.specs.Writing.{IsWritten, write_weight};
 ghost use Rattle.hybrid.specs.Staging.{AreRight, IsCleaned, IsMissing, IsUnlinked};
 ghost use Rattle.hybrid.specs.HybridLog.{SameContents};
-ghost use Rattle.epoch.specs.Seats.{AdvancedPast, IsOutside, WasWorn, known};
-ghost use Rattle.plans.specs.Counted.{HasDrained, HasLanded, HasReleased, HasRetired, HasTaken, HasUnlinked, IsCounted, IsFirstSealed, MatchBegun, MatchCleaning, MatchMoved, WasRefused, claimed, with_flight, without_flight};
+ghost use Rattle.epoch.specs.Seats.{AdvancedPast, WasWorn};
+ghost use Rattle.gates.specs.Pages.{total};
+ghost use Rattle.plans.specs.Counted.{HasDrained, HasLanded, HasReleased, HasRetired, HasTaken, HasTurned, HasUnlinked, IsCounted, IsFirstSealed, MatchBegun, MatchCleaning, MatchMoved, WasRefused, claimed, with_flight, without_flight};
 ghost use Rattle.plans.specs.Receipts.{kept_by};
 
+use crate::retires::Retires;
 use device::{Device, Releasable, Shows};
-use epoch::{EpochSeat, Epochs, Retired};
+use epoch::{Epochs, Retired};
 use hybrid::{Cleaned, Fault, Purpose, Room, Staged, Stripe, Write};
 use records::Page;
 use std::alloc::Global;
@@ -87,13 +89,13 @@ impl<R: Shows> Model for CountedLog<R> {
     ghost use Rattle.std.specs.Prelude.{map, ◌≤◌};
     ghost use Rattle.std.specs.VecDeque.{deque_capacity};
     ghost use Rattle.plans.specs.Counted.{Counted, IsCounted};
-    ghost use Rattle.plans.specs.Receipts.{drained_by, kept_by, refusals_of, retired_by};
+    ghost use Rattle.plans.specs.Receipts.{drained_by, kept_by, refused_of, retired_by};
 
     ghost Value = { Counted };
 
-    ghost view = { λ c. record { log = c.stripe; in_flight = c.in_flight; unlinked = map (kept_by R.identity R.shown) c.unlinked.items; retired = map (retired_by R.identity R.shown) c.retired.items; drained = map (drained_by R.identity R.shown) c.drained.items; refusals = refusals_of c.retired.items } };
+    ghost view = { λ c. record { log = c.stripe; in_flight = c.in_flight; unlinked = map (kept_by R.identity R.shown) c.unlinked.items; retired = map (retired_by R.identity R.shown) c.retired.items; drained = map (drained_by R.identity R.shown) c.drained.items; refused = refused_of c.retired.items } };
 
-    ghost invariant = { λ c. IsCounted (record { log = c.stripe; in_flight = c.in_flight; unlinked = map (kept_by R.identity R.shown) c.unlinked.items; retired = map (retired_by R.identity R.shown) c.retired.items; drained = map (drained_by R.identity R.shown) c.drained.items; refusals = refusals_of c.retired.items }) × (c.stripe.places ≤ deque_capacity c.unlinked) × (c.stripe.places ≤ deque_capacity c.retired) × (c.stripe.places ≤ deque_capacity c.drained) };
+    ghost invariant = { λ c. IsCounted (record { log = c.stripe; in_flight = c.in_flight; unlinked = map (kept_by R.identity R.shown) c.unlinked.items; retired = map (retired_by R.identity R.shown) c.retired.items; drained = map (drained_by R.identity R.shown) c.drained.items; refused = refused_of c.retired.items }) × (c.stripe.places ≤ deque_capacity c.unlinked) × (c.stripe.places ≤ deque_capacity c.retired) × (c.stripe.places ≤ deque_capacity c.drained) };
 }
 
 impl<R: Shows> CountedLog<R> {
@@ -103,7 +105,7 @@ impl<R: Shows> CountedLog<R> {
     ///
     /// [`OutOfMemory`] where there is no memory for its frames, its buckets, its lists or a page.
     pub fn new(alloc: Global, limits: &Limits) -> Result<CountedLog<R>, OutOfMemory>
-        ensures empty { IfOk result (λ made. made ≡ record { log = empty_log limits.now.stripes limits.now.buckets limits.now.frames limits.now.places; in_flight = 0; unlinked = []; retired = []; drained = []; refusals = 0 }) }
+        ensures empty { IfOk result (λ made. made ≡ record { log = empty_log limits.now.stripes limits.now.buckets limits.now.frames limits.now.places; in_flight = 0; unlinked = []; retired = []; drained = []; refused = [] }) }
         ensures contents { IfOk result (λ made. (key : List ℕ) → contents (log_of made.log) key ≡ None) }
     {
         let stripe = Stripe::new(alloc, limits)?;
@@ -148,7 +150,7 @@ impl<R: Shows> CountedLog<R> {
         ensures unlinked { self.new.unlinked ≡ self.old.unlinked }
         ensures retired { self.new.retired ≡ self.old.retired }
         ensures drained { self.new.drained ≡ self.old.drained }
-        ensures refusals { self.new.refusals ≡ self.old.refusals }
+        ensures refused { self.new.refused ≡ self.old.refused }
         ensures shed { D.failures device.new ≡ D.failures device.old → HasShed D.wrote (kept_by R.identity R.shown) self.old.log device.old self.new.log device.new }
         ensures reserved { (count : ℕ) × IsReserved self.old.log self.new.log count × (count ≤ frames_for self.old.log weight purpose - free self.old.log) }
         ensures fault { IfErr result (λ fault. MatchFault fault (D.failures device.new ≡ D.failures device.old + 1) (IsFull self.new.log × (D.failures device.new ≡ D.failures device.old))) }
@@ -177,7 +179,7 @@ impl<R: Shows> CountedLog<R> {
         ensures unlinked { self.new.unlinked ≡ self.old.unlinked }
         ensures retired { self.new.retired ≡ self.old.retired }
         ensures drained { self.new.drained ≡ self.old.drained }
-        ensures refusals { self.new.refusals ≡ self.old.refusals }
+        ensures refused { self.new.refused ≡ self.old.refused }
     {
         self.stripe.install_one(write);
     }
@@ -302,17 +304,17 @@ impl<R: Shows> CountedLog<R> {
     }
 
     /// Retires the oldest unlinked receipt.
-    pub fn retire(&mut self, epochs: &Epochs, seat: &mut EpochSeat) -> Moved
-        requires outside { IsOutside epochs.now seat.old }
-        ensures outside { IsOutside epochs.now seat.new }
+    pub fn retire<S: Retires>(&mut self, epochs: &Epochs, own: &mut S) -> Moved
+        requires is { S.is_of epochs.now own.old }
+        ensures is { S.is_of epochs.now own.new }
         ensures retired { MatchMoved result (HasRetired self.old self.new) ((self.old.unlinked ≡ []) × (self.new ≡ self.old)) (self.new ≡ self.old) }
-        ensures told { MatchMoved result ((e : ℕ) × AdvancedPast e (known seat.old) (known seat.new)) (seat.new ≡ seat.old) (WasWorn (known seat.old) (known seat.new)) }
+        ensures told { MatchMoved result ((e : ℕ) × AdvancedPast e (S.knows own.old) (S.knows own.new)) (own.new ≡ own.old) (WasWorn (S.knows own.old) (S.knows own.new)) }
     {
         let _limit = self.stripe.unreleased();
         let Some(receipt) = self.unlinked.pop_front() else {
             return Moved::Nothing;
         };
-        match epochs.retire(seat, receipt) {
+        match own.retire(epochs, receipt) {
             Ok(retired) => {
                 self.retired.push_back_reserved(retired);
                 Moved::Done
@@ -327,6 +329,7 @@ impl<R: Shows> CountedLog<R> {
     /// Drains the oldest retired receipt: looks whether a stay is left that may have begun before it was retired.
     pub fn drain(&mut self) -> Moved
         ensures drained { MatchMoved result (HasDrained self.old self.new) ((self.old.retired ≡ []) × (self.new ≡ self.old)) (WasRefused self.old self.new) }
+        ensures more { MatchMoved result ⊤ ⊤ (total self.old.refused < total self.new.refused) }
     {
         let _limit = self.stripe.unreleased();
         let Some(retired) = self.retired.pop_front() else {
@@ -341,6 +344,30 @@ impl<R: Shows> CountedLog<R> {
                 self.retired.push_front_reserved(retired);
                 Moved::Refused
             }
+        }
+    }
+
+    /// How many receipts are retired, each of which has its count.
+    pub fn retired(&self) -> usize
+        ensures retired { result ≡ length self.now.retired }
+        ensures refused { result ≡ length self.now.refused }
+    {
+        self.retired.len()
+    }
+
+    /// Drains the oldest retired receipt, where there is one: it is the newest of the drained ones then; or, where a word
+    /// that was read blocks its epoch, the newest of the retired ones.
+    pub(crate) fn turn(&mut self)
+        requires some { 0 < length self.old.retired }
+        ensures { HasTurned self.old self.new }
+    {
+        let _limit = self.stripe.unreleased();
+        let Some(retired) = self.retired.pop_front() else {
+            unreachable!()
+        };
+        match Releasable::drain(retired) {
+            Ok(drained) => self.drained.push_back_reserved(drained),
+            Err(retired) => self.retired.push_back_reserved(retired),
         }
     }
 

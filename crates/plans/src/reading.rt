@@ -212,6 +212,8 @@ pub fn plan_staged<R: Shows, D: Device<Receipt = R>, P: Parts<Shard<R>>>(
     ensures begun { IfOk result (λ planned. HasBegun (shard_meaning R.is_steady) stripes seat planned.begun (P.part_of parts.old) (P.part_of parts.new)) }
     ensures err { OnErr result (Became (shard_meaning R.is_steady) stripes [] stays (P.part_of parts.old) (P.part_of parts.new)) }
     ensures full { IfErr result (λ stop. IfFull stop (IsFullAt (logs_of (P.part_of parts.new)))) }
+    ensures below { IfErr result (λ stop. IfFull stop (λ stripe. stripe < stripes)) }
+    ensures waits { SameWaits (P.part_of parts.old) (P.part_of parts.new) }
     ensures written { R.is_steady → AllShort (joined (shard_meaning R.is_steady) stripes (P.part_of parts.old)) → IfErr result (λ stop. IfFull stop (λ stripe. (asked : Asked) (seen : History) (watched : List Pair) → asked_of call.now ≡ Some asked → Stand (shard_meaning R.is_steady) stripes (P.part_of parts.old) seen seat watched → EndsAll call.now watched → AreWatched watched watched → made seen (operation_of watched asked) ≢ [])) }
     ensures memory { R.is_steady → R.lends → NeedsNoMemoryOn (joined (shard_meaning R.is_steady) stripes (P.part_of parts.old)) call.now → IfErr result (λ stop. IfNoMemory stop ⊥) }
     ensures faults { IfErr result (λ stop. D.failures device.new ≡ D.failures device.old + faults stop) }

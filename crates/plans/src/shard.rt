@@ -11,6 +11,7 @@ ghost use Rattle.words.specs.Watches.{touched};
 ghost use Rattle.words.specs.declared.limits.TheConstants.{VALUE_BYTES_MAX, WEIGHT_MAX};
 ghost use Rattle.gates.specs.Background.{IsIdle, IsStep};
 ghost use Rattle.gates.specs.Pages as pages;
+ghost use Rattle.gates.specs.Pages.{total};
 ghost use Rattle.gates.specs.declared.view.Work.TheVariants.{Clean, Evict, Flush};
 ghost use Rattle.gates.specs.declared.view.Refused.{Refused};
 ghost use Rattle.watch.specs.Marked.{are_these, begun_if, cleared};
@@ -87,7 +88,7 @@ impl<R: Shows> Shard<R> {
     pub fn new(alloc: Global, limits: &Limits) -> Result<Shard<R>, OutOfMemory>
         ensures log { IfOk result (λ made. shard_log made ≡ empty_log limits.now.stripes limits.now.buckets limits.now.frames limits.now.places) }
         ensures empty { IfOk result (λ made. (key : List ℕ) → shard_store made key ≡ None) }
-        ensures counted { IfOk result (λ made. shard_counted made ≡ record { log = shard_log made; in_flight = 0; unlinked = []; retired = []; drained = []; refusals = 0 }) }
+        ensures counted { IfOk result (λ made. shard_counted made ≡ record { log = shard_log made; in_flight = 0; unlinked = []; retired = []; drained = []; refused = [] }) }
         ensures unmarked { IfOk result (λ made. (key : List ℕ) (number : ℕ) → shard_marks made key number ≡ None) }
     {
         let log = CountedLog::new(alloc, limits)?;
@@ -278,12 +279,40 @@ impl<R: Shows> Shard<R> {
         ensures done { OnTrue result (IsStep Flush (shard_pages self.old) (shard_pages self.new)) }
         ensures full { OnFalse result (pages.IsFull (shard_pages self.new)) }
     {
-        if !self.log.claim() {
+        if !self.claim() {
             return false;
         }
+        self.land(number, page, receipt);
+        true
+    }
+
+    /// Sees to it that a place is counted for a page that was written, as [`CountedLog::claim`] does. What keys have and marks
+    /// stay.
+    pub(crate) fn claim(&mut self) -> bool
+        ensures store { shard_store self.new ≡ shard_store self.old }
+        ensures marks { shard_marks self.new ≡ shard_marks self.old }
+        ensures claimed { OnTrue result (shard_counted self.new ≡ claimed (shard_counted self.old)) }
+        ensures some { OnTrue result (0 < (shard_counted self.new).in_flight) }
+        ensures full { OnFalse result (IsFull (shard_log self.old)) }
+        ensures paged { OnFalse result (pages.IsFull (shard_pages self.new)) }
+        ensures none { OnFalse result ((shard_counted self.old).in_flight ≡ 0) }
+        ensures same { OnFalse result (self.new ≡ self.old) }
+    {
+        let _oldest = self.log.stripe().oldest();
+        self.log.claim()
+    }
+
+    /// Keeps the receipt of a page that was written, as [`CountedLog::land`] does. What keys have and marks stay.
+    pub(crate) fn land(&mut self, number: u64, page: &Page, receipt: R)
+        requires shown { R.shown receipt ≡ page.now }
+        requires some { 0 < (shard_counted self.old).in_flight }
+        ensures store { shard_store self.new ≡ shard_store self.old }
+        ensures marks { shard_marks self.new ≡ shard_marks self.old }
+        ensures landed { HasLanded (shard_counted self.old) number page.now (kept_by R.identity R.shown receipt) (shard_counted self.new) }
+        ensures done { IsStep Flush (shard_pages self.old) (shard_pages self.new) }
+    {
         let _oldest = self.log.stripe().oldest();
         self.log.land(number, page, receipt);
-        true
     }
 
     /// Counts a place off whose page could not be written. What keys have and marks stay.
@@ -293,42 +322,6 @@ impl<R: Shows> Shard<R> {
         ensures freed { shard_counted self.new ≡ without_flight (shard_counted self.old) }
     {
         self.log.free_place();
-    }
-
-    /// Writes the oldest page that waits for it to the device, and keeps its receipt. False where none waits. What keys
-    /// have and marks stay. `page` is what it is copied into.
-    ///
-    /// # Errors
-    ///
-    /// [`Fault::DeviceFault`] where the write failed; [`Fault::StoreFull`] where no place may be taken. All is then as it was.
-    pub fn flush<D: Device<Receipt = R>>(
-        &mut self,
-        page: &mut Page,
-        device: &mut D,
-    ) -> Result<bool, Fault>
-        ensures store { shard_store self.new ≡ shard_store self.old }
-        ensures marks { shard_marks self.new ≡ shard_marks self.old }
-        ensures flushed { IfOk result (λ done. OnTrue done (HasFlushed (shard_counted self.old) (shard_counted self.new))) }
-        ensures unchanged { IfOk result (λ done. OnFalse done (self.new ≡ self.old)) }
-        ensures failed { OnErr result (shard_counted self.new ≡ shard_counted self.old) }
-        ensures done { IfOk result (λ done. OnTrue done (IsStep Flush (shard_pages self.old) (shard_pages self.new))) }
-        ensures idle { IfOk result (λ done. OnFalse done (IsIdle Flush (shard_pages self.new))) }
-        ensures fault { IfErr result (λ fault. MatchFault fault (D.failures device.new ≡ D.failures device.old + 1) (pages.IsFull (shard_pages self.new) × (D.failures device.new ≡ D.failures device.old))) }
-        ensures no_fault { OnOk result (D.failures device.new ≡ D.failures device.old) }
-    {
-        let number = match self.begin_flush(page) {
-            Begun::Idle => return Ok(false),
-            Begun::Full => return Err(Fault::StoreFull),
-            Begun::Sealed(number) => number,
-        };
-        let Ok(receipt) = device.write(page) else {
-            self.fail_flush();
-            return Err(Fault::DeviceFault);
-        };
-        if !self.end_flush(number, page, receipt) {
-            unreachable!()
-        }
-        Ok(true)
     }
 
     /// Gives the oldest drained receipt back to the device, and says whether there was one. What keys have and marks stay.
@@ -363,6 +356,7 @@ impl<R: Shows> Shard<R> {
         ensures store { shard_store self.new ≡ shard_store self.old }
         ensures marks { shard_marks self.new ≡ shard_marks self.old }
         ensures drained { MatchMoved result (HasDrained (shard_counted self.old) (shard_counted self.new)) (((shard_counted self.old).retired ≡ []) × (self.new ≡ self.old)) (WasRefused (shard_counted self.old) (shard_counted self.new)) }
+        ensures more { MatchMoved result ⊤ ⊤ (total (shard_counted self.old).refused < total (shard_counted self.new).refused) }
         ensures done { (refused : Refused) → MatchMoved result (IsStep (Clean refused) (shard_pages self.old) (shard_pages self.new)) ⊤ ⊤ }
     {
         self.log.drain()

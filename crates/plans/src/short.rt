@@ -18,7 +18,7 @@ ghost use Rattle.plans.specs.Devices.{StillServes};
 ghost use Rattle.plans.specs.Memory.{AreAtHand};
 ghost use Rattle.plans.specs.Receipts.{kept_by};
 ghost use Rattle.plans.specs.Rooms.{GrowsAt, IsFullAt, IsRoomyAt, LacksRoomAt, LeavesFramesAt, ShedsAt, ShedsFewAt};
-ghost use Rattle.plans.specs.Shards.{logs_of, shard_meaning, weigh};
+ghost use Rattle.plans.specs.Shards.{SameWaits, logs_of, shard_meaning, weigh};
 ghost use Rattle.plans.specs.Stops.{AreCold, Each, IfCold, IfFull, IfNoMemory, IsNeeded, faults};
 
 use crate::cells;
@@ -89,6 +89,7 @@ pub fn reserve_set<R: Shows, D: Device<Receipt = R>, P: Parts<Shard<R>>>(
     ensures lacks { OnErr result (LacksRoomAt (striping.stripe_of stripes key.now) (weigh (key.now, Some value.now)) purpose.Write (logs_of (P.part_of parts.old)) (logs_of (P.part_of parts.new))) }
     ensures kept { OnOk result (LeavesFramesAt (striping.stripe_of stripes key.now) (weigh (key.now, Some value.now)) purpose.Write (logs_of (P.part_of parts.old)) (logs_of (P.part_of parts.new))) }
     ensures others { (other : ℕ) → other ≢ striping.stripe_of stripes key.now → logs_of (P.part_of parts.new) other ≡ logs_of (P.part_of parts.old) other }
+    ensures waits { SameWaits (P.part_of parts.old) (P.part_of parts.new) }
     ensures device { StillServes D.serves D.releases device.old device.new }
     ensures never_cold { IfErr result (λ stop. IfCold stop (λ receipts. ⊥)) }
     ensures memory { IfErr result (λ stop. IfNoMemory stop ⊥) }

@@ -18,6 +18,7 @@ use words::reply::{CommandReply, Item, Reply};
 use words::word::{Word, Words};
 
 mod drawn;
+mod freeing;
 mod full;
 mod sizes;
 mod stops;

@@ -11,6 +11,7 @@ use Rattle.world_events.specs.declared.event.Event.{Event}
 use Rattle.world_events.specs.declared.event.Event.TheVariants as event
 use Rattle.world_log.specs.Given.{StaysGiven}
 use Rattle.world_log.specs.Stripes.{acts_for, lane_log, lent}
+use Rattle.world_log.specs.Freeing.{HasStepped}
 use Rattle.world_log.specs.WorldLogs.{IsWorldLog, KeepsHeld, NoneReleasedAt, Took, stays_of}
 use Rattle.world_log.specs.WorldLogs as logs
 use Rattle.world_log.specs.Types.{Lane, Stripes}
@@ -27,7 +28,7 @@ use Rattle.world.specs.Tables.{Handled, Handles, HasGoneOn, HasWorked, IsKept, I
 use Rattle.world.specs.declared.desk.Plan.{Plan}
 use Rattle.world.specs.declared.member.Member.{Member}
 use Rattle.world.specs.declared.world.World.{World}
-use Rattle.world.proofs.Coming.{logs_in, some_held}
+use Rattle.world.proofs.Coming.{held_roomy}
 use Rattle.world.proofs.Moving.{right_kept}
 use Rattle.world.proofs.Turning.{kept_goes, kept_still, not_turned, turned}
 
@@ -121,29 +122,6 @@ no_commit d (event.Retire i) is = tt
 no_commit d (event.Drain i) is = tt
 no_commit d (event.Release i page) is = tt
 
--- a stripe that is held keeps its rooms
-holder_is : (d : ℕ) (o : Option ℕ) → is_number d o ≡ true → o ≡ Some d
-holder_is d None is = cc is
-holder_is d (Some m) is = ap (λ (n : ℕ). Option.Some n) ((Decides-eqb m d).0 is)
-
-lane_of : (t : Bool) (o : Option Lane) (log : HybridLog) → logs_in t o ≡ Some log → (lane : Lane) × (o ≡ Some lane) × (lane_log lane ≡ log)
-lane_of true (Some lane) log is = (lane, refl, cc is)
-lane_of true None log is = absurd (cc is)
-lane_of false o log is = absurd (cc is)
-
-pub held_roomy : (old new : Stripes) (d : ℕ) → KeepsHeld old new → StaysRoomy d old new
-held_roomy old new d keeps = record {
-  count = ap (λ v. length v.items) keeps.holders;
-  rooms = λ i log there.
-      let held : holds old.holders.items d i ≡ true = some_held (holds old.holders.items d i) (slice_get old.lanes.items i) log there in
-      let lane = lane_of (holds old.holders.items d i) (slice_get old.lanes.items i) log there in
-      let later = keeps.rooms i d lane.0 (holder_is d (get_or old.holders.items i None) held) lane.1 in (
-        lane_log later.0,
-        ap₂ (λ (t : Bool) (o : Option Lane). logs_in t o) (ap (λ v. holds v.items d i) keeps.holders ∙ held) later.1,
-        λ weight room. later.2 weight (subst (λ (l : HybridLog). HasRoom l weight) (sym lane.2) room),
-      );
-}
-
 pub worked_turn : (old new : World) (e : Event) → actor e ≡ None → new ≡ (let w : World = record old { log = new.log } in w) → HasWorked e old new
     → Turn (state_of old) e (state_of new)
 unfolding state_of
@@ -171,10 +149,14 @@ worked_world laws old new e is same worked world =
           (world.plans d one (subst (λ v. slice_get v.items d ≡ Some one) members at));
     }
 
--- no receipt that a stripe keeps is of a released place
-pub none_released_at : TurnLaws → (world : World) (i : ℕ) → IsWorld world → NoneReleasedAt world.log i
+-- no receipt that a stripe keeps is of a released place, also where room was made
+pub none_stepped : TurnLaws → (world : World) (stays : List (Option ℕ)) (mid : WorldLog) (i : ℕ) → stays ≡ stays_of (rest_of world) → IsWorld world
+    → HasStepped stays world.log mid → NoneReleasedAt mid i
 unfolding state_of
-none_released_at laws world i is number place at = (laws.places (state_of world) is.sound).kept i number place at
+none_stepped laws world stays mid i same is stepped number place at =
+    let steps = stepped.steps (rest_of world) (sym same) in
+    (laws.places (logs.state_of (rest_of world) mid)
+    (laws.rooms (state_of world) steps.0 (logs.state_of (rest_of world) mid) steps.1 is.sound)).kept i number place at
 
 -- IN THE WORDS OF THE CODE
 
@@ -193,12 +175,13 @@ pub ok_worked : {A E : Type 0} (r : Result A E) (old : World) (log : WorldLog) (
 ok_worked (Ok x) old log e took right given held = worked_by old log e (took (rest_of old)) right given held
 ok_worked (Err x) old log e took right given held = tt
 
-pub ok_drained : {A E : Type 0} (r : Result A E) (old : World) (log : WorldLog) (i : ℕ) (stays : List (Option ℕ)) → stays ≡ stays_of (rest_of old)
-    → OnOk r ((rest : State) → stays_of rest ≡ stays → Took rest (event.Drain i) old.log log) → OnOk r (IsWorldLog log)
+-- the same, where clients have these stays
+pub ok_stayed : {A E : Type 0} (r : Result A E) (old : World) (log : WorldLog) (e : Event) (stays : List (Option ℕ)) → stays ≡ stays_of (rest_of old)
+    → OnOk r ((rest : State) → stays_of rest ≡ stays → Took rest e old.log log) → OnOk r (IsWorldLog log)
     → OnOk r (StaysGiven old.log.device log.device) → OnOk r (KeepsHeld old.log.stripes log.stripes)
-    → OnOk r (HasWorked (event.Drain i) old (with_world_log old log))
-ok_drained (Ok x) old log i stays are took right given held = worked_by old log (event.Drain i) (took (rest_of old) (sym are)) right given held
-ok_drained (Err x) old log i stays are took right given held = tt
+    → OnOk r (HasWorked e old (with_world_log old log))
+ok_stayed (Ok x) old log e stays are took right given held = worked_by old log e (took (rest_of old) (sym are)) right given held
+ok_stayed (Err x) old log e stays are took right given held = tt
 
 pub turn_of : (old : World) (log : WorldLog) (e given : Event) → given ≡ e → actor e ≡ None → HasWorked e old (with_world_log old log)
     → Turn (state_of old) given (state_of (with_world_log old log))

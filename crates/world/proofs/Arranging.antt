@@ -54,3 +54,12 @@ keeps_desk was mid p same right = record {
   stay = ap (λ (d : Desk). d.stay) same;
   right = right;
 }
+
+-- the same of what is left as it was but for pages that were read
+pub keeps_staged : (was mid : Desk) → mid ≡ (let d : Desk = record was { staged = mid.staged } in d) → AreRight mid.staged → KeepsDesk was mid
+keeps_staged was mid same right = record {
+  due = ap (λ (d : Desk). d.due) same;
+  fetched = ap (λ (d : Desk). d.fetched) same;
+  stay = ap (λ (d : Desk). d.stay) same;
+  right = right;
+}

@@ -1,5 +1,5 @@
 -- A client that took the last of its stripes: what its call comes to is what the world's definitions plan.
-use Rattle.std.proofs.Common.{◌≡◌, ◌≢◌, ◌∙◌, ℕ, zero, suc, ◌+◌, ◌<◌, ◌≤◌, Bool, true, false, List, [], ◌∷◌, length, get_or, set, map, Option, Some, None, IsSome, refl, sym, ap, ap₂, subst, inl, inr, length-set, nat_eq, if◌then◌else◌}
+use Rattle.std.proofs.Common.{◌≡◌, ◌≢◌, ◌∙◌, ℕ, zero, suc, ◌+◌, ◌<◌, ◌≤◌, Bool, true, false, List, [], ◌∷◌, ◌++◌, length, get_or, set, map, replicate, Option, Some, None, IsSome, refl, sym, ap, ap₂, subst, inl, inr, length-set, nat_eq, if◌then◌else◌}
 use Rattle.std.specs.Prelude.{slice_get, option_map}
 use Rattle.std.specs.Vec.{with_item}
 use Rattle.std.proofs.lemmas.List.{get_or-set_same}
@@ -27,26 +27,27 @@ use Rattle.plans.specs.Sizes.{IsPlaced}
 use Rattle.plans.specs.Shards.{logs_of, shard_log, shard_meaning, shard_store, shard_marks}
 use Rattle.connection.specs.Clients.{Progress}
 use Rattle.world_log.specs.Places.{Receipt, Shelves, Wrote, SamePlaces, view}
+use Rattle.world_log.specs.Freeing.{HasFreed, HasStepped, StaysFull}
 use Rattle.world_log.specs.Given.{IsGiven, StaysGiven}
 use Rattle.world_log.specs.PlanLaws.{IsMade as RoomIsMade, IsStill, OpeningLaw, ReadLaws, RoomLaws, SameValues, ValueLaw, logs_lent, with_parts}
-use Rattle.world_log.specs.Stripes.{IsEven, KeepsOthers, acts_for, lent, part_in, stores_of, marks_of}
-use Rattle.world_log.specs.WorldLogs.{IsWorldLog}
+use Rattle.world_log.specs.Stripes.{IsEven, KeepsOthers, acts_for, lane_log, lent, part_in, states_of, stores_of, marks_of}
+use Rattle.world_log.specs.WorldLogs.{IsWorldLog, KeepsHeld, NoneReleasedAt, stays_of}
 use Rattle.world_log.specs.WorldLogs as logs
 use Rattle.world_log.specs.Types.{Lane, Stripes}
 use Rattle.world_log.specs.declared.logs.WorldLog.{WorldLog}
 use Rattle.world_model.specs.Logs.{place_at}
-use Rattle.world_model.specs.States.{Phase, Calling, Due, ClientState, State, client, fresh, log_of, open_call, stripe_count, with_client}
+use Rattle.world_model.specs.States.{Phase, Calling, Due, ClientState, State, client, fresh, log_at, log_of, open_call, stripe_count, with_client}
 use Rattle.world_model.specs.Enabled.{are_none, first_missing, holds, is_number, next_stripe}
 use Rattle.world_model.specs.Places.{Each, standing}
 use Rattle.world_model.specs.Planned.{IsPlanned}
 use Rattle.world_model.specs.Planning.{AreCold, Plans, Names, MakesRoom as MakesRoomFor, MeetsFull as MeetsFullAt, PlansFor, ROUNDS, asked_by, taken, writes_now}
-use Rattle.world_model.specs.Rooms.{AreWritten, IsFull, ShedsAll, is_written_in}
+use Rattle.world_model.specs.Rooms.{AreWritten, HasNoPlace, Leaves, Frees as FreesPlace, Retires, Drains, Releases, Steps, ByPage, ByPlace, StepsAll, is_spent, is_written_in}
 use Rattle.world_model.specs.Soundness.{IsSound}
 use Rattle.world.specs.Laws.{HistoryLaws, PlanLaws, TurnLaws}
 use Rattle.world.specs.Desks.{IsRight, beside, client_of, due_of, is_full_plan}
 use Rattle.world.specs.Peers.{Attends, IsAsking, IsSteady}
 use Rattle.world.specs.Members.{HasPlannedFor, IsReadyToPlan, Plans as PlansCall, Waits as WaitsCall}
-use Rattle.world.specs.Planning.{AreShort, HasArranged, HasMet, HasNamed, HasPlanned, IsDue, IsReadFor, KeepsDesk, count_of, looks_up, Makes, Names as NamesPages, Meets}
+use Rattle.world.specs.Planning.{AreShort, HasArranged, HasEnded, HasMet, HasNamed, HasPlanned, IsDue, IsReadFor, KeepsDesk, count_of, looks_up, Again, Frees, Makes, Names as NamesPages, Meets, Stays}
 use Rattle.world.specs.Tables.{HasComeTo, IsKept, IsMade, IsMet, IsTaken, StaysRoomy, rest_of, state_of}
 use Rattle.world.specs.declared.desk.Desk.{Desk}
 use Rattle.world.specs.declared.desk.Plan.{Plan}
@@ -146,7 +147,7 @@ made_room laws rest log c stripes read device writes is same keeps values makes 
     record {
       stripes = made.stripes;
       written = made.written;
-      sheds = subst (λ (s : State). ShedsAll s made.stripes (logs.state_of rest (with_parts log stripes device)))
+      sheds = subst (λ (s : State). StepsAll s made.stripes (logs.state_of rest (with_parts log stripes device)))
           (laws.reads.state rest (with_parts log (acts_for log.stripes c) log.device) read same) made.sheds;
       log = made.log;
       given = λ receipt given. made.given receipt (laws.reads.given log.device read same receipt given);
@@ -158,7 +159,7 @@ pub met_full : PlanLaws → (rest : State) (log : WorldLog) (c : ℕ) (stripes :
     → MakesRoom Wrote view (count_of log.stripes) (suc i) writes (logs_lent (acts_for log.stripes c)) read (logs_lent stripes) device
     → rooms.IsFullAt (logs_lent stripes) i
     → RoomIsMade rest log (with_parts log stripes device) writes × (is_written_in (count_of log.stripes) writes i ≡ true)
-    × IsFull (logs.state_of rest (with_parts log stripes device)) i
+    × HasNoPlace (logs.state_of rest (with_parts log stripes device)) i
 met_full laws rest log c stripes read device writes i is same keeps values some below makes full =
     let met = laws.rooms.full rest (with_parts log (acts_for log.stripes c) read) stripes device writes i
     (read_right laws.reads log c read is same) keeps values some below makes full in
@@ -166,7 +167,7 @@ met_full laws rest log c stripes read device writes i is same keeps values some 
       record {
         stripes = made.stripes;
         written = made.written;
-        sheds = subst (λ (s : State). ShedsAll s made.stripes (logs.state_of rest (with_parts log stripes device)))
+        sheds = subst (λ (s : State). StepsAll s made.stripes (logs.state_of rest (with_parts log stripes device)))
             (laws.reads.state rest (with_parts log (acts_for log.stripes c) log.device) read same) made.sheds;
         log = made.log;
         given = λ receipt given. made.given receipt (laws.reads.given log.device read same receipt given);
@@ -181,7 +182,7 @@ room_for_none : (n k : ℕ) (old new : ℕ → Option HybridLog) (device : Shelv
 room_for_none n zero old new device same = (same, refl)
 room_for_none n (suc k) old new device same = (old, device, room_for_none n k old old device (λ i. refl), inl (refl, same, refl))
 
-none_written : (n : ℕ) (stripes : List ℕ) (before after : State) → AreWritten n [] stripes → ShedsAll before stripes after → after ≡ before
+none_written : (n : ℕ) (stripes : List ℕ) (before after : State) → AreWritten n [] stripes → StepsAll before stripes after → after ≡ before
 none_written n [] before after written sheds = sheds
 none_written n (i ∷ more) before after written sheds = absurd (no written.0)
   where
@@ -205,7 +206,7 @@ same_became n old new same =
       );
     })
 
-still : IsStill stays
+pub still : IsStill stays
 still key number mark = refl
 
 -- where the parts are the same, all is
@@ -275,12 +276,14 @@ taken_watches world c t =
 taken_history : (world : World) (c : ℕ) (t : IsTaken c world) → (state_of world).history ≡ t.before.history
 taken_history world c t = ap (λ (s : State). s.history) t.state
 
--- no receipt that a log keeps is of a place that was released
-taken_none : TurnLaws → (world : World) (c : ℕ) (t : IsTaken c world) (i number place : ℕ)
-    → place_at (log_of (state_of world) i) number ≡ Some place → standing (state_of world).places place ≡ 1
-taken_none laws world c t i number place at =
-    subst (λ (s : State). standing s.places place ≡ 1) (sym t.state)
-    ((laws.places t.before t.sound).kept i number place (subst (λ (s : State). place_at (log_of s i) number ≡ Some place) t.state at))
+-- where room was made, no receipt that a log keeps is of a place that was released
+taken_none : TurnLaws → (world : World) (c : ℕ) (t : IsTaken c world) (mid : WorldLog) → HasStepped (stays_of (rest_of world)) world.log mid
+    → (i : ℕ) → NoneReleasedAt mid i
+unfolding state_of
+taken_none laws world c t mid stepped i number place at =
+    let steps = stepped.steps (rest_of world) refl in
+    (laws.taken t.before c t.stripe steps.0 (logs.state_of (rest_of world) mid) t.sound t.below t.free t.reads
+    (subst (λ (s : State). StepsAll s steps.0 (logs.state_of (rest_of world) mid)) t.state steps.1)).kept i number place at
 
 -- it lacks no stripe of its call
 taken_all : (world : World) (c : ℕ) (t : IsTaken c world) (call : Call)
@@ -290,15 +293,16 @@ taken_all world c t call none is =
     subst (λ (o : Option Call). next_stripe (state_of world) c o ≡ None) (ap (λ (k : ClientState). open_call k.phase) (taken_here world c t) ∙ is) none
 
 pub ready_is : TurnLaws → PlanLaws → (world : World) (c : ℕ) (t : IsTaken c world)
-    → next_stripe (state_of world) c (open_call (client (state_of world) c).phase) ≡ None → IsReadyToPlan world.log c t.one
+    → next_stripe (state_of world) c (open_call (client (state_of world) c).phase) ≡ None → IsReadyToPlan world.log c (stays_of (rest_of world)) t.one
 unfolding state_of
 ready_is turns laws world c t none = record {
   entry = λ call is looks. (entry call is looks).0;
   place = λ call is looks. (entry call is looks).1;
   all = λ call is. taken_all world c t call none is;
   right = t.right.right;
-  served = laws.reads.served (with_parts world.log (acts_for world.log.stripes c) world.log.device) (acting_right world.log c t.log)
-      (λ i number place at. taken_none turns world c t i number place at);
+  served = λ mid stepped.
+      laws.reads.served (with_parts mid (acts_for mid.stripes c) mid.device) (acting_right mid c stepped.log)
+      (λ i number place at. taken_none turns world c t mid stepped i number place at);
 }
   where
     entry : (call : Call) → open_call t.one.peer.phase ≡ Some call → looks_up call ≡ true → IsEntry call × IsPlaced call
@@ -389,14 +393,14 @@ record Scene (world : World) (c : ℕ) (t : IsTaken c world) (call : Call) : Typ
 scene_at : (world : World) (c : ℕ) (t : IsTaken c world) (call : Call) → Scene world c t call → (at : Progress) × (t.one.peer.phase ≡ Calling at call)
 scene_at world c t call scene = calling_of t.one.peer.phase call scene.opens scene.looks
 
-scene_plan : HistoryLaws → (world : World) (c : ℕ) (t : IsTaken c world) (call : Call) (reply : Reply) (writes : List Write) (s : Scene world c t call)
-    → (AreShort world.log.stripes c → IsDue world.log.stripes c call reply writes)
+scene_plan : HistoryLaws → (world : World) (c : ℕ) (t : IsTaken c world) (call : Call) (stripes : Stripes) (reply : Reply) (writes : List Write) (s : Scene world c t call)
+    → StandIn t.before stripes → (AreShort stripes c → IsDue stripes c call reply writes)
     → let wanted : Asked = (asked_some call s.looks).0 in
     IsPlan t.before.history (operation_of t.one.peer.watches wanted) reply writes
-scene_plan laws world c t call reply writes s due =
+scene_plan laws world c t call stripes reply writes s stands due =
     let at = scene_at world c t call s in
-    plan_is laws t.before world.log.stripes c t.one.peer.watches at.0 call (asked_some call s.looks).0 reply writes t.sound t.below
-    (taken_stands world c t) (taken_watches world c t) (subst (Attends t.one.peer.watches) at.1 t.steady) (asked_some call s.looks).1 due
+    plan_is laws t.before stripes c t.one.peer.watches at.0 call (asked_some call s.looks).0 reply writes t.sound t.below
+    stands (taken_watches world c t) (subst (Attends t.one.peer.watches) at.1 t.steady) (asked_some call s.looks).1 due
 
 scene_writes : (world : World) (c : ℕ) (t : IsTaken c world) (wanted : Asked) (writes : List Write)
     → writes ≡ made t.before.history (operation_of t.one.peer.watches wanted) → writes ≡ writes_now (state_of world) c (operation_of t.one.peer.watches wanted)
@@ -450,31 +454,186 @@ met_beside desk one keeps is =
       stay = keeps.stay j;
     } in k
 
-comes_made : HistoryLaws → PlanLaws → (world : World) (c : ℕ) (t : IsTaken c world) (call : Call) (s : Scene world c t call) (planned : Planned)
-    (stripes : Stripes) (device : Shelves) (desk : Desk)
-    → desk.plan ≡ plan.Made planned → HasPlanned world.log c call planned (with_parts world.log stripes device) → KeepsDesk t.one.desk desk
-    → HasComeTo world c (with_plan world c t.one (with_parts world.log stripes device) desk)
+-- ROOM IS MADE, STEP BY STEP
+
+-- What steps that make room leave of the state.
+record SameBut (old new : State) : Type 0 where
+  clients : new.clients ≡ old.clients
+  holders : new.holders ≡ old.holders
+  stores : new.stores ≡ old.stores
+  marks : new.marks ≡ old.marks
+
+leaves_same : (before : State) (i : ℕ) (o : Option ℕ) (after : State) → Leaves before i o after → SameBut before after
+leaves_same before i (Some place) after leaves = rw leaves (record { clients = refl; holders = refl; stores = refl; marks = refl })
+leaves_same before i None after leaves = rw leaves.1 (record { clients = refl; holders = refl; stores = refl; marks = refl })
+
+frees_same : (before : State) (i : ℕ) (after : State) → FreesPlace before i after → SameBut before after
+frees_same before i _ (Retires some) = record { clients = refl; holders = refl; stores = refl; marks = refl }
+frees_same before i _ (Drains some) = record { clients = refl; holders = refl; stores = refl; marks = refl }
+frees_same before i _ (Releases page some) = record { clients = refl; holders = refl; stores = refl; marks = refl }
+
+step_same : (before : State) (i : ℕ) (after : State) → Steps before i after → SameBut before after
+step_same before i after (ByPage sheds) = leaves_same before i _ after sheds.leaves
+step_same before i after (ByPlace within frees) = frees_same before i after frees
+
+steps_same : (before : State) (stripes : List ℕ) (after : State) → StepsAll before stripes after → SameBut before after
+steps_same before [] after steps = rw steps (record { clients = refl; holders = refl; stores = refl; marks = refl })
+steps_same before (i ∷ stripes) after steps =
+    let one = step_same before i steps.0 steps.1 in
+    let more = steps_same steps.0 stripes after steps.2 in
+    record {
+      clients = more.clients ∙ one.clients;
+      holders = more.holders ∙ one.holders;
+      stores = more.stores ∙ one.stores;
+      marks = more.marks ∙ one.marks;
+    }
+
+pub steps_both : (a : State) (one : List ℕ) (b : State) (other : List ℕ) (c : State) → StepsAll a one b → StepsAll b other c → StepsAll a (one ++ other) c
+steps_both a [] b other c first second = subst (λ (s : State). StepsAll s other c) first second
+steps_both a (i ∷ one) b other c first second = (first.0, first.1, steps_both first.0 one b other c first.2 second)
+
+written_both : (n : ℕ) (writes : List Write) (one other : List ℕ) → AreWritten n writes one → AreWritten n writes other → AreWritten n writes (one ++ other)
+written_both n writes [] other first second = second
+written_both n writes (i ∷ one) other first second = (first.0, written_both n writes one other first.1 second)
+
+written_all : (n : ℕ) (writes : List Write) (count i : ℕ) → is_written_in n writes i ≡ true → AreWritten n writes (replicate count i)
+written_all n writes zero i is = tt
+written_all n writes (suc count) i is = (is, written_all n writes count i is)
+
+pub roomy_both : (d : ℕ) (old mid new : Stripes) → StaysRoomy d old mid → StaysRoomy d mid new → StaysRoomy d old new
+roomy_both d old mid new first second = record {
+  count = second.count ∙ first.count;
+  rooms = λ i log there.
+      let one = first.rooms i log there in
+      let two = second.rooms i one.0 one.1 in
+      (two.0, two.1, λ weight room. two.2 weight (one.2 weight room));
+}
+
+-- a stripe that is held keeps its rooms
+holder_is : (d : ℕ) (o : Option ℕ) → is_number d o ≡ true → o ≡ Some d
+holder_is d None is = cc is
+holder_is d (Some m) is = ap (λ (n : ℕ). Option.Some n) ((Decides-eqb m d).0 is)
+
+lane_of : (t : Bool) (o : Option Lane) (log : HybridLog) → logs_in t o ≡ Some log → (lane : Lane) × (o ≡ Some lane) × (lane_log lane ≡ log)
+lane_of true (Some lane) log is = (lane, refl, cc is)
+lane_of true None log is = absurd (cc is)
+lane_of false o log is = absurd (cc is)
+
+pub held_roomy : (old new : Stripes) (d : ℕ) → KeepsHeld old new → StaysRoomy d old new
+held_roomy old new d keeps = record {
+  count = ap (λ v. length v.items) keeps.holders;
+  rooms = λ i log there.
+      let held : holds old.holders.items d i ≡ true = some_held (holds old.holders.items d i) (slice_get old.lanes.items i) log there in
+      let lane = lane_of (holds old.holders.items d i) (slice_get old.lanes.items i) log there in
+      let later = keeps.rooms i d lane.0 (holder_is d (get_or old.holders.items i None) held) lane.1 in (
+        lane_log later.0,
+        ap₂ (λ (t : Bool) (o : Option Lane). logs_in t o) (ap (λ v. holds v.items d i) keeps.holders ∙ held) later.1,
+        λ weight room. later.2 weight (subst (λ (l : HybridLog). HasRoom l weight) (sym lane.2) room),
+      );
+}
+
+-- How far room was made for a client's call that took the last of its stripes, and is to write this.
+record Reached (world : World) (c : ℕ) (writes : List Write) (late : WorldLog) : Type 0 where
+  stripes : List ℕ
+  written : AreWritten (count_of world.log.stripes) writes stripes
+  steps : StepsAll (state_of world) stripes (beside_log world late)
+  log : IsWorldLog late
+  given : StaysGiven world.log.device late.device
+  holders : late.stripes.holders ≡ world.log.stripes.holders
+  rooms : (d : ℕ) → d ≢ c → StaysRoomy d world.log.stripes late.stripes
+
+same_roomy : (stripes : Stripes) (d : ℕ) → StaysRoomy d stripes stripes
+same_roomy stripes d = record { count = refl; rooms = λ i log there. (log, there, λ weight room. room) }
+
+reached_none : (world : World) (c : ℕ) (writes : List Write) → IsWorldLog world.log → Reached world c writes world.log
 unfolding state_of
-comes_made history laws world c t call s planned stripes device desk is has keeps =
-    let log : WorldLog = with_parts world.log stripes device in
+reached_none world c writes is = record {
+  stripes = [];
+  written = tt;
+  steps = refl;
+  log = is;
+  given = λ receipt given. given;
+  holders = refl;
+  rooms = λ d differ. same_roomy world.log.stripes d;
+}
+
+count_same : (world : World) (c : ℕ) (writes : List Write) (late : WorldLog) → Reached world c writes late → count_of late.stripes ≡ count_of world.log.stripes
+count_same world c writes late reached = ap (λ v. length v.items) reached.holders
+
+-- a plan made room, or met a full stripe
+reached_room : (world : World) (c : ℕ) (writes : List Write) (late new : WorldLog) → Reached world c writes late → new.stripes.holders ≡ late.stripes.holders
+    → RoomIsMade (rest_of world) late new writes → ((d : ℕ) → d ≢ c → StaysRoomy d late.stripes new.stripes) → Reached world c writes new
+unfolding state_of
+reached_room world c writes late new reached holders room rooms = record {
+  stripes = reached.stripes ++ room.stripes;
+  written = written_both (count_of world.log.stripes) writes reached.stripes room.stripes reached.written
+      (subst (λ (n : ℕ). AreWritten n writes room.stripes) (count_same world c writes late reached) room.written);
+  steps = steps_both (state_of world) reached.stripes (beside_log world late) room.stripes (beside_log world new) reached.steps room.sheds;
+  log = room.log;
+  given = λ receipt given. room.given receipt (reached.given receipt given);
+  holders = holders ∙ reached.holders;
+  rooms = λ d differ. roomy_both d world.log.stripes late.stripes new.stripes (reached.rooms d differ) (rooms d differ);
+}
+
+-- places were released in a stripe that is written
+reached_freed : (world : World) (c : ℕ) (writes : List Write) (late new : WorldLog) (i : ℕ) → Reached world c writes late
+    → is_written_in (count_of world.log.stripes) writes i ≡ true → HasFreed (stays_of (rest_of world)) i late new → Reached world c writes new
+unfolding state_of
+reached_freed world c writes late new i reached is freed = record {
+  stripes = reached.stripes ++ replicate freed.count i;
+  written = written_both (count_of world.log.stripes) writes reached.stripes (replicate freed.count i) reached.written
+      (written_all (count_of world.log.stripes) writes freed.count i is);
+  steps = steps_both (state_of world) reached.stripes (beside_log world late) (replicate freed.count i) (beside_log world new) reached.steps (freed.steps (rest_of world) refl);
+  log = freed.log;
+  given = λ receipt given. freed.given receipt (reached.given receipt given);
+  holders = freed.held.holders ∙ reached.holders;
+  rooms = λ d differ.
+      roomy_both d world.log.stripes late.stripes new.stripes (reached.rooms d differ) (held_roomy late.stripes new.stripes d freed.held);
+}
+
+-- the stripes hold still what the state had in its own
+reached_stands : (world : World) (c : ℕ) (t : IsTaken c world) (writes : List Write) (late : WorldLog) → Reached world c writes late → StandIn t.before late.stripes
+unfolding state_of
+reached_stands world c t writes late reached =
+    let same = steps_same (state_of world) reached.stripes (beside_log world late) reached.steps in
+    let stands = taken_stands world c t in
+    record {
+      count = stands.count ∙ sym (count_same world c writes late reached);
+      stores = same.stores ∙ stands.stores;
+      marks = same.marks ∙ stands.marks;
+    }
+
+comes_made : HistoryLaws → PlanLaws → (world : World) (c : ℕ) (t : IsTaken c world) (call : Call) (s : Scene world c t call) (planned : Planned)
+    (writes : List Write) (late : WorldLog) (stripes : Stripes) (device : Shelves) (desk : Desk)
+    → writes ≡ writes_now (state_of world) c (operation_of t.one.peer.watches (asked_some call s.looks).0) → Reached world c writes late
+    → desk.plan ≡ plan.Made planned → HasPlanned late c call planned (with_parts late stripes device) → KeepsDesk t.one.desk desk
+    → HasComeTo world c (with_plan world c t.one (with_parts late stripes device) desk)
+unfolding state_of
+comes_made history laws world c t call s planned writes late stripes device desk now reached is has keeps =
+    let log : WorldLog = with_parts late stripes device in
     let wanted : Asked = (asked_some call s.looks).0 in
     let same : state_of (with_plan world c t.one log desk) ≡ beside_log world log =
     same_state world c t.one log desk t.there (made_beside desk t.one (plan.Made planned) keeps t.plan is refl) in
     let due : IsPlan t.before.history (operation_of t.one.peer.watches wanted) planned.reply planned.writes =
-    scene_plan history world c t call planned.reply planned.writes s has.due in
-    let values = laws.values_same (acts_for world.log.stripes c) stripes (begins c (keys_begun call)) (even_acts world.log.stripes c t.log.even) has.keeps
+    scene_plan history world c t call late.stripes planned.reply planned.writes s (reached_stands world c t writes late reached) has.due in
+    let values = laws.values_same (acts_for late.stripes c) stripes (begins c (keys_begun call)) (even_acts late.stripes c reached.log.even) has.keeps
     (begins_nothing call c s.looks) has.became in
-    let room = made_room laws (rest_of world) world.log c stripes has.read device planned.writes t.log has.reads has.keeps values has.makes in
-    let now : planned.writes ≡ writes_now (state_of world) c (operation_of t.one.peer.watches wanted) = scene_writes world c t wanted planned.writes due.writes_due in
-    let plans : Plans (state_of world) c planned.writes (beside_log world log) = MakesRoomFor room.stripes (beside_log world log) room.written room.sheds in
+    let room = made_room laws (rest_of world) late c stripes has.read device planned.writes reached.log has.reads has.keeps values has.makes in
+    let made_now : planned.writes ≡ writes_now (state_of world) c (operation_of t.one.peer.watches wanted) = scene_writes world c t wanted planned.writes due.writes_due in
+    let made_is : planned.writes ≡ writes = made_now ∙ sym now in
+    let last : Reached world c writes log =
+    reached_room world c writes late log reached has.keeps.holders (subst (RoomIsMade (rest_of world) late log) made_is room)
+    (λ d differ. apart_roomy late.stripes stripes c d differ has.keeps) in
+    let plans : Plans (state_of world) c writes (beside_log world log) = MakesRoomFor last.stripes (beside_log world log) last.written last.steps in
+    let holders : stripes.holders ≡ world.log.stripes.holders = last.holders in
     let kept : IsMade (beside_log world log) stripes c planned =
     record {
       call = call;
       looks = s.looks;
       asked = wanted;
-      due = scene_planned world c t call s log planned.reply planned.writes has.keeps.holders due;
+      due = scene_planned world c t call s log planned.reply planned.writes holders due;
       roomy = subst (λ (n : ℕ). AreRoomy n (logs_of (lent (acts_for stripes c))) planned.writes) (sym (ap (λ v. length v.items) has.keeps.holders))
-          (subst (λ (x : Stripes). AreRoomy (count_of world.log.stripes) (logs_lent x) planned.writes) (sym (acts_same stripes c has.keeps.acting)) has.roomy);
+          (subst (λ (x : Stripes). AreRoomy (count_of late.stripes) (logs_lent x) planned.writes) (sym (acts_same stripes c has.keeps.acting)) has.roomy);
       fits = has.fits;
     } in
     record {
@@ -485,12 +644,12 @@ comes_made history laws world c t call s planned stripes device desk is has keep
       plans = subst (PlansFor (state_of world) c t.one.peer.watches (asked_by (open_call t.one.peer.phase))) (sym same)
           (planned_for (state_of world) (beside_log world log) c t.one.peer.watches t.one.peer.phase call wanted s.opens (asked_some call s.looks).1
           (subst (λ (ws : List Write). Plans (state_of world) c ws (beside_log world log)) now plans));
-      log = room.log;
-      given = room.given;
+      log = last.log;
+      given = last.given;
       right = right_with device t.one.desk desk keeps t.none;
       kept = subst (λ (p : Plan). IsKept (state_of (with_plan world c t.one log desk)) stripes c p) (sym is)
           (subst (λ (x : State). IsMade x stripes c planned) (sym same) kept);
-      rooms = λ d differ. apart_roomy world.log.stripes stripes c d differ has.keeps;
+      rooms = last.rooms;
     }
 
 met_planned : (world : World) (c : ℕ) (t : IsTaken c world) (call : Call) (s : Scene world c t call) (log : WorldLog) (desk : Desk)
@@ -511,34 +670,71 @@ met_planned world c t call s log desk holders keeps =
     (ap (λ v. map due_of v.items) keeps.due ∙ ap (map due_of) t.none)
     (subst (λ (h : History). IsPlan h operation (due t.before.history operation) (made t.before.history operation)) (sym (taken_history world c t)) plan_due)
 
-comes_met : HistoryLaws → PlanLaws → (world : World) (c : ℕ) (t : IsTaken c world) (call : Call) (s : Scene world c t call) (i : ℕ)
-    (stripes : Stripes) (device : Shelves) (desk : Desk)
-    → desk.plan ≡ plan.Full → HasMet world.log c call i (with_parts world.log stripes device) → KeepsDesk t.one.desk desk
-    → HasComeTo world c (with_plan world c t.one (with_parts world.log stripes device) desk)
+-- what it would have written is what is written now
+met_writes : HistoryLaws → (world : World) (c : ℕ) (t : IsTaken c world) (call : Call) (s : Scene world c t call) (i : ℕ) (writes : List Write)
+    (late new : WorldLog) → Reached world c writes late → (has : HasMet late c call i new)
+    → has.meets.writes ≡ writes_now (state_of world) c (operation_of t.one.peer.watches (asked_some call s.looks).0)
 unfolding state_of
-comes_met history laws world c t call s i stripes device desk is has keeps =
-    let log : WorldLog = with_parts world.log stripes device in
+met_writes history world c t call s i writes late new reached has =
     let wanted : Asked = (asked_some call s.looks).0 in
-    let meets = has.meets in
     let at = scene_at world c t call s in
     let steady = subst (Attends t.one.peer.watches) at.1 t.steady in
-    let operation : Operation = operation_of t.one.peer.watches wanted in
-    let same : state_of (with_plan world c t.one log desk) ≡ with_client (beside_log world log) c (record (client_of t.one) { full = true }) =
-    planned_state world c t.one log desk ∙ ap (λ (k : ClientState). with_client (beside_log world log) c k) (met_beside desk t.one keeps is) in
-    let made_is : meets.writes ≡ made t.before.history operation =
-    meets.due (short_in history t.before world.log.stripes c t.sound (taken_stands world c t)) wanted t.before.history t.one.peer.watches (asked_some call s.looks).1
-    (subst (λ (ws : List Pair). Stand (shard_meaning ⊥) (count_of world.log.stripes) (lent (acts_for world.log.stripes c)) t.before.history c ws) (taken_watches world c t)
-    (stand_in t.before world.log.stripes c t.sound t.below (taken_stands world c t)))
+    let stands = reached_stands world c t writes late reached in
+    scene_writes world c t wanted has.meets.writes
+    (has.meets.due (short_in history t.before late.stripes c t.sound stands) wanted t.before.history t.one.peer.watches (asked_some call s.looks).1
+    (subst (λ (ws : List Pair). Stand (shard_meaning ⊥) (count_of late.stripes) (lent (acts_for late.stripes c)) t.before.history c ws) (taken_watches world c t)
+    (stand_in t.before late.stripes c t.sound t.below stands))
     (ends_all call wanted t.one.peer.watches (call_given steady.0 at.0 call wanted t.one.peer.watches steady.1 steady.2 (asked_some call s.looks).1))
-    (subst (λ (ws : List Pair). AreWatched ws ws) (taken_watches world c t) (t.sound.clients c t.below).once) in
-    let values = laws.values_same (acts_for world.log.stripes c) stripes stays (even_acts world.log.stripes c t.log.even) has.keeps still has.became in
-    let room = met_full laws (rest_of world) world.log c stripes has.read device meets.writes i t.log has.reads has.keeps values meets.written meets.below meets.made meets.full in
-    let now : meets.writes ≡ writes_now (state_of world) c operation = scene_writes world c t wanted meets.writes made_is in
-    let client_is : client (beside_log world log) c ≡ client_of t.one = taken_here world c t in
-    let after : State = with_client (beside_log world log) c (record (client (beside_log world log) c) { full = true }) in
-    let plans : Plans (state_of world) c meets.writes after = MeetsFullAt room.0.stripes (beside_log world log) i room.0.written room.0.sheds room.1 room.2 in
-    let last : state_of (with_plan world c t.one log desk) ≡ after =
-    same ∙ ap (λ (k : ClientState). with_client (beside_log world log) c (record k { full = true })) (sym client_is) in
+    (subst (λ (ws : List Pair). AreWatched ws ws) (taken_watches world c t) (t.sound.clients c t.below).once))
+
+-- a plan met a full stripe, which it would write
+record MetAt (world : World) (c : ℕ) (writes : List Write) (i : ℕ) (new : WorldLog) : Type 0 where
+  reached : Reached world c writes new
+  written : is_written_in (count_of world.log.stripes) writes i ≡ true
+  full : (rest : State) → HasNoPlace (logs.state_of rest new) i
+
+reached_met : HistoryLaws → PlanLaws → (world : World) (c : ℕ) (t : IsTaken c world) (call : Call) (s : Scene world c t call) (i : ℕ)
+    (writes : List Write) (late new : WorldLog)
+    → writes ≡ writes_now (state_of world) c (operation_of t.one.peer.watches (asked_some call s.looks).0)
+    → Reached world c writes late → HasMet late c call i new → MetAt world c writes i new
+unfolding state_of
+reached_met history laws world c t call s i writes late new now reached has =
+    let parts : WorldLog = with_parts late new.stripes new.device in
+    let same : has.meets.writes ≡ writes = met_writes history world c t call s i writes late new reached has ∙ sym now in
+    let values = laws.values_same (acts_for late.stripes c) new.stripes stays (even_acts late.stripes c reached.log.even) has.keeps still has.became in
+    let met = λ (rest : State). met_full laws rest late c new.stripes has.read new.device has.meets.writes i reached.log has.reads has.keeps values
+    has.meets.written has.meets.below has.meets.made has.meets.full in
+    let is_new : parts ≡ new = sym has.else_same in
+    record {
+      reached =
+          subst (Reached world c writes) is_new
+          (reached_room world c writes late parts reached has.keeps.holders (subst (RoomIsMade (rest_of world) late parts) same (met (rest_of world)).0)
+          (λ d differ. apart_roomy late.stripes new.stripes c d differ has.keeps));
+      written =
+          subst (λ (n : ℕ). is_written_in n writes i ≡ true) (count_same world c writes late reached)
+          (subst (λ (ws : List Write). is_written_in (count_of late.stripes) ws i ≡ true) same (met (rest_of world)).1);
+      full = λ rest. subst (λ (l : WorldLog). HasNoPlace (logs.state_of rest l) i) is_new (met rest).2;
+    }
+
+-- the stripe is full, and stays so
+comes_full : (world : World) (c : ℕ) (t : IsTaken c world) (call : Call) (s : Scene world c t call) (i : ℕ) (writes : List Write) (late : WorldLog) (desk : Desk)
+    → writes ≡ writes_now (state_of world) c (operation_of t.one.peer.watches (asked_some call s.looks).0)
+    → Reached world c writes late → is_written_in (count_of world.log.stripes) writes i ≡ true
+    → HasNoPlace (logs.state_of (rest_of world) late) i → is_spent (rest_of world).clients (log_at (states_of late.stripes) i) ≡ true
+    → desk.plan ≡ plan.Full → KeepsDesk t.one.desk desk
+    → HasComeTo world c (with_plan world c t.one late desk)
+unfolding state_of
+comes_full world c t call s i writes late desk now reached written full spent is keeps =
+    let wanted : Asked = (asked_some call s.looks).0 in
+    let operation : Operation = operation_of t.one.peer.watches wanted in
+    let same : state_of (with_plan world c t.one late desk) ≡ with_client (beside_log world late) c (record (client_of t.one) { full = true }) =
+    planned_state world c t.one late desk ∙ ap (λ (k : ClientState). with_client (beside_log world late) c k) (met_beside desk t.one keeps is) in
+    let client_is : client (beside_log world late) c ≡ client_of t.one = taken_here world c t in
+    let after : State = with_client (beside_log world late) c (record (client (beside_log world late) c) { full = true }) in
+    let plans : Plans (state_of world) c writes after =
+    MeetsFullAt reached.stripes (beside_log world late) i reached.written reached.steps written (record { no_place = full; spent = spent }) in
+    let last : state_of (with_plan world c t.one late desk) ≡ after =
+    same ∙ ap (λ (k : ClientState). with_client (beside_log world late) c (record k { full = true })) (sym client_is) in
     record {
       one = t.one;
       there = t.there;
@@ -547,19 +743,47 @@ comes_met history laws world c t call s i stripes device desk is has keeps =
       plans = subst (PlansFor (state_of world) c t.one.peer.watches (asked_by (open_call t.one.peer.phase))) (sym last)
           (planned_for (state_of world) after c t.one.peer.watches t.one.peer.phase call wanted s.opens (asked_some call s.looks).1
           (subst (λ (ws : List Write). Plans (state_of world) c ws after) now plans));
-      log = room.0.log;
-      given = room.0.given;
-      right = right_with device t.one.desk desk keeps t.none;
-      kept = subst (λ (p : Plan). IsKept (state_of (with_plan world c t.one log desk)) stripes c p) (sym is)
+      log = reached.log;
+      given = reached.given;
+      right = right_with late.device t.one.desk desk keeps t.none;
+      kept = subst (λ (p : Plan). IsKept (state_of (with_plan world c t.one late desk)) late.stripes c p) (sym is)
           (record {
             call = call;
             asked = wanted;
             reply = due t.before.history operation;
             writes = made t.before.history operation;
-            due = met_planned world c t call s log desk has.keeps.holders keeps;
+            due = met_planned world c t call s late desk reached.holders keeps;
           });
-      rooms = λ d differ. apart_roomy world.log.stripes stripes c d differ has.keeps;
+      rooms = reached.rooms;
     }
+
+desk_both : (was mid new : Desk) → KeepsDesk was mid → KeepsDesk mid new → KeepsDesk was new
+desk_both was mid new one two = record {
+  due = two.due ∙ one.due;
+  fetched = two.fetched ∙ one.fetched;
+  stay = two.stay ∙ one.stay;
+  right = two.right;
+}
+
+-- however often it was planned again
+comes_ended : HistoryLaws → PlanLaws → (world : World) (c : ℕ) (t : IsTaken c world) (call : Call) (s : Scene world c t call) (writes : List Write)
+    (new : WorldLog) (desk : Desk) (late : WorldLog) (i : ℕ) (was : Desk)
+    → writes ≡ writes_now (state_of world) c (operation_of t.one.peer.watches (asked_some call s.looks).0)
+    → MetAt world c writes i late → KeepsDesk t.one.desk was → HasEnded c call (stays_of (rest_of world)) new desk late i was
+    → HasComeTo world c (with_plan world c t.one new desk)
+comes_ended history laws world c t call s writes new desk _ _ _ now met kept (Stays late i was is freed full spent keeps) =
+    comes_full world c t call s i writes new desk now
+    (reached_freed world c writes late new i met.reached met.written freed) met.written
+    (full (rest_of world) (met.full (rest_of world))) (spent (rest_of world) refl) is (desk_both t.one.desk was desk kept keeps)
+comes_ended history laws world c t call s writes new desk _ _ _ now met kept (Frees late i was mid planned freed is has keeps) =
+    subst (λ (l : WorldLog). HasComeTo world c (with_plan world c t.one l desk)) (sym has.else_same)
+    (comes_made history laws world c t call s planned writes mid new.stripes new.device desk now
+    (reached_freed world c writes late mid i met.reached met.written freed) is (subst (HasPlanned mid c call planned) has.else_same has)
+    (desk_both t.one.desk was desk kept keeps))
+comes_ended history laws world c t call s writes new desk _ _ _ now met kept (Again late i was mid later next between freed has keeps ended) =
+    comes_ended history laws world c t call s writes new desk later next between now
+    (reached_met history laws world c t call s next writes mid later now (reached_freed world c writes late mid i met.reached met.written freed) has)
+    (desk_both t.one.desk was between kept keeps) ended
 
 -- PAGES ARE TO BE READ
 
@@ -636,9 +860,6 @@ plans_nothing : (state : State) (c : ℕ) (watches : List Pair) (wanted : Option
 plans_nothing state c watches None = refl
 plans_nothing state c watches (Some asked) = MakesRoomFor [] state tt refl
 
-same_roomy : (stripes : Stripes) (d : ℕ) → StaysRoomy d stripes stripes
-same_roomy stripes d = record { count = refl; rooms = λ i log there. (log, there, λ weight room. room) }
-
 comes_waiting : (world : World) (c : ℕ) (t : IsTaken c world) → HasComeTo world c (with_plan world c t.one world.log t.one.desk)
 unfolding state_of
 comes_waiting world c t =
@@ -660,21 +881,24 @@ comes_waiting world c t =
 -- ALL CASES
 
 comes_by : HistoryLaws → PlanLaws → (world : World) (c : ℕ) (t : IsTaken c world) (call : Call) (s : Scene world c t call) (log : WorldLog) (desk : Desk)
-    → HasArranged world.log c call t.one.desk log desk → HasComeTo world c (with_plan world c t.one log desk)
+    → HasArranged world.log c call (stays_of (rest_of world)) t.one.desk log desk → HasComeTo world c (with_plan world c t.one log desk)
 comes_by history laws world c t call s log desk (Makes planned is has keeps) =
+    let writes : List Write = writes_now (state_of world) c (operation_of t.one.peer.watches (asked_some call s.looks).0) in
     subst (λ (l : WorldLog). HasComeTo world c (with_plan world c t.one l desk)) (sym has.else_same)
-    (comes_made history laws world c t call s planned log.stripes log.device desk is (subst (HasPlanned world.log c call planned) has.else_same has) keeps)
+    (comes_made history laws world c t call s planned writes world.log log.stripes log.device desk refl (reached_none world c writes t.log) is
+    (subst (HasPlanned world.log c call planned) has.else_same has) keeps)
 comes_by history laws world c t call s log desk (NamesPages receipts has few some each is right) =
     subst (λ (l : WorldLog). HasComeTo world c (with_plan world c t.one l desk)) (sym has.else_same)
     (comes_named laws world c t call s receipts log.stripes desk (subst (HasNamed world.log c call t.one.desk.staged receipts) has.else_same has) few some
     (subst (λ (l : WorldLog). Each (IsReadFor l c) desk.due.items) has.else_same each) is right)
-comes_by history laws world c t call s log desk (Meets i is has keeps) =
-    subst (λ (l : WorldLog). HasComeTo world c (with_plan world c t.one l desk)) (sym has.else_same)
-    (comes_met history laws world c t call s i log.stripes log.device desk is (subst (HasMet world.log c call i) has.else_same has) keeps)
+comes_by history laws world c t call s log desk (Meets i mid between has keeps ended) =
+    let writes : List Write = writes_now (state_of world) c (operation_of t.one.peer.watches (asked_some call s.looks).0) in
+    comes_ended history laws world c t call s writes log desk mid i between refl
+    (reached_met history laws world c t call s i writes world.log mid refl (reached_none world c writes t.log) has) keeps ended
 
 pub comes_to : HistoryLaws → PlanLaws → (world : World) (c : ℕ) (t : IsTaken c world) (log : WorldLog) (desk : Desk)
     → next_stripe (state_of world) c (open_call (client (state_of world) c).phase) ≡ None
-    → HasPlannedFor world.log c t.one log desk → HasComeTo world c (with_plan world c t.one log desk)
+    → HasPlannedFor world.log c (stays_of (rest_of world)) t.one log desk → HasComeTo world c (with_plan world c t.one log desk)
 comes_to history laws world c t log desk none (PlansCall call opens looks arranged) =
     comes_by history laws world c t call (record { opens = opens; looks = looks; all = taken_all world c t call none opens }) log desk arranged
 comes_to history laws world c t log desk none (WaitsCall waits same kept) =

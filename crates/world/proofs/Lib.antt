@@ -19,3 +19,4 @@ pub mod Acting
 pub mod Committing
 pub mod Arranging
 pub mod Beginning
+pub mod Ending

@@ -41,7 +41,7 @@ use Rattle.world.specs.declared.desk.Plan.{Plan}
 use Rattle.world.specs.declared.desk.Plan.TheVariants as plan
 use Rattle.world.specs.declared.member.Member.{Member}
 use Rattle.world.specs.declared.world.World.{World}
-use Rattle.world.proofs.Coming.{held_apart, logs_in, some_held}
+use Rattle.world.proofs.Coming.{held_apart, logs_in, roomy_both, some_held}
 use Rattle.world.proofs.Handling.{ready_with, roomy_same, state_with, steady_here, with_member}
 use Rattle.world.proofs.Members.{clients_with}
 use Rattle.world.proofs.Settling.{when_false, when_true}
@@ -193,15 +193,18 @@ free_apart stripes d i free = none (get_or stripes.holders.items i None) free
 
 pub taken_by : (old : World) (c stripe : ℕ) (one : Member) → IsWorld old → slice_get old.members.items c ≡ Some one
     → next_stripe (state_of old) c (open_call (client (state_of old) c).phase) ≡ Some stripe → one.desk.due.items ≡ []
+    → get_or old.log.stripes.holders.items stripe None ≡ None
     → IsTaken c (with_hold old c stripe one)
 unfolding state_of
-taken_by old c stripe one is there next none =
+taken_by old c stripe one is there next none free =
     let new : Member = record one { desk = record one.desk { stay = stay_begun one.desk.stay old.log.epoch } } in
     record {
       before = state_of old;
       stripe = stripe;
       sound = is.sound;
       below = (here (state_of old) old.members.items c one refl there).1;
+      free = free;
+      reads = ap (λ (k : ClientState). k.due) (here (state_of old) old.members.items c one refl there).0 ∙ ap (map due_of) none;
       state = held_state old c stripe one there;
       log = with_holder_right old.log stripe (Some c) is.log;
       one = new;
@@ -299,7 +302,7 @@ unfolding state_of taken_by
 handled_hold old c stripe more one is there enabled lacks =
     let parts = take_parts old c stripe one there enabled in
     let new : World = with_hold old c stripe one in
-    let t = taken_by old c stripe one is there parts.next parts.none in
+    let t = taken_by old c stripe one is there parts.next parts.none (none_is _ parts.free) in
     record {
       enabled = enabled;
       does = when_false _ _ _
@@ -310,15 +313,6 @@ handled_hold old c stripe more one is there enabled lacks =
           (Same one there refl tt (roomy_holder old.log.stripes c stripe (Some c) (free_apart old.log.stripes c stripe parts.free)))
           (λ d differ. roomy_holder old.log.stripes d stripe (Some c) (free_apart old.log.stripes d stripe parts.free)) (λ d differ. tt);
     }
-
-roomy_both : (d : ℕ) (old mid new : Stripes) → StaysRoomy d old mid → StaysRoomy d mid new → StaysRoomy d old new
-roomy_both d old mid new one two = record {
-  count = two.count ∙ one.count;
-  rooms = λ i log there.
-      let first = one.rooms i log there in
-      let second = two.rooms i first.0 first.1 in
-      (second.0, second.1, λ weight room. second.2 weight (first.2 weight room));
-}
 
 pub set-set_at : (members : List Member) (c : ℕ) (one other : Member) → set (set members c one) c other ≡ set members c other
 set-set_at [] c one other = refl
@@ -335,7 +329,7 @@ unfolding state_of taken_by
 handled_plan old c stripe one new is there enabled all comes =
     let parts = take_parts old c stripe one there enabled in
     let mid : World = with_hold old c stripe one in
-    let t = taken_by old c stripe one is there parts.next parts.none in
+    let t = taken_by old c stripe one is there parts.next parts.none (none_is _ parts.free) in
     let at : comes.one ≡ t.one = some_same (sym comes.there ∙ t.there) in
     let here_is = (here (state_of old) old.members.items c one refl there).0 in
     let later : Member = record comes.one { desk = comes.desk } in
@@ -375,7 +369,7 @@ pub held_taken : (old mid : World) (c stripe : ℕ) → IsWorld old → HasHeld 
     → is_enabled_for (state_of old) c (client (state_of old) c) (event.Take c stripe) ≡ true → IsTaken c mid
 held_taken old mid c stripe is held enabled =
     let parts = take_parts old c stripe held.one held.there enabled in
-    subst (IsTaken c) (sym held.else_same) (taken_by old c stripe held.one is held.there parts.next parts.none)
+    subst (IsTaken c) (sym held.else_same) (taken_by old c stripe held.one is held.there parts.next parts.none (none_is _ parts.free))
 
 pub held_more : (old mid : World) (c stripe : ℕ) (o : Option ℕ) (t : Bool) → IsWorld old → HasHeld old c stripe mid
     → is_enabled_for (state_of old) c (client (state_of old) c) (event.Take c stripe) ≡ true

@@ -1,5 +1,5 @@
 -- The laws of the crates below that the world's proofs rest on, as those crates state them.
-use Rattle.std.specs.Prelude.{ℕ, ◌≡◌, List, false}
+use Rattle.std.specs.Prelude.{ℕ, ◌≡◌, ◌<◌, List, [], None, get_or, length, false}
 use Rattle.words.specs.declared.history.Entry.{Entry}
 use Rattle.words.specs.declared.reply.Reply.{Reply}
 use Rattle.words.specs.Store.{Bytes, Store, Write, writes_key}
@@ -11,8 +11,10 @@ use Rattle.hybrid.specs.Growth.{GrowthLaws}
 use Rattle.transact.specs.declared.call.Call.{Call}
 use Rattle.world_events.specs.declared.event.Event.{Event}
 use Rattle.world_log.specs.Given.{GivenLaws}
-use Rattle.world_log.specs.PlanLaws.{ColdLaw, OpeningLaw, ReadLaws, RoomLaws, ValueLaw}
-use Rattle.world_model.specs.States.{State, start}
+use Rattle.world_log.specs.PlanLaws.{ColdLaw, OpeningLaw, ReadLaws, RoomLaws, ValueLaw, WaitLaw}
+use Rattle.world_model.specs.Planning.{taken}
+use Rattle.world_model.specs.Rooms.{StepsAll}
+use Rattle.world_model.specs.States.{State, client, start}
 use Rattle.world_model.specs.Places.{NoneReleased}
 use Rattle.world_model.specs.Planned.{IsNoCommitOf, IsPlanned}
 use Rattle.world_model.specs.Soundness.{IsSound}
@@ -24,6 +26,10 @@ pub record TurnLaws : Type 0 where
   pub start : (stripes clients frames limit : ℕ) → IsSound (start stripes clients frames limit)
   pub headline : (state : State) → IsSound state → Headline state
   pub places : (state : State) → IsSound state → NoneReleased state
+  pub rooms : (before : State) (stripes : List ℕ) (after : State) → StepsAll before stripes after → IsSound before → IsSound after
+  pub taken : (before : State) (c i : ℕ) (stripes : List ℕ) (after : State) → IsSound before → c < length before.clients
+      → get_or before.holders i None ≡ None → (client before c).due ≡ []
+      → StepsAll (taken before c (client before c) i) stripes after → NoneReleased after
   pub sound : (before : State) (events : List Event) (after : State) → Turns before events after → IsSound before → IsSound after
   pub planned : (before : State) (event : Event) (after : State) (c : ℕ) (call : Call) (asked : Asked) (reply : Reply) (writes : List Write)
       → Turn before event after → IsNoCommitOf c event → IsSound before
@@ -37,6 +43,7 @@ pub record PlanLaws : Type 0 where
   pub reads : ReadLaws
   pub given : GivenLaws
   pub cold : ColdLaw
+  pub waits : WaitLaw
   pub growth : GrowthLaws
 
 -- Values and keys, as `words` states their laws.

@@ -1,5 +1,5 @@
 -- What a call of a client comes to, that is planned over the stripes that the client holds.
-use Rattle.std.specs.Prelude.{ℕ, ◌≡◌, ◌<◌, Bool, true, false, List, [], ◌∷◌, Some, length}
+use Rattle.std.specs.Prelude.{ℕ, ◌≡◌, ◌<◌, Bool, true, false, List, [], ◌∷◌, Option, Some, length}
 use Rattle.words.specs.declared.reply.Reply.{Reply}
 use Rattle.words.specs.Store.{Bytes, Write}
 use Rattle.words.specs.History.{History, Pair}
@@ -20,12 +20,15 @@ use Rattle.plans.specs.Sizes.{AllShort}
 use Rattle.plans.specs.Stops.{AreCold, keys_looked_up}
 use Rattle.world_log.specs.Places.{Receipt, Shelves, Wrote, SamePlaces, view}
 use Rattle.world_log.specs.PlanLaws.{logs_lent, with_parts}
+use Rattle.world_log.specs.Freeing.{HasFreed, StaysFull}
 use Rattle.world_log.specs.Given.{IsGiven}
+use Rattle.world_log.specs.WorldLogs.{stays_of}
 use Rattle.world_log.specs.Stripes.{KeepsOthers, acts_for, lent, states_of}
 use Rattle.world_log.specs.Types.{Stripes}
 use Rattle.world_log.specs.declared.logs.WorldLog.{WorldLog}
 use Rattle.world_model.specs.Logs.{place_at}
-use Rattle.world_model.specs.States.{log_at}
+use Rattle.world_model.specs.Rooms.{is_spent}
+use Rattle.world_model.specs.States.{State, log_at}
 use Rattle.world_model.specs.Enabled.{are_none, holds}
 use Rattle.world_model.specs.Places.{Each}
 use Rattle.world_model.specs.Commits.{marks_changed}
@@ -108,12 +111,24 @@ pub record IsReadFor (old : WorldLog) (c : ℕ) (read : ℕ × Receipt) : Type 0
   pub place : place_at (log_at (states_of old.stripes) read.0) number ≡ Some read.1.place
   pub given : IsGiven old.device read.1
 
+-- What a plan came to that met a full stripe: places were released there that could be, while clients had these stays. Where none was, the
+-- stripe is full; else the call was planned again, and was made, or met a full stripe again.
+pub data HasEnded (c : ℕ) (call : Call) (stays : List (Option ℕ)) (new : WorldLog) (is : Desk) : WorldLog → (stripe : ℕ) → Desk → Type 0 where
+  Stays : (old : WorldLog) (stripe : ℕ) (was : Desk) → is.plan ≡ plan.Full → HasFreed stays stripe old new → StaysFull stripe old new
+      → ((rest : State) → stays_of rest ≡ stays → is_spent rest.clients (log_at (states_of new.stripes) stripe) ≡ true)
+      → KeepsDesk was is → HasEnded c call stays new is old stripe was
+  Frees : (old : WorldLog) (stripe : ℕ) (was : Desk) (mid : WorldLog) (planned : Planned) → HasFreed stays stripe old mid → is.plan ≡ plan.Made planned
+      → HasPlanned mid c call planned new → KeepsDesk was is → HasEnded c call stays new is old stripe was
+  Again : (old : WorldLog) (stripe : ℕ) (was : Desk) (mid late : WorldLog) (next : ℕ) (between : Desk) → HasFreed stays stripe old mid
+      → HasMet mid c call next late → KeepsDesk was between → HasEnded c call stays new is late next between → HasEnded c call stays new is old stripe was
+
 -- What a call that looks keys up came to, whose client took the last of its stripes.
-pub data HasArranged (old : WorldLog) (c : ℕ) (call : Call) (was : Desk) (new : WorldLog) (is : Desk) : Type 0 where
-  Makes : (planned : Planned) → is.plan ≡ plan.Made planned → HasPlanned old c call planned new → KeepsDesk was is → HasArranged old c call was new is
+pub data HasArranged (old : WorldLog) (c : ℕ) (call : Call) (stays : List (Option ℕ)) (was : Desk) (new : WorldLog) (is : Desk) : Type 0 where
+  Makes : (planned : Planned) → is.plan ≡ plan.Made planned → HasPlanned old c call planned new → KeepsDesk was is → HasArranged old c call stays was new is
   Names : (receipts : List Kept) → HasNamed old c call was.staged receipts new → was.fetched < ROUNDS → are_none is.due.items ≡ false → Each (IsReadFor new c) is.due.items
-      → is ≡ record was { due = is.due; staged = is.staged } → AreRight is.staged → HasArranged old c call was new is
-  Meets : (stripe : ℕ) → is.plan ≡ plan.Full → HasMet old c call stripe new → KeepsDesk was is → HasArranged old c call was new is
+      → is ≡ record was { due = is.due; staged = is.staged } → AreRight is.staged → HasArranged old c call stays was new is
+  Meets : (stripe : ℕ) (mid : WorldLog) (between : Desk) → HasMet old c call stripe mid → KeepsDesk was between
+      → HasEnded c call stays new is mid stripe between → HasArranged old c call stays was new is
 
 -- A call was run of which nothing is kept: it is planned and installed, and writes nothing.
 pub record HasRun (old : WorldLog) (c : ℕ) (call : Call) (reply : Reply) (new : WorldLog) : Type 0 where

@@ -1,5 +1,5 @@
 -- The state that a world stands for, and what its steps do.
-use Rattle.std.specs.Prelude.{ℕ, ◌≡◌, ◌≢◌, ◌<◌, Bool, true, false, List, [], ◌∷◌, ◌++◌, length, map, replicate, reverse, Option, Some, slice_get}
+use Rattle.std.specs.Prelude.{ℕ, ◌≡◌, ◌≢◌, ◌<◌, Bool, true, false, List, [], ◌∷◌, ◌++◌, length, map, replicate, reverse, get_or, Option, None, Some, slice_get}
 use Rattle.std.specs.Vec.{with_item}
 use Rattle.words.specs.declared.history.Entry.{Entry}
 use Rattle.words.specs.declared.history.Operation.{Operation}
@@ -141,6 +141,8 @@ pub record IsTaken (c : ℕ) (world : World) : Type 0 where
   pub stripe : ℕ
   pub sound : IsSound before
   pub below : c < length before.clients
+  pub free : get_or before.holders stripe None ≡ None
+  pub reads : (client before c).due ≡ []
   pub state : state_of world ≡ taken before c (client before c) stripe
   pub log : IsWorldLog world.log
   pub one : Member

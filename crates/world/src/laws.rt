@@ -6,11 +6,12 @@ use hybrid::laws::growth_adds_up;
 use words::bounds::values_are_bounded;
 use words::locality::writes_named_keys;
 use world_log::laws::{
-    cold_receipts_are_kept, given_receipts_are_served, pages_are_opened, reads_change_no_place,
-    room_is_made, values_stay,
+    cold_receipts_are_kept, given_receipts_are_served, pages_are_opened, plans_keep_what_waits,
+    reads_change_no_place, room_is_made, values_stay,
 };
 use world_model::theorems::{
-    events_keep_the_world_sound, plans_stay_right, sound_worlds_tell_the_truth,
+    events_keep_the_world_sound, plans_stay_right, room_keeps_the_world_sound,
+    sound_worlds_tell_the_truth,
 };
 
 /// Of events and plans in the plain world. The call does nothing when it runs.
@@ -19,6 +20,7 @@ pub(crate) fn laws()
 {
     events_keep_the_world_sound();
     plans_stay_right();
+    room_keeps_the_world_sound();
     sound_worlds_tell_the_truth();
 }
 
@@ -36,4 +38,5 @@ pub(crate) fn plan_laws()
     reads_change_no_place();
     given_receipts_are_served();
     cold_receipts_are_kept();
+    plans_keep_what_waits();
 }

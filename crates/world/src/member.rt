@@ -18,16 +18,17 @@ pub(crate) struct Member {
 }
 
 impl Member {
-    /// Plans its open call, if that looks keys up. It holds all stripes of the call.
+    /// Plans its open call, if that looks keys up. It holds all stripes of the call, and clients have these stays.
     pub(crate) fn plan(
         &mut self,
         alloc: Global,
         log: &mut WorldLog,
         client: usize,
+        stays: &[Option<u64>],
     ) -> Result<(), Stopped>
         requires log { IsWorldLog log.old }
-        requires ready { IsReadyToPlan log.old client self.old }
-        ensures planned { OnOk result (HasPlannedFor log.old client self.old log.new self.new.desk) }
+        requires ready { IsReadyToPlan log.old client stays.now self.old }
+        ensures planned { OnOk result (HasPlannedFor log.old client stays.now self.old log.new self.new.desk) }
         ensures peer { self.new.peer ≡ self.old.peer }
     {
         let Open::Call(call) = self.peer.open() else {
@@ -36,6 +37,6 @@ impl Member {
         if !looks_up(call) {
             return Ok(());
         }
-        arrange(alloc, log, client, call, &mut self.desk)
+        arrange(alloc, log, client, call, &mut self.desk, stays)
     }
 }

@@ -11,15 +11,17 @@ ghost use Rattle.hybrid.specs.Writing.{AreFit};
 ghost use Rattle.transact.specs.Plans.{IsEntry, keys_ended};
 ghost use Rattle.transact.specs.Tables.{AreThere};
 ghost use Rattle.transact.specs.Submits.{stripes_asked};
+ghost use Rattle.world_log.specs.Freeing.{HasStepped};
 ghost use Rattle.world_log.specs.Places.{Serves, identity};
 ghost use Rattle.world_log.specs.PlanLaws.{IsColdIn, logs_lent};
 ghost use Rattle.world_log.specs.Stripes.{acts_for, holders_of, lent};
 ghost use Rattle.world_log.specs.WorldLogs.{IsWorldLog};
+ghost use Rattle.world_log.specs.declared.logs.WorldLog as logs;
 ghost use Rattle.world_model.specs.Enabled.{first_missing};
 ghost use Rattle.world_model.specs.Places.{Each};
 ghost use Rattle.world_model.specs.Planning as rounds;
 ghost use Rattle.world.specs.Planning as planning;
-ghost use Rattle.world.specs.Planning.{HasArranged, HasCleared, HasMet, HasNamed, HasPlanned, HasPut, HasRun, IsReadFor, KeepsDesk};
+ghost use Rattle.world.specs.Planning.{HasArranged, HasCleared, HasEnded, HasMet, HasNamed, HasPlanned, HasPut, HasRun, IsReadFor, KeepsDesk};
 
 use crate::desk::{Desk, Plan};
 use crate::laws::plan_laws;
@@ -150,21 +152,23 @@ fn plan_call(
     }
 }
 
-/// Plans a call of a client that took the last of its stripes, and keeps what it comes to.
+/// Plans a call of a client that took the last of its stripes, and keeps what it comes to. Before it meets a full stripe, it
+/// releases what it can there while clients have these stays.
 pub(crate) fn arrange(
     alloc: Global,
     log: &mut WorldLog,
     client: usize,
     call: &Call,
     desk: &mut Desk,
+    stays: &[Option<u64>],
 ) -> Result<(), Stopped>
     requires log { IsWorldLog log.old }
     requires entry { IsEntry call.now }
     requires place { IsPlaced call.now }
     requires all { first_missing (holders_of log.old.stripes) client (stripes_asked (length (holders_of log.old.stripes)) call.now) ≡ None }
     requires right { AreRight desk.old.staged }
-    requires served { AreServed Serves identity log.old.device (logs_lent (acts_for log.old.stripes client)) }
-    ensures { OnOk result (HasArranged log.old client call.now desk.old log.new desk.new) }
+    requires served { (mid : logs.WorldLog) → HasStepped stays.now log.old mid → AreServed Serves identity mid.device (logs_lent (acts_for mid.stripes client)) }
+    ensures { OnOk result (HasArranged log.old client call.now stays.now desk.old log.new desk.new) }
 {
     plan_laws();
     match plan_call(alloc, log, client, call, desk) {
@@ -176,10 +180,48 @@ pub(crate) fn arrange(
             desk.due = with_keepers(alloc, log, client, receipts)?;
             Ok(())
         }
-        Err(Stop::StoreFull(_)) => {
-            desk.plan = Plan::Full;
+        Err(Stop::StoreFull(stripe)) => {
+            free_and_plan(alloc, log, client, call, desk, stays, stripe)
+        }
+        Err(Stop::OutOfMemory) | Err(Stop::DeviceFault) => Err(Stopped),
+    }
+}
+
+/// A plan met a full stripe: what can be released there is released, and where that was a place at least, the call is
+/// planned again, with what it reads.
+fn free_and_plan(
+    alloc: Global,
+    log: &mut WorldLog,
+    client: usize,
+    call: &Call,
+    desk: &mut Desk,
+    stays: &[Option<u64>],
+    stripe: usize,
+) -> Result<(), Stopped>
+    requires log { IsWorldLog log.old }
+    requires entry { IsEntry call.now }
+    requires place { IsPlaced call.now }
+    requires all { first_missing (holders_of log.old.stripes) client (stripes_asked (length (holders_of log.old.stripes)) call.now) ≡ None }
+    requires within { stripe < length (holders_of log.old.stripes) }
+    requires right { AreRight desk.old.staged }
+    requires served { (mid : logs.WorldLog) → HasStepped stays.now log.old mid → AreServed Serves identity mid.device (logs_lent (acts_for mid.stripes client)) }
+    ensures { OnOk result (HasEnded client call.now stays.now log.new desk.new log.old stripe desk.old) }
+{
+    plan_laws();
+    let released = log.free_places(alloc, stripe, stays)?;
+    if !released {
+        desk.plan = Plan::Full;
+        return Ok(());
+    }
+    match plan_with_reads(alloc, log, client, call, &mut desk.staged) {
+        Ok(planned) => {
+            desk.plan = Plan::Made(planned);
             Ok(())
         }
+        Err(Stop::StoreFull(next)) => {
+            free_and_plan(alloc, log, client, call, desk, stays, next)
+        }
+        Err(Stop::Cold(_)) => unreachable!(),
         Err(Stop::OutOfMemory) | Err(Stop::DeviceFault) => Err(Stopped),
     }
 }

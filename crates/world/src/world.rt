@@ -212,12 +212,24 @@ impl World {
             Event::Write(i) => self.log.write(*i),
             Event::Install(i) => Ok(self.log.install(*i)),
             Event::Drop(i) => Ok(self.log.evict(*i)),
-            Event::Unlink(i) => self.log.unlink(self.alloc, *i),
+            Event::Unlink(i) => self.unlink(*i),
             Event::Retire(i) => self.log.retire(*i),
             Event::Drain(i) => self.drain(*i),
             Event::Release(i, page) => self.log.release(self.alloc, *i, page),
             _ => unreachable!(),
         }
+    }
+
+    /// The cleaner unlinks the oldest page of a stripe.
+    fn unlink(&mut self, i: usize) -> Result<bool, Stopped>
+        requires world { IsWorld self.old }
+        ensures worked { OnOk result (HasWorked (event.Unlink i) self.old self.new) }
+        ensures told { IfOk result (λ done. done ≡ is_enabled (state_of self.old) (event.Unlink i)) }
+        ensures same { self.new ≡ record self.old { log = self.new.log } }
+    {
+        laws();
+        let stays = self.stays()?;
+        self.log.unlink(self.alloc, i, stays.as_slice())
     }
 
     /// The oldest retired place of a stripe is drained.
@@ -403,7 +415,8 @@ impl World {
         laws();
         plan_laws();
         let _ = &self.members;
-        self.members[client].plan(self.alloc, &mut self.log, client)
+        let stays = self.stays()?;
+        self.members[client].plan(self.alloc, &mut self.log, client, stays.as_slice())
     }
 
     /// A client reads the pages that its call lacks.

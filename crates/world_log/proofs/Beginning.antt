@@ -73,7 +73,7 @@ never_kept (suc i) kept is = cc is
 
 pub new_lane : (shard : Shard Receipt) (queues : Queues) (stripes buckets frames places : ℕ)
     → shard_log shard ≡ empty_log stripes buckets frames places
-    → shard_counted shard ≡ record { log = shard_log shard; in_flight = 0; unlinked = []; retired = []; drained = []; refusals = 0 }
+    → shard_counted shard ≡ record { log = shard_log shard; in_flight = 0; unlinked = []; retired = []; drained = []; refused = [] }
     → ((key : Bytes) (session : ℕ) → shard_marks shard key session ≡ None)
     → IsHybridLog (shard_log shard) → records_of (empty_page 0) ≡ []
     → queues.flushing ≡ has.Nothing → queues.retired.items ≡ [] → queues.drained.items ≡ []

@@ -537,7 +537,7 @@ drain_flights before after does =
       length-append before.drained.items (does.0 ∷ []),
     )
 
-drain_counts : (log : LogState) (retired : List Stamped) → log.retired ≡ retired → unreleased (drained_from log retired) ≡ unreleased log
+pub drain_counts : (log : LogState) (retired : List Stamped) → log.retired ≡ retired → unreleased (drained_from log retired) ≡ unreleased log
 drain_counts log [] is = refl
 drain_counts log (one ∷ others) is =
     let new : LogState = drained_from log (one ∷ others) in

@@ -14,3 +14,4 @@ pub mod Beginning
 pub mod Lending
 pub mod Held
 pub mod Setting
+pub mod FreeSteps

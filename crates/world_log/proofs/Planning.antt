@@ -17,7 +17,7 @@ use Rattle.plans.specs.Counted.{Waiting}
 use Rattle.plans.specs.Shards.{shard_log, shard_waiting, waits_of, weigh}
 use Rattle.world_model.specs.Enabled.{holds}
 use Rattle.world_model.specs.Logs.{LogState, is_full, unreleased}
-use Rattle.world_model.specs.Rooms.{ShedsAll, is_written_in, AreWritten, IsFull as IsFullState}
+use Rattle.world_model.specs.Rooms.{StepsAll, is_written_in, AreWritten, HasNoPlace}
 use Rattle.world_model.specs.States.{State, log_at, log_of}
 use Rattle.world_log.specs.Beside.{Agrees, Beside, IsFaithful, IsNumbered, flights, log_state}
 use Rattle.world_log.specs.Given.{AreAllGiven, AreGivenKept, StaysGiven}
@@ -32,7 +32,7 @@ use Rattle.world_log.specs.Types.{Lane, Stripes}
 use Rattle.world_log.specs.declared.logs.WorldLog.{WorldLog}
 use Rattle.world_log.proofs.AllGiven.{all_stays, kept_stays, room_kept, room_stays}
 use Rattle.world_log.proofs.CleanSteps.{faithful_step}
-use Rattle.world_log.proofs.RoomSteps.{full_is, sheds_lift, sheds_both}
+use Rattle.world_log.proofs.RoomSteps.{full_is, sheds_lift, steps_both}
 use Rattle.world_log.proofs.Shedding.{room_made, room_right}
 
 -- LOGS THAT ARE LENT, AMONG ALL
@@ -368,7 +368,7 @@ module _ (rest : State) (log : WorldLog) (writes : List Write) (is : IsWorldLog 
   pub record Reached (logs : ℕ → Option HybridLog) (device : Shelves) : Type 0 where
     pub stripes : List ℕ
     pub written : AreWritten n writes stripes
-    pub sheds : ShedsAll (made_state (logs_lent log.stripes) log.device) stripes (made_state logs device)
+    pub sheds : StepsAll (made_state (logs_lent log.stripes) log.device) stripes (made_state logs device)
     pub right : (i : ℕ) (lane : Lane) (p : HybridLog) → slice_get lanes i ≡ Some lane → logs i ≡ Some p → IsRight log device lane p
     pub there : (i : ℕ) (p : HybridLog) → logs i ≡ Some p → (lane : Lane) × (slice_get lanes i ≡ Some lane)
     pub stays : StaysGiven log.device device
@@ -400,8 +400,8 @@ module _ (rest : State) (log : WorldLog) (writes : List Write) (is : IsWorldLog 
     written = written_both n writes reached.stripes (replicate made.count i) reached.written
         (written_all n i writes made.count (share_written n i writes some.0));
     sheds =
-        sheds_both (made_state (logs_lent log.stripes) log.device) reached.stripes (made_state logs device) (replicate made.count i) (made_state new after)
-        reached.sheds (subst (ShedsAll (made_state logs device) (replicate made.count i)) same_state lifted);
+        steps_both (made_state (logs_lent log.stripes) log.device) reached.stripes (made_state logs device) (replicate made.count i) (made_state new after)
+        reached.sheds (subst (StepsAll (made_state logs device) (replicate made.count i)) same_state lifted);
     right = λ j lane p there has. elim (cases_eq j i) as (λ _. IsRight log after lane p) [
       | inl here ↦ right_here lane p
           (some_lane (sym at ∙ ap (slice_get lanes) (sym here) ∙ there))
@@ -442,7 +442,7 @@ module _ (rest : State) (log : WorldLog) (writes : List Write) (is : IsWorldLog 
       below : i < length lanes
       below = slice_get_within lanes i own at
 
-      lifted : ShedsAll (made_state logs device) (replicate made.count i)
+      lifted : StepsAll (made_state logs device) (replicate made.count i)
           (record (made_state logs device) { logs = set (put lanes logs) i (log_state shed.is (lane_beside own)); places = places_of after })
       lifted =
           sheds_lift (made_state logs device) i made.count (log_state shed.is (lane_beside own)) (places_of after)
@@ -510,8 +510,8 @@ module _ (rest : State) (log : WorldLog) (writes : List Write) (is : IsWorldLog 
     made_is = record {
       stripes = done.stripes;
       written = done.written;
-      sheds = subst (λ (s : State). ShedsAll s done.stripes (state_of rest (with_parts log stripes device))) start_state
-          (subst (ShedsAll (made_state (logs_lent log.stripes) log.device) done.stripes) end_state done.sheds);
+      sheds = subst (λ (s : State). StepsAll s done.stripes (state_of rest (with_parts log stripes device))) start_state
+          (subst (StepsAll (made_state (logs_lent log.stripes) log.device) done.stripes) end_state done.sheds);
       log = lanes_right log stripes device is keeps done.stays done.right;
       given = done.stays;
     }
@@ -540,7 +540,7 @@ pub room_met_is : (rest : State) (log : WorldLog) (stripes : Stripes) (device : 
     → rooms.MakesRoom Wrote view (length log.stripes.holders.items) (suc i) writes (logs_lent log.stripes) log.device (logs_lent stripes) device
     → rooms.IsFullAt (logs_lent stripes) i
     → IsMade rest log (with_parts log stripes device) writes × (is_written_in (length log.stripes.holders.items) writes i ≡ true)
-    × IsFullState (state_of rest (with_parts log stripes device)) i
+    × HasNoPlace (state_of rest (with_parts log stripes device)) i
 room_met_is rest log stripes device writes i is keeps values some below made full =
     let done = reached rest log writes is (suc i) (logs_lent stripes) device made in (
       made_is rest log writes is stripes device keeps values done,

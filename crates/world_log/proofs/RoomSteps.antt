@@ -10,10 +10,10 @@ use Rattle.hybrid.specs.Reserving.{IsFull}
 use Rattle.world_events.specs.declared.event.Event.TheVariants as event
 use Rattle.world_model.specs.Logs.{LogState, Stamped, LAST_PAGE, new_log, next_page, place_at, unreleased, is_full, first_mutable, dropped, with_receipt, with_opened, without_oldest, with_released, released_from}
 use Rattle.world_model.specs.Releasing.{places_released}
-use Rattle.world_model.specs.States.{State, log_of, stripe_count}
+use Rattle.world_model.specs.States.{State, log_at, log_of, stripe_count}
 use Rattle.world_model.specs.Enabled.{are_none, is_enabled_in}
 use Rattle.world_model.specs.Effects.{Works, Unlinks}
-use Rattle.world_model.specs.Rooms.{Leaves, Sheds, ShedsAll}
+use Rattle.world_model.specs.Rooms.{Leaves, Sheds, Steps, ByPage, StepsAll, HasNoPlace}
 use Rattle.world_model.specs.States.{with_log}
 use Rattle.world_model.specs.Effects as effects
 use Rattle.world_log.specs.Places.{Receipt, Shelves, page_released, places_of}
@@ -22,8 +22,9 @@ use Rattle.world_log.specs.Given.{IsGiven}
 use Rattle.world_log.specs.Beside.{AreGiven, Beside, DoesRelease, IsNumbered, log_state, place_stamped}
 use Rattle.world_log.specs.MakingRoom.{LeavesBy, ShedsOne, ShedsMany, HasMadeRoom}
 use Rattle.world_log.specs.Cleaning.{AreServed, HasUnlinked, DoesUnlink}
-use Rattle.world_log.specs.Stripes.{lane_beside, lane_log, lane_state}
-use Rattle.world_log.specs.WorldLogs.{IsLane, IsWorldLog, NoneReleasedAt, state_beside}
+use Rattle.world_log.specs.Freeing.{SameWaiting}
+use Rattle.world_log.specs.Stripes.{lane_beside, lane_log, lane_state, states_of}
+use Rattle.world_log.specs.WorldLogs.{IsLane, IsWorldLog, NoneReleasedAt, Took, state_beside, state_of}
 use Rattle.world_log.specs.Types.{Lane}
 use Rattle.world_log.specs.declared.logs.WorldLog.{WorldLog}
 use Rattle.world_log.proofs.GivenSteps.{served_kept}
@@ -68,24 +69,24 @@ shed_lift state i mid later between more below within one =
           (leaves_lift state i mid later between more (place_at mid mid.first) below one.leaves);
     }
 
-sheds_last : (a : State) (stripes : List ℕ) (b : State) (i : ℕ) (c : State) → ShedsAll a stripes b → Sheds b i c → ShedsAll a (stripes ++ i ∷ []) c
-sheds_last a [] b i c sheds one = (c, subst (λ (s : State). Sheds s i c) sheds one, refl)
-sheds_last a (j ∷ stripes) b i c sheds one = (sheds.0, sheds.1, sheds_last sheds.0 stripes b i c sheds.2 one)
+pub steps_last : (a : State) (stripes : List ℕ) (b : State) (i : ℕ) (c : State) → StepsAll a stripes b → Steps b i c → StepsAll a (stripes ++ i ∷ []) c
+steps_last a [] b i c steps one = (c, subst (λ (s : State). Steps s i c) steps one, refl)
+steps_last a (j ∷ stripes) b i c steps one = (steps.0, steps.1, steps_last steps.0 stripes b i c steps.2 one)
 
-one_more : (n i : ℕ) → replicate n i ++ i ∷ [] ≡ i ∷ replicate n i
+pub one_more : (n i : ℕ) → replicate n i ++ i ∷ [] ≡ i ∷ replicate n i
 one_more zero i = refl
 one_more (suc n) i = ap (λ (l : List ℕ). i ∷ l) (one_more n i)
 
 -- pages that leave one stripe are pages that leave the stripe of all
 pub sheds_lift : (state : State) (i n : ℕ) (later : LogState) (more : List (Option Bytes)) → i < length state.logs → i < stripe_count state
-    → ShedsMany state.frames state.limit n (log_of state i) state.places later more → ShedsAll state (replicate n i) (placed state i later more)
+    → ShedsMany state.frames state.limit n (log_of state i) state.places later more → StepsAll state (replicate n i) (placed state i later more)
 sheds_lift state i zero later more below within sheds =
     let log : set state.logs i later ≡ state.logs = ap (set state.logs i) sheds.0 ∙ set-get_or state.logs i new_log in
     λ j. let s : State = record state { logs = log j; places = sheds.1 j } in s
 sheds_lift state i (suc n) later more below within sheds =
-    subst (λ (stripes : List ℕ). ShedsAll state stripes (placed state i later more)) (one_more n i)
-    (sheds_last state (replicate n i) (placed state i sheds.0 sheds.1) i (placed state i later more)
-    (sheds_lift state i n sheds.0 sheds.1 below within sheds.2) (shed_lift state i sheds.0 later sheds.1 more below within sheds.3))
+    subst (λ (stripes : List ℕ). StepsAll state stripes (placed state i later more)) (one_more n i)
+    (steps_last state (replicate n i) (placed state i sheds.0 sheds.1) i (placed state i later more)
+    (sheds_lift state i n sheds.0 sheds.1 below within sheds.2) (ByPage (shed_lift state i sheds.0 later sheds.1 more below within sheds.3)))
 
 -- THE CLEANER
 
@@ -111,7 +112,7 @@ full_is p beside numbered counted (inr last) =
 -- room made in a lane, as of the state
 made_lift : (rest : State) (store : WorldLog) (i : ℕ) (lane : Lane) (mid : HybridLog) (device : Shelves) → IsWorldLog store → IsReached store i lane
     → (made : HasMadeRoom (lane_log lane) store.device mid device (lane_beside lane))
-    → ShedsAll (state_beside rest store) (replicate made.count i) (placed (state_beside rest store) i (log_state mid (lane_beside lane)) (places_of device))
+    → StepsAll (state_beside rest store) (replicate made.count i) (placed (state_beside rest store) i (log_state mid (lane_beside lane)) (places_of device))
 made_lift rest store i lane mid device is at made =
     let state : State = state_beside rest store in
     let one : IsLane store.device store.frames store.limit lane = is.lanes i lane at.there in
@@ -125,11 +126,13 @@ made_lift rest store i lane mid device is at made =
     (subst (λ (l : LogState). ShedsMany store.frames store.limit made.count l (places_of store.device) (log_state mid (lane_beside lane)) (places_of device))
     (sym (log_there store.stripes.lanes.items i lane at.there)) limit)
 
-unlinks : (rest : State) (store : WorldLog) (i : ℕ) (lane new : Lane) (device : Shelves) (what : Bool) → IsWorldLog store → IsReached store i lane
+-- where no place can be taken, pages alone left
+pub met_full : (rest : State) (store : WorldLog) (i : ℕ) (lane new : Lane) (device : Shelves) → IsWorldLog store → IsReached store i lane
     → IsNumbered (lane_log new) → (lane_log new).places ≡ (lane_log lane).places
-    → DoesUnlink what (lane_log lane) (lane_beside lane) store.device (lane_log new) (lane_beside new) device
-    → Unlinks (state_beside rest store) i (state_beside rest (with_both store i new device))
-unlinks rest store i lane new device false is at fit alike does =
+    → (does : DoesUnlink false (lane_log lane) (lane_beside lane) store.device (lane_log new) (lane_beside new) device)
+    → StepsAll (state_beside rest store) (replicate (does.0).count i) (state_beside rest (with_both store i new device))
+    × HasNoPlace (state_beside rest (with_both store i new device)) i
+met_full rest store i lane new device is at fit alike does =
     let state : State = state_beside rest store in
     let one : IsLane store.device store.frames store.limit lane = is.lanes i lane at.there in
     let within : i < length store.stripes.lanes.items = slice_get_within store.stripes.lanes.items i lane at.there in
@@ -141,10 +144,32 @@ unlinks rest store i lane new device false is at fit alike does =
     let full : is_full store.limit (log_of after i) ≡ true =
     ap (is_full store.limit) (here state i (log_state (lane_log new) (lane_beside lane)) (places_of device) below)
     ∙ ap (λ (l : ℕ). is_full l (log_state (lane_log new) (lane_beside lane))) (sym (alike ∙ one.places))
-    ∙ full_is (lane_log new) (lane_beside lane) fit (does.0).counted does.1 in
-    subst (Unlinks state i) (sym same)
-    (effects.StopsFull (does.0).count after (made_lift rest store i lane (lane_log new) device is at does.0) full)
-unlinks rest store i lane new device true is at fit alike does =
+    ∙ full_is (lane_log new) (lane_beside lane) fit (does.0).counted does.1 in (
+      subst (StepsAll state (replicate (does.0).count i)) (sym same) (made_lift rest store i lane (lane_log new) device is at does.0),
+      subst (λ (s : State). HasNoPlace s i) (sym same) full,
+    )
+
+-- what waits in the lane is the same then
+pub met_waits : (store : WorldLog) (i : ℕ) (lane new : Lane) (device : Shelves) → slice_get store.stripes.lanes.items i ≡ Some lane
+    → DoesUnlink false (lane_log lane) (lane_beside lane) store.device (lane_log new) (lane_beside new) device
+    → SameWaiting (log_at (states_of store.stripes) i) (log_at (states_of (with_both store i new device).stripes) i)
+met_waits store i lane new device there does =
+    let within : i < length store.stripes.lanes.items = slice_get_within store.stripes.lanes.items i lane there in
+    let below : i < length (states_of store.stripes) = omega (arith, within, length-map store.stripes.lanes.items lane_state) in
+    let log : lane_state new ≡ log_state (lane_log new) (lane_beside lane) = ap (log_state (lane_log new)) does.2 in
+    let now : log_at (states_of (with_both store i new device).stripes) i ≡ log_state (lane_log new) (lane_beside lane) =
+    ap (λ (l : List LogState). log_at l i) (logs_with store i lane new _ there log) ∙ get_or-set_same (states_of store.stripes) i _ new_log below in
+    let was : lane_state lane ≡ log_at (states_of store.stripes) i = sym (log_there store.stripes.lanes.items i lane there) in
+    record {
+      unlinked = ap (λ (l : LogState). l.unlinked) now ∙ ap (λ (l : LogState). l.unlinked) was;
+      retired = ap (λ (l : LogState). l.retired) now ∙ ap (λ (l : LogState). l.retired) was;
+      drained = ap (λ (l : LogState). l.drained) now ∙ ap (λ (l : LogState). l.drained) was;
+    }
+
+pub cleaned : (rest : State) (store : WorldLog) (i : ℕ) (lane new : Lane) (device : Shelves) → IsWorldLog store → IsReached store i lane
+    → DoesUnlink true (lane_log lane) (lane_beside lane) store.device (lane_log new) (lane_beside new) device
+    → Unlinks (state_beside rest store) i (state_beside rest (with_both store i new device))
+cleaned rest store i lane new device is at does =
     let state : State = state_beside rest store in
     let within : i < length store.stripes.lanes.items = slice_get_within store.stripes.lanes.items i lane at.there in
     let below : i < length state.logs = omega (arith, within, length-map store.stripes.lanes.items lane_state) in
@@ -177,14 +202,10 @@ pub told_unlink : (rest : State) (store : WorldLog) (i : ℕ) (lane : Lane) (col
     → cold ≡ is_enabled_in (state_beside rest store) (event.Unlink i)
 told_unlink rest store i lane cold at free is = sym (unlink_enabled rest store i lane at free ∙ is)
 
-pub took_unlink : (rest : State) (store : WorldLog) (i : ℕ) (lane new : Lane) (device : Shelves) (what : Bool) → IsWorldLog store → IsReached store i lane
-    → is_none (get_or store.stripes.holders.items i None) ≡ true → nat_lt (lane_log lane).oldest (lane_log lane).resident.oldest ≡ true
-    → IsNumbered (lane_log new) → (lane_log new).places ≡ (lane_log lane).places
-    → DoesUnlink what (lane_log lane) (lane_beside lane) store.device (lane_log new) (lane_beside new) device
-    → TookBeside rest (event.Unlink i) store (with_both store i new device)
-took_unlink rest store i lane new device what is at free cold fit alike does =
-    when_true (is_enabled_in (state_beside rest store) (event.Unlink i)) _ _ (unlink_enabled rest store i lane at free ∙ cold)
-    (unlinks rest store i lane new device what is at fit alike does)
+-- the event did what it does
+pub took_unlink : (rest : State) (i : ℕ) (old new : WorldLog) → is_enabled_in (state_of rest old) (event.Unlink i) ≡ true
+    → Unlinks (state_of rest old) i (state_of rest new) → Took rest (event.Unlink i) old new
+took_unlink rest i old new is does = when_true (is_enabled_in (state_of rest old) (event.Unlink i)) _ _ is does
 
 -- RELEASE
 
@@ -258,6 +279,6 @@ served_at store i lane is there none =
 -- ROOM FOR A PLAN
 
 -- pages that leave, and then others
-pub sheds_both : (a : State) (one : List ℕ) (b : State) (other : List ℕ) (c : State) → ShedsAll a one b → ShedsAll b other c → ShedsAll a (one ++ other) c
-sheds_both a [] b other c first second = subst (λ (s : State). ShedsAll s other c) first second
-sheds_both a (i ∷ one) b other c first second = (first.0, first.1, sheds_both first.0 one b other c first.2 second)
+pub steps_both : (a : State) (one : List ℕ) (b : State) (other : List ℕ) (c : State) → StepsAll a one b → StepsAll b other c → StepsAll a (one ++ other) c
+steps_both a [] b other c first second = subst (λ (s : State). StepsAll s other c) first second
+steps_both a (i ∷ one) b other c first second = (first.0, first.1, steps_both first.0 one b other c first.2 second)

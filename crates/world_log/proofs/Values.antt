@@ -68,6 +68,11 @@ both_values store i lane new device there keeps =
 pub no_values : (store : WorldLog) → SameValues store.stripes store.stripes
 no_values store = record { stores = refl; marks = refl }
 
+-- the plain state, where the values are the same
+pub values_state : (rest : State) (old new : WorldLog) → SameValues old.stripes new.stripes → state_beside (with_values rest old.stripes) new ≡ state_of rest new
+values_state rest old new same =
+    λ j. state_beside (let s : State = record rest { stores = sym same.stores j; marks = sym same.marks j } in s) new
+
 -- a step beside the values is one of the plain state, where the values are the same
 pub took_values_with : (rest : State) (e : Event) (old new : WorldLog) → SameValues old.stripes new.stripes
     → TookBeside (with_values rest old.stripes) e old new → Took rest e old new

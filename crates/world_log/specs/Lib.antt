@@ -1,5 +1,6 @@
 pub mod Beside
 pub mod Cleaning
+pub mod Freeing
 pub mod Given
 pub mod KeepLaws
 pub mod Lanes

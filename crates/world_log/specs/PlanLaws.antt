@@ -12,9 +12,10 @@ use Rattle.plans.specs.Stops.{IsCold}
 use Rattle.world_model.specs.Commits.{OpensPages}
 use Rattle.world_model.specs.Enabled.{holds}
 use Rattle.world_model.specs.Logs.{place_at}
-use Rattle.world_model.specs.Rooms.{ShedsAll, IsFull, is_written_in, AreWritten}
+use Rattle.world_model.specs.Rooms.{StepsAll, HasNoPlace, is_written_in, AreWritten}
 use Rattle.world_model.specs.States.{State, log_at}
 use Rattle.world_log.specs.Places.{Receipt, Shelves, Serves, Wrote, SamePlaces, identity, view, writes_of}
+use Rattle.world_log.specs.Freeing.{waiting_in}
 use Rattle.world_log.specs.Given.{IsGiven, StaysGiven}
 use Rattle.world_log.specs.Stripes.{KeepsOthers, IsEven, lent, stores_of, marks_of, states_of}
 use Rattle.world_log.specs.WorldLogs.{IsWorldLog, NoneReleasedAt, state_of}
@@ -44,7 +45,7 @@ pub record SameValues (old new : Stripes) : Type 0 where
 pub record IsMade (rest : State) (old new : WorldLog) (writes : List Write) : Type 0 where
   pub stripes : List ℕ
   pub written : AreWritten (count_of old) writes stripes
-  pub sheds : ShedsAll (state_of rest old) stripes (state_of rest new)
+  pub sheds : StepsAll (state_of rest old) stripes (state_of rest new)
   pub log : IsWorldLog new
   pub given : StaysGiven old.device new.device
 
@@ -53,14 +54,18 @@ pub record RoomLaws : Type 0 where
       → IsWorldLog log → KeepsOthers log.stripes stripes → SameValues log.stripes stripes
       → rooms.MakesRoom Wrote view (count_of log) (count_of log) writes (logs_lent log.stripes) log.device (logs_lent stripes) device
       → IsMade rest log (with_parts log stripes device) writes
-  -- the same, and a stripe is full then that these writes write
+  -- the same, and no place can be taken then in a stripe that these writes write
   pub full : (rest : State) (log : WorldLog) (stripes : Stripes) (device : Shelves) (writes : List Write) (i : ℕ)
       → IsWorldLog log → KeepsOthers log.stripes stripes → SameValues log.stripes stripes
       → 0 < rooms.share (count_of log) i writes → i < count_of log
       → rooms.MakesRoom Wrote view (count_of log) (suc i) writes (logs_lent log.stripes) log.device (logs_lent stripes) device
       → rooms.IsFullAt (logs_lent stripes) i
       → IsMade rest log (with_parts log stripes device) writes × (is_written_in (count_of log) writes i ≡ true)
-      × IsFull (state_of rest (with_parts log stripes device)) i
+      × HasNoPlace (state_of rest (with_parts log stripes device)) i
+
+-- a plan leaves all places that wait
+abbrev pub WaitLaw : Type 0
+WaitLaw = (old new : Stripes) → KeepsOthers old new → waiting_in new ≡ waiting_in old
 
 -- COMMITS
 

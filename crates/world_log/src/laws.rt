@@ -1,7 +1,7 @@
 //! What plans over the stripes make of the world as plain data.
 
 ghost use Rattle.world_log.specs.Given.{GivenLaws};
-ghost use Rattle.world_log.specs.PlanLaws.{ColdLaw, OpeningLaw, ReadLaws, RoomLaws, ValueLaw};
+ghost use Rattle.world_log.specs.PlanLaws.{ColdLaw, OpeningLaw, ReadLaws, RoomLaws, ValueLaw, WaitLaw};
 
 use hybrid::laws::growth_adds_up;
 
@@ -25,6 +25,11 @@ pub fn pages_are_opened()
 /// Where parts became what no write and no mark makes of them, what keys have is the same.
 pub fn values_stay()
     ensures { ValueLaw }
+{}
+
+/// A plan leaves all places that wait for their release.
+pub fn plans_keep_what_waits()
+    ensures { WaitLaw }
 {}
 
 /// A read changes no place.

@@ -6,6 +6,7 @@
 #![tactic(auto)]
 
 mod cleaning;
+mod freeing;
 mod lanes;
 pub mod laws;
 mod logs;

@@ -8,8 +8,11 @@ ghost use Rattle.world_events.specs.declared.event.Event.TheVariants as event;
 ghost use Rattle.world_model.specs.Enabled.{is_enabled_in};
 ghost use Rattle.world_model.specs.Places.{standing};
 ghost use Rattle.world_model.specs.States.{State};
+ghost use Rattle.world_model.specs.Effects.{Unlinks};
+ghost use Rattle.world_log.specs.Freeing.{HasCleaned, HasStepped, IsCold, IsFree};
 ghost use Rattle.world_log.specs.Given.{IsGiven, StaysGiven};
 ghost use Rattle.world_log.specs.Places.{identity, places_of};
+ghost use Rattle.world_log.specs.Stripes.{holders_of};
 ghost use Rattle.world_log.specs.WorldLogs.{IsNew, IsOldest, IsWorldLog, KeepsHeld, NoneReleasedAt, Took, all_stays_past, epoch_of, state_of, stays_of};
 
 use crate::cleaning::is_cold;
@@ -138,15 +141,21 @@ impl WorldLog {
         lane.evict()
     }
 
-    /// The cleaner unlinks the oldest page of a stripe, none of whose kept receipts is of a released place.
+    /// The cleaner unlinks the oldest page of a stripe, none of whose kept receipts is of a released place. Where no place
+    /// can be taken there, it releases first what it can while clients have these stays.
     ///
     /// # Errors
     ///
-    /// [`Stopped`] where there is no memory for the pages that are read or written for it.
-    pub fn unlink(&mut self, alloc: Global, i: usize) -> Result<bool, Stopped>
+    /// [`Stopped`] where there is no memory for the pages that are read or written for it, or no next epoch.
+    pub fn unlink(
+        &mut self,
+        alloc: Global,
+        i: usize,
+        stays: &[Option<u64>],
+    ) -> Result<bool, Stopped>
         requires log { IsWorldLog self.old }
-        requires none { NoneReleasedAt self.old i }
-        ensures took { OnOk result ((rest : State) → Took rest (event.Unlink i) self.old self.new) }
+        requires none { (mid : WorldLog) → HasStepped stays.now self.old mid → NoneReleasedAt mid i }
+        ensures took { OnOk result ((rest : State) → stays_of rest ≡ stays.now → Took rest (event.Unlink i) self.old self.new) }
         ensures told { IfOk result (λ done. (rest : State) → done ≡ is_enabled_in (state_of rest self.old) (event.Unlink i)) }
         ensures log { OnOk result (IsWorldLog self.new) }
         ensures given { OnOk result (StaysGiven self.old.device self.new.device) }
@@ -158,9 +167,50 @@ impl WorldLog {
         if !is_cold(self.stripes.lanes[i].shard.counted().stripe()) {
             return Ok(false);
         }
-        let lane = &mut self.stripes.lanes[i];
-        let _done = lane.unlink(alloc, &mut self.device)?;
+        self.clean(alloc, i, stays)?;
         Ok(true)
+    }
+
+    /// Unlinks the oldest page of a stripe, which is not resident, where it finds room for what lives there; where it
+    /// finds none, it releases what it can first.
+    fn clean(&mut self, alloc: Global, i: usize, stays: &[Option<u64>]) -> Result<(), Stopped>
+        requires log { IsWorldLog self.old }
+        requires within { i < length (holders_of self.old.stripes) }
+        requires free { IsFree i self.old }
+        requires cold { IsCold i self.old }
+        requires none { (mid : WorldLog) → HasStepped stays.now self.old mid → NoneReleasedAt mid i }
+        ensures does { OnOk result ((rest : State) → stays_of rest ≡ stays.now → Unlinks (state_of rest self.old) i (state_of rest self.new)) }
+        ensures log { OnOk result (IsWorldLog self.new) }
+        ensures given { OnOk result (StaysGiven self.old.device self.new.device) }
+        ensures held { OnOk result (KeepsHeld self.old.stripes self.new.stripes) }
+    {
+        let cleaned = self.clean_once(alloc, i)?;
+        if cleaned {
+            return Ok(());
+        }
+        let released = self.free_places(alloc, i, stays)?;
+        if released {
+            let _cleaned = self.clean_once(alloc, i)?;
+        }
+        Ok(())
+    }
+
+    /// Unlinks the oldest page of a stripe, which is not resident, where it finds room for what lives there, and says
+    /// whether it did.
+    fn clean_once(&mut self, alloc: Global, i: usize) -> Result<bool, Stopped>
+        requires log { IsWorldLog self.old }
+        requires within { i < length (holders_of self.old.stripes) }
+        requires free { IsFree i self.old }
+        requires cold { IsCold i self.old }
+        requires none { NoneReleasedAt self.old i }
+        ensures does { IfOk result (λ done. HasCleaned done i self.old self.new) }
+        ensures log { OnOk result (IsWorldLog self.new) }
+        ensures given { OnOk result (StaysGiven self.old.device self.new.device) }
+        ensures held { OnOk result (KeepsHeld self.old.stripes self.new.stripes) }
+    {
+        let lane = &mut self.stripes.lanes[i];
+        let done = lane.unlink(alloc, &mut self.device)?;
+        Ok(done)
     }
 
     /// The oldest unlinked place of a stripe is retired, and the next epoch begins.

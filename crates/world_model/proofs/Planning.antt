@@ -26,7 +26,7 @@ use Rattle.world_model.specs.States.{Phase, Serving, Calling, Leaving, Left, End
 use Rattle.world_events.specs.Actors.{actor}
 use Rattle.world_model.specs.Enabled.{is_number, holds, holds_none, first_missing, next_stripe, are_none, is_enabled_for, is_enabled_in, is_enabled_of}
 use Rattle.world_model.specs.Advancing.{is_idle, When, Goes}
-use Rattle.world_model.specs.Rooms.{Leaves, Sheds, ShedsAll}
+use Rattle.world_model.specs.Rooms.{Leaves, Sheds, Frees, Retires, Drains, Releases, Steps, ByPage, ByPlace, StepsAll}
 use Rattle.world_model.specs.Planning.{Plans, Names, MakesRoom, MeetsFull, PlansFor, asked_by, stay_begun, taken, Takes, reply_now}
 use Rattle.world_model.specs.Commits.{Told, Refused, Commits}
 use Rattle.world_model.specs.Effects.{Does, Works, fed, heard, given, fetched, Unlinks, StopsFull, Cleans}
@@ -189,15 +189,24 @@ module _ (c : ℕ) (call : Call) (asked : Asked) (reply : Reply) (writes : List 
   shed_else : (before : State) (i : ℕ) (after : State) → Sheds before i after → IsElse before after
   shed_else before i after sheds = leaves_else before i (place_at (log_of before i) (log_of before i).first) after sheds.leaves
 
-  sheds_else : (before : State) (stripes : List ℕ) (after : State) → ShedsAll before stripes after → IsElse before after
-  sheds_else before [] after sheds = rw sheds (record { clients = refl; holders = refl; history = refl })
-  sheds_else before (i ∷ stripes) after sheds =
-      else_both before sheds.0 after (shed_else before i sheds.0 sheds.1) (sheds_else sheds.0 stripes after sheds.2)
+  frees_else : (before : State) (i : ℕ) (after : State) → Frees before i after → IsElse before after
+  frees_else before i _ (Retires some) = record { clients = refl; holders = refl; history = refl }
+  frees_else before i _ (Drains some) = record { clients = refl; holders = refl; history = refl }
+  frees_else before i _ (Releases page some) = record { clients = refl; holders = refl; history = refl }
+
+  step_else : (before : State) (i : ℕ) (after : State) → Steps before i after → IsElse before after
+  step_else before i after (ByPage sheds) = shed_else before i after sheds
+  step_else before i after (ByPlace within frees) = frees_else before i after frees
+
+  steps_else : (before : State) (stripes : List ℕ) (after : State) → StepsAll before stripes after → IsElse before after
+  steps_else before [] after steps = rw steps (record { clients = refl; holders = refl; history = refl })
+  steps_else before (i ∷ stripes) after steps =
+      else_both before steps.0 after (step_else before i steps.0 steps.1) (steps_else steps.0 stripes after steps.2)
 
   unlinks_else : (before : State) (i : ℕ) (after : State) → Unlinks before i after → IsElse before after
-  unlinks_else before i after (StopsFull count _ sheds full) = sheds_else before (replicate count i) after sheds
-  unlinks_else before i after (Cleans count mid place opened sheds cold there few) =
-      let more = sheds_else before (replicate count i) mid sheds in
+  unlinks_else before i after (StopsFull count _ steps full) = steps_else before (replicate count i) after steps
+  unlinks_else before i after (Cleans count mid place opened steps cold there few) =
+      let more = steps_else before (replicate count i) mid steps in
       record { clients = more.clients; holders = more.holders; history = more.history }
 
   works_else : (before : State) (e : Event) (after : State) → Works before e after → IsElse before after
@@ -233,9 +242,9 @@ module _ (c : ℕ) (call : Call) (asked : Asked) (reply : Reply) (writes : List 
 
   other_plans : (d : ℕ) (old : State) (made : List Write) (new : State) → d ≢ c → Plans old d made new → At old → At new
   other_plans d old made new differ (Names due some few cold) planned = other_set d old _ differ planned
-  other_plans d old made new differ (MakesRoom stripes _ written sheds) planned = else_planned old new (sheds_else old stripes new sheds) planned
-  other_plans d old made new differ (MeetsFull stripes mid i written sheds is full) planned =
-      other_set d mid _ differ (else_planned old mid (sheds_else old stripes mid sheds) planned)
+  other_plans d old made new differ (MakesRoom stripes _ written steps) planned = else_planned old new (steps_else old stripes new steps) planned
+  other_plans d old made new differ (MeetsFull stripes mid i written steps is full) planned =
+      other_set d mid _ differ (else_planned old mid (steps_else old stripes mid steps) planned)
 
   other_plan : (d : ℕ) (old : State) (watches : List Pair) (asks : Option Asked) (new : State) → d ≢ c → PlansFor old d watches asks new → At old
       → At new

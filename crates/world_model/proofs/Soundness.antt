@@ -13,7 +13,8 @@ use Rattle.world_model.specs.States.{Phase, Serving, Calling, Leaving, Left, End
 use Rattle.world_events.specs.Actors.{actor}
 use Rattle.world_model.specs.Enabled.{is_number, holds, holds_none, are_none, is_enabled_for, is_enabled_in, is_enabled_of, next_stripe}
 use Rattle.world_model.specs.Advancing.{When}
-use Rattle.world_model.specs.Rooms.{Leaves, Sheds, ShedsAll}
+use Rattle.world_model.specs.Releasing.{after_retire, after_drain, after_release}
+use Rattle.world_model.specs.Rooms.{Leaves, Sheds, Frees, Retires, Drains, Releases, Steps, ByPage, ByPlace, StepsAll}
 use Rattle.world_model.specs.Planning.{AreCold, Plans, Names, MakesRoom, MeetsFull, PlansFor, asked_by, stay_begun, taken, Takes, writes_now}
 use Rattle.world_model.specs.Effects.{Does, Works, fed, heard, given, fetched, Unlinks, StopsFull, Cleans}
 use Rattle.world_model.specs.Turns.{DoesAndGoes, Turn, Turns}
@@ -44,10 +45,28 @@ leaves_kept c before i None after is sheds leaves kept =
 shed_kept : (c : ℕ) (before : State) (i : ℕ) (after : State) → Sheds before i after → IsKept c before → IsKept c after
 shed_kept c before i after sheds kept = leaves_kept c before i _ after refl sheds sheds.leaves kept
 
-sheds_kept : (c : ℕ) (before : State) (stripes : List ℕ) (after : State) → ShedsAll before stripes after → IsKept c before → IsKept c after
-sheds_kept c before [] after sheds kept = rw sheds kept
-sheds_kept c before (i ∷ stripes) after sheds kept =
-    sheds_kept c sheds.0 stripes after sheds.2 (shed_kept c before i sheds.0 sheds.1 kept)
+frees_kept : (c : ℕ) (before : State) (i : ℕ) (after : State) → i < stripe_count before → Frees before i after → IsKept c before → IsKept c after
+frees_kept c before i _ within (Retires some) kept =
+    let below : i < length before.logs = rw kept.logs within in
+    logs_kept c before _ before.places _ (length-set before.logs i _)
+    (placed_retire before.logs i before.places before.epoch (stay_of before) (due_of before) some below kept.placed) kept
+frees_kept c before i _ within (Drains some) kept =
+    let below : i < length before.logs = rw kept.logs within in
+    logs_kept c before _ before.places before.epoch (length-set before.logs i _)
+    (placed_drain before.logs i before.places before.epoch before.clients (due_of before) some below kept.placed) kept
+frees_kept c before i _ within (Releases page some) kept =
+    let below : i < length before.logs = rw kept.logs within in
+    logs_kept c before _ _ before.epoch (length-set before.logs i _)
+    (placed_release before.logs i before.places page before.epoch (stay_of before) (due_of before) some below kept.placed) kept
+
+step_kept : (c : ℕ) (before : State) (i : ℕ) (after : State) → Steps before i after → IsKept c before → IsKept c after
+step_kept c before i after (ByPage sheds) kept = shed_kept c before i after sheds kept
+step_kept c before i after (ByPlace within frees) kept = frees_kept c before i after within frees kept
+
+pub steps_kept : (c : ℕ) (before : State) (stripes : List ℕ) (after : State) → StepsAll before stripes after → IsKept c before → IsKept c after
+steps_kept c before [] after steps kept = rw steps kept
+steps_kept c before (i ∷ stripes) after steps kept =
+    steps_kept c steps.0 stripes after steps.2 (step_kept c before i steps.0 steps.1 kept)
 
 -- the same of a sound world
 leaves_sound : (before : State) (i : ℕ) (o : Option ℕ) (after : State) → place_at (log_of before i) (log_of before i).first ≡ o
@@ -64,9 +83,27 @@ leaves_sound before i None after is sheds leaves sound =
 shed_sound : (before : State) (i : ℕ) (after : State) → Sheds before i after → IsSound before → IsSound after
 shed_sound before i after sheds sound = leaves_sound before i _ after refl sheds sheds.leaves sound
 
-sheds_sound : (before : State) (stripes : List ℕ) (after : State) → ShedsAll before stripes after → IsSound before → IsSound after
-sheds_sound before [] after sheds sound = rw sheds sound
-sheds_sound before (i ∷ stripes) after sheds sound = sheds_sound sheds.0 stripes after sheds.2 (shed_sound before i sheds.0 sheds.1 sound)
+frees_sound : (before : State) (i : ℕ) (after : State) → i < stripe_count before → Frees before i after → IsSound before → IsSound after
+frees_sound before i _ within (Retires some) sound =
+    let below : i < length before.logs = rw sound.logs within in
+    logs_sound before _ before.places _ (length-set before.logs i _)
+    (placed_retire before.logs i before.places before.epoch (stay_of before) (due_of before) some below sound.placed) sound
+frees_sound before i _ within (Drains some) sound =
+    let below : i < length before.logs = rw sound.logs within in
+    logs_sound before _ before.places before.epoch (length-set before.logs i _)
+    (placed_drain before.logs i before.places before.epoch before.clients (due_of before) some below sound.placed) sound
+frees_sound before i _ within (Releases page some) sound =
+    let below : i < length before.logs = rw sound.logs within in
+    logs_sound before _ _ before.epoch (length-set before.logs i _)
+    (placed_release before.logs i before.places page before.epoch (stay_of before) (due_of before) some below sound.placed) sound
+
+step_sound : (before : State) (i : ℕ) (after : State) → Steps before i after → IsSound before → IsSound after
+step_sound before i after (ByPage sheds) sound = shed_sound before i after sheds sound
+step_sound before i after (ByPlace within frees) sound = frees_sound before i after within frees sound
+
+pub steps_sound : (before : State) (stripes : List ℕ) (after : State) → StepsAll before stripes after → IsSound before → IsSound after
+steps_sound before [] after steps sound = rw steps sound
+steps_sound before (i ∷ stripes) after steps sound = steps_sound steps.0 stripes after steps.2 (step_sound before i steps.0 steps.1 sound)
 
 -- there are as many stripes as there were
 leaves_count : (before : State) (i : ℕ) (o : Option ℕ) (after : State) → Leaves before i o after → stripe_count after ≡ stripe_count before
@@ -76,9 +113,18 @@ leaves_count before i None after leaves = rw leaves.1 refl
 shed_count : (before : State) (i : ℕ) (after : State) → Sheds before i after → stripe_count after ≡ stripe_count before
 shed_count before i after sheds = leaves_count before i (place_at (log_of before i) (log_of before i).first) after sheds.leaves
 
-sheds_count : (before : State) (stripes : List ℕ) (after : State) → ShedsAll before stripes after → stripe_count after ≡ stripe_count before
-sheds_count before [] after sheds = rw sheds refl
-sheds_count before (i ∷ stripes) after sheds = sheds_count sheds.0 stripes after sheds.2 ∙ shed_count before i sheds.0 sheds.1
+frees_count : (before : State) (i : ℕ) (after : State) → Frees before i after → stripe_count after ≡ stripe_count before
+frees_count before i _ (Retires some) = refl
+frees_count before i _ (Drains some) = refl
+frees_count before i _ (Releases page some) = refl
+
+step_count : (before : State) (i : ℕ) (after : State) → Steps before i after → stripe_count after ≡ stripe_count before
+step_count before i after (ByPage sheds) = shed_count before i after sheds
+step_count before i after (ByPlace within frees) = frees_count before i after frees
+
+steps_count : (before : State) (stripes : List ℕ) (after : State) → StepsAll before stripes after → stripe_count after ≡ stripe_count before
+steps_count before [] after steps = rw steps refl
+steps_count before (i ∷ stripes) after steps = steps_count steps.0 stripes after steps.2 ∙ step_count before i steps.0 steps.1
 
 -- THE PLAN
 
@@ -109,9 +155,9 @@ plans_kept c before writes after asked x stays asks (Names due some few cold) ke
     set_kept c before (record peer { due = due }) kept (kept.clients c kept.below).talks refl (reads_any peer.phase due asked asks)
     (placed_client before.logs before.places before.epoch before.clients c (record peer { due = due }) kept.below (λ y is. inl is)
     (rw stays (cold_readable before c x due cold)) kept.placed)
-plans_kept c before writes after asked x stays asks (MakesRoom stripes _ written sheds) kept = sheds_kept c before stripes after sheds kept
-plans_kept c before writes after asked x stays asks (MeetsFull stripes mid i written sheds is full) kept =
-    let more : IsKept c mid = sheds_kept c before stripes mid sheds kept in
+plans_kept c before writes after asked x stays asks (MakesRoom stripes _ written steps) kept = steps_kept c before stripes after steps kept
+plans_kept c before writes after asked x stays asks (MeetsFull stripes mid i written steps is full) kept =
+    let more : IsKept c mid = steps_kept c before stripes mid steps kept in
     let one = more.clients c more.below in
     set_kept_as c mid (record (client mid c) { full = true }) more one.talks refl one.reads refl refl
 
@@ -241,10 +287,10 @@ acts_sound talks marks before c e new is does sound =
 -- EVENTS OF STRIPES
 
 unlinks_sound : (before : State) (i : ℕ) (after : State) → i < stripe_count before → Unlinks before i after → IsSound before → IsSound after
-unlinks_sound before i after below (StopsFull count _ sheds full) sound = sheds_sound before (replicate count i) after sheds sound
-unlinks_sound before i after below (Cleans count mid place opened sheds cold there few) sound =
-    let more : IsSound mid = sheds_sound before (replicate count i) mid sheds sound in
-    let within : i < length mid.logs = rw (more.logs, sheds_count before (replicate count i) mid sheds) below in
+unlinks_sound before i after below (StopsFull count _ steps full) sound = steps_sound before (replicate count i) after steps sound
+unlinks_sound before i after below (Cleans count mid place opened steps cold there few) sound =
+    let more : IsSound mid = steps_sound before (replicate count i) mid steps sound in
+    let within : i < length mid.logs = rw (more.logs, steps_count before (replicate count i) mid steps) below in
     logs_sound mid _ mid.places mid.epoch (length-set mid.logs i _)
     (placed_clean mid.logs i place opened mid.places mid.epoch (stay_of mid) (due_of mid) within cold there more.placed) more
 
@@ -315,13 +361,14 @@ turns_sound talks marks before (e ∷ events) new turns sound =
 
 -- NO READ SEES A RELEASED PLACE
 
-readable_stands : (state : State) (o : Option ℕ) (i place : ℕ) → IsSound state → IsReadable o (log_of state i) place → standing state.places place ≡ 1
-readable_stands state None i place sound reads = absurd reads
-readable_stands state (Some x) i place sound reads =
-    omega (arith, reads, readable_le place x (log_of state i), part_le place state.logs i, sound.placed.once place, standing_le state.places place)
+readable_stands : (state : State) (o : Option ℕ) (i place : ℕ) → ArePlaced state.logs state.places state.epoch (stay_of state) (due_of state)
+    → IsReadable o (log_of state i) place → standing state.places place ≡ 1
+readable_stands state None i place placed reads = absurd reads
+readable_stands state (Some x) i place placed reads =
+    omega (arith, reads, readable_le place x (log_of state i), part_le place state.logs i, placed.once place, standing_le state.places place)
 
-pub none_released : (state : State) → IsSound state → NoneReleased state
-none_released state sound = record {
+none_placed : (state : State) → ArePlaced state.logs state.places state.epoch (stay_of state) (due_of state) → NoneReleased state
+none_placed state placed = record {
   kept = λ i number place is.
       let log : LogState = log_of state i in
       omega (
@@ -329,11 +376,21 @@ none_released state sound = record {
         kept_at log.kept _ place (place_some log number place is),
         count place log,
         part_le place state.logs i,
-        sound.placed.once place,
+        placed.once place,
         standing_le state.places place,
       );
   due = λ c.
       each_map (λ (one : Due). IsReadable (client state c).stay (log_of state one.stripe) one.place)
       (λ (one : Due). standing state.places one.place ≡ 1) (client state c).due
-      (λ one reads. readable_stands state (client state c).stay one.stripe one.place sound reads) (sound.placed.reads c);
+      (λ one reads. readable_stands state (client state c).stay one.stripe one.place placed reads) (placed.reads c);
 }
+
+pub none_released : (state : State) → IsSound state → NoneReleased state
+none_released state sound = none_placed state sound.placed
+
+-- nor where a client took a stripe, and room was made then
+pub none_taken : (before : State) (c i : ℕ) (stripes : List ℕ) (after : State) → IsSound before → c < length before.clients
+    → get_or before.holders i None ≡ None → (client before c).due ≡ []
+    → StepsAll (taken before c (client before c) i) stripes after → NoneReleased after
+none_taken before c i stripes after sound below free none steps =
+    none_placed after (steps_kept c (taken before c (client before c) i) stripes after steps (taken_kept c i before below free none sound)).placed

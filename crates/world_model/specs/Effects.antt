@@ -6,7 +6,7 @@ use Rattle.world_model.specs.Logs.{place_at, dropped, with_opened, without_oldes
 use Rattle.world_model.specs.States.{Phase, Serving, Calling, Leaving, Left, Ended, ClientState, State, log_of, open_call, with_client, with_log, with_log_and_place}
 use Rattle.world_model.specs.Enabled.{holds_none}
 use Rattle.world_model.specs.Releasing.{after_retire, after_drain, after_release}
-use Rattle.world_model.specs.Rooms.{ShedsAll, IsFull}
+use Rattle.world_model.specs.Rooms.{StepsAll, IsFull}
 use Rattle.world_model.specs.Planning.{Takes}
 use Rattle.world_model.specs.Commits.{OPENED_MAX, Commits}
 use Rattle.world_events.specs.declared.event.Event.{Event}
@@ -51,11 +51,11 @@ Does before c peer _ after = ⊥
 
 -- A STRIPE'S EVENTS: FLUSHER, EVICTOR AND CLEANER
 
--- Unlink: pages of the stripe may leave their frames first. Where it is full then, that is all. Else the live records of its oldest page
--- are copied to the tail, behind which pages may be opened, and the page leaves the log.
+-- Unlink: room may be made in the stripe first. Where it is full then, that is all. Else the live records of its oldest page are copied to
+-- the tail, behind which pages may be opened, and the page leaves the log.
 pub data Unlinks (before : State) (i : ℕ) : State → Type 0 where
-  StopsFull : (count : ℕ) (after : State) → ShedsAll before (replicate count i) after → IsFull after i → Unlinks before i after
-  Cleans : (count : ℕ) (mid : State) (place opened : ℕ) → ShedsAll before (replicate count i) mid
+  StopsFull : (count : ℕ) (after : State) → StepsAll before (replicate count i) after → IsFull after i → Unlinks before i after
+  Cleans : (count : ℕ) (mid : State) (place opened : ℕ) → StepsAll before (replicate count i) mid
       → (log_of mid i).oldest < (log_of mid i).first → place_at (log_of mid i) (log_of mid i).oldest ≡ Some place → opened ≤ OPENED_MAX
       → Unlinks before i (with_log mid i (without_oldest (with_opened (log_of mid i) opened) place))
 

@@ -14,7 +14,7 @@ use Rattle.world_model.specs.Logs.{place_at}
 use Rattle.world_model.specs.States.{Due, ClientState, State, client, log_of, stripe_count, whole, open_call, with_client}
 use Rattle.world_model.specs.Enabled.{are_none, holds, next_stripe}
 use Rattle.world_model.specs.Advancing.{When}
-use Rattle.world_model.specs.Rooms.{ShedsAll, IsFull, is_written_in, AreWritten}
+use Rattle.world_model.specs.Rooms.{StepsAll, IsFull, is_written_in, AreWritten}
 
 -- What an operation of a client is answered: the null array where one of the keys that it goes by is marked as written; else the line of
 -- writes that weigh too much, where they do; else what it answers on the store of all stripes.
@@ -41,14 +41,14 @@ AreCold state c (one ∷ others) =
     × AreCold state c others
 
 -- A call is planned, all of whose stripes its client holds, and that is to write this. The plan names receipts to be read, which it may
--- while pages were read for the call less often than that; or it makes room in stripes that are written to; or after that one of these
--- stripes is full, and it meets that.
+-- while pages were read for the call less often than that; or it makes room in stripes that are written to, where pages leave their frames and
+-- places that wait are released; or after that one of these stripes is full, and it meets that.
 pub data Plans (before : State) (c : ℕ) (writes : List Write) : State → Type 0 where
   Names : (due : List Due) → are_none due ≡ false → (client before c).fetched < ROUNDS → AreCold before c due
       → Plans before c writes (with_client before c (record (client before c) { due = due }))
-  MakesRoom : (stripes : List ℕ) (after : State) → AreWritten (stripe_count before) writes stripes → ShedsAll before stripes after
+  MakesRoom : (stripes : List ℕ) (after : State) → AreWritten (stripe_count before) writes stripes → StepsAll before stripes after
       → Plans before c writes after
-  MeetsFull : (stripes : List ℕ) (mid : State) (i : ℕ) → AreWritten (stripe_count before) writes stripes → ShedsAll before stripes mid
+  MeetsFull : (stripes : List ℕ) (mid : State) (i : ℕ) → AreWritten (stripe_count before) writes stripes → StepsAll before stripes mid
       → is_written_in (stripe_count before) writes i ≡ true → IsFull mid i
       → Plans before c writes (with_client mid c (record (client mid c) { full = true }))
 

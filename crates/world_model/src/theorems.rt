@@ -1,11 +1,13 @@
 //! What holds however events follow each other.
 
-ghost use Rattle.std.specs.Prelude.{ℕ, List};
+ghost use Rattle.std.specs.Prelude.{ℕ, ◌≡◌, ◌<◌, List, [], None, get_or, length};
 ghost use Rattle.words.specs.declared.reply.Reply.{Reply};
 ghost use Rattle.words.specs.Store.{Write};
 ghost use Rattle.words.specs.Session.{Asked};
 ghost use Rattle.transact.specs.declared.call.Call.{Call};
-ghost use Rattle.world_model.specs.States.{State, start};
+ghost use Rattle.world_model.specs.Planning.{taken};
+ghost use Rattle.world_model.specs.Rooms.{StepsAll};
+ghost use Rattle.world_model.specs.States.{State, client, start};
 ghost use Rattle.world_model.specs.Turns.{Turn, Turns};
 ghost use Rattle.world_model.specs.Told.{Headline};
 ghost use Rattle.world_model.specs.Places.{NoneReleased};
@@ -31,6 +33,15 @@ pub fn sound_worlds_tell_the_truth()
 {
     laws();
 }
+
+/// Room that is made in stripes leaves a sound world sound. Where a client took a stripe in a sound world, and room was
+/// made then, no receipt that a log keeps is of a place that was released.
+pub fn room_keeps_the_world_sound()
+    ensures sound { (before : State) (stripes : List ℕ) (after : State) → StepsAll before stripes after → IsSound before → IsSound after }
+    ensures taken { (before : State) (c i : ℕ) (stripes : List ℕ) (after : State) → IsSound before → c < length before.clients
+        → get_or before.holders i None ≡ None → (client before c).due ≡ []
+        → StepsAll (taken before c (client before c) i) stripes after → NoneReleased after }
+{}
 
 /// However events follow each other from the start, the headline holds after them; and each receipt that a
 /// log keeps, or that is to be read for a client, is of a place that is not released, so a read by it gives

@@ -236,14 +236,18 @@ fn a_receipt_that_comes_late_is_unlinked(rt: HostRuntime) {
     world.end();
 }
 
+/// A world of 64 places, in which all keys were set until no place was left.
+fn full_world(alloc: Global) -> Option<World>
+    ensures { IfSome result IsWorld }
+{
+    filled_again(alloc, filled_world(alloc, 64)?, 7)
+}
+
 /// Where no place is left, calls are refused, and the history has no entry of them.
 #[test]
 fn a_full_stripe_refuses_calls(rt: HostRuntime) {
     let alloc = rt.alloc();
-    let Some(world) = filled_world(alloc, 64) else {
-        panic!(rt; "no world")
-    };
-    let Some(world) = filled_again(alloc, world, 7) else {
+    let Some(world) = full_world(alloc) else {
         panic!(rt; "stopped")
     };
     if world.clients() != 2 || !world.output(0).ends_with(b"-FULL store is full\r\n") {
@@ -257,6 +261,33 @@ fn a_full_stripe_refuses_calls(rt: HostRuntime) {
     let text =
         "not copy 0; do unlink 0; not copy 0; do retire 0; not copy 0; do drain 0; not copy 0; do release 0 0; \
         do copy 0";
+    follow(&rt, alloc, world, text).end();
+}
+
+/// A call that needs a place releases a retired one itself, where no stay keeps it.
+#[test]
+fn a_call_releases_a_retired_place(rt: HostRuntime) {
+    let alloc = rt.alloc();
+    let Some(world) = full_world(alloc) else {
+        panic!(rt; "stopped")
+    };
+    let text =
+        "do unlink 0; do retire 0; do ask 1 SET a 1; do take 1 0; not drain 0; not release 0 255; do commit 1; \
+        told 1 +OK|; do give 1 0; do ask 1 GET a; do take 1 0; do commit 1; told 1 +OK|$1|1|; do give 1 0";
+    follow(&rt, alloc, world, text).end();
+}
+
+/// The call's own stay counts: a place that was unlinked is retired by a call that needs one, and released by the next.
+#[test]
+fn a_call_keeps_a_place_that_it_retires(rt: HostRuntime) {
+    let alloc = rt.alloc();
+    let Some(world) = full_world(alloc) else {
+        panic!(rt; "stopped")
+    };
+    let text =
+        "do unlink 0; do ask 1 SET a 1; do take 1 0; not retire 0; not drain 0; do commit 1; \
+        told 1 -FULL store is full|; do give 1 0; do ask 1 SET a 1; do take 1 0; not drain 0; do commit 1; \
+        told 1 -FULL store is full|+OK|; do give 1 0";
     follow(&rt, alloc, world, text).end();
 }
 

@@ -21,7 +21,7 @@ pub(super) const KEYS: usize = 630;
 pub(super) const VALUE: [u8; 1000] = [b'v'; 1000];
 
 /// An engine of one stripe with so many places, with its passes.
-fn narrow_engine(
+pub(super) fn narrow_engine(
     alloc: Global,
     places: usize,
 ) -> Option<(Engine<MemoryDevice>, Vec<Pass<MemoryDevice>>)>
@@ -52,7 +52,7 @@ pub(super) fn narrow_over<D: Device>(
 }
 
 /// The key of this number, below 10,000.
-fn key_of(alloc: Global, number: usize) -> Option<Word> {
+pub(super) fn key_of(alloc: Global, number: usize) -> Option<Word> {
     let text = [
         b'k',
         b'0' + (number / 1000 % 10) as u8,

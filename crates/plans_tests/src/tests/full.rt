@@ -14,9 +14,9 @@ use std::alloc::Global;
 use std::test::Fail;
 
 /// A store of one stripe with 64 places over memory, and a plain map.
-type Small = Both<MemoryDevice>;
+pub(super) type Small = Both<MemoryDevice>;
 
-fn small(alloc: Global) -> Option<Small> {
+pub(super) fn small(alloc: Global) -> Option<Small> {
     let device = memory(alloc)?;
     both_of(alloc, 1, 64, device)
 }
@@ -33,7 +33,7 @@ fn epochs(alloc: Global) -> Option<(Epochs, EpochSeat)>
 }
 
 /// One step of the cleaner at the first stripe, and whether it was done.
-fn clean_once<D: Device>(
+pub(super) fn clean_once<D: Device>(
     alloc: Global,
     store: &mut Store<D>,
     epochs: &Epochs,
@@ -74,7 +74,7 @@ fn clean<D: Device>(
 }
 
 /// Gives a key a value of 1,000 bytes, and tells whether the stripe took it. `None` where something else failed.
-fn set(alloc: Global, both: &mut Small, number: u64, digit: u64) -> Option<bool> {
+pub(super) fn set(alloc: Global, both: &mut Small, number: u64, digit: u64) -> Option<bool> {
     let told = 1000 + number % 9000;
     let line = format!(in alloc; "SETRANGE k{number} 995 {digit}{told}").ok()?;
     Some(meets_full(alloc, both, line.as_str())?.is_none())

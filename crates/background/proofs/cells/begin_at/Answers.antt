@@ -4,42 +4,42 @@ use Rattle.background.proofs.cells.begin_at.Goals as goal
 
 pub returns-in-Idle-clause-stepped : goal.returns-in-Idle-clause-stepped
 returns-in-Idle-clause-stepped g c =
-    let new = c.begin_flush.new.self in
+    let new = c.begin_freeing.new.self in
     record {
       old = c.part.result.now;
       new = new;
       was = c.part.ensures.value;
       is = c.part.ensures.written new;
       others = c.part.ensures.others new;
-      store = λ t key. ap (λ (s : Store). s key) c.begin_flush.ensures.store;
-      marks = c.begin_flush.ensures.marks;
-      says = (c.in-Idle.ensures.told, c.in-Idle.ensures.counted);
+      store = λ t key. ap (λ (s : Store). s key) c.begin_freeing.ensures.store;
+      marks = c.begin_freeing.ensures.marks;
+      says = (c.in-Idle.ensures.told, c.in-Idle.ensures.begun);
     }
 
 pub returns-in-Full-clause-stepped : goal.returns-in-Full-clause-stepped
 returns-in-Full-clause-stepped g c =
-    let new = c.begin_flush.new.self in
+    let new = c.begin_freeing.new.self in
     record {
       old = c.part.result.now;
       new = new;
       was = c.part.ensures.value;
       is = c.part.ensures.written new;
       others = c.part.ensures.others new;
-      store = λ t key. ap (λ (s : Store). s key) c.begin_flush.ensures.store;
-      marks = c.begin_flush.ensures.marks;
-      says = (c.in-Full.ensures.told, c.in-Full.ensures.counted);
+      store = λ t key. ap (λ (s : Store). s key) c.begin_freeing.ensures.store;
+      marks = c.begin_freeing.ensures.marks;
+      says = (c.in-Full.ensures.told, c.in-Full.ensures.begun);
     }
 
 pub returns-in-Sealed-clause-stepped : goal.returns-in-Sealed-clause-stepped
 returns-in-Sealed-clause-stepped g c =
-    let new = c.begin_flush.new.self in
+    let new = c.begin_freeing.new.self in
     record {
       old = c.part.result.now;
       new = new;
       was = c.part.ensures.value;
       is = c.part.ensures.written new;
       others = c.part.ensures.others new;
-      store = λ t key. ap (λ (s : Store). s key) c.begin_flush.ensures.store;
-      marks = c.begin_flush.ensures.marks;
-      says = (tt, (c.in-Sealed.ensures.begun, c.in-Sealed.ensures.counted));
+      store = λ t key. ap (λ (s : Store). s key) c.begin_freeing.ensures.store;
+      marks = c.begin_freeing.ensures.marks;
+      says = (tt, c.in-Sealed.ensures.begun);
     }

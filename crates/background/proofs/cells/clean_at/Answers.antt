@@ -1,7 +1,7 @@
 use Rattle.std.proofs.Common.{◌≡◌, false}
 use Rattle.hybrid.specs.Staging.{IsMissing}
 use Rattle.plans.specs.Shards.{shard_log, shard_pages}
-use Rattle.background.proofs.Settling.{cold_as, full_as, may_tell}
+use Rattle.background.proofs.Settling.{cold_as, may_tell}
 use Rattle.background.proofs.cells.clean_at.Goals as goal
 
 pub returns-clause-stepped : goal.returns-clause-stepped
@@ -16,13 +16,10 @@ returns-clause-stepped g c =
       store = λ t key. c.clean_step.ensures.store t (c.requires.right t) key;
       marks = c.clean_step.ensures.marks;
       says = (
-        may_tell c.clean_step.result (shard_pages c.part.result.now) (shard_pages new) _ _ _ c.clean_step.ensures.done c.clean_step.ensures.fault,
+        may_tell c.clean_step.result (shard_pages c.part.result.now) (shard_pages new) c.clean_step.ensures.done,
         cold_as c.clean_step.result _ (IsMissing (shard_log new) c.clean_step.new.staged) (λ number cold. cold.2) c.clean_step.ensures.cold,
       );
     }
 
 pub returns-clause-cold : goal.returns-clause-cold
 returns-clause-cold g c = cold_as c.clean_step.result _ (λ number. (c.args.reads ≡ false) × (g.R.Shows.lends → ⊥)) (λ number cold. (cold.0, cold.1)) c.clean_step.ensures.cold
-
-pub returns-clause-fault : goal.returns-clause-fault
-returns-clause-fault g c = full_as c.clean_step.result _ _ _ _ (λ full. full.1) c.clean_step.ensures.fault

@@ -1,9 +1,13 @@
-use Rattle.std.proofs.Common.{◌∙◌, ap, rules}
+use Rattle.std.proofs.Common.{◌∙◌, ◌∷◌, [], false, ap, rules}
+use Rattle.gates.specs.Helds.{known_to}
+use Rattle.gates.specs.Passes.{known}
+use Rattle.gates.specs.Plays.{kept}
 use Rattle.gates.specs.Sets.{part_at}
+use Rattle.gates.specs.declared.view.Note.TheVariants as note
 use Rattle.gates.specs.Background.{IsIdle, IsStep}
 use Rattle.gates.specs.declared.view.Work.TheVariants.{Flush}
 use Rattle.plans.specs.Shards.{shard_meaning, shard_pages}
-use Rattle.background.proofs.Visiting.{fit_held, on_false, on_true, one_of}
+use Rattle.background.proofs.Visiting.{fit_held, on_false, on_true, one_of, visited_at_once}
 use Rattle.background.proofs.flush.try_flush_one.Goals as goal
 
 pub give-requires-clause-told : goal.give-requires-clause-told
@@ -34,8 +38,19 @@ pub give-requires-in-Ok-false-clause-fit : goal.give-requires-in-Ok-false-clause
 give-requires-in-Ok-false-clause-fit g c =
     fit_held (shard_meaning g.R.Shows.is_steady) c.args.gates.now c.args.stripe _ c.hold-held.result c.flush_at.new.parts (c.hold-held.ensures.taken _ c.in-Ok.ensures.ok).gates_are c.flush_at.ensures.keeps c.flush_at.ensures.stepped (c.hold-held.ensures.taken _ c.in-Ok.ensures.ok).fit
 
-pub give-requires-in-Err-StoreFull-clause-fit : goal.give-requires-in-Err-StoreFull-clause-fit
-give-requires-in-Err-StoreFull-clause-fit g c =
+pub give-requires-in-Err-Full-clause-told : goal.give-requires-in-Err-Full-clause-told
+give-requires-in-Err-Full-clause-told g c =
+    let s = c.in-Err-Full.ensures.stepped in
+    let full = rw c.in-Err-Full.field-0-is at s.says.2 in
+    let lent = (c.hold-held.ensures.taken _ c.in-Ok.ensures.ok).lent c.args.stripe s.old s.was in
+    record {
+      part = s.new;
+      there = s.is;
+      is = (full.0, (lent.0, s.old), ap (λ took. part_at took c.args.stripe) c.flush_at.ensures.keeps.taken ∙ lent.1, full.1);
+    }
+
+pub give-requires-in-Err-Full-clause-fit : goal.give-requires-in-Err-Full-clause-fit
+give-requires-in-Err-Full-clause-fit g c =
     fit_held (shard_meaning g.R.Shows.is_steady) c.args.gates.now c.args.stripe _ c.hold-held.result c.flush_at.new.parts (c.hold-held.ensures.taken _ c.in-Ok.ensures.ok).gates_are c.flush_at.ensures.keeps c.flush_at.ensures.stepped (c.hold-held.ensures.taken _ c.in-Ok.ensures.ok).fit
 
 pub give-requires-in-Err-DeviceFault-clause-fit : goal.give-requires-in-Err-DeviceFault-clause-fit
@@ -50,3 +65,11 @@ returns-in-Err-clause-busy g c = search rules
 
 pub returns-in-Err-clause-stripe : goal.returns-in-Err-clause-stripe
 returns-in-Err-clause-stripe g c = one_of c.in-Err.stripe c.args.stripe c.none.result c.with-wanted.result c.none.ensures (c.with-wanted.ensures.numbers c.in-Err.stripe).0 c.in-Err.ensures.busy.1
+
+pub returns-in-Ok-true-clause-flushed : goal.returns-in-Ok-true-clause-flushed
+returns-in-Ok-true-clause-flushed g c =
+    let last = c.give.ensures.known in (
+      c.in-Ok-true.ensures.no_fault,
+      visited_at_once (note.Done c.args.stripe Flush ∷ []) (known c.args.pass.now) (known_to c.hold-held.result) _ (c.hold-held.ensures.taken _ c.in-Ok.ensures.ok).learned (c.hold-held.ensures.told _ c.in-Ok.ensures.ok)
+          (search (rules, last) ∙ ap (kept false (note.Done c.args.stripe Flush ∷ [])) c.flush_at.ensures.keeps.known),
+    )

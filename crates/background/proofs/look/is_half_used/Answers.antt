@@ -5,3 +5,8 @@ use Rattle.background.proofs.look.is_half_used.Goals as goal
 pub give-requires-clause-fit : goal.give-requires-clause-fit
 give-requires-clause-fit g c =
     fit_held (shard_meaning g.R.Shows.is_steady) c.args.gates.now c.args.stripe _ c.take-held.result c.is_half_used_at-found.new.parts c.take-held.ensures.gates_are c.is_half_used_at-found.ensures.keeps c.is_half_used_at-found.ensures.stepped c.take-held.ensures.fit
+
+pub give-requires-clause-told : goal.give-requires-clause-told
+give-requires-clause-told g c =
+    let s = c.is_half_used_at-found.ensures.stepped in
+    record { part = s.new; there = s.is; is = s.says.1 }

@@ -12,5 +12,5 @@ returns-clause-stepped g c =
       others = c.part.ensures.others part;
       store = λ t key. refl;
       marks = refl;
-      says = refl;
+      says = (refl, c.used_places.ensures);
     }

@@ -13,6 +13,7 @@ use Rattle.engine.proofs.calls.later_rounds.Goals as goal
 pub rounds-init : goal.rounds-init
 rounds-init g c = record {
   rests = c.requires.rests;
+  stay = c.requires.stay;
   right = c.requires.right;
   few = omega arith;
   learned = learned_none (known c.args.pass.now);
@@ -47,6 +48,7 @@ rounds-preserved g c =
     let i = c.rounds.invariant in
     record {
       rests = c.later_round.ensures.rests;
+      stay = c.later_round.ensures.stay;
       right = c.later_round.ensures.right;
       few = few c.rounds.round c.in_default.ensures.outside i.few;
       learned = learned_both (known c.args.pass.now) (known c.rounds.pass) (known c.later_round.new.pass) i.learned c.in_default.ensures.learned;

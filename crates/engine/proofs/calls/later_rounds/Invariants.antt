@@ -1,4 +1,5 @@
 use Rattle.std.proofs.Common.{◌≡◌, ◌-◌, ◌≤◌}
+use Rattle.epoch.specs.Seats.{IsInside}
 use Rattle.gates.specs.Passes.{IsResting, Learned, ToldBusy, known, stripes_of}
 use Rattle.hybrid.specs.Staging.{AreRight}
 use Rattle.transact.specs.Submits.{stripes_asked}
@@ -8,6 +9,7 @@ use Rattle.engine.proofs.calls.later_rounds.Given as goal
 abbrev pub invariant-rounds : goal.invariant-rounds
 invariant-rounds g l = record {
   rests : IsResting g.R.Shows.is_steady l.gates l.pass;
+  stay : IsInside l.epochs l.inside;
   right : g.R.Shows.is_steady → AreRight l.staged;
   few : l.round ≤ ROUNDS;
   learned : Learned (known l.fn.pass) (known l.pass);

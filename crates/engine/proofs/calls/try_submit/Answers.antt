@@ -31,8 +31,8 @@ give_back-requires g c =
           (c.enter_at_once-answer.ensures.back.gates ∙ (c.hold-held.ensures.taken _ c.in-Ok.ensures.ok).gates_are) c.enter_at_once-answer.ensures.back;
     }
 
-pub returns-in-Ok-clause-done : goal.returns-in-Ok-clause-done
-returns-in-Ok-clause-done g c =
+pub returns-in-Some-clause-done : goal.returns-in-Some-clause-done
+returns-in-Some-clause-done g c =
     let before : Knowledge = known c.args.pass.now in
     let mid : Knowledge = known_to c.hold-held.result in
     let told : ToldBusy [] before mid = ([], (c.hold-held.ensures.told _ c.in-Ok.ensures.ok), tt) in
@@ -43,8 +43,8 @@ returns-in-Ok-clause-done g c =
     (answer_behind [] before mid f0 (know (given c.enter_at_once-answer.result.ends c.enter_at_once-answer.result.report (known_to c.enter_at_once-answer.new.held)) f1) (c.hold-held.ensures.taken _ c.in-Ok.ensures.ok).learned
     told c.enter_at_once-answer.result.answer (asked_of c.args.call) c.enter_at_once-answer.ensures.done)
 
-pub returns-in-Ok-clause-undone : goal.returns-in-Ok-clause-undone
-returns-in-Ok-clause-undone g c =
+pub returns-in-Some-clause-undone : goal.returns-in-Some-clause-undone
+returns-in-Some-clause-undone g c =
     let before : Knowledge = known c.args.pass.now in
     let mid : Knowledge = known_to c.hold-held.result in
     let told : ToldBusy [] before mid = ([], (c.hold-held.ensures.told _ c.in-Ok.ensures.ok), tt) in

@@ -1,17 +1,18 @@
-use Rattle.std.proofs.Common.{◌∙◌, ℕ, [], Option, true, refl, sym, ap, subst}
+use Rattle.std.proofs.Common.{◌∙◌, ℕ, List, [], Option, true, refl, sym, ap, subst}
 use Rattle.gates.specs.declared.held.Held.{Held}
 use Rattle.gates.specs.declared.view.Knowledge.{Knowledge}
 use Rattle.gates.specs.Helds.{held_parts, held_taken, known_to}
 use Rattle.gates.specs.Plays.{kept}
 use Rattle.transact.specs.declared.call.Call.{Call}
 use Rattle.plans.specs.declared.shard.Shard.{Shard}
-use Rattle.plans.specs.Shards.{logs_of}
+use Rattle.plans.specs.Shards.{shard_meaning}
+use Rattle.gates.specs.Background.{IsToldOf}
 use Rattle.transact.specs.Plans.{EndsAll, keys_ended}
 use Rattle.transact.specs.Submits.{asked_for}
 use Rattle.transact.specs.Tables.{AreThere}
 use Rattle.engine.specs.Entering.{at_fault}
 use Rattle.engine.proofs.Parts.{ended_there}
-use Rattle.engine.proofs.Entering.{full_still, given_forgot, given_still, parts_of, seat_is, told_full}
+use Rattle.engine.proofs.Entering.{given_forgot, given_still, parts_of, seat_is, told_still}
 use Rattle.engine.proofs.enter.refuse.Goals as goal
 
 pub forget-requires-clause-there : goal.forget-requires-clause-there
@@ -23,8 +24,8 @@ pub returns-in-Exec-clause-back : goal.returns-in-Exec-clause-back
 returns-in-Exec-clause-back g c =
     let start : Held (Shard _) = c.args.held.now in
     given_forgot g.R.Shows.is_steady c.args.stripes c.number-seat.result c.in-Exec.watching c.args.report start c.forget.new.parts c.forget.ensures.open
-    (told_full g.R.Shows.is_steady (held_parts c.forget.new.parts) (held_taken c.forget.new.parts) c.args.report
-    (full_still (logs_of (parts_of g.R.Shows.is_steady start)) (logs_of (parts_of g.R.Shows.is_steady c.forget.new.parts)) c.args.report c.forget.ensures.logs c.requires.full)) (c.number-seat.ensures ∙ seat_is g.R.Shows.is_steady start c.requires.may.is_open)
+    (told_still g.R.Shows.is_steady (held_parts start) (held_parts c.forget.new.parts) (held_taken c.forget.new.parts) c.args.report c.requires.of_call c.forget.ensures.logs c.forget.ensures.waits
+    (subst (λ (l : List (ℕ × (ℕ × Shard _))). IsToldOf (shard_meaning g.R.Shows.is_steady) l (held_parts start) c.args.report) (sym c.forget.ensures.keeps.taken) c.requires.told)) (c.number-seat.ensures ∙ seat_is g.R.Shows.is_steady start c.requires.may.is_open)
     (subst (λ (x : Call). EndsAll x (known_to start).watched) c.in-Exec.is c.requires.ends)
     (subst (λ (x : Call). AreThere c.args.stripes (parts_of g.R.Shows.is_steady start) (keys_ended x)) c.in-Exec.is (ended_there c.args.stripes (parts_of g.R.Shows.is_steady start) c.args.call.now c.requires.may.there))
     c.requires.may.fit c.forget.ensures.keeps c.forget.ensures.became
@@ -37,4 +38,4 @@ returns-in-Exec-clause-known g c =
 pub returns-clause-back : goal.returns-clause-back
 returns-clause-back g c =
     given_still g.R.Shows.is_steady c.args.stripes c.args.report c.args.held.now c.args.held.now c.requires.may.is_open
-    (told_full g.R.Shows.is_steady (held_parts c.args.held.now) (held_taken c.args.held.now) c.args.report c.requires.full) refl refl c.requires.may.fit
+    c.requires.told refl refl c.requires.may.fit

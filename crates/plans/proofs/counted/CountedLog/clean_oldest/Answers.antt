@@ -3,7 +3,7 @@ use Rattle.std.proofs.lemmas.List.{map-append}
 use Rattle.std.specs.Prelude.{map}
 use Rattle.hybrid.specs.HybridLog.{HybridLog, Kept}
 use Rattle.plans.specs.Counted.{Counted}
-use Rattle.plans.specs.Receipts.{drained_by, kept_by, refusals_of, retired_by}
+use Rattle.plans.specs.Receipts.{drained_by, kept_by, refused_of, retired_by}
 use Rattle.plans.proofs.Counts.{unlinked_by}
 use Rattle.plans.proofs.counted.CountedLog.clean_oldest.Goals as goal
 
@@ -18,5 +18,5 @@ returns-in-Unlinked-clause-unlinked g c =
       unlinked = l;
       retired = map (retired_by g.R.Shows.identity g.R.Shows.shown) c.self.inside.retired.items;
       drained = map (drained_by g.R.Shows.identity g.R.Shows.shown) c.self.inside.drained.items;
-      refusals = refusals_of c.self.inside.retired.items;
+      refused = refused_of c.self.inside.retired.items;
     }) (ap (map view) c.push_back_reserved.ensures.items ∙ map-append view before (c.in-Unlinked.receipt ∷ [])))

@@ -3,7 +3,7 @@ use Rattle.std.proofs.lemmas.List.{map-append}
 use Rattle.std.specs.Prelude.{map}
 use Rattle.hybrid.specs.HybridLog.{HybridLog, Kept}
 use Rattle.plans.specs.Counted.{Counted}
-use Rattle.plans.specs.Receipts.{drained_by, kept_by, refusals_of, retired_by}
+use Rattle.plans.specs.Receipts.{drained_by, kept_by, refused_of, retired_by}
 use Rattle.plans.proofs.Counts.{released_by}
 use Rattle.plans.proofs.counted.CountedLog.release.Goals as goal
 
@@ -17,5 +17,5 @@ returns-clause-released g c =
       unlinked = map (kept_by g.R.Shows.identity g.R.Shows.shown) c.self.inside.unlinked.items;
       retired = map (retired_by g.R.Shows.identity g.R.Shows.shown) c.self.inside.retired.items;
       drained = map view c.pop_front.new.self.items;
-      refusals = refusals_of c.self.inside.retired.items;
+      refused = refused_of c.self.inside.retired.items;
     }) c.free_place.ensures) c.release.ensures.still_served

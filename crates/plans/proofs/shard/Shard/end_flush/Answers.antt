@@ -1,10 +1,5 @@
-use Rattle.std.proofs.Common.{subst}
-use Rattle.hybrid.specs.HybridLog.{IsHybridLog}
-use Rattle.plans.specs.Receipts.{kept_by}
-use Rattle.plans.proofs.Counts.{landed}
+use Rattle.plans.proofs.Counts.{claimed_step}
 use Rattle.plans.proofs.shard.Shard.end_flush.Goals as goal
 
 pub returns-clause-done : goal.returns-clause-done
-returns-clause-done g c =
-    landed c.args.self.now.log c.claim.new.self c.land.new.self c.args.number c.args.page.now (kept_by g.R.Shows.identity g.R.Shows.shown c.args.receipt)
-    c.if-not-claim.ensures.claimed (subst IsHybridLog c.stripe.ensures.log c.oldest-oldest.ensures.log) c.land.ensures.landed
+returns-clause-done g c = claimed_step c.args.self.now.log c.claim.new.self.log c.land.new.self.log c.if-not-claim.ensures.claimed c.land.ensures.done

@@ -6,4 +6,5 @@ returns-clause-waits g c = λ i. record {
   unlinked = c.reserve.ensures.unlinked i;
   retired = c.reserve.ensures.retired i;
   drained = c.reserve.ensures.drained i;
+  refused = c.reserve.ensures.refused i;
 }

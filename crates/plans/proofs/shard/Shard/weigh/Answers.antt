@@ -53,9 +53,9 @@ returns-in_default g c =
     let inv = c.loop-number.invariant in
     record {
       right = inv.right;
-      weighed = subst (λ (p : HybridLog). MatchWeighed c.weigh_oldest.result (λ weight. weight ≤ CLEAN_WEIGHT)
+      weighed = subst (λ (p : HybridLog). MatchWeighed c.weigh_oldest.result (λ weight. (weight ≤ CLEAN_WEIGHT) × (p.oldest < p.resident.oldest))
           (λ number. (c.args.reads ≡ false) × (g.R.Shows.lends → ⊥) × IsMissing (shard_log c.args.self.now) c.loop-number.staged number) (p.resident.oldest ≡ p.oldest)) c.stripe.ensures.log
-          (weighed_by c.weigh_oldest.result _ _ _ c.in_default.not-Cold c.weigh_oldest.ensures.most c.weigh_oldest.ensures.resident);
+          (weighed_by c.weigh_oldest.result _ _ _ _ c.in_default.not-Cold c.weigh_oldest.ensures.most c.weigh_oldest.ensures.resident);
       no_release = inv.releases;
       fault = tt;
       no_fault = inv.failures;

@@ -6,4 +6,5 @@ returns-clause-waits g c = λ i. record {
   unlinked = c.install_one.ensures.unlinked i;
   retired = c.install_one.ensures.retired i;
   drained = c.install_one.ensures.drained i;
+  refused = c.install_one.ensures.refused i;
 }

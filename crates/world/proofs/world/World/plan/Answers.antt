@@ -1,9 +1,10 @@
-use Rattle.std.proofs.Common.{◌≡◌, ◌∙◌, ap, sym, subst}
+use Rattle.std.proofs.Common.{◌≡◌, ◌∙◌, ℕ, List, Option, ap, sym, subst}
 use Rattle.std.specs.Vec.{with_item}
 use Rattle.world_model.specs.States.{ClientState}
 use Rattle.world.specs.Members.{HasPlannedFor, IsReadyToPlan}
 use Rattle.world.specs.Peers.{IsEndable}
-use Rattle.world.specs.Tables.{HasComeTo}
+use Rattle.world.specs.Tables.{HasComeTo, rest_of}
+use Rattle.world_log.specs.WorldLogs.{stays_of}
 use Rattle.world.specs.declared.member.Member.{Member}
 use Rattle.world.specs.declared.world.World.{World}
 use Rattle.world.proofs.Coming.{comes_to, ready_is, with_plan}
@@ -16,7 +17,8 @@ plan-requires-clause-ready c =
     let one : Member = c.index_mut.result.now in
     let there = read_at world.members.items c.args.client _ one world.members.ok.0 c.requires.within c.index_mut.ensures.value in
     let same : c.requires.taken.one ≡ one = some_same (sym c.requires.taken.there ∙ there) in
-    subst (IsReadyToPlan world.log c.args.client) same (ready_is c.laws.ensures.turns c.plan_laws.ensures.plans world c.args.client c.requires.taken c.requires.all)
+    subst (λ (stays : List (Option ℕ)). IsReadyToPlan world.log c.args.client stays one) (sym (c.as_slice.ensures.value ∙ c.in_ok-stays.ensures))
+    (subst (IsReadyToPlan world.log c.args.client (stays_of (rest_of world))) same (ready_is c.laws.ensures.turns c.plan_laws.ensures.plans world c.args.client c.requires.taken c.requires.all))
 
 pub returns-clause-planned : goal.returns-clause-planned
 returns-clause-planned c =
@@ -30,7 +32,8 @@ returns-clause-planned c =
     (λ planned. subst (λ (m : Member). HasComeTo world c.args.client (record world { members = with_item world.members c.args.client m; log = c.plan.new.log })) (sym late)
     (subst (λ (m : Member). HasComeTo world c.args.client (with_plan world c.args.client m c.plan.new.log c.plan.new.self.desk)) same
     (comes_to c.plan_laws.ensures.history c.plan_laws.ensures.plans world c.args.client c.requires.taken c.plan.new.log c.plan.new.self.desk c.requires.all
-    (subst (λ (m : Member). HasPlannedFor world.log c.args.client m c.plan.new.log c.plan.new.self.desk) (sym same) planned))))
+    (subst (λ (m : Member). HasPlannedFor world.log c.args.client (stays_of (rest_of world)) m c.plan.new.log c.plan.new.self.desk) (sym same)
+    (subst (λ (stays : List (Option ℕ)). HasPlannedFor world.log c.args.client stays one c.plan.new.log c.plan.new.self.desk) (c.as_slice.ensures.value ∙ c.in_ok-stays.ensures) planned)))))
     c.plan.ensures.planned
 
 pub returns-clause-endable : goal.returns-clause-endable

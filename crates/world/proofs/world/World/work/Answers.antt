@@ -1,12 +1,9 @@
 use Rattle.std.proofs.Common.{refl}
 use Rattle.world_events.specs.declared.event.Event.TheVariants as event
-use Rattle.world.proofs.Acting.{none_released_at, ok_told, ok_worked, told_by, turn_of, worked_by, world_of, worked_world}
+use Rattle.world.proofs.Acting.{ok_told, ok_worked, told_by, turn_of, worked_by, world_of, worked_world}
 use Rattle.world.proofs.Worlds.{ok_then}
 use Rattle.world.specs.Tables.{rest_of}
 use Rattle.world.proofs.world.World.work.Goals as goal
-
-pub unlink-requires-clause-none : goal.unlink-requires-clause-none
-unlink-requires-clause-none c = none_released_at c.laws.ensures.turns c.args.self.now c.in-Unlink.i c.requires.world
 
 pub returns-in-Copy-clause-turn : goal.returns-in-Copy-clause-turn
 returns-in-Copy-clause-turn c =
@@ -48,15 +45,11 @@ returns-in-Drop-clause-world c =
     world_of c.laws.ensures.turns c.args.self.now c.evict.new.self (event.Drop c.in-Drop.i) refl
     (worked_by c.args.self.now c.evict.new.self (event.Drop c.in-Drop.i) (c.evict.ensures.took (rest_of c.args.self.now)) c.evict.ensures.log c.evict.ensures.given c.evict.ensures.held) c.requires.world
 
-pub returns-in-Unlink-clause-turn : goal.returns-in-Unlink-clause-turn
-returns-in-Unlink-clause-turn c =
-    ok_then c.unlink.result (turn_of c.args.self.now c.unlink.new.self (event.Unlink c.in-Unlink.i) c.args.event.now c.in-Unlink.is refl)
-    (ok_worked c.unlink.result c.args.self.now c.unlink.new.self (event.Unlink c.in-Unlink.i) c.unlink.ensures.took c.unlink.ensures.log c.unlink.ensures.given c.unlink.ensures.held)
-
 pub returns-in-Unlink-clause-world : goal.returns-in-Unlink-clause-world
 returns-in-Unlink-clause-world c =
-    ok_then c.unlink.result (λ worked. world_of c.laws.ensures.turns c.args.self.now c.unlink.new.self (event.Unlink c.in-Unlink.i) refl worked c.requires.world)
-    (ok_worked c.unlink.result c.args.self.now c.unlink.new.self (event.Unlink c.in-Unlink.i) c.unlink.ensures.took c.unlink.ensures.log c.unlink.ensures.given c.unlink.ensures.held)
+    ok_then c.unlink.result
+    (λ worked. worked_world c.laws.ensures.turns c.args.self.now c.unlink.new.self (event.Unlink c.in-Unlink.i) refl c.unlink.ensures.same worked c.requires.world)
+    c.unlink.ensures.worked
 
 pub returns-in-Retire-clause-turn : goal.returns-in-Retire-clause-turn
 returns-in-Retire-clause-turn c =
@@ -89,9 +82,6 @@ returns-in-Copy-clause-told c = ok_told c.copy.result c.args.self.now (event.Cop
 
 pub returns-in-Write-clause-told : goal.returns-in-Write-clause-told
 returns-in-Write-clause-told c = ok_told c.write.result c.args.self.now (event.Write c.in-Write.i) c.args.event.now c.in-Write.is refl c.write.ensures.told
-
-pub returns-in-Unlink-clause-told : goal.returns-in-Unlink-clause-told
-returns-in-Unlink-clause-told c = ok_told c.unlink.result c.args.self.now (event.Unlink c.in-Unlink.i) c.args.event.now c.in-Unlink.is refl c.unlink.ensures.told
 
 pub returns-in-Retire-clause-told : goal.returns-in-Retire-clause-told
 returns-in-Retire-clause-told c = ok_told c.retire.result c.args.self.now (event.Retire c.in-Retire.i) c.args.event.now c.in-Retire.is refl c.retire.ensures.told

@@ -1,0 +1,14 @@
+use Rattle.std.proofs.Common.{◌≡◌, ◌∷◌, []}
+use Rattle.epoch.specs.Seats as seats
+use Rattle.epoch.specs.Seats.{IsOutside}
+use Rattle.gates.specs.Passes.{IsResting, known}
+use Rattle.background.specs.Visits.{HasLooked}
+use Rattle.background.proofs.flush.end.Given as goal
+
+abbrev pub invariant-loop : goal.invariant-loop
+invariant-loop g l = record {
+  resting : IsResting g.R.Shows.is_steady l.gates l.pass;
+  outside : IsOutside l.epochs l.seat;
+  shown : g.R.Shows.shown l.receipt ≡ l.page;
+  looked : HasLooked (l.stripe ∷ []) (g.D.Device.failures l.fn.device) (g.D.Device.failures l.device) (known l.fn.pass) (known l.pass) (seats.known l.fn.seat) (seats.known l.seat);
+}

@@ -1,0 +1,452 @@
+-- Places that were released, stripe by stripe.
+use Rattle.std.proofs.Common.{◌≡◌, ◌≢◌, ◌∙◌, ◌+◌, ◌-◌, ◌<◌, ◌≤◌, ◌⊎◌, inl, inr, ⊎_elim, ℕ, zero, suc, Bool, true, false, List, [], ◌∷◌, ◌++◌, length, length-append, append_assoc, append-nil, Option, Some, None, IsSome, option_map, unwrap_or, refl, sym, ap, subst, arith}
+use Rattle.std.proofs.lemmas.Bool.{cases_eq}
+use Rattle.epoch.specs.declared.view.View.{View}
+use Rattle.epoch.specs.declared.view.Note.{Note}
+use Rattle.epoch.specs.declared.view.Note.TheVariants.{Worn}
+use Rattle.epoch.specs.Seats.{AdvancedPast, WasWorn}
+use Rattle.gates.specs.Background.{AreRaised, IsEachRefused, IsSpent}
+use Rattle.gates.specs.declared.view.Refused.{Refused}
+use Rattle.hybrid.specs.HybridLog.{HybridLog, Kept}
+use Rattle.hybrid.specs.Reserving.{IsFull}
+use Rattle.plans.specs.Counted.{Counted, HasReleased, HasRetired, HasTurned, IsCounted, Waiting, places_waiting, waiting_of}
+use Rattle.plans.specs.declared.freeing.Freed.{Freed}
+use Rattle.plans.specs.declared.shard.Shard.{Shard}
+use Rattle.plans.specs.Freeing.{FreesAt, HasDrainedAll, HasFreed, HasReleasedAll, HasRetiredAll, HasTriedAll, IsSpentAt, all_waiting, waiting_at}
+use Rattle.plans.specs.Heard.{HasHeard, HasHeardWorn}
+use Rattle.plans.specs.Rooms.{IsFullAt}
+use Rattle.plans.specs.Shards.{SameWaits, logs_of, shard_counted, shard_log, shard_pages, shard_waiting, waits_of}
+use Rattle.std.specs.Bool.{OnFalse}
+use Rattle.hybrid.specs.HybridLog.{log_of}
+use Rattle.hybrid.specs.Log.{contents}
+use Rattle.words.specs.declared.word.TheConstants.{WORD_INLINE}
+use Rattle.words.specs.declared.command.Command.{Command}
+use Rattle.words.specs.declared.command.Command.TheVariants.{Get}
+use Rattle.words.specs.History.{History, Pair, after}
+use Rattle.words.specs.Store.{Bytes, Store}
+use Rattle.words.specs.Stripes.{stripe_of}
+use Rattle.gates.specs.Rule.{Meaning}
+use Rattle.transact.specs.declared.call.Call.{Call}
+use Rattle.transact.specs.declared.call.Call.TheVariants.{One, Watch, Exec, Forget}
+use Rattle.transact.specs.Tables.{AreThere, AreUnmarked, Became, HasBegun, Stand, begins, joined, joined_marks, mark_in, stays, value_in}
+use Rattle.plans.specs.Memory.{IsBrief, IsPlannedInPlace, NeedsNoMemoryOn}
+use Rattle.plans.specs.Sizes.{AllShort, IsShort}
+use Rattle.plans.proofs.Become.{became_both, became_read}
+use Rattle.plans.proofs.Rooms.{stripe_below}
+use Rattle.plans.proofs.Raised.{each_later, raised_both, raised_gone, raised_left, raised_same, raised_twice, weaker}
+
+-- RETIRED
+
+pub retired_none : (c : Counted) → HasRetiredAll c c
+retired_none c = record { log = refl; in_flight = refl; drained = refl; places = refl; refused = ([], sym (append-nil c.refused)) }
+
+pub retired_more : (old now next : Counted) → HasRetiredAll old now → HasRetired now next → HasRetiredAll old next
+retired_more old now next all one =
+    let fewer : length now.unlinked ≡ length one.others + 1 = ap length one.had ∙ omega arith in
+    let more : length next.retired ≡ length now.retired + 1 = ap (λ (c : Counted). length c.retired) one.is ∙ length-append now.retired (one.kept ∷ []) in
+    record {
+      log = ap (λ (c : Counted). c.log) one.is ∙ all.log;
+      in_flight = ap (λ (c : Counted). c.in_flight) one.is ∙ all.in_flight;
+      drained = ap (λ (c : Counted). c.drained) one.is ∙ all.drained;
+      places = omega (arith, fewer, more, ap (λ (c : Counted). length c.unlinked) one.is, all.places);
+      refused = (
+        all.refused.0 ++ one.count ∷ [],
+        ap (λ (c : Counted). c.refused) one.is ∙ ap (λ (l : List ℕ). l ++ one.count ∷ []) all.refused.1 ∙ append_assoc old.refused all.refused.0 (one.count ∷ []),
+      );
+    }
+
+pub retired_fewer : (now next : Counted) → HasRetired now next → length next.unlinked < length now.unlinked
+retired_fewer now next one = omega (arith, ap length one.had, ap (λ (c : Counted). length c.unlinked) one.is)
+
+pub tried_none : (v : View) → HasTriedAll false v v
+tried_none v = record { advanced = ([], refl); notes = refl }
+
+pub tried_more : (e : ℕ) (u v w : View) → HasTriedAll false u v → AdvancedPast e v w → HasTriedAll false u w
+tried_more e u v w all one = record { advanced = (e ∷ all.advanced.0, one.advanced ∙ ap (λ (l : List ℕ). e ∷ l) all.advanced.1); notes = one.notes ∙ all.notes }
+
+pub tried_worn : (u v w : View) → HasTriedAll false u v → WasWorn v w → HasTriedAll true u w
+tried_worn u v w all one = record { advanced = (all.advanced.0, one.advanced ∙ all.advanced.1); notes = one.notes ∙ ap (λ (l : List Note). Worn ∷ l) all.notes }
+
+-- DRAINED
+
+-- So many retired receipts are still to be tried, the first ones. Each of the others that is left was refused.
+pub record IsTurning (old now : Counted) (left : ℕ) : Type 0 where
+  pub log : now.log ≡ old.log
+  pub in_flight : now.in_flight ≡ old.in_flight
+  pub unlinked : now.unlinked ≡ old.unlinked
+  pub places : length now.retired + length now.drained ≡ length old.retired + length old.drained
+  pub some : left ≤ length now.retired
+  pub gone : List ℕ
+  pub rest : List ℕ
+  pub kept : List ℕ
+  pub first : length rest ≡ left
+  pub was : old.refused ≡ gone ++ rest
+  pub is : now.refused ≡ rest ++ kept
+  pub raised : AreRaised 1 gone kept
+
+pub turning_begin : (c : Counted) (n : ℕ) → n ≡ length c.retired → n ≡ length c.refused → IsTurning c c n
+turning_begin c n retired refused = record {
+  log = refl;
+  in_flight = refl;
+  unlinked = refl;
+  places = refl;
+  some = omega (arith, retired);
+  gone = [];
+  rest = c.refused;
+  kept = [];
+  first = sym refused;
+  was = refl;
+  is = sym (append-nil c.refused);
+  raised = tt;
+}
+
+head_is : (a b : ℕ) (x y : List ℕ) → a ∷ x ≡ b ∷ y → a ≡ b
+head_is a b x y e = cc e
+
+tail_is : (a b : ℕ) (x y : List ℕ) → a ∷ x ≡ b ∷ y → x ≡ y
+tail_is a b x y e = cc e
+
+-- the first of the counts that are left is that of the receipt that was tried
+turn_counts : (was now gone rest kept counts : List ℕ) (count : ℕ) → was ≡ gone ++ rest → now ≡ rest ++ kept → now ≡ count ∷ counts → 0 < length rest
+    → (others : List ℕ) × (length rest ≡ length others + 1) × (was ≡ (gone ++ count ∷ []) ++ others) × (counts ≡ others ++ kept)
+turn_counts was now gone [] kept counts count is_was is_now has some = absurd (omega (arith, some))
+turn_counts was now gone (r ∷ rest) kept counts count is_was is_now has some = (
+  rest,
+  omega arith,
+  is_was ∙ ap (λ (n : ℕ). gone ++ n ∷ rest) (head_is r count (rest ++ kept) counts (sym is_now ∙ has)) ∙ sym (append_assoc gone (count ∷ []) rest),
+  sym (tail_is r count (rest ++ kept) counts (sym is_now ∙ has)),
+)
+
+pub turning_more : (old now next : Counted) (before left : ℕ) → before ≡ left + 1 → IsTurning old now before → HasTurned now next → IsTurning old next left
+turning_more old now next before left one t has =
+    let split = turn_counts old.refused now.refused t.gone t.rest t.kept has.counts has.count t.was t.is has.counted (omega (arith, t.first, one)) in
+    let longer : length now.retired ≡ length has.others + 1 = ap length has.had ∙ omega arith in
+    ⊎_elim
+    (λ drained. record {
+      log = ap (λ (c : Counted). c.log) drained ∙ t.log;
+      in_flight = ap (λ (c : Counted). c.in_flight) drained ∙ t.in_flight;
+      unlinked = ap (λ (c : Counted). c.unlinked) drained ∙ t.unlinked;
+      places = omega (arith, longer, ap (λ (c : Counted). length c.retired) drained, ap (λ (c : Counted). length c.drained) drained ∙ length-append now.drained (has.kept ∷ []), t.places);
+      some = omega (arith, longer, ap (λ (c : Counted). length c.retired) drained, t.some, one);
+      gone = t.gone ++ has.count ∷ [];
+      rest = split.0;
+      kept = t.kept;
+      first = omega (arith, split.1, t.first, one);
+      was = split.2;
+      is = ap (λ (c : Counted). c.refused) drained ∙ split.3;
+      raised = raised_gone t.gone t.kept has.count t.raised;
+    })
+    (λ refused. record {
+      log = ap (λ (c : Counted). c.log) refused.2 ∙ t.log;
+      in_flight = ap (λ (c : Counted). c.in_flight) refused.2 ∙ t.in_flight;
+      unlinked = ap (λ (c : Counted). c.unlinked) refused.2 ∙ t.unlinked;
+      places = omega (arith, longer, ap (λ (c : Counted). length c.retired) refused.2 ∙ length-append has.others (has.kept ∷ []), ap (λ (c : Counted). length c.drained) refused.2, t.places);
+      some = omega (arith, longer, ap (λ (c : Counted). length c.retired) refused.2 ∙ length-append has.others (has.kept ∷ []), t.some, one);
+      gone = t.gone ++ has.count ∷ [];
+      rest = split.0;
+      kept = t.kept ++ refused.0 ∷ [];
+      first = omega (arith, split.1, t.first, one);
+      was = split.2;
+      is = ap (λ (c : Counted). c.refused) refused.2 ∙ ap (λ (l : List ℕ). l ++ refused.0 ∷ []) split.3 ∙ append_assoc split.0 t.kept (refused.0 ∷ []);
+      raised = raised_left t.gone t.kept has.count refused.0 refused.1 t.raised;
+    })
+    has.how
+
+none_left : (l : List ℕ) → length l ≡ 0 → l ≡ []
+none_left [] e = refl
+none_left (n ∷ l) e = absurd (omega (arith, e))
+
+pub turning_end : (old now : Counted) (left : ℕ) → left ≡ 0 → IsTurning old now left → HasDrainedAll old now
+turning_end old now left none t =
+    let rest : t.rest ≡ [] = none_left t.rest (t.first ∙ none) in
+    record {
+      log = t.log;
+      in_flight = t.in_flight;
+      unlinked = t.unlinked;
+      places = t.places;
+      each = (
+        [],
+        subst (λ (l : List ℕ). AreRaised 1 l now.refused) (sym (append-nil old.refused))
+            (subst (λ (l : List ℕ). AreRaised 1 l now.refused) (sym (t.was ∙ ap (λ (l : List ℕ). t.gone ++ l) rest ∙ append-nil t.gone))
+            (subst (λ (l : List ℕ). AreRaised 1 t.gone l) (sym (t.is ∙ ap (λ (l : List ℕ). l ++ t.kept) rest)) t.raised)),
+      );
+    }
+
+-- RELEASED
+
+pub released_none : (c : Counted) → HasReleasedAll c 0 c
+released_none c = record { log = refl; fewer = omega arith; in_flight = refl; unlinked = refl; retired = refl; refused = refl; places = omega arith }
+
+pub released_more : {R D : Type 0} (serves : D → R → Type 0) (identity : R → List ℕ) (old now next : Counted) (count : ℕ) (before after : D) → HasReleasedAll old count now → IsCounted now
+    → HasReleased serves identity now before next after → HasReleasedAll old (count + 1) next
+released_more serves identity old now next count before after all counted one =
+    let longer : length now.drained ≡ length one.others + 1 = ap length one.had ∙ omega arith in
+    let fewer : next.log.unreleased ≡ now.log.unreleased - 1 = ap (λ (c : Counted). c.log.unreleased) one.is in
+    record {
+      log = ap (λ (c : Counted). c.log) one.is ∙ ap (λ (p : HybridLog). record p { unreleased = now.log.unreleased - 1 }) all.log ∙ ap (λ (n : ℕ). record old.log { unreleased = n }) (sym fewer);
+      fewer = omega (arith, fewer, counted, longer, all.fewer);
+      in_flight = ap (λ (c : Counted). c.in_flight) one.is ∙ all.in_flight;
+      unlinked = ap (λ (c : Counted). c.unlinked) one.is ∙ all.unlinked;
+      retired = ap (λ (c : Counted). c.retired) one.is ∙ all.retired;
+      refused = ap (λ (c : Counted). c.refused) one.is ∙ all.refused;
+      places = omega (arith, longer, ap (λ (c : Counted). length c.drained) one.is, all.places);
+    }
+
+pub released_fewer : {R D : Type 0} (serves : D → R → Type 0) (identity : R → List ℕ) (now next : Counted) (before after : D) → HasReleased serves identity now before next after
+    → length next.drained < length now.drained
+released_fewer serves identity now next before after one = omega (arith, ap length one.had, ap (λ (c : Counted). length c.drained) one.is)
+
+-- ALL OF IT
+
+pub freed_by : (a b c d : Counted) (count : ℕ) (freed : Freed) → HasRetiredAll a b → HasDrainedAll b c → HasReleasedAll c count d → (freed.released ≡ true → 0 < count) → (freed.released ≡ false → count ≡ 0)
+    → d.drained ≡ [] → (b.unlinked ≡ []) ⊎ (freed.refused.retire ≡ true) → (c.retired ≡ []) ⊎ (freed.refused.drain ≡ true) → HasFreed a freed d
+freed_by a b c d count freed one two three some none drained unlinked retired =
+    let log : c.log ≡ a.log = two.log ∙ one.log in
+    let un : d.unlinked ≡ b.unlinked = three.unlinked ∙ two.unlinked in
+    record {
+      count = count;
+      some = some;
+      none = none;
+      log = three.log ∙ ap (λ (p : HybridLog). record p { unreleased = d.log.unreleased }) log;
+      fewer = omega (arith, three.fewer, ap (λ (p : HybridLog). p.unreleased) log);
+      in_flight = three.in_flight ∙ two.in_flight ∙ one.in_flight;
+      places = omega (arith, ap length un, ap length three.retired, three.places, two.places, one.places, ap length one.drained);
+      drained = drained;
+      unlinked = ⊎_elim (λ e. inl (un ∙ e)) (λ w. inr w) unlinked;
+      retired = ⊎_elim (λ e. inl (three.retired ∙ e)) (λ w. inr w) retired;
+      each = subst (IsEachRefused a.refused) (sym three.refused)
+          (each_later a.refused b.refused c.refused one.refused.0
+          (subst (λ (l : List ℕ). AreRaised 0 l b.refused) one.refused.1 (raised_same b.refused)) two.each);
+    }
+
+-- counts that were raised before, and since
+counts_later : (was mid new : List ℕ) (more : List ℕ) → AreRaised 0 (was ++ more) mid → IsEachRefused mid new → (others : List ℕ) × AreRaised 0 (was ++ others) new
+counts_later was mid new more one two = let each = each_later was mid new more one two in (each.0, weaker (was ++ each.0) new each.1)
+
+none_of : (l : List Kept) → l ≡ [] → length l ≡ 0
+none_of l e = ap length e
+
+-- where none was released, the log is as it was
+same_log : (old new : Counted) (freed : Freed) → freed.released ≡ false → HasFreed old freed new → new.log ≡ old.log
+same_log old new freed none has = has.log ∙ ap (λ (n : ℕ). record old.log { unreleased = n }) (omega (arith, has.fewer, has.none none))
+
+-- STRIPE BY STRIPE
+
+module _ {R : Type 0} where
+  -- of each part, what has become of the counts of its retired places
+  abbrev pub Lasts : (before later : ℕ → Option (Shard R)) → Type 0
+  Lasts before later = (i : ℕ) (part : Shard R) → later i ≡ Some part
+      → (was : Shard R) × (before i ≡ Some was) × (more : List ℕ) × AreRaised 0 ((shard_counted was).refused ++ more) (shard_counted part).refused
+
+  pub lasts_none : (parts : ℕ → Option (Shard R)) → Lasts parts parts
+  lasts_none parts i part is =
+      (part, is, [], subst (λ (l : List ℕ). AreRaised 0 l (shard_counted part).refused) (sym (append-nil (shard_counted part).refused)) (raised_same (shard_counted part).refused))
+
+  some_part : (o : Option (Shard R)) (w : Waiting) → option_map shard_waiting o ≡ Some w → (part : Shard R) × (o ≡ Some part) × (shard_waiting part ≡ w)
+  some_part None w is = absurd (cc is)
+  some_part (Some part) w is = (part, refl, cc is)
+
+  -- what waits stayed as it was
+  pub lasts_still : (a b c : ℕ → Option (Shard R)) → Lasts a b → SameWaits b c → Lasts a c
+  lasts_still a b c lasts same i part is =
+      let mid = some_part (b i) (shard_waiting part) (sym (same i) ∙ ap (option_map shard_waiting) is) in
+      let was = lasts i mid.0 mid.1 in
+      (was.0, was.1, was.2, subst (λ (l : List ℕ). AreRaised 0 ((shard_counted was.0).refused ++ was.2) l) (ap (λ (w : Waiting). w.refused) mid.2) was.3)
+
+  some_same : (x y : Shard R) (o : Option (Shard R)) → o ≡ Some x → o ≡ Some y → x ≡ y
+  some_same x y o one two = ap (λ (z : Option (Shard R)). unwrap_or z x) (sym one ∙ two)
+
+  -- places of one stripe were released
+  pub lasts_freed : (a b c : ℕ → Option (Shard R)) (stripe : ℕ) (freed : Freed) → Lasts a b → FreesAt stripe freed b c → Lasts a c
+  lasts_freed a b c stripe freed lasts frees i part is = ⊎_elim
+      (λ at.
+      let same : frees.new ≡ part = some_same frees.new part (c stripe) frees.is (ap c (sym at) ∙ is) in
+      let was = lasts stripe frees.old frees.was in
+      let counts = counts_later (shard_counted was.0).refused (shard_counted frees.old).refused (shard_counted frees.new).refused was.2 was.3 frees.how.each in (
+        was.0,
+        ap a at ∙ was.1,
+        counts.0,
+        subst (λ (p : Shard R). AreRaised 0 ((shard_counted was.0).refused ++ counts.0) (shard_counted p).refused) same counts.1,
+      ))
+      (λ ne. lasts i part (sym (frees.others i ne) ∙ is))
+      (cases_eq i stripe)
+
+  -- no place of the stripe can be released now
+  pub spent_at : (a b c : ℕ → Option (Shard R)) (stripe : ℕ) (freed : Freed) → Lasts a b → FreesAt stripe freed b c → IsSpentAt freed.refused stripe a c
+  spent_at a b c stripe freed lasts frees =
+      let was = lasts stripe frees.old frees.was in
+      record {
+        old = was.0;
+        new = frees.new;
+        was = was.1;
+        is = frees.is;
+        spent = record {
+          drained = none_of (shard_counted frees.new).drained frees.how.drained;
+          unlinked = ⊎_elim (λ e. inl (none_of (shard_counted frees.new).unlinked e)) (λ w. inr w) frees.how.unlinked;
+          retired = ⊎_elim (λ e. inl (none_of (shard_counted frees.new).retired e)) (λ w. inr w) frees.how.retired;
+          each = each_later (shard_counted was.0).refused (shard_counted frees.old).refused (shard_counted frees.new).refused was.2 was.3 frees.how.each;
+        };
+      }
+
+  log_some : (p : Shard R) (l : HybridLog) → Some (shard_log p) ≡ Some l → shard_log p ≡ l
+  log_some p l e = cc e
+
+  -- and a stripe that was full is full still
+  pub full_still : (b c : ℕ → Option (Shard R)) (stripe : ℕ) (freed : Freed) → freed.released ≡ false → FreesAt stripe freed b c → IsFullAt (logs_of b) stripe → IsFullAt (logs_of c) stripe
+  full_still b c stripe freed none frees full = record {
+    log = shard_log frees.new;
+    there = ap (option_map shard_log) frees.is;
+    full = subst IsFull (sym (same_log (shard_counted frees.old) (shard_counted frees.new) freed none frees.how
+        ∙ log_some frees.old full.log (sym (ap (option_map shard_log) frees.was) ∙ full.there))) full.full;
+  }
+
+-- HOW MANY WAIT
+
+same_all : (n : ℕ) (v w : ℕ → Option Waiting) → ((j : ℕ) → j < n → w j ≡ v j) → all_waiting n w ≡ all_waiting n v
+same_all zero v w same = refl
+same_all (suc n) v w same = omega (arith, same_all n v w (λ j below. same j (omega (arith, below))), ap waiting_at (same n (omega arith)))
+
+fewer_all : (n i : ℕ) (v w : ℕ → Option Waiting) → i < n → waiting_at (w i) < waiting_at (v i) → ((j : ℕ) → j ≢ i → w j ≡ v j) → all_waiting n w < all_waiting n v
+fewer_all zero i v w below less others = absurd (omega (arith, below))
+fewer_all (suc n) i v w below less others = ⊎_elim
+    (λ at. omega (arith, same_all n v w (λ j under. others j (λ e. absurd (omega (arith, e, at, under)))), subst (λ (k : ℕ). waiting_at (w k) < waiting_at (v k)) (sym at) less))
+    (λ ne. omega (arith, fewer_all n i v w (omega (arith, below, ne)) less others, ap waiting_at (others n ne)))
+    (cases_eq n i)
+
+-- where a place was released, fewer wait
+pub waits_fewer : {R : Type 0} (n stripe : ℕ) (a b c : ℕ → Option (Shard R)) (freed : Freed) → stripe < n → freed.released ≡ true → SameWaits a b → FreesAt stripe freed b c
+    → all_waiting n (waits_of c) < all_waiting n (waits_of a)
+waits_fewer {R} n stripe a b c freed below some same frees =
+    let less : waiting_at (waits_of c stripe) < waiting_at (waits_of b stripe) =
+    omega (arith, ap (λ (o : Option (Shard R)). waiting_at (option_map shard_waiting o)) frees.is, ap (λ (o : Option (Shard R)). waiting_at (option_map shard_waiting o)) frees.was, frees.how.places, frees.how.some some) in
+    subst (λ (m : ℕ). all_waiting n (waits_of c) < m) (same_all n (waits_of a) (waits_of b) (λ j under. same j))
+    (fewer_all n stripe (waits_of b) (waits_of c) below less (λ j ne. ap (option_map shard_waiting) (frees.others j ne)))
+
+-- WHAT SEATS WERE TOLD
+
+pub heard_none : (v : View) → HasHeard v v
+heard_none v = record { more = []; notes = refl }
+
+tried_heard_if : (worn : Bool) (v w : View) → HasTriedAll worn v w → HasHeard v w
+tried_heard_if true v w tried = record { more = Worn ∷ []; notes = tried.notes }
+tried_heard_if false v w tried = record { more = []; notes = tried.notes }
+
+pub heard_more : (worn : Bool) (u v w : View) → HasHeard u v → HasTriedAll worn v w → HasHeard u w
+heard_more worn u v w heard tried =
+    let one = tried_heard_if worn v w tried in
+    record { more = one.more ++ heard.more; notes = one.notes ∙ ap (λ (l : List Note). one.more ++ l) heard.notes ∙ sym (append_assoc one.more heard.more u.notes) }
+
+pub heard_worn : (worn : Bool) (u v w : View) → HasHeard u v → HasTriedAll worn v w → worn ≡ true → HasHeardWorn u w
+heard_worn true u v w heard tried is = record { more = heard.more; notes = tried.notes ∙ ap (λ (l : List Note). Worn ∷ l) heard.notes }
+heard_worn false u v w heard tried is = absurd (cc is)
+
+-- WHAT IS STILL SO
+
+either_false : (P : Type 0) (b : Bool) → OnFalse b P → P ⊎ (b ≡ true)
+either_false P true is = inr refl
+either_false P false is = inl is
+
+pub freed_steps : (a b c d : Counted) (count : ℕ) (retire drain released : Bool) → HasRetiredAll a b → HasDrainedAll b c → HasReleasedAll c count d → (released ≡ true → 0 < count) → (released ≡ false → count ≡ 0)
+    → d.drained ≡ [] → OnFalse retire (b.unlinked ≡ []) → OnFalse drain (c.retired ≡ [])
+    → HasFreed a (record { released = released; refused = record { retire = retire; drain = drain } }) d
+freed_steps a b c d count retire drain released one two three some none drained unlinked retired =
+    freed_by a b c d count (record { released = released; refused = record { retire = retire; drain = drain } }) one two three some none drained
+    (either_false (b.unlinked ≡ []) retire unlinked) (either_false (c.retired ≡ []) drain retired)
+
+-- nothing was drained any more
+pub released_end : {D : Type 0} (releases : D → ℕ) (old now next : Counted) (f0 : ℕ) (before after : D) (any : Bool) → next ≡ now → after ≡ before
+    → ((count : ℕ) × HasReleasedAll old count now × (any ≡ true → 0 < count) × (any ≡ false → count ≡ 0) × (releases before ≡ f0 + count))
+    → (count : ℕ) × HasReleasedAll old count next × (any ≡ true → 0 < count) × (any ≡ false → count ≡ 0) × (releases after ≡ f0 + count)
+released_end releases old now next f0 before after any same device released =
+    (released.0, subst (λ (c : Counted). HasReleasedAll old released.0 c) (sym same) released.1, released.2, released.3, ap releases device ∙ released.4)
+
+-- what a log stands for, where places were counted off
+pub same_store : (old new : HybridLog) → new ≡ record old { unreleased = new.unreleased } → contents (log_of new) ≡ contents (log_of old)
+same_store old new same = ap (λ (p : HybridLog). contents (log_of p)) same
+
+is_there : {R : Type 0} (o : Option (Shard R)) (log : HybridLog) → option_map shard_log o ≡ Some log → IsSome o
+is_there None log e = absurd (cc e)
+is_there (Some part) log e = refl
+
+pub full_there : {R : Type 0} (parts : ℕ → Option (Shard R)) (stripe : ℕ) → IsFullAt (logs_of parts) stripe → IsSome (parts stripe)
+full_there {R} parts stripe full = is_there (parts stripe) full.log full.there
+
+some_value : {T : Type 0} (x y : T) → Some x ≡ Some y → x ≡ y
+some_value {T} x y e = ap (λ (o : Option T). unwrap_or o x) e
+
+was_there : {T : Type 0} (a b : Option T) → ((new : T) → b ≡ Some new → (old : T) × (a ≡ Some old)) → IsSome b → IsSome a
+was_there {T} a None was some = absurd (cc some)
+was_there {T} a (Some new) was some = let old = was new refl in subst (λ (o : Option T). IsSome o) (sym old.1) refl
+
+module _ {T : Type 0} (meaning : Meaning T) (n : ℕ) where
+  -- what keys have is as it was, where nothing was written
+  joined_still : (a b : Option T) (key : Bytes) → (IsSome a → IsSome b)
+      → ((new : T) → b ≡ Some new → (old : T) × (a ≡ Some old) × (meaning.store new key ≡ meaning.store old key)) → value_in meaning key b ≡ value_in meaning key a
+  joined_still None None key there was = refl
+  joined_still None (Some new) key there was = absurd (cc (was new refl).1)
+  joined_still (Some old) None key there was = absurd (cc (there refl))
+  joined_still (Some old) (Some new) key there was =
+      let same = was new refl in same.2 ∙ ap (λ (p : T). meaning.store p key) (sym (some_value old same.0 same.1))
+
+  pub joined_same : (a b : ℕ → Option T) (key : Bytes) → Became meaning n [] stays a b → joined meaning n b key ≡ joined meaning n a key
+  joined_same a b key became =
+      joined_still (a (stripe_of n key)) (b (stripe_of n key)) key (became.there (stripe_of n key))
+      (λ new is. let was = became.was (stripe_of n key) new is in (was.0, was.1, was.2.here key refl))
+
+  marks_still : (a b : Option T) (key : Bytes) (number : ℕ) → (IsSome a → IsSome b)
+      → ((new : T) → b ≡ Some new → (old : T) × (a ≡ Some old) × (meaning.marks new key number ≡ meaning.marks old key number)) → mark_in meaning key number b ≡ mark_in meaning key number a
+  marks_still None None key number there was = refl
+  marks_still None (Some new) key number there was = absurd (cc (was new refl).1)
+  marks_still (Some old) None key number there was = absurd (cc (there refl))
+  marks_still (Some old) (Some new) key number there was =
+      let same = was new refl in same.2 ∙ ap (λ (p : T). meaning.marks p key number) (sym (some_value old same.0 same.1))
+
+  pub marks_same : (a b : ℕ → Option T) (key : Bytes) (number : ℕ) → Became meaning n [] stays a b → joined_marks meaning n b key number ≡ joined_marks meaning n a key number
+  marks_same a b key number became =
+      marks_still (a (stripe_of n key)) (b (stripe_of n key)) key number (became.there (stripe_of n key))
+      (λ new is. let was = became.was (stripe_of n key) new is in (was.0, was.1, was.2.marks key number refl))
+
+  pub short_same : (a b : ℕ → Option T) → Became meaning n [] stays a b → AllShort (joined meaning n a) → AllShort (joined meaning n b)
+  short_same a b became short key = subst IsShort (sym (joined_same a b key became)) (short key)
+
+  pub stand_same : (a b : ℕ → Option T) (seen : History) (number : ℕ) (watched : List Pair) → Became meaning n [] stays a b → Stand meaning n a seen number watched
+      → Stand meaning n b seen number watched
+  stand_same a b seen number watched became stand = record {
+    read = became_read meaning n [] stays a b (after seen) became stand.read;
+    marked = λ i part is key at. let was = became.was i part is in was.2.marks key number at ∙ stand.marked i was.0 was.1 key at;
+  }
+
+  -- the parts that there are now there were before
+  there_before : (keys : List Bytes) (a b : ℕ → Option T) → Became meaning n [] stays a b → AreThere n b keys → AreThere n a keys
+  there_before [] a b became there = tt
+  there_before (key ∷ keys) a b became there = (was_there (a (stripe_of n key)) (b (stripe_of n key)) (λ new is. let was = became.was (stripe_of n key) new is in (was.0, was.1)) there.0, there_before keys a b became there.1)
+
+  unmarked_before : (keys : List Bytes) (own : ℕ) (a b : ℕ → Option T) → Became meaning n [] stays a b → AreUnmarked (joined_marks meaning n b) own keys → AreUnmarked (joined_marks meaning n a) own keys
+  unmarked_before [] own a b became none = tt
+  unmarked_before (key ∷ keys) own a b became none = (sym (marks_same a b key own became) ∙ none.0, unmarked_before keys own a b became none.1)
+
+  -- what was begun since was not begun before
+  pub begun_after : (own : ℕ) (keys : List Bytes) (a b c : ℕ → Option T) → Became meaning n [] stays a b → HasBegun meaning n own keys b c → HasBegun meaning n own keys a c
+  begun_after own keys a b c became begun = record {
+    became = became_both meaning n [] [] stays (begins own keys) (begins own keys) a b c (λ key number m. refl) became begun.became;
+    there = there_before keys a b became begun.there;
+    unwatched = unmarked_before keys own a b became begun.unwatched;
+  }
+
+  pub begins_after : (own : ℕ) (keys : List Bytes) (a b c : ℕ → Option T) → Became meaning n [] stays a b → Became meaning n [] (begins own keys) b c → Became meaning n [] (begins own keys) a c
+  begins_after own keys a b c became begun = became_both meaning n [] [] stays (begins own keys) (begins own keys) a b c (λ key number m. refl) became begun
+
+placed_same : (s u : Store) (command : Command) → ((key : Bytes) → u key ≡ s key) → IsPlannedInPlace s command → IsPlannedInPlace u command
+placed_same s u (Get key) same placed = subst (λ (v : Option Bytes). length (unwrap_or v []) ≤ WORD_INLINE) (sym (same key)) placed
+placed_same s u command same placed = (placed.0, subst (λ (v : Option Bytes). IsBrief placed.0 v command) (sym (same placed.0)) placed.1)
+
+-- what a call needs on the same store
+pub needs_same : (s u : Store) (call : Call) → ((key : Bytes) → u key ≡ s key) → NeedsNoMemoryOn s call → NeedsNoMemoryOn u call
+needs_same s u (One command) same needs = placed_same s u command same needs
+needs_same s u (Watch keys) same needs = absurd needs
+needs_same s u (Exec commands watching) same needs = absurd needs
+needs_same s u (Forget watching) same needs = absurd needs
+
+-- a stripe that is that of a key is one of all
+pub below_all : (n stripe : ℕ) (key : Bytes) → 1 ≤ n → stripe ≡ stripe_of n key → stripe < n
+below_all n stripe key some is = omega (arith, is, stripe_below n key some)
