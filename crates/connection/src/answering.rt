@@ -48,6 +48,163 @@ pub(crate) enum Due {
     Closed,
 }
 
+/// Where the answering of what a client was fed pauses.
+#[derive(Drop)]
+pub(crate) enum Paused {
+    /// No whole request is left.
+    Input,
+    /// The bytes that are left begin with a fault. Its line is not said yet.
+    Malformed(ProtocolFault),
+    /// There was no memory for the next request.
+    NoMemory,
+    /// There was no memory to feed the client what was read.
+    Unfed,
+    /// A write failed.
+    WriteFailed,
+    /// The session has ended.
+    Closed,
+}
+
+/// Answers all whole requests that the client was fed. The replies go into the output buffer, and to the writer where
+/// it is full.
+pub(crate) fn answer_all<T: Wait, L: Latch, W: Write, D: Device>(
+    store: &Store<T, L, D>,
+    talk: &mut Talk,
+    writer: &mut Noted<W>,
+    pass: &mut Pass<D>,
+) -> Paused
+    requires rests { Rests D.Receipt.is_steady store.now.engine.now pass.old }
+    requires attends { Attends (knows D.failures pass.old) talk.old.client }
+    ensures paused { (was : Known) (fed before : List ℕ)
+        → Conversing (promises_of D.Receipt.is_steady D.Receipt.lends) was (knows D.failures pass.old) fed talk.old.client (before ++ talk.old.out.items)
+        → (sent : List ℕ)
+        × Appends (W.contents (stream_of writer.old)) (W.contents (stream_of writer.new)) sent
+        × HasPaused (promises_of D.Receipt.is_steady D.Receipt.lends) was (knows D.failures pass.new) fed result talk.new.client (before ++ sent) talk.new.out.items }
+    ensures room { talk.new.room ≡ talk.old.room }
+    ensures fed { IsFed result }
+    ensures stands { StandsAt result talk.new.client }
+    ensures told { told_of writer.new ≡ paused_told result (told_of writer.old) }
+    ensures rests { Rests D.Receipt.is_steady store.now.engine.now pass.new }
+    ensures attends { Attends (knows D.failures pass.new) talk.new.client }
+{
+    loop {
+        if talk.client.wants_input() {
+            return Paused::Input;
+        }
+        match answer_next(store, &mut talk.client, &mut talk.words, pass) {
+            Due::Reply(reply) => {
+                if let Err(_) = say_spent(reply, &mut talk.out, writer) {
+                    return Paused::WriteFailed;
+                }
+            }
+            Due::Line(line) => {
+                if let Err(_) = say_line(line, &mut talk.out, writer) {
+                    return Paused::WriteFailed;
+                }
+            }
+            Due::Value(value) => {
+                if let Err(_) = say_value(value, &mut talk.out, writer) {
+                    return Paused::WriteFailed;
+                }
+            }
+            Due::Input => return Paused::Input,
+            Due::Malformed(fault) => return Paused::Malformed(fault),
+            Due::NoMemory => return Paused::NoMemory,
+            Due::Closed => return Paused::Closed,
+        }
+    }
+}
+
+/// Writes what is held back where the answering paused so, after it the line of a fault that was met.
+/// `None` where the connection goes on.
+pub(crate) fn conclude<W: Write, D: Device>(
+    paused: Paused,
+    out: &mut Vec<u8>,
+    writer: &mut Noted<W>,
+) -> Option<Ended>
+    ensures answered { (was now : Known) (fed before : List ℕ) (standing : Progress)
+        → HasPaused (promises_of D.Receipt.is_steady D.Receipt.lends) was now fed paused standing before out.old.items
+        → (sent : List ℕ)
+        × Appends (W.contents (stream_of writer.old)) (W.contents (stream_of writer.new)) sent
+        × HasAnswered (promises_of D.Receipt.is_steady D.Receipt.lends) was now fed result standing (before ++ sent) }
+    ensures goes_on { IfNone result ((paused ≡ Paused.Input) × (out.new.items ≡ [])) }
+    ensures ends { EndsAnswering result }
+    ensures told { (told : HasTold)
+        → told_of writer.old ≡ paused_told paused told
+        → told_of writer.new ≡ answered_told result told }
+{
+    match paused {
+        Paused::Input => {
+            if let Err(_) = flush(out, writer) {
+                return Some(Ended::WriteFailed);
+            }
+            None
+        }
+        Paused::Malformed(fault) => {
+            if let Err(_) = say_line(Line::Malformed(fault), out, writer) {
+                return Some(Ended::WriteFailed);
+            }
+            if let Err(_) = flush(out, writer) {
+                return Some(Ended::WriteFailed);
+            }
+            Some(Ended::ProtocolFault)
+        }
+        Paused::NoMemory => {
+            if let Err(_) = flush(out, writer) {
+                return Some(Ended::WriteFailed);
+            }
+            Some(Ended::NoMemory)
+        }
+        Paused::Unfed => {
+            if let Err(_) = flush(out, writer) {
+                return Some(Ended::WriteFailed);
+            }
+            Some(Ended::NoMemory)
+        }
+        Paused::Closed => {
+            if let Err(_) = flush(out, writer) {
+                return Some(Ended::WriteFailed);
+            }
+            Some(Ended::Quit)
+        }
+        Paused::WriteFailed => Some(Ended::WriteFailed),
+    }
+}
+
+/// Answers all whole requests that the client was fed, and of what is there already, and writes the
+/// replies. `None` where the connection goes on.
+pub(crate) fn answer_piece<T: Wait, L: Latch, R: ReadReady, W: Write, D: Device>(
+    store: &Store<T, L, D>,
+    talk: &mut Talk,
+    reader: &mut Noted<R>,
+    writer: &mut Noted<W>,
+    pass: &mut Pass<D>,
+) -> Option<Ended>
+    requires rests { Rests D.Receipt.is_steady store.now.engine.now pass.old }
+    requires attends { Attends (knows D.failures pass.old) talk.old.client }
+    requires room { talk.old.room.items ≡ [] }
+    requires few { talk.old.room.more ≤ MORE_PIECES }
+    requires empty { talk.old.out.items ≡ [] }
+    ensures answered { (was : Known) (fed before : List ℕ)
+        → Conversing (promises_of D.Receipt.is_steady D.Receipt.lends) was (knows D.failures pass.old) fed talk.old.client before
+        → (bytes sent : List ℕ)
+        × Consumes (R.remaining (stream_of reader.old)) (R.remaining (stream_of reader.new)) bytes
+        × Appends (W.contents (stream_of writer.old)) (W.contents (stream_of writer.new)) sent
+        × HasAnswered (promises_of D.Receipt.is_steady D.Receipt.lends) was (knows D.failures pass.new) (fed ++ bytes) result talk.new.client (before ++ sent) }
+    ensures goes_on { GoesOn result talk.new.client talk.new.out.items }
+    ensures ends { EndsAnswering result }
+    ensures told { told_of writer.new ≡ answered_told result (told_of writer.old) }
+    ensures reader_told { told_of reader.new ≡ told_of reader.old }
+    ensures reads { reads_of reader.new ≤ reads_of reader.old }
+    ensures few { reads_of reader.old ≤ reads_of reader.new + MORE_PIECES }
+    ensures room { IfNone result (talk.new.room.items ≡ []) }
+    ensures rests { Rests D.Receipt.is_steady store.now.engine.now pass.new }
+    ensures attends { Attends (knows D.failures pass.new) talk.new.client }
+{
+    let paused = answer_waiting(store, talk, reader, writer, pass);
+    conclude::<W, D>(paused, &mut talk.out, writer)
+}
+
 /// Answers the client's next request, if there is a whole one. It is taken up into these words.
 #[inline]
 fn answer_next<T: Wait, L: Latch, D: Device>(
@@ -161,73 +318,6 @@ fn answer_obeyed<T: Wait, L: Latch, D: Device>(
     }
 }
 
-/// Where the answering of what a client was fed pauses.
-#[derive(Drop)]
-pub(crate) enum Paused {
-    /// No whole request is left.
-    Input,
-    /// The bytes that are left begin with a fault. Its line is not said yet.
-    Malformed(ProtocolFault),
-    /// There was no memory for the next request.
-    NoMemory,
-    /// There was no memory to feed the client what was read.
-    Unfed,
-    /// A write failed.
-    WriteFailed,
-    /// The session has ended.
-    Closed,
-}
-
-/// Answers all whole requests that the client was fed. The replies go into the output buffer, and to the writer where
-/// it is full.
-pub(crate) fn answer_all<T: Wait, L: Latch, W: Write, D: Device>(
-    store: &Store<T, L, D>,
-    talk: &mut Talk,
-    writer: &mut Noted<W>,
-    pass: &mut Pass<D>,
-) -> Paused
-    requires rests { Rests D.Receipt.is_steady store.now.engine.now pass.old }
-    requires attends { Attends (knows D.failures pass.old) talk.old.client }
-    ensures paused { (was : Known) (fed before : List ℕ)
-        → Conversing (promises_of D.Receipt.is_steady D.Receipt.lends) was (knows D.failures pass.old) fed talk.old.client (before ++ talk.old.out.items)
-        → (sent : List ℕ)
-        × Appends (W.contents (stream_of writer.old)) (W.contents (stream_of writer.new)) sent
-        × HasPaused (promises_of D.Receipt.is_steady D.Receipt.lends) was (knows D.failures pass.new) fed result talk.new.client (before ++ sent) talk.new.out.items }
-    ensures room { talk.new.room ≡ talk.old.room }
-    ensures fed { IsFed result }
-    ensures stands { StandsAt result talk.new.client }
-    ensures told { told_of writer.new ≡ paused_told result (told_of writer.old) }
-    ensures rests { Rests D.Receipt.is_steady store.now.engine.now pass.new }
-    ensures attends { Attends (knows D.failures pass.new) talk.new.client }
-{
-    loop {
-        if talk.client.wants_input() {
-            return Paused::Input;
-        }
-        match answer_next(store, &mut talk.client, &mut talk.words, pass) {
-            Due::Reply(reply) => {
-                if let Err(_) = say_spent(reply, &mut talk.out, writer) {
-                    return Paused::WriteFailed;
-                }
-            }
-            Due::Line(line) => {
-                if let Err(_) = say_line(line, &mut talk.out, writer) {
-                    return Paused::WriteFailed;
-                }
-            }
-            Due::Value(value) => {
-                if let Err(_) = say_value(value, &mut talk.out, writer) {
-                    return Paused::WriteFailed;
-                }
-            }
-            Due::Input => return Paused::Input,
-            Due::Malformed(fault) => return Paused::Malformed(fault),
-            Due::NoMemory => return Paused::NoMemory,
-            Due::Closed => return Paused::Closed,
-        }
-    }
-}
-
 /// Answers all whole requests that the client was fed, and of what is there already: it is read and fed
 /// where no whole request is left, at most [`MORE_PIECES`] times, so that no reply waits for more reads than these.
 /// The replies go into the output buffer, and to the writer where it is full.
@@ -269,94 +359,4 @@ fn answer_waiting<T: Wait, L: Latch, R: ReadReady, W: Write, D: Device>(
             Waiting::NoMemory => return Paused::Unfed,
         }
     }
-}
-
-/// Writes what is held back where the answering paused so, after it the line of a fault that was met.
-/// `None` where the connection goes on.
-pub(crate) fn conclude<W: Write, D: Device>(
-    paused: Paused,
-    out: &mut Vec<u8>,
-    writer: &mut Noted<W>,
-) -> Option<Ended>
-    ensures answered { (was now : Known) (fed before : List ℕ) (standing : Progress)
-        → HasPaused (promises_of D.Receipt.is_steady D.Receipt.lends) was now fed paused standing before out.old.items
-        → (sent : List ℕ)
-        × Appends (W.contents (stream_of writer.old)) (W.contents (stream_of writer.new)) sent
-        × HasAnswered (promises_of D.Receipt.is_steady D.Receipt.lends) was now fed result standing (before ++ sent) }
-    ensures goes_on { IfNone result ((paused ≡ Paused.Input) × (out.new.items ≡ [])) }
-    ensures ends { EndsAnswering result }
-    ensures told { (told : HasTold)
-        → told_of writer.old ≡ paused_told paused told
-        → told_of writer.new ≡ answered_told result told }
-{
-    match paused {
-        Paused::Input => {
-            if let Err(_) = flush(out, writer) {
-                return Some(Ended::WriteFailed);
-            }
-            None
-        }
-        Paused::Malformed(fault) => {
-            if let Err(_) = say_line(Line::Malformed(fault), out, writer) {
-                return Some(Ended::WriteFailed);
-            }
-            if let Err(_) = flush(out, writer) {
-                return Some(Ended::WriteFailed);
-            }
-            Some(Ended::ProtocolFault)
-        }
-        Paused::NoMemory => {
-            if let Err(_) = flush(out, writer) {
-                return Some(Ended::WriteFailed);
-            }
-            Some(Ended::NoMemory)
-        }
-        Paused::Unfed => {
-            if let Err(_) = flush(out, writer) {
-                return Some(Ended::WriteFailed);
-            }
-            Some(Ended::NoMemory)
-        }
-        Paused::Closed => {
-            if let Err(_) = flush(out, writer) {
-                return Some(Ended::WriteFailed);
-            }
-            Some(Ended::Quit)
-        }
-        Paused::WriteFailed => Some(Ended::WriteFailed),
-    }
-}
-
-/// Answers all whole requests that the client was fed, and of what is there already, and writes the
-/// replies. `None` where the connection goes on.
-pub(crate) fn answer_piece<T: Wait, L: Latch, R: ReadReady, W: Write, D: Device>(
-    store: &Store<T, L, D>,
-    talk: &mut Talk,
-    reader: &mut Noted<R>,
-    writer: &mut Noted<W>,
-    pass: &mut Pass<D>,
-) -> Option<Ended>
-    requires rests { Rests D.Receipt.is_steady store.now.engine.now pass.old }
-    requires attends { Attends (knows D.failures pass.old) talk.old.client }
-    requires room { talk.old.room.items ≡ [] }
-    requires few { talk.old.room.more ≤ MORE_PIECES }
-    requires empty { talk.old.out.items ≡ [] }
-    ensures answered { (was : Known) (fed before : List ℕ)
-        → Conversing (promises_of D.Receipt.is_steady D.Receipt.lends) was (knows D.failures pass.old) fed talk.old.client before
-        → (bytes sent : List ℕ)
-        × Consumes (R.remaining (stream_of reader.old)) (R.remaining (stream_of reader.new)) bytes
-        × Appends (W.contents (stream_of writer.old)) (W.contents (stream_of writer.new)) sent
-        × HasAnswered (promises_of D.Receipt.is_steady D.Receipt.lends) was (knows D.failures pass.new) (fed ++ bytes) result talk.new.client (before ++ sent) }
-    ensures goes_on { GoesOn result talk.new.client talk.new.out.items }
-    ensures ends { EndsAnswering result }
-    ensures told { told_of writer.new ≡ answered_told result (told_of writer.old) }
-    ensures reader_told { told_of reader.new ≡ told_of reader.old }
-    ensures reads { reads_of reader.new ≤ reads_of reader.old }
-    ensures few { reads_of reader.old ≤ reads_of reader.new + MORE_PIECES }
-    ensures room { IfNone result (talk.new.room.items ≡ []) }
-    ensures rests { Rests D.Receipt.is_steady store.now.engine.now pass.new }
-    ensures attends { Attends (knows D.failures pass.new) talk.new.client }
-{
-    let paused = answer_waiting(store, talk, reader, writer, pass);
-    conclude::<W, D>(paused, &mut talk.out, writer)
 }

@@ -21,7 +21,6 @@ const PIECE_BYTES: usize = 16_384;
 const BLOCK_BYTES: usize = 32_768;
 /// The most bytes that are read at a time where there is no memory for a block.
 const FEW_BYTES: usize = 256;
-
 /// The most pieces that are read after one before the replies are written.
 pub(crate) const MORE_PIECES: u8 = 15;
 
@@ -78,25 +77,15 @@ impl Room {
     }
 }
 
-/// Whether a block has room for a piece: after the pieces that were cut from it, or from its start where these are
-/// all let go.
-fn has_room(block: &mut BytesMut) -> bool
-    ensures room { IsTrue result → PIECE_BYTES ≤ block.new.spare }
-    ensures block { PIECE_BYTES ≤ block.old.spare → IsTrue result }
-    ensures items { block.new.items ≡ block.old.items }
-{
-    PIECE_BYTES <= block.capacity() - block.len() || block.try_reclaim(BLOCK_BYTES)
-}
-
-/// Feeds the client what was read into the room, as one piece that is cut from its block.
-fn feed_read(room: &mut BytesMut, client: &mut Client) -> Result<(), OutOfMemory>
-    ensures ok { OnOk result
-        (client.new ≡ record client.old { unread = client.old.unread ++ room.old.items }) }
-    ensures err { OnErr result (client.new ≡ client.old) }
-    ensures empty { OnOk result (room.new.items ≡ []) }
-{
-    let piece = room.freeze_to(room.len())?;
-    client.feed(piece)
+/// What came of asking for a piece that is there already.
+#[derive(Clone, Copy)]
+pub(crate) enum Waiting {
+    /// The client was fed a piece.
+    Fed,
+    /// Nothing was read: nothing is there, or it cannot be told.
+    Nothing,
+    /// There was no memory to feed the piece that was read.
+    NoMemory,
 }
 
 /// Reads a piece of at most [`PIECE_BYTES`] bytes, and feeds it to the client. `None` where the connection
@@ -122,6 +111,51 @@ pub(crate) fn take_piece<R: Read>(
         room.more = 0;
         take_few(reader, &mut room.block, client)
     }
+}
+
+/// Reads a piece of at most [`PIECE_BYTES`] bytes that is there already, and feeds it to the client. The
+/// reader is asked only where its last read filled what it was given, at most [`MORE_PIECES`] times, and
+/// where there is room for a piece.
+pub(crate) fn take_waiting<R: ReadReady>(
+    reader: &mut Noted<R>,
+    room: &mut Room,
+    client: &mut Client,
+) -> Waiting
+    requires { room.old.items ≡ [] }
+    ensures taken { (bytes : List ℕ) × (length bytes ≤ 16384)
+        × Consumes (R.remaining (stream_of reader.old)) (R.remaining (stream_of reader.new)) bytes
+        × HasWaited result client.old bytes client.new }
+    ensures told { told_of reader.new ≡ told_of reader.old }
+    ensures reads { reads_of reader.old ≡ reads_of reader.new + waited_count result }
+    ensures more { room.new.more + waited_count result ≤ room.old.more }
+    ensures empty { LeavesRoom result room.new.items }
+{
+    if room.more > 0 && room.make_room() {
+        take_ready(reader, room, client)
+    } else {
+        Waiting::Nothing
+    }
+}
+
+/// Whether a block has room for a piece: after the pieces that were cut from it, or from its start where these are
+/// all let go.
+fn has_room(block: &mut BytesMut) -> bool
+    ensures room { IsTrue result → PIECE_BYTES ≤ block.new.spare }
+    ensures block { PIECE_BYTES ≤ block.old.spare → IsTrue result }
+    ensures items { block.new.items ≡ block.old.items }
+{
+    PIECE_BYTES <= block.capacity() - block.len() || block.try_reclaim(BLOCK_BYTES)
+}
+
+/// Feeds the client what was read into the room, as one piece that is cut from its block.
+fn feed_read(room: &mut BytesMut, client: &mut Client) -> Result<(), OutOfMemory>
+    ensures ok { OnOk result
+        (client.new ≡ record client.old { unread = client.old.unread ++ room.old.items }) }
+    ensures err { OnErr result (client.new ≡ client.old) }
+    ensures empty { OnOk result (room.new.items ≡ []) }
+{
+    let piece = room.freeze_to(room.len())?;
+    client.feed(piece)
 }
 
 /// Reads into a block with room for a piece.
@@ -188,41 +222,6 @@ fn take_few<R: Read>(
     match feed_read(room, client) {
         Ok(()) => None,
         Err(_) => Some(Ended::NoMemory),
-    }
-}
-
-/// What came of asking for a piece that is there already.
-#[derive(Clone, Copy)]
-pub(crate) enum Waiting {
-    /// The client was fed a piece.
-    Fed,
-    /// Nothing was read: nothing is there, or it cannot be told.
-    Nothing,
-    /// There was no memory to feed the piece that was read.
-    NoMemory,
-}
-
-/// Reads a piece of at most [`PIECE_BYTES`] bytes that is there already, and feeds it to the client. The
-/// reader is asked only where its last read filled what it was given, at most [`MORE_PIECES`] times, and
-/// where there is room for a piece.
-pub(crate) fn take_waiting<R: ReadReady>(
-    reader: &mut Noted<R>,
-    room: &mut Room,
-    client: &mut Client,
-) -> Waiting
-    requires { room.old.items ≡ [] }
-    ensures taken { (bytes : List ℕ) × (length bytes ≤ 16384)
-        × Consumes (R.remaining (stream_of reader.old)) (R.remaining (stream_of reader.new)) bytes
-        × HasWaited result client.old bytes client.new }
-    ensures told { told_of reader.new ≡ told_of reader.old }
-    ensures reads { reads_of reader.old ≡ reads_of reader.new + waited_count result }
-    ensures more { room.new.more + waited_count result ≤ room.old.more }
-    ensures empty { LeavesRoom result room.new.items }
-{
-    if room.more > 0 && room.make_room() {
-        take_ready(reader, room, client)
-    } else {
-        Waiting::Nothing
     }
 }
 

@@ -95,7 +95,7 @@ pub(crate) fn wide() -> Limits
     }
 }
 
-/// The same with so many buckets that few keys share one.
+/// The limits of [`wide`], with so many buckets that few keys share one.
 pub(crate) fn many_buckets() -> Limits
     ensures { result.clients ≡ 2 }
 {

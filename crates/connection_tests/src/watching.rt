@@ -136,7 +136,7 @@ fn check_ends<D: Device, R: Abort + Wait>(
     anew.check(rt, WATCHES_ANEW_ANSWER, Ended::EndOfInput);
 }
 
-/// The same over a new engine.
+/// Checks each of the ways to end over a new engine.
 fn check_ends_of_new<R: Abort + Wait>(
     rt: &R,
     alloc: Global,

@@ -56,7 +56,7 @@ fn memory(alloc: Global) -> Option<MemoryDevice> {
     openings.pop()
 }
 
-/// The same, from which each page is read.
+/// An opening of memory whose receipts lend nothing, so that each page is read.
 fn away(alloc: Global) -> Option<Faulty<MemoryDevice>> {
     Some(Faulty::new(memory(alloc)?, Vec::new(alloc)))
 }

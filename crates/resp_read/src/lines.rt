@@ -30,29 +30,6 @@ pub(crate) enum DataEnd {
     Missing,
 }
 
-/// The number that an ASCII digit spells, or `None` where the byte is no digit.
-#[inline(always)]
-fn digit_of(byte: u8) -> Option<usize>
-    ensures { MatchOption result ((byte < 48) ⊎ (57 < byte)) (λ digit. (digit ≤ 9) × (byte ≡ 48 + digit)) }
-{
-    match byte {
-        b'0'..=b'9' => Some(usize::from(byte - b'0')),
-        _ => None,
-    }
-}
-
-/// Reads the end of a line whose sign, number and CR have `width - 1` bytes: an LF.
-#[inline(always)]
-fn line_end(value: usize, width: usize, rest: &[u8]) -> Line
-    ensures { TellsNumber value width rest.now result }
-{
-    match rest {
-        [] => Line::Part,
-        [b'\n', ..] => Line::Number { value, width },
-        _ => Line::Faulty(ProtocolFault::MissingLineEnd),
-    }
-}
-
 /// Reads the line of a count: `*`, a number from 1 to [`WORDS_MAX`] and a line end.
 #[inline]
 pub(crate) fn count_line(bytes: &[u8]) -> Line
@@ -131,4 +108,27 @@ pub(crate) fn data_end(length: usize, bytes: &[u8]) -> DataEnd
         return DataEnd::Missing;
     }
     DataEnd::Whole
+}
+
+/// The number that an ASCII digit spells, or `None` where the byte is no digit.
+#[inline(always)]
+fn digit_of(byte: u8) -> Option<usize>
+    ensures { MatchOption result ((byte < 48) ⊎ (57 < byte)) (λ digit. (digit ≤ 9) × (byte ≡ 48 + digit)) }
+{
+    match byte {
+        b'0'..=b'9' => Some(usize::from(byte - b'0')),
+        _ => None,
+    }
+}
+
+/// Reads the end of a line whose sign, number and CR have `width - 1` bytes: an LF.
+#[inline(always)]
+fn line_end(value: usize, width: usize, rest: &[u8]) -> Line
+    ensures { TellsNumber value width rest.now result }
+{
+    match rest {
+        [] => Line::Part,
+        [b'\n', ..] => Line::Number { value, width },
+        _ => Line::Faulty(ProtocolFault::MissingLineEnd),
+    }
 }

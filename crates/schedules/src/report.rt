@@ -9,6 +9,18 @@ use std::alloc::Global;
 use words::word::OutOfMemory;
 use world::World;
 
+/// The report of a world.
+pub(crate) fn report_of(alloc: Global, world: &World) -> Result<Vec<u8>, OutOfMemory>
+    ensures { IfOk result (λ report. report.items ≡ report_of (state_of world.now)) }
+{
+    let mut report = Vec::new(alloc);
+    for client in 0..world.clients() {
+        add_client(alloc, &mut report, client, world.output(client))?;
+    }
+    add_entries(&mut report, world.history().len())?;
+    Ok(report)
+}
+
 /// Adds the line of a client to a report.
 fn add_client(
     alloc: Global,
@@ -31,16 +43,4 @@ fn add_entries(report: &mut Vec<u8>, count: usize) -> Result<(), OutOfMemory>
     report.extend_from_slice(b"entries ")?;
     add_number(report, count)?;
     Ok(report.push(b'\n')?)
-}
-
-/// The report of a world.
-pub(crate) fn report_of(alloc: Global, world: &World) -> Result<Vec<u8>, OutOfMemory>
-    ensures { IfOk result (λ report. report.items ≡ report_of (state_of world.now)) }
-{
-    let mut report = Vec::new(alloc);
-    for client in 0..world.clients() {
-        add_client(alloc, &mut report, client, world.output(client))?;
-    }
-    add_entries(&mut report, world.history().len())?;
-    Ok(report)
 }

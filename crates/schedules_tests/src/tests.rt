@@ -30,7 +30,7 @@ const SET_AND_GET_REPORT: &[u8] = b"0:2b4f4b0d0a
 entries 2
 ";
 
-/// The same with an event of pages, places or the epoch before each line. None of these is enabled.
+/// That schedule with an event of pages, places or the epoch before each line. None of these is enabled.
 const WITH_LATER_EVENTS: &[u8] = b"world 2 16 12
 fetch 0
 piece 0 2a330d0a24330d0a5345540d0a24310d0a610d0a24310d0a310d0a
@@ -75,7 +75,7 @@ const WATCH_AND_EXEC_REPORT: &[u8] = b"0:2b4f4b0d0a2b4f4b0d0a2a2d310d0a
 entries 3
 ";
 
-/// The same, traced, as it is written by hand.
+/// The trace of [`SET_AND_GET`], as it is written by hand.
 const SET_AND_GET_TRACE: &[u8] = b"\
 2 piece 0 2a330d0a24330d0a5345540d0a24310d0a610d0a24310d0a310d0a | enabled
 3 piece 1 2a320d0a24330d0a4745540d0a24310d0a610d0a | enabled
@@ -220,7 +220,7 @@ impl Outcome {
         Outcome::showing(alloc, Shown::Report, source, takes)
     }
 
-    /// The same, with what is to be written of it.
+    /// Runs the schedule, of which the report or a trace is written.
     fn showing(alloc: Global, shown: Shown, source: Source<'_>, takes: usize) -> Outcome {
         let mut reader = Noted::new(source);
         let mut writer = Noted::new(Sink::new(alloc, takes));
@@ -458,7 +458,7 @@ fn a_refused_allocation(rt: HostRuntime) {
     assert!(rt; is_report_or_out_of_memory(&replayed, SET_AND_GET_REPORT));
 }
 
-/// The same of a trace.
+/// Where an allocation is refused, a schedule is traced or memory was wanted.
 #[test]
 fn a_refused_allocation_of_a_trace(rt: HostRuntime) {
     let traced = trace(rt.alloc(), SET_AND_GET);

@@ -16,34 +16,6 @@ use words::number;
 use words::reply::{CommandReply, Item, Refusal};
 use words::word::{OutOfMemory, Word};
 
-/// The number that a key's value is, 0 where it is missing; `None` where it is no number.
-fn number_at(overlay: &Overlay<'_>, key: &Word) -> Option<i64>
-    ensures { result ≡ answers.number_at (shown overlay.now key.now) }
-{
-    match overlay.value(key.as_slice()) {
-        Some(text) => number::parse(text),
-        None => Some(0),
-    }
-}
-
-/// Gives a key this number.
-fn put_number(
-    alloc: Global,
-    overlay: &mut Overlay<'_>,
-    key: &Word,
-    number: i64,
-) -> Result<CommandReply, OutOfMemory>
-    ensures reply { IfOk result (λ reply. reply ≡ CommandReply.One (Item.Integer number)) }
-    ensures writes { OnOk result (overlay.new.writes ≡ overlay.old.writes ++ (key.now, Some (signed_decimal number)) ∷ []) }
-    ensures found { overlay.new.found ≡ overlay.old.found }
-    ensures memory { HasRoom overlay.old → IsInline key.now → IsOk result }
-{
-    let mut buffer = Buffer::new();
-    let text = Word::from_slice(alloc, buffer.format(number).as_bytes())?;
-    overlay.write(alloc, key, Some(text))?;
-    Ok(CommandReply::integer(number))
-}
-
 /// `INCRBY`
 pub(crate) fn add(
     alloc: Global,
@@ -84,4 +56,32 @@ pub(crate) fn subtract(
         Some(rest) => put_number(alloc, overlay, key, rest),
         None => Ok(refused(Refusal::Overflow)),
     }
+}
+
+/// The number that a key's value is, 0 where it is missing; `None` where it is no number.
+fn number_at(overlay: &Overlay<'_>, key: &Word) -> Option<i64>
+    ensures { result ≡ answers.number_at (shown overlay.now key.now) }
+{
+    match overlay.value(key.as_slice()) {
+        Some(text) => number::parse(text),
+        None => Some(0),
+    }
+}
+
+/// Gives a key this number.
+fn put_number(
+    alloc: Global,
+    overlay: &mut Overlay<'_>,
+    key: &Word,
+    number: i64,
+) -> Result<CommandReply, OutOfMemory>
+    ensures reply { IfOk result (λ reply. reply ≡ CommandReply.One (Item.Integer number)) }
+    ensures writes { OnOk result (overlay.new.writes ≡ overlay.old.writes ++ (key.now, Some (signed_decimal number)) ∷ []) }
+    ensures found { overlay.new.found ≡ overlay.old.found }
+    ensures memory { HasRoom overlay.old → IsInline key.now → IsOk result }
+{
+    let mut buffer = Buffer::new();
+    let text = Word::from_slice(alloc, buffer.format(number).as_bytes())?;
+    overlay.write(alloc, key, Some(text))?;
+    Ok(CommandReply::integer(number))
 }

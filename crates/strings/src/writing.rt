@@ -15,31 +15,6 @@ use words::command::{Command, When};
 use words::reply::{CommandReply, Line, Refusal};
 use words::word::{OutOfMemory, Word};
 
-/// Writes a copy of a value to a key.
-fn write_copy(
-    alloc: Global,
-    overlay: &mut Overlay<'_>,
-    key: &Word,
-    value: &Word,
-) -> Result<(), OutOfMemory>
-    ensures writes { OnOk result (overlay.new.writes ≡ overlay.old.writes ++ (key.now, Some value.now) ∷ []) }
-    ensures found { overlay.new.found ≡ overlay.old.found }
-    ensures memory { HasRoom overlay.old → IsInline key.now → IsInline value.now → IsOk result }
-{
-    let value = copy(alloc, value)?;
-    overlay.write(alloc, key, Some(value))
-}
-
-/// Whether a SET is done where its key has this value.
-fn allows(when: When, value: Option<&[u8]>) -> bool
-    ensures { result ≡ answers.allows when (option_copied value.entry) }
-{
-    match (when, value) {
-        (When::Always, _) | (When::IfMissing, None) | (When::IfPresent, Some(_)) => true,
-        (When::IfMissing, Some(_)) | (When::IfPresent, None) => false,
-    }
-}
-
 /// `SET`
 pub(crate) fn set(
     alloc: Global,
@@ -138,21 +113,6 @@ pub(crate) fn delete(
     Ok(CommandReply::integer(count as i64))
 }
 
-/// Moves the value of a key to another name.
-fn move_value(
-    alloc: Global,
-    overlay: &mut Overlay<'_>,
-    key: &Word,
-    name: &Word,
-) -> Result<(), OutOfMemory>
-    ensures writes { OnOk result (overlay.new.writes ≡ overlay.old.writes ++ (key.now, None) ∷ (name.now, shown overlay.old key.now) ∷ []) }
-    ensures found { overlay.new.found ≡ overlay.old.found }
-{
-    let value = value_copy(alloc, overlay, key)?;
-    overlay.write(alloc, key, None)?;
-    overlay.write(alloc, name, value)
-}
-
 /// `RENAME`
 pub(crate) fn rename(
     alloc: Global,
@@ -175,22 +135,6 @@ pub(crate) fn rename(
     Ok(CommandReply::line(Line::Done))
 }
 
-/// Writes settings.
-fn write_all(
-    alloc: Global,
-    overlay: &mut Overlay<'_>,
-    settings: &[(Word, Word)],
-) -> Result<(), OutOfMemory>
-    ensures writes { OnOk result (overlay.new.writes ≡ overlay.old.writes ++ writes_set settings.now) }
-    ensures found { overlay.new.found ≡ overlay.old.found }
-    ensures memory { AreInline (writes_set settings.now) → length (writes_set settings.now) ≤ WRITES_INLINE - length overlay.old.writes → IsOk result }
-{
-    for (key, value) in settings {
-        write_copy(alloc, overlay, key, value)?;
-    }
-    Ok(())
-}
-
 /// `MSET`
 pub(crate) fn set_all(
     alloc: Global,
@@ -204,18 +148,6 @@ pub(crate) fn set_all(
 {
     write_all(alloc, overlay, settings)?;
     Ok(CommandReply::line(Line::Done))
-}
-
-/// Whether one of the settings' keys is there.
-fn any_there(overlay: &Overlay<'_>, settings: &[(Word, Word)]) -> bool
-    ensures { result ≡ answers.any_there (shown overlay.now) settings.now }
-{
-    for (key, _) in settings {
-        if overlay.has(key.as_slice()) {
-            return true;
-        }
-    }
-    false
 }
 
 /// `MSETNX`
@@ -234,4 +166,72 @@ pub(crate) fn set_all_if_missing(
     }
     write_all(alloc, overlay, settings)?;
     Ok(CommandReply::integer(1))
+}
+
+/// Writes a copy of a value to a key.
+fn write_copy(
+    alloc: Global,
+    overlay: &mut Overlay<'_>,
+    key: &Word,
+    value: &Word,
+) -> Result<(), OutOfMemory>
+    ensures writes { OnOk result (overlay.new.writes ≡ overlay.old.writes ++ (key.now, Some value.now) ∷ []) }
+    ensures found { overlay.new.found ≡ overlay.old.found }
+    ensures memory { HasRoom overlay.old → IsInline key.now → IsInline value.now → IsOk result }
+{
+    let value = copy(alloc, value)?;
+    overlay.write(alloc, key, Some(value))
+}
+
+/// Whether a SET is done where its key has this value.
+fn allows(when: When, value: Option<&[u8]>) -> bool
+    ensures { result ≡ answers.allows when (option_copied value.entry) }
+{
+    match (when, value) {
+        (When::Always, _) | (When::IfMissing, None) | (When::IfPresent, Some(_)) => true,
+        (When::IfMissing, Some(_)) | (When::IfPresent, None) => false,
+    }
+}
+
+/// Moves the value of a key to another name.
+fn move_value(
+    alloc: Global,
+    overlay: &mut Overlay<'_>,
+    key: &Word,
+    name: &Word,
+) -> Result<(), OutOfMemory>
+    ensures writes { OnOk result (overlay.new.writes ≡ overlay.old.writes ++ (key.now, None) ∷ (name.now, shown overlay.old key.now) ∷ []) }
+    ensures found { overlay.new.found ≡ overlay.old.found }
+{
+    let value = value_copy(alloc, overlay, key)?;
+    overlay.write(alloc, key, None)?;
+    overlay.write(alloc, name, value)
+}
+
+/// Writes settings.
+fn write_all(
+    alloc: Global,
+    overlay: &mut Overlay<'_>,
+    settings: &[(Word, Word)],
+) -> Result<(), OutOfMemory>
+    ensures writes { OnOk result (overlay.new.writes ≡ overlay.old.writes ++ writes_set settings.now) }
+    ensures found { overlay.new.found ≡ overlay.old.found }
+    ensures memory { AreInline (writes_set settings.now) → length (writes_set settings.now) ≤ WRITES_INLINE - length overlay.old.writes → IsOk result }
+{
+    for (key, value) in settings {
+        write_copy(alloc, overlay, key, value)?;
+    }
+    Ok(())
+}
+
+/// Whether one of the settings' keys is there.
+fn any_there(overlay: &Overlay<'_>, settings: &[(Word, Word)]) -> bool
+    ensures { result ≡ answers.any_there (shown overlay.now) settings.now }
+{
+    for (key, _) in settings {
+        if overlay.has(key.as_slice()) {
+            return true;
+        }
+    }
+    false
 }

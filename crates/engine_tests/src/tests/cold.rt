@@ -330,7 +330,7 @@ fn goes_well_over<R: Threads + Wait + Sync>(
     Some(is_done && deed.may_be(&answer) && is_well && signal.is_in_time())
 }
 
-/// The same over a new signal.
+/// Whether that deed beside a cold read goes well, over a new signal.
 fn goes_well<R: Threads + Wait + Sync>(rt: &R, alloc: Global, deed: Deed) -> Option<bool> {
     let signal = Arc::new(alloc, Signal::new()).ok()?;
     goes_well_over(rt, alloc, &signal, deed)

@@ -33,7 +33,7 @@ pub(super) fn narrow_engine(
     narrow_over(alloc, places, openings)
 }
 
-/// The same over these openings.
+/// A narrow engine of these openings, and its passes.
 pub(super) fn narrow_over<D: Device>(
     alloc: Global,
     places: usize,

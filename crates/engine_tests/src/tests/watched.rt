@@ -85,7 +85,7 @@ fn setting_one(alloc: Global, key: &Word, number: i64) -> Option<Command>
     Some(command).filter(|command| has_place(command))
 }
 
-/// The same as the commands of a transaction.
+/// The commands of a transaction that sets a key to a number. `None` where there was no memory.
 fn setting(alloc: Global, key: &Word, number: i64) -> Option<Commands>
     ensures { IfSome result (λ commands. MayAllBeQueued commands × AreBounded commands) }
 {

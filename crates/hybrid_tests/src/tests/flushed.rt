@@ -23,7 +23,7 @@ fn refuses_another_receipt(shelf: &mut Shelf, rt: &impl Abort, page: &Page) -> R
     Ok(())
 }
 
-// The same of a page that has a receipt and its frame, and then of one that has left it.
+// A second receipt is refused for a page that has one and its frame, and for one that has left its frame.
 fn refuses_both(shelf: &mut Shelf, alloc: Global, rt: &impl Abort) -> Result<(), Fail> {
     assert!(rt; fills(shelf, 630));
     let page = copy_of_page_0(alloc, &shelf.stripe)?;
