@@ -2,8 +2,8 @@
 
 ghost use Rattle.std.specs.Prelude.{◌≡◌, ◌<◌, ◌+◌};
 ghost use Rattle.gates.specs.Background.{IsSeen};
-ghost use Rattle.gates.specs.declared.view.Look.TheVariants.{FewerFree, HalfUsed, Used};
-ghost use Rattle.hybrid.specs.declared.stripe.TheConstants.{CALL_PAGES};
+ghost use Rattle.gates.specs.declared.view.Look.TheVariants.{FewerExpected, FewerFree, HalfUsed, Used};
+ghost use Rattle.hybrid.specs.declared.stripe.TheConstants.{CALL_PAGES, CLEAN_PAGES};
 ghost use Rattle.plans.specs.Shards.{shard_pages};
 
 use crate::shard::Shard;
@@ -30,5 +30,13 @@ impl<R: Shows> Shard<R> {
     {
         let _oldest = self.log.stripe().oldest();
         self.log.stripe().is_short_of_frames()
+    }
+
+    /// Whether fewer of its frames than values leave are free or may be had: a deletion has opened the page that is left for it.
+    pub fn lacks_spare_frames(&self) -> bool
+        ensures { IsSeen (FewerExpected (CLEAN_PAGES + 1) result) (shard_pages self.now) }
+    {
+        let _oldest = self.log.stripe().oldest();
+        self.log.stripe().lacks_spare_frames()
     }
 }

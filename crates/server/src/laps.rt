@@ -11,10 +11,13 @@ const LOOKS_MIN: usize = 10;
 const LOOKS_MAX: usize = 1_000;
 /// Those who write wait for a lap where fewer places than this part are left.
 const LEFT_PART: usize = 8;
+/// The most steps of a lap that begins since a deletion has opened a page: one page that is cleaned is room for the next.
+const DELETION_STEPS: usize = 64;
 
 /// The cleaner's laps over the places of a stripe. A lap has as many steps as it takes to come by each used place once. Where
 /// one was in vain, since nearly all that it copied still lives, the cleaner leaves the stripe alone until more places are
-/// used; a full stripe, where keys may be deleted meanwhile, it tries again after a while.
+/// used. A full stripe, where keys may be overwritten meanwhile, it tries again after a while; and at once, with a few steps, where
+/// a deletion has opened the page that is left for it, so that the next one finds a page too.
 #[derive(Clone, Copy, Drop)]
 pub(crate) struct Laps {
     /// The steps that are left of this lap.
@@ -27,6 +30,8 @@ pub(crate) struct Laps {
     looks: usize,
     /// After how many looks it tries a full stripe again.
     patience: usize,
+    /// Whether a deletion had opened the page that is left for it, at the last look.
+    opened: bool,
 }
 
 impl Laps {
@@ -38,6 +43,7 @@ impl Laps {
             vain: 0,
             looks: 0,
             patience: LOOKS_MIN,
+            opened: false,
         }
     }
 
@@ -60,18 +66,22 @@ impl Laps {
         self.left = 0;
     }
 
-    /// Whether a new lap begins, at a stripe of so many places, of which so many are used.
-    pub(crate) fn begins(&mut self, used: usize, places: usize) -> bool {
+    /// Whether a new lap begins, at a stripe of so many places, of which so many are used, where a deletion has opened the page
+    /// that is left for it or has not.
+    pub(crate) fn begins(&mut self, used: usize, places: usize, opened: bool) -> bool {
         if self.began > 0 {
             self.end(used);
         }
-        if self.vain > 0 && !self.is_worth(used, places) {
+        let deleted = self.vain > 0 && opened && !self.opened;
+        self.opened = opened;
+        if self.vain > 0 && !deleted && !self.is_worth(used, places) {
             return false;
         }
+        let most = if deleted { DELETION_STEPS } else { usize::MAX };
+        self.left = used.saturating_mul(STEPS_EACH).min(most);
         self.began = used;
         self.vain = 0;
         self.looks = 0;
-        self.left = used.saturating_mul(STEPS_EACH);
         true
     }
 
