@@ -1,4 +1,4 @@
-//! What is seen of a stripe: how many of its places are used, and whether its frames are short.
+//! What is seen of a stripe: how many of its places are used, and whether its frames are short, or those that values leave.
 
 ghost use Rattle.std.specs.Prelude.{◌≡◌, ◌<◌, ◌+◌};
 ghost use Rattle.gates.specs.Background.{IsSeen};
@@ -33,6 +33,7 @@ impl<R: Shows> Shard<R> {
     }
 
     /// Whether fewer of its frames than values leave are free or may be had: a deletion has opened the page that is left for it.
+    #[tactic(auto, using(crate::proofs::Counts::count_kept_as))]
     pub fn lacks_spare_frames(&self) -> bool
         ensures { IsSeen (FewerExpected (CLEAN_PAGES + 1) result) (shard_pages self.now) }
     {

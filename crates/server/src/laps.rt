@@ -11,13 +11,14 @@ const LOOKS_MIN: usize = 10;
 const LOOKS_MAX: usize = 1_000;
 /// Those who write wait for a lap where fewer places than this part are left.
 const LEFT_PART: usize = 8;
-/// The most steps of a lap that begins since a deletion has opened a page: one page that is cleaned is room for the next.
-const DELETION_STEPS: usize = 64;
+/// The most steps of a short lap, which begins where a deletion has opened a page: one page that is gained is room for the next.
+const SHORT_STEPS: usize = 64;
 
 /// The cleaner's laps over the places of a stripe. A lap has as many steps as it takes to come by each used place once. Where
 /// one was in vain, since nearly all that it copied still lives, the cleaner leaves the stripe alone until more places are
-/// used. A full stripe, where keys may be overwritten meanwhile, it tries again after a while; and at once, with a few steps, where
-/// a deletion has opened the page that is left for it, so that the next one finds a page too.
+/// used. A full stripe, where keys may be overwritten or deleted meanwhile, it tries again after a while. Where a deletion has
+/// opened the page that is left for it, a short lap begins at once, so that the next one finds a page too; where that gave no
+/// page back, a whole one follows soon.
 #[derive(Clone, Copy, Drop)]
 pub(crate) struct Laps {
     /// The steps that are left of this lap.
@@ -32,6 +33,8 @@ pub(crate) struct Laps {
     patience: usize,
     /// Whether a deletion had opened the page that is left for it, at the last look.
     opened: bool,
+    /// Whether the last lap began for that, with a few steps.
+    short: bool,
 }
 
 impl Laps {
@@ -44,6 +47,7 @@ impl Laps {
             looks: 0,
             patience: LOOKS_MIN,
             opened: false,
+            short: false,
         }
     }
 
@@ -70,15 +74,16 @@ impl Laps {
     /// that is left for it or has not.
     pub(crate) fn begins(&mut self, used: usize, places: usize, opened: bool) -> bool {
         if self.began > 0 {
-            self.end(used);
+            self.end(used, opened);
         }
-        let deleted = self.vain > 0 && opened && !self.opened;
+        let short = self.vain > 0 && opened && !self.opened;
         self.opened = opened;
-        if self.vain > 0 && !deleted && !self.is_worth(used, places) {
+        if self.vain > 0 && !short && !self.is_worth(used, places) {
             return false;
         }
-        let most = if deleted { DELETION_STEPS } else { usize::MAX };
+        let most = if short { SHORT_STEPS } else { usize::MAX };
         self.left = used.saturating_mul(STEPS_EACH).min(most);
+        self.short = short;
         self.began = used;
         self.vain = 0;
         self.looks = 0;
@@ -86,11 +91,13 @@ impl Laps {
     }
 
     /// Ends a lap.
-    fn end(&mut self, used: usize) {
+    fn end(&mut self, used: usize, opened: bool) {
         let gained = self.began.saturating_sub(used);
-        if gained < self.began / GAIN_PART + 1 {
+        let in_vain = gained < self.began / GAIN_PART + 1;
+        if in_vain {
             self.vain = used;
-        } else {
+        }
+        if !in_vain || (self.short && opened) {
             self.patience = LOOKS_MIN;
         }
         self.began = 0;
