@@ -1,5 +1,7 @@
 //! When the cleaner works at a stripe.
 
+ghost use Rattle.std.specs.Prelude.{◌≡◌, IsTrue, true, false};
+
 /// How many steps a place takes from its page to its release: unlinked, retired, drained, released.
 const STEPS_EACH: usize = 4;
 /// A lap that gave back fewer places than this part of those that were used is in vain.
@@ -71,8 +73,11 @@ impl Laps {
     }
 
     /// Whether a new lap begins, at a stripe of so many places, of which so many are used, where a deletion has opened the page
-    /// that is left for it or has not.
-    pub(crate) fn begins(&mut self, used: usize, places: usize, opened: bool) -> bool {
+    /// that is left for it or has not. One begins where it has since the last look.
+    pub(crate) fn begins(&mut self, used: usize, places: usize, opened: bool) -> bool
+        ensures deletion { opened ≡ true → self.old.opened ≡ false → IsTrue result }
+        ensures look { self.new.opened ≡ opened }
+    {
         if self.began > 0 {
             self.end(used, opened);
         }
@@ -91,7 +96,9 @@ impl Laps {
     }
 
     /// Ends a lap.
-    fn end(&mut self, used: usize, opened: bool) {
+    fn end(&mut self, used: usize, opened: bool)
+        ensures look { self.new.opened ≡ self.old.opened }
+    {
         let gained = self.began.saturating_sub(used);
         let in_vain = gained < self.began / GAIN_PART + 1;
         if in_vain {
@@ -104,7 +111,9 @@ impl Laps {
     }
 
     /// Whether a lap is worth another try after one in vain.
-    fn is_worth(&mut self, used: usize, places: usize) -> bool {
+    fn is_worth(&mut self, used: usize, places: usize) -> bool
+        ensures look { self.new.opened ≡ self.old.opened }
+    {
         if used > self.vain.saturating_add(places / GAIN_PART) {
             return true;
         }
