@@ -39,95 +39,6 @@ enum Round {
     Again,
 }
 
-/// What is told of a step that came to this.
-fn report_of(stripe: usize, came: &Result<Stepped, Fault>) -> Report
-    ensures { result ≡ report_for stripe came.now }
-{
-    match came {
-        Ok(Stepped::Done) => Report::Done(stripe as u64, Work::Clean(NOTHING)),
-        Ok(Stepped::Idle(refused)) => Report::Idle(stripe as u64, Work::Clean(*refused)),
-        Ok(Stepped::Full(refused)) => Report::Full(stripe as u64, *refused),
-        Ok(Stepped::Cold(_)) => Report::Nothing,
-        Err(Fault::StoreFull) => Report::Nothing,
-        Err(Fault::DeviceFault) => Report::Nothing,
-        Err(Fault::OutOfMemory) => Report::Nothing,
-        Err(Fault::CommitsWornOut) => Report::Nothing,
-    }
-}
-
-/// What a round comes to whose step came to this.
-fn round_of(came: Result<Stepped, Fault>) -> Result<Round, Fault>
-    ensures { result ≡ round_for came }
-{
-    match came {
-        Ok(Stepped::Done) => Ok(Round::Ended(true)),
-        Ok(Stepped::Idle(_)) => Ok(Round::Ended(false)),
-        Ok(Stepped::Full(_)) => Err(Fault::StoreFull),
-        Ok(Stepped::Cold(_)) => Ok(Round::Again),
-        Err(fault) => Err(fault),
-    }
-}
-
-/// Reads the page of a receipt, and stages it.
-fn fetch<R: Shows, D: Device<Receipt = R>>(
-    copy: Result<R, AllocError>,
-    staged: &mut Staged<R>,
-    device: &mut D,
-) -> Result<Round, Fault>
-    ensures right { R.is_steady → AreRight staged.old → AreRight staged.new }
-    ensures again { IfOk result (λ came. came ≡ round.Again) }
-    ensures fault { IfErr result (λ fault. MatchFault fault (D.failures device.new ≡ D.failures device.old) (D.failures device.new ≡ D.failures device.old + 1) ⊥) }
-    ensures no_fault { OnOk result (D.failures device.new ≡ D.failures device.old) }
-{
-    let Ok(receipt) = copy else {
-        return Err(Fault::OutOfMemory);
-    };
-    match staged.read(receipt, device) {
-        Ok(()) => Ok(Round::Again),
-        Err(ReadFault::DeviceFault) => Err(Fault::DeviceFault),
-        Err(ReadFault::OutOfMemory) => Err(Fault::OutOfMemory),
-    }
-}
-
-/// One round: a step in one hold of the stripe. A page that it wants is read meanwhile where `reads`. Else the stripe is
-/// given back, and the page is read while nobody waits for it, inside a stay: that begins before the receipt is copied, so that
-/// its place is not released meanwhile.
-fn clean_round<R: Shows, D: Device<Receipt = R>, W: Wait>(
-    rt: &W,
-    gates: &Gates<Shard<R>>,
-    pass: &mut Pass<Shard<R>>,
-    device: &mut D,
-    epochs: &Epochs,
-    seat: EpochSeat,
-    staged: &mut Staged<R>,
-    reads: bool,
-    stripe: usize,
-) -> (Result<Round, Fault>, EpochSeat)
-    requires own { IsResting R.is_steady gates.now pass.old }
-    requires below { stripe < stripes_of gates.now }
-    requires outside { IsOutside epochs.now seat }
-    requires right { R.is_steady → AreRight staged.old }
-    ensures own { IsResting R.is_steady gates.now pass.new }
-    ensures outside { IsOutside epochs.now result.1 }
-    ensures right { R.is_steady → AreRight staged.new }
-    ensures came { MatchRound result.0 (λ ended. HasCleaned R.lends (stripe ∷ []) stripe ended (D.failures device.old) (D.failures device.new) (known pass.old) (known pass.new) (seats.known seat) (seats.known result.1)) ((reads ≡ false) × HasLooked (stripe ∷ []) (D.failures device.old) (D.failures device.new) (known pass.old) (known pass.new) (seats.known seat) (seats.known result.1)) }
-{
-    let _stripes = gates.stripes();
-    let wanted = Sorted::none().with(stripe);
-    let mut seat = seat;
-    let mut held = gates.take(rt, pass, &wanted);
-    let came = clean_at(&mut held, stripe, epochs, &mut seat, staged, reads, device);
-    if let Ok(Stepped::Cold(number)) = came {
-        let inside = epochs.enter(rt, seat);
-        let copy = copy_at(&mut held, stripe, number);
-        held.give(&Report::Nothing);
-        let read = fetch(copy, staged, device);
-        return (read, epochs.leave(inside));
-    }
-    held.give(&report_of(stripe, &came));
-    (round_of(came), seat)
-}
-
 /// One step at a stripe, the first of these that can be done: the oldest drained place is released, the oldest retired one
 /// is drained, the oldest unlinked one is retired, or the oldest page leaves the log, once its live records were copied to the
 /// tail. False where nothing can be done. A page that is wanted is read while nobody waits for the stripe; after three such
@@ -214,5 +125,94 @@ pub fn try_clean_one<R: Shows, D: Device<Receipt = R>>(
             }
         }
         Err(stripe) => Err(Busy { stripe }),
+    }
+}
+
+/// One round: a step in one hold of the stripe. A page that it wants is read meanwhile where `reads`. Else the stripe is
+/// given back, and the page is read while nobody waits for it, inside a stay: that begins before the receipt is copied, so that
+/// its place is not released meanwhile.
+fn clean_round<R: Shows, D: Device<Receipt = R>, W: Wait>(
+    rt: &W,
+    gates: &Gates<Shard<R>>,
+    pass: &mut Pass<Shard<R>>,
+    device: &mut D,
+    epochs: &Epochs,
+    seat: EpochSeat,
+    staged: &mut Staged<R>,
+    reads: bool,
+    stripe: usize,
+) -> (Result<Round, Fault>, EpochSeat)
+    requires own { IsResting R.is_steady gates.now pass.old }
+    requires below { stripe < stripes_of gates.now }
+    requires outside { IsOutside epochs.now seat }
+    requires right { R.is_steady → AreRight staged.old }
+    ensures own { IsResting R.is_steady gates.now pass.new }
+    ensures outside { IsOutside epochs.now result.1 }
+    ensures right { R.is_steady → AreRight staged.new }
+    ensures came { MatchRound result.0 (λ ended. HasCleaned R.lends (stripe ∷ []) stripe ended (D.failures device.old) (D.failures device.new) (known pass.old) (known pass.new) (seats.known seat) (seats.known result.1)) ((reads ≡ false) × HasLooked (stripe ∷ []) (D.failures device.old) (D.failures device.new) (known pass.old) (known pass.new) (seats.known seat) (seats.known result.1)) }
+{
+    let _stripes = gates.stripes();
+    let wanted = Sorted::none().with(stripe);
+    let mut seat = seat;
+    let mut held = gates.take(rt, pass, &wanted);
+    let came = clean_at(&mut held, stripe, epochs, &mut seat, staged, reads, device);
+    if let Ok(Stepped::Cold(number)) = came {
+        let inside = epochs.enter(rt, seat);
+        let copy = copy_at(&mut held, stripe, number);
+        held.give(&Report::Nothing);
+        let read = fetch(copy, staged, device);
+        return (read, epochs.leave(inside));
+    }
+    held.give(&report_of(stripe, &came));
+    (round_of(came), seat)
+}
+
+/// Reads the page of a receipt, and stages it.
+fn fetch<R: Shows, D: Device<Receipt = R>>(
+    copy: Result<R, AllocError>,
+    staged: &mut Staged<R>,
+    device: &mut D,
+) -> Result<Round, Fault>
+    ensures right { R.is_steady → AreRight staged.old → AreRight staged.new }
+    ensures again { IfOk result (λ came. came ≡ round.Again) }
+    ensures fault { IfErr result (λ fault. MatchFault fault (D.failures device.new ≡ D.failures device.old) (D.failures device.new ≡ D.failures device.old + 1) ⊥) }
+    ensures no_fault { OnOk result (D.failures device.new ≡ D.failures device.old) }
+{
+    let Ok(receipt) = copy else {
+        return Err(Fault::OutOfMemory);
+    };
+    match staged.read(receipt, device) {
+        Ok(()) => Ok(Round::Again),
+        Err(ReadFault::DeviceFault) => Err(Fault::DeviceFault),
+        Err(ReadFault::OutOfMemory) => Err(Fault::OutOfMemory),
+    }
+}
+
+/// What a round comes to whose step came to this.
+fn round_of(came: Result<Stepped, Fault>) -> Result<Round, Fault>
+    ensures { result ≡ round_for came }
+{
+    match came {
+        Ok(Stepped::Done) => Ok(Round::Ended(true)),
+        Ok(Stepped::Idle(_)) => Ok(Round::Ended(false)),
+        Ok(Stepped::Full(_)) => Err(Fault::StoreFull),
+        Ok(Stepped::Cold(_)) => Ok(Round::Again),
+        Err(fault) => Err(fault),
+    }
+}
+
+/// What is told of a step that came to this.
+fn report_of(stripe: usize, came: &Result<Stepped, Fault>) -> Report
+    ensures { result ≡ report_for stripe came.now }
+{
+    match came {
+        Ok(Stepped::Done) => Report::Done(stripe as u64, Work::Clean(NOTHING)),
+        Ok(Stepped::Idle(refused)) => Report::Idle(stripe as u64, Work::Clean(*refused)),
+        Ok(Stepped::Full(refused)) => Report::Full(stripe as u64, *refused),
+        Ok(Stepped::Cold(_)) => Report::Nothing,
+        Err(Fault::StoreFull) => Report::Nothing,
+        Err(Fault::DeviceFault) => Report::Nothing,
+        Err(Fault::OutOfMemory) => Report::Nothing,
+        Err(Fault::CommitsWornOut) => Report::Nothing,
     }
 }

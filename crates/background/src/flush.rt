@@ -19,149 +19,6 @@ use std::sync::Wait;
 use transact::call::Busy;
 use words::reply::Fault;
 
-/// Copies the oldest page of a stripe that waits to be written, and counts a place for it. Where none may be taken, each place
-/// that can be released is released first.
-fn begin<R: Shows, D: Device<Receipt = R>, W: Wait>(
-    rt: &W,
-    gates: &Gates<Shard<R>>,
-    pass: &mut Pass<Shard<R>>,
-    device: &mut D,
-    epochs: &Epochs,
-    seat: &mut EpochSeat,
-    stripe: usize,
-    page: &mut Page,
-) -> Began
-    requires own { IsResting R.is_steady gates.now pass.old }
-    requires below { stripe < stripes_of gates.now }
-    requires outside { IsOutside epochs.now seat.old }
-    ensures own { IsResting R.is_steady gates.now pass.new }
-    ensures outside { IsOutside epochs.now seat.new }
-    ensures begun { HasBegun (stripe ∷ []) stripe result (known pass.old) (known pass.new) (seats.known seat.old) (seats.known seat.new) }
-    ensures heard { HasHeard (seats.known seat.old) (seats.known seat.new) }
-    ensures no_fault { D.failures device.new ≡ D.failures device.old }
-{
-    let _stripes = gates.stripes();
-    let wanted = Sorted::none().with(stripe);
-    let mut held = gates.take(rt, pass, &wanted);
-    match begin_at(&mut held, stripe, page, epochs, seat, device) {
-        Began::Idle => {
-            held.give(&Report::Idle(stripe as u64, Work::Flush));
-            Began::Idle
-        }
-        Began::Full(refused) => {
-            held.give(&Report::Full(stripe as u64, refused));
-            Began::Full(refused)
-        }
-        Began::Sealed(flight) => {
-            held.give(&Report::Nothing);
-            Began::Sealed(flight)
-        }
-    }
-}
-
-/// Keeps the receipt of a page that was written, or counts its place as unlinked, in one hold. Where no place is counted for it
-/// and none may be taken, each place that can be released is released, and the receipt comes back to land in another hold.
-fn end_once<R: Shows, D: Device<Receipt = R>, W: Wait>(
-    rt: &W,
-    gates: &Gates<Shard<R>>,
-    pass: &mut Pass<Shard<R>>,
-    device: &mut D,
-    epochs: &Epochs,
-    seat: &mut EpochSeat,
-    stripe: usize,
-    number: u64,
-    page: &Page,
-    receipt: R,
-) -> Ending<R>
-    requires own { IsResting R.is_steady gates.now pass.old }
-    requires below { stripe < stripes_of gates.now }
-    requires outside { IsOutside epochs.now seat.old }
-    requires shown { R.shown receipt ≡ page.now }
-    ensures own { IsResting R.is_steady gates.now pass.new }
-    ensures outside { IsOutside epochs.now seat.new }
-    ensures again { MatchEnding result ⊤ (λ again. again ≡ receipt) (λ refused. ⊤) }
-    ensures told { Visited (stripe ∷ []) (told_at_end stripe result) (known pass.old) (known pass.new) }
-    ensures worn { MatchEnding result ⊤ (λ again. ⊤) (λ refused. refused.retire ≡ true → HasHeardWorn (seats.known seat.old) (seats.known seat.new)) }
-    ensures heard { HasHeard (seats.known seat.old) (seats.known seat.new) }
-    ensures no_fault { D.failures device.new ≡ D.failures device.old }
-{
-    let _stripes = gates.stripes();
-    let wanted = Sorted::none().with(stripe);
-    let mut held = gates.take(rt, pass, &wanted);
-    match end_at(
-        &mut held, stripe, number, page, receipt, epochs, seat, device,
-    ) {
-        Ending::Landed => {
-            held.give(&Report::Done(stripe as u64, Work::Flush));
-            Ending::Landed
-        }
-        Ending::Again(receipt) => {
-            held.give(&Report::Nothing);
-            Ending::Again(receipt)
-        }
-        Ending::Full(refused) => {
-            held.give(&Report::Full(stripe as u64, refused));
-            Ending::Full(refused)
-        }
-    }
-}
-
-/// Keeps the receipt of a page that was written, or counts its place as unlinked, and says whether it could.
-fn end<R: Shows, D: Device<Receipt = R>, W: Wait>(
-    rt: &W,
-    gates: &Gates<Shard<R>>,
-    pass: &mut Pass<Shard<R>>,
-    device: &mut D,
-    epochs: &Epochs,
-    seat: &mut EpochSeat,
-    stripe: usize,
-    flight: Flight,
-    page: &Page,
-    receipt: R,
-) -> bool
-    requires own { IsResting R.is_steady gates.now pass.old }
-    requires below { stripe < stripes_of gates.now }
-    requires outside { IsOutside epochs.now seat.old }
-    requires shown { R.shown receipt ≡ page.now }
-    ensures own { IsResting R.is_steady gates.now pass.new }
-    ensures outside { IsOutside epochs.now seat.new }
-    ensures ended { HasEnded (stripe ∷ []) stripe result (known pass.old) (known pass.new) (seats.known seat.old) (seats.known seat.new) }
-    ensures no_fault { D.failures device.new ≡ D.failures device.old }
-{
-    let Flight { number } = flight;
-    let mut receipt = receipt;
-    for _ in rt.forever() {
-        match end_once(
-            rt, gates, pass, device, epochs, seat, stripe, number, page, receipt,
-        ) {
-            Ending::Landed => return true,
-            Ending::Again(back) => receipt = back,
-            Ending::Full(_refused) => return false,
-        }
-    }
-    unreachable!()
-}
-
-/// Counts a place off whose page could not be written.
-fn fail<R: Shows, W: Wait>(
-    rt: &W,
-    gates: &Gates<Shard<R>>,
-    pass: &mut Pass<Shard<R>>,
-    stripe: usize,
-    flight: Flight,
-)
-    requires own { IsResting R.is_steady gates.now pass.old }
-    requires below { stripe < stripes_of gates.now }
-    ensures own { IsResting R.is_steady gates.now pass.new }
-    ensures told { Visited (stripe ∷ []) [] (known pass.old) (known pass.new) }
-{
-    let _stripes = gates.stripes();
-    let wanted = Sorted::none().with(stripe);
-    let mut held = gates.take(rt, pass, &wanted);
-    fail_at(&mut held, stripe, flight);
-    held.give(&Report::Nothing);
-}
-
 /// Writes the oldest page of a stripe that waits for it to the device, while nobody waits for the stripe, and then keeps
 /// its receipt. A page that has changed meanwhile, or has another receipt, keeps none: the place then counts as unlinked.
 /// Where no place may be taken, each place of the stripe that can be released is released first. False where no page waits.
@@ -260,4 +117,147 @@ pub fn try_flush_one<R: Shows, D: Device<Receipt = R>>(
         }
         Err(stripe) => Err(Busy { stripe }),
     }
+}
+
+/// Copies the oldest page of a stripe that waits to be written, and counts a place for it. Where none may be taken, each place
+/// that can be released is released first.
+fn begin<R: Shows, D: Device<Receipt = R>, W: Wait>(
+    rt: &W,
+    gates: &Gates<Shard<R>>,
+    pass: &mut Pass<Shard<R>>,
+    device: &mut D,
+    epochs: &Epochs,
+    seat: &mut EpochSeat,
+    stripe: usize,
+    page: &mut Page,
+) -> Began
+    requires own { IsResting R.is_steady gates.now pass.old }
+    requires below { stripe < stripes_of gates.now }
+    requires outside { IsOutside epochs.now seat.old }
+    ensures own { IsResting R.is_steady gates.now pass.new }
+    ensures outside { IsOutside epochs.now seat.new }
+    ensures begun { HasBegun (stripe ∷ []) stripe result (known pass.old) (known pass.new) (seats.known seat.old) (seats.known seat.new) }
+    ensures heard { HasHeard (seats.known seat.old) (seats.known seat.new) }
+    ensures no_fault { D.failures device.new ≡ D.failures device.old }
+{
+    let _stripes = gates.stripes();
+    let wanted = Sorted::none().with(stripe);
+    let mut held = gates.take(rt, pass, &wanted);
+    match begin_at(&mut held, stripe, page, epochs, seat, device) {
+        Began::Idle => {
+            held.give(&Report::Idle(stripe as u64, Work::Flush));
+            Began::Idle
+        }
+        Began::Full(refused) => {
+            held.give(&Report::Full(stripe as u64, refused));
+            Began::Full(refused)
+        }
+        Began::Sealed(flight) => {
+            held.give(&Report::Nothing);
+            Began::Sealed(flight)
+        }
+    }
+}
+
+/// Keeps the receipt of a page that was written, or counts its place as unlinked, and says whether it could.
+fn end<R: Shows, D: Device<Receipt = R>, W: Wait>(
+    rt: &W,
+    gates: &Gates<Shard<R>>,
+    pass: &mut Pass<Shard<R>>,
+    device: &mut D,
+    epochs: &Epochs,
+    seat: &mut EpochSeat,
+    stripe: usize,
+    flight: Flight,
+    page: &Page,
+    receipt: R,
+) -> bool
+    requires own { IsResting R.is_steady gates.now pass.old }
+    requires below { stripe < stripes_of gates.now }
+    requires outside { IsOutside epochs.now seat.old }
+    requires shown { R.shown receipt ≡ page.now }
+    ensures own { IsResting R.is_steady gates.now pass.new }
+    ensures outside { IsOutside epochs.now seat.new }
+    ensures ended { HasEnded (stripe ∷ []) stripe result (known pass.old) (known pass.new) (seats.known seat.old) (seats.known seat.new) }
+    ensures no_fault { D.failures device.new ≡ D.failures device.old }
+{
+    let Flight { number } = flight;
+    let mut receipt = receipt;
+    for _ in rt.forever() {
+        match end_once(
+            rt, gates, pass, device, epochs, seat, stripe, number, page, receipt,
+        ) {
+            Ending::Landed => return true,
+            Ending::Again(back) => receipt = back,
+            Ending::Full(_refused) => return false,
+        }
+    }
+    unreachable!()
+}
+
+/// Keeps the receipt of a page that was written, or counts its place as unlinked, in one hold. Where no place is counted for it
+/// and none may be taken, each place that can be released is released, and the receipt comes back to land in another hold.
+fn end_once<R: Shows, D: Device<Receipt = R>, W: Wait>(
+    rt: &W,
+    gates: &Gates<Shard<R>>,
+    pass: &mut Pass<Shard<R>>,
+    device: &mut D,
+    epochs: &Epochs,
+    seat: &mut EpochSeat,
+    stripe: usize,
+    number: u64,
+    page: &Page,
+    receipt: R,
+) -> Ending<R>
+    requires own { IsResting R.is_steady gates.now pass.old }
+    requires below { stripe < stripes_of gates.now }
+    requires outside { IsOutside epochs.now seat.old }
+    requires shown { R.shown receipt ≡ page.now }
+    ensures own { IsResting R.is_steady gates.now pass.new }
+    ensures outside { IsOutside epochs.now seat.new }
+    ensures again { MatchEnding result ⊤ (λ again. again ≡ receipt) (λ refused. ⊤) }
+    ensures told { Visited (stripe ∷ []) (told_at_end stripe result) (known pass.old) (known pass.new) }
+    ensures worn { MatchEnding result ⊤ (λ again. ⊤) (λ refused. refused.retire ≡ true → HasHeardWorn (seats.known seat.old) (seats.known seat.new)) }
+    ensures heard { HasHeard (seats.known seat.old) (seats.known seat.new) }
+    ensures no_fault { D.failures device.new ≡ D.failures device.old }
+{
+    let _stripes = gates.stripes();
+    let wanted = Sorted::none().with(stripe);
+    let mut held = gates.take(rt, pass, &wanted);
+    match end_at(
+        &mut held, stripe, number, page, receipt, epochs, seat, device,
+    ) {
+        Ending::Landed => {
+            held.give(&Report::Done(stripe as u64, Work::Flush));
+            Ending::Landed
+        }
+        Ending::Again(receipt) => {
+            held.give(&Report::Nothing);
+            Ending::Again(receipt)
+        }
+        Ending::Full(refused) => {
+            held.give(&Report::Full(stripe as u64, refused));
+            Ending::Full(refused)
+        }
+    }
+}
+
+/// Counts a place off whose page could not be written.
+fn fail<R: Shows, W: Wait>(
+    rt: &W,
+    gates: &Gates<Shard<R>>,
+    pass: &mut Pass<Shard<R>>,
+    stripe: usize,
+    flight: Flight,
+)
+    requires own { IsResting R.is_steady gates.now pass.old }
+    requires below { stripe < stripes_of gates.now }
+    ensures own { IsResting R.is_steady gates.now pass.new }
+    ensures told { Visited (stripe ∷ []) [] (known pass.old) (known pass.new) }
+{
+    let _stripes = gates.stripes();
+    let wanted = Sorted::none().with(stripe);
+    let mut held = gates.take(rt, pass, &wanted);
+    fail_at(&mut held, stripe, flight);
+    held.give(&Report::Nothing);
 }

@@ -3,15 +3,15 @@
 ghost use Rattle.std.specs.Prelude.{◌≡◌, ◌<◌, [], ◌∷◌, IsSome};
 ghost use Rattle.gates.specs.Background.{IsSeen};
 ghost use Rattle.gates.specs.Passes.{IsResting, known, stripes_of};
-ghost use Rattle.gates.specs.declared.view.Look.TheVariants.{FewerFree, HalfUsed, Used};
+ghost use Rattle.gates.specs.declared.view.Look.TheVariants.{FewerExpected, FewerFree, HalfUsed, Used};
 ghost use Rattle.gates.specs.declared.view.Note.TheVariants as note;
-ghost use Rattle.hybrid.specs.declared.stripe.TheConstants.{CALL_PAGES};
+ghost use Rattle.hybrid.specs.declared.stripe.TheConstants.{CALL_PAGES, CLEAN_PAGES};
 ghost use Rattle.plans.specs.Shards.{shard_meaning, shard_pages};
 ghost use Rattle.background.specs.Visits.{HasStepped, Visited};
 
 use device::Shows;
 use gates::{Gates, Look, Parts, Pass, Report, Sorted};
-use hybrid::CALL_PAGES;
+use hybrid::{CALL_PAGES, CLEAN_PAGES};
 use plans::shard::Shard;
 use std::sync::Wait;
 
@@ -76,6 +76,30 @@ pub fn is_short_of_frames<R: Shows, W: Wait>(
     found
 }
 
+/// Whether fewer frames of a stripe than values leave are free or may be had: a deletion has opened the page that is left for it.
+/// It waits where another pass holds the stripe.
+pub fn lacks_spare_frames<R: Shows, W: Wait>(
+    rt: &W,
+    gates: &Gates<Shard<R>>,
+    pass: &mut Pass<Shard<R>>,
+    stripe: usize,
+) -> bool
+    requires own { IsResting R.is_steady gates.now pass.old }
+    requires below { stripe < stripes_of gates.now }
+    ensures own { IsResting R.is_steady gates.now pass.new }
+    ensures told { Visited (stripe ∷ []) (note.Seen stripe (FewerExpected (CLEAN_PAGES + 1) result) ∷ []) (known pass.old) (known pass.new) }
+{
+    let _stripes = gates.stripes();
+    let wanted = Sorted::none().with(stripe);
+    let mut held = gates.take(rt, pass, &wanted);
+    let found = lacks_spare_frames_at(&mut held, stripe);
+    held.give(&Report::Seen(
+        stripe as u64,
+        Look::FewerExpected(CLEAN_PAGES as u64 + 1, found),
+    ));
+    found
+}
+
 /// Whether at least half of the places of a stripe that is held are used.
 fn is_half_used_at<R: Shows, P: Parts<Shard<R>>>(parts: &mut P, stripe: usize) -> bool
     requires open { P.is_open parts.old }
@@ -107,4 +131,15 @@ fn is_short_of_frames_at<R: Shows, P: Parts<Shard<R>>>(parts: &mut P, stripe: us
     ensures keeps { P.keeps parts.old parts.new }
 {
     parts.part(stripe).is_short_of_frames()
+}
+
+/// Whether frames that values leave of a stripe that is held are lacking.
+fn lacks_spare_frames_at<R: Shows, P: Parts<Shard<R>>>(parts: &mut P, stripe: usize) -> bool
+    requires open { P.is_open parts.old }
+    requires there { IsSome (P.part_of parts.old stripe) }
+    ensures stepped { HasStepped (shard_meaning R.is_steady) stripe (P.part_of parts.old) (P.part_of parts.new) (λ was now. (now ≡ was) × IsSeen (FewerExpected (CLEAN_PAGES + 1) result) (shard_pages now)) }
+    ensures open { P.is_open parts.new }
+    ensures keeps { P.keeps parts.old parts.new }
+{
+    parts.part(stripe).lacks_spare_frames()
 }

@@ -5,10 +5,10 @@ ghost use Rattle.std.specs.Prelude.{◌≡◌, ◌<◌, [], ◌∷◌, Some, IfE
 ghost use Rattle.epoch.specs.Seats as seats;
 ghost use Rattle.epoch.specs.declared.epochs.EpochSeat.{EpochSeat};
 ghost use Rattle.gates.specs.Passes.{WasBusy, known};
-ghost use Rattle.gates.specs.declared.view.Look.TheVariants.{FewerFree, HalfUsed, Used};
+ghost use Rattle.gates.specs.declared.view.Look.TheVariants.{FewerExpected, FewerFree, HalfUsed, Used};
 ghost use Rattle.gates.specs.declared.view.Note.TheVariants as note;
 ghost use Rattle.gates.specs.declared.view.Work.TheVariants.{Evict};
-ghost use Rattle.hybrid.specs.declared.stripe.TheConstants.{CALL_PAGES};
+ghost use Rattle.hybrid.specs.declared.stripe.TheConstants.{CALL_PAGES, CLEAN_PAGES};
 ghost use Rattle.background.specs.Visits.{HasCleaned, HasFlushed, Visited, told};
 ghost use Rattle.engine.specs.Passes.{Rests, stripe_count};
 
@@ -16,7 +16,7 @@ use crate::{Engine, Pass};
 use background::clean::{clean_one, try_clean_one};
 use background::evict::{evict_one, try_evict_one};
 use background::flush::{flush_one, try_flush_one};
-use background::look::{is_half_used, is_short_of_frames, used_places};
+use background::look::{is_half_used, is_short_of_frames, lacks_spare_frames, used_places};
 use device::Device;
 use std::sync::Wait;
 use transact::call::Busy;
@@ -248,5 +248,17 @@ impl<D: Device> Engine<D> {
         ensures device { pass.new.device ≡ pass.old.device }
     {
         is_short_of_frames(rt, &self.gates, &mut pass.gates, stripe)
+    }
+
+    /// Whether fewer frames of a stripe than values leave are free or may be had: a deletion has opened the page that is left
+    /// for it, and the next that wants one finds none before a page is cleaned. It may wait for calls of other passes.
+    pub fn lacks_spare_frames<T: Wait>(&self, rt: &T, pass: &mut Pass<D>, stripe: usize) -> bool
+        requires rests { Rests D.Receipt.is_steady self.now pass.old }
+        requires below { stripe < stripe_count self.now }
+        ensures rests { Rests D.Receipt.is_steady self.now pass.new }
+        ensures told { Visited (stripe ∷ []) (note.Seen stripe (FewerExpected (CLEAN_PAGES + 1) result) ∷ []) (known pass.old.gates) (known pass.new.gates) }
+        ensures device { pass.new.device ≡ pass.old.device }
+    {
+        lacks_spare_frames(rt, &self.gates, &mut pass.gates, stripe)
     }
 }

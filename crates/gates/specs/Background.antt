@@ -7,7 +7,7 @@ use Rattle.gates.specs.declared.view.Refused.{Refused}
 use Rattle.gates.specs.declared.view.Work.{Work}
 use Rattle.gates.specs.declared.view.Work.TheVariants.{Flush, Evict, Clean}
 use Rattle.gates.specs.declared.view.Look.{Look}
-use Rattle.gates.specs.declared.view.Look.TheVariants.{HalfUsed, Used, FewerFree}
+use Rattle.gates.specs.declared.view.Look.TheVariants.{HalfUsed, Used, FewerFree, FewerExpected}
 use Rattle.gates.specs.declared.view.Note.{Note}
 use Rattle.gates.specs.declared.view.Note.TheVariants as note
 use Rattle.gates.specs.declared.report.Report.{Report}
@@ -64,11 +64,13 @@ pub record IsSpent (refused : Refused) (was now : Pages) : Type 0 where
   pub each : IsEachRefused was.refused now.refused
 
 -- What is seen is so: places are used as long as they are taken and not released, and a frame is free that has no page from the first resident one to
--- the tail page.
+-- the tail page. A frame may be had for a place that has no receipt which the log keeps.
 abbrev pub IsSeen : Look → Pages → Type 0
 IsSeen (HalfUsed answer) p = IsTrue answer ↔ (p.places ≤ p.unreleased + p.unreleased)
 IsSeen (Used count) p = count ≡ p.unreleased
 IsSeen (FewerFree count answer) p = IsTrue answer ↔ (p.frames + p.first < count + (p.tail + 1))
+IsSeen (FewerExpected count answer) p =
+    IsTrue answer ↔ (p.frames + p.first + p.places < count + (p.tail + 1) + count_true p.receipts)
 
 module _ {T : Type 0} where
   -- the part of a stripe is such

@@ -4,7 +4,7 @@ ghost use Rattle.std.specs.Prelude.{◌≡◌, ◌+◌, ◌-◌, ◌<◌, ◌≤
 ghost use Rattle.std.specs.Bool.{OnTrue, OnFalse};
 ghost use Rattle.records.specs.Page.{used_end};
 ghost use Rattle.frames.specs.Resident.{IsResident, next_number, page_of};
-ghost use Rattle.hybrid.specs.HybridLog.{HybridLog, IsHybridLog, IsSealed, count_kept, empty_log, free, log_of, receipt_at, receipt_of};
+ghost use Rattle.hybrid.specs.HybridLog.{HybridLog, IsHybridLog, IsSealed, count_kept, empty_log, expected, free, log_of, receipt_at, receipt_of};
 ghost use Rattle.hybrid.specs.Log.{contents};
 ghost use Rattle.hybrid.specs.Reserving.{IsFull};
 ghost use Rattle.hybrid.specs.declared.stripe.TheConstants.{CALL_PAGES};
@@ -185,6 +185,14 @@ impl<R: Shows> Stripe<R> {
         ensures { IsTrue result ↔ (free self.now < CALL_PAGES) }
     {
         self.free() < CALL_PAGES
+    }
+
+    /// Whether fewer frames than values leave are free or may be had, for places that are not taken or whose receipts wait
+    /// to be released: a deletion has opened a page, and the next one that wants a page finds none before one is cleaned.
+    pub fn lacks_spare_frames(&self) -> bool
+        ensures { IsTrue result ↔ (expected self.now < CLEAN_PAGES + 1) }
+    {
+        self.places - self.kept < (CLEAN_PAGES + 1).saturating_sub(self.free())
     }
 
     /// The number of the oldest page.

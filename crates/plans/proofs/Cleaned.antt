@@ -1,16 +1,16 @@
 -- The cleaner's step, by what its parts came to.
-use Rattle.std.proofs.Common.{◌≡◌, ◌∙◌, ◌≤◌, ◌<◌, ◌++◌, ◌∷◌, [], ◌+◌, ℕ, List, Some, Result, Ok, Err, IfOk, length, length-append, slice_index_or, refl, sym, ap, subst, arith}
+use Rattle.std.proofs.Common.{◌≡◌, ◌∙◌, ◌≤◌, ◌<◌, ◌++◌, ◌∷◌, [], ℕ, List, Some, length, length-append, slice_index_or, refl, sym, ap, subst, arith}
 use Rattle.std.specs.Prelude.{⊤}
 use Rattle.words.specs.declared.reply.Fault.{Fault}
 use Rattle.words.specs.declared.reply.Fault.TheVariants as fault
 use Rattle.hybrid.specs.HybridLog.{HybridLog, Kept}
 use Rattle.hybrid.specs.Reading.{ReadingLaws, unread}
-use Rattle.hybrid.specs.Staging.{IsMissing, IsStaged, StagedPage}
+use Rattle.hybrid.specs.Staging.{IsMissing, StagedPage}
 use Rattle.hybrid.specs.Weighing.{MatchWeighed}
 use Rattle.hybrid.specs.declared.stripe.TheConstants.{CLEAN_WEIGHT}
 use Rattle.hybrid.specs.declared.stripe.clean.Weighed.{Weighed}
 use Rattle.hybrid.specs.declared.stripe.clean.Weighed.TheVariants as weighed
-use Rattle.plans.specs.Cleaning.{HasUnlinkedPage, IsFetched, MatchFault, SameWaiting}
+use Rattle.plans.specs.Cleaning.{IsFetched, MatchFault, SameWaiting}
 use Rattle.plans.specs.Counted.{Counted, HasUnlinked, MatchCleaning}
 use Rattle.plans.specs.declared.counted.Cleaning.{Cleaning}
 use Rattle.plans.specs.declared.counted.Cleaning.TheVariants as cleaning

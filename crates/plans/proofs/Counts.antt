@@ -24,6 +24,12 @@ count_none [] (suc n) = count_none [] n
 count_none (None ∷ kept) n = count_none kept n
 count_none (Some k ∷ kept) n = omega (arith, count_none kept n)
 
+-- as many pages have a receipt as receipts are kept
+pub count_kept_as : (kept : List (Option Kept)) → count_true (map is_some kept) ≡ count_kept kept
+count_kept_as [] = refl
+count_kept_as (None ∷ kept) = count_kept_as kept
+count_kept_as (Some k ∷ kept) = omega (arith, count_kept_as kept)
+
 -- a page of which no receipt was kept has one
 pub count_more : (kept : List (Option Kept)) (i : ℕ) (k : Kept) → i < length kept → slice_index_or kept i None ≡ None
     → count_true (map is_some (set kept i (Some k))) ≡ count_true (map is_some kept) + 1

@@ -5,17 +5,16 @@ use Rattle.epoch.specs.declared.view.View.{View}
 use Rattle.epoch.specs.declared.view.Note.{Note}
 use Rattle.epoch.specs.declared.view.Note.TheVariants.{Worn}
 use Rattle.epoch.specs.Seats.{AdvancedPast, WasWorn}
-use Rattle.gates.specs.Background.{AreRaised, IsEachRefused, IsSpent}
-use Rattle.gates.specs.declared.view.Refused.{Refused}
+use Rattle.gates.specs.Background.{AreRaised, IsEachRefused}
 use Rattle.hybrid.specs.HybridLog.{HybridLog, Kept}
 use Rattle.hybrid.specs.Reserving.{IsFull}
-use Rattle.plans.specs.Counted.{Counted, HasReleased, HasRetired, HasTurned, IsCounted, Waiting, places_waiting, waiting_of}
+use Rattle.plans.specs.Counted.{Counted, HasReleased, HasRetired, HasTurned, IsCounted, Waiting}
 use Rattle.plans.specs.declared.freeing.Freed.{Freed}
 use Rattle.plans.specs.declared.shard.Shard.{Shard}
 use Rattle.plans.specs.Freeing.{FreesAt, HasDrainedAll, HasFreed, HasReleasedAll, HasRetiredAll, HasTriedAll, IsSpentAt, all_waiting, waiting_at}
 use Rattle.plans.specs.Heard.{HasHeard, HasHeardWorn}
 use Rattle.plans.specs.Rooms.{IsFullAt}
-use Rattle.plans.specs.Shards.{SameWaits, logs_of, shard_counted, shard_log, shard_pages, shard_waiting, waits_of}
+use Rattle.plans.specs.Shards.{SameWaits, logs_of, shard_counted, shard_log, shard_waiting, waits_of}
 use Rattle.std.specs.Bool.{OnFalse}
 use Rattle.hybrid.specs.HybridLog.{log_of}
 use Rattle.hybrid.specs.Log.{contents}
@@ -33,7 +32,7 @@ use Rattle.plans.specs.Memory.{IsBrief, IsPlannedInPlace, NeedsNoMemoryOn}
 use Rattle.plans.specs.Sizes.{AllShort, IsShort}
 use Rattle.plans.proofs.Become.{became_both, became_read}
 use Rattle.plans.proofs.Rooms.{stripe_below}
-use Rattle.plans.proofs.Raised.{each_later, raised_both, raised_gone, raised_left, raised_same, raised_twice, weaker}
+use Rattle.plans.proofs.Raised.{each_later, raised_gone, raised_left, raised_same, weaker}
 
 -- RETIRED
 

@@ -1,5 +1,5 @@
 -- Plans over a steady device.
-use Rattle.std.proofs.Common.{◌≡◌, ◌≢◌, ◌<◌, ◌+◌, ℕ, List, [], ◌∷◌, Result, Ok, Err, IfErr, subst, arith}
+use Rattle.std.proofs.Common.{◌≡◌, ◌≢◌, ◌<◌, ℕ, List, [], Result, Ok, Err, IfErr, subst, arith}
 use Rattle.words.specs.Store.{Write}
 use Rattle.hybrid.specs.Staging.{AreRight}
 use Rattle.plans.specs.declared.stop.Stop.{Stop}

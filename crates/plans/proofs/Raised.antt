@@ -1,5 +1,5 @@
 -- Counts that were raised, some of which have gone.
-use Rattle.std.proofs.Common.{◌≡◌, ◌∙◌, ◌+◌, ◌<◌, ◌≤◌, ◌⊎◌, inl, inr, ⊎_elim, ℕ, List, [], ◌∷◌, ◌++◌, append_assoc, append-nil, sym, subst, arith}
+use Rattle.std.proofs.Common.{◌+◌, ◌<◌, inl, inr, ⊎_elim, ℕ, List, [], ◌∷◌, ◌++◌, append_assoc, append-nil, subst, arith}
 use Rattle.gates.specs.Background.{AreRaised, IsEachRefused}
 
 all_gone : (by : ℕ) (was : List ℕ) → AreRaised by was []

@@ -1,5 +1,5 @@
 -- What a step of the flusher or of the cleaner came to that released places first.
-use Rattle.std.proofs.Common.{◌≡◌, ◌∙◌, ◌+◌, ◌-◌, ◌<◌, ◌≤◌, ◌⊎◌, inl, inr, ⊎_elim, ℕ, zero, suc, Bool, true, false, List, [], ◌∷◌, ◌++◌, length, length-append, append_assoc, append-nil, map, Option, Result, Ok, Err, IfOk, nat_lt, refl, sym, ap, subst, arith}
+use Rattle.std.proofs.Common.{◌≡◌, ◌∙◌, ◌+◌, ◌<◌, ◌⊎◌, inl, inr, ⊎_elim, ℕ, zero, suc, Bool, true, false, List, [], ◌∷◌, ◌++◌, length, length-append, append_assoc, append-nil, map, Option, Result, Ok, Err, IfOk, nat_lt, refl, sym, ap, subst, arith}
 use Rattle.std.specs.Prelude.{⊤, if◌then◌else◌}
 use Rattle.std.specs.Option.{is_some}
 use Rattle.std.proofs.lemmas.Bool.{lt-ltb}
@@ -19,10 +19,10 @@ use Rattle.hybrid.specs.declared.stripe.room.Purpose.{Purpose}
 use Rattle.plans.specs.Cleaning.{HasMadeRoom, HasUnlinkedPage, IsResidentStill, MatchStepped, WasNotDrained}
 use Rattle.plans.specs.declared.cleaning.Stepped.{Stepped}
 use Rattle.plans.specs.declared.cleaning.Stepped.TheVariants as stepped
-use Rattle.plans.specs.Counted.{Counted, HasFlushed, HasLanded, HasUnlinked, IsAsWritten, IsFirstSealed, Waiting, WasRefused, claimed, places_waiting, waiting_of, with_flight}
-use Rattle.plans.specs.Flushing.{HasFreedFirst, HasRefreed}
+use Rattle.plans.specs.Counted.{Counted, HasFlushed, HasLanded, HasUnlinked, IsFirstSealed, Waiting, WasRefused, claimed, places_waiting, waiting_of, with_flight}
+use Rattle.plans.specs.Flushing.{HasFreedFirst}
 use Rattle.plans.specs.Freeing.{HasFreed, HasTriedAll}
-use Rattle.plans.specs.Heard.{HasHeard, HasHeardWorn, HasTried, worn_times}
+use Rattle.plans.specs.Heard.{HasHeardWorn, HasTried, worn_times}
 use Rattle.plans.specs.Rooms.{ShedsFew}
 use Rattle.plans.specs.Shards.{shard_counted, shard_log, shard_pages, shard_waiting}
 use Rattle.plans.specs.declared.freeing.Freed.{Freed}

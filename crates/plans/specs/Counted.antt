@@ -2,7 +2,7 @@
 use Rattle.std.specs.Prelude.{ℕ, ◌≡◌, ◌≢◌, ◌⊎◌, ◌+◌, ◌-◌, ◌<◌, List, [], ◌∷◌, ◌++◌, length, if◌then◌else◌, nat_lt, Some}
 use Rattle.std.specs.List.{Contains}
 use Rattle.frames.specs.Resident.{page_of}
-use Rattle.hybrid.specs.HybridLog.{HybridLog, IsSealed, Kept, count_kept, log_of, receipt_of, with_receipt}
+use Rattle.hybrid.specs.HybridLog.{HybridLog, IsSealed, Kept, count_kept, receipt_of, with_receipt}
 use Rattle.hybrid.specs.Staging.{IsUnlinked}
 use Rattle.plans.specs.declared.counted.Begun.{Begun}
 use Rattle.plans.specs.declared.counted.Begun.TheVariants as begun

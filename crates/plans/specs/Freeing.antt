@@ -1,7 +1,6 @@
 -- What a call releases itself, before it is answered that a stripe is full.
 use Rattle.std.specs.Prelude.{ℕ, ◌≡◌, ◌≢◌, ◌⊎◌, ◌+◌, ◌<◌, Bool, true, false, List, [], ◌∷◌, ◌++◌, length, Option, Some, None, zero, suc, if◌then◌else◌}
 use Rattle.epoch.specs.declared.view.View.{View}
-use Rattle.epoch.specs.declared.view.Note.{Note}
 use Rattle.epoch.specs.declared.view.Note.TheVariants.{Worn}
 use Rattle.gates.specs.Background.{IsEachRefused, IsSpent}
 use Rattle.gates.specs.declared.view.Refused.{Refused}

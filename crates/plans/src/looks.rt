@@ -1,9 +1,9 @@
-//! What is seen of a stripe: how many of its places are used, and whether its frames are short.
+//! What is seen of a stripe: how many of its places are used, and whether its frames are short, or those that values leave.
 
 ghost use Rattle.std.specs.Prelude.{◌≡◌, ◌<◌, ◌+◌};
 ghost use Rattle.gates.specs.Background.{IsSeen};
-ghost use Rattle.gates.specs.declared.view.Look.TheVariants.{FewerFree, HalfUsed, Used};
-ghost use Rattle.hybrid.specs.declared.stripe.TheConstants.{CALL_PAGES};
+ghost use Rattle.gates.specs.declared.view.Look.TheVariants.{FewerExpected, FewerFree, HalfUsed, Used};
+ghost use Rattle.hybrid.specs.declared.stripe.TheConstants.{CALL_PAGES, CLEAN_PAGES};
 ghost use Rattle.plans.specs.Shards.{shard_pages};
 
 use crate::shard::Shard;
@@ -30,5 +30,14 @@ impl<R: Shows> Shard<R> {
     {
         let _oldest = self.log.stripe().oldest();
         self.log.stripe().is_short_of_frames()
+    }
+
+    /// Whether fewer of its frames than values leave are free or may be had: a deletion has opened the page that is left for it.
+    #[tactic(auto, using(crate::proofs::Counts::count_kept_as))]
+    pub fn lacks_spare_frames(&self) -> bool
+        ensures { IsSeen (FewerExpected (CLEAN_PAGES + 1) result) (shard_pages self.now) }
+    {
+        let _oldest = self.log.stripe().oldest();
+        self.log.stripe().lacks_spare_frames()
     }
 }

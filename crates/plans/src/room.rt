@@ -20,27 +20,39 @@ use strings::writes::{Write, writes_to};
 use words::hash::stripe_of;
 use words::limits::WEIGHT_OF_KEY;
 
-/// What a write weighs that no later one hides.
-fn weigh(write: &Write) -> usize
-    requires { weigh write.now ≤ WEIGHT_MAX }
-    ensures { result ≡ weigh write.now }
+/// Makes room for writes in each stripe that they write, in rising order. What keys have and all marks stay.
+pub(crate) fn reserve_all<R: Shows, D: Device<Receipt = R>, P: Parts<Shard<R>>>(
+    parts: &mut P,
+    stripes: usize,
+    writes: &[Write],
+    device: &mut D,
+) -> Result<(), Stop<R>>
+    requires open { P.is_open parts.old }
+    requires some { 1 ≤ stripes }
+    requires most { stripes ≤ 64 }
+    requires light { weight writes.now ≤ WEIGHT_MAX }
+    requires there { AreThere stripes (P.part_of parts.old) (keys_written writes.now) }
+    ensures became { Became (shard_meaning R.is_steady) stripes [] stays (P.part_of parts.old) (P.part_of parts.new) }
+    ensures room { OnOk result (AreRoomy stripes (logs_of (P.part_of parts.new)) writes.now) }
+    ensures made { OnOk result (MakesRoom D.wrote (kept_by R.identity R.shown) stripes stripes writes.now (logs_of (P.part_of parts.old)) device.old (logs_of (P.part_of parts.new)) device.new) }
+    ensures full { IfErr result (λ stop. IfFull stop (λ stripe. MeetsFull D.wrote (kept_by R.identity R.shown) stripes stripe (λ due. due ≡ writes.now) (logs_of (P.part_of parts.old)) device.old (logs_of (P.part_of parts.new)) device.new)) }
+    ensures few { ShedFew stripes writes.now (logs_of (P.part_of parts.old)) (logs_of (P.part_of parts.new)) }
+    ensures kept { OnOk result (LeaveFrames stripes writes.now (logs_of (P.part_of parts.old)) (logs_of (P.part_of parts.new))) }
+    ensures device { StillServes D.serves D.releases device.old device.new }
+    ensures never_cold { IfErr result (λ stop. IfCold stop (λ receipts. ⊥)) }
+    ensures memory { IfErr result (λ stop. IfNoMemory stop ⊥) }
+    ensures faults { IfErr result (λ stop. D.failures device.new ≡ D.failures device.old + faults stop) }
+    ensures no_fault { OnOk result (D.failures device.new ≡ D.failures device.old) }
+    ensures waits { SameWaits (P.part_of parts.old) (P.part_of parts.new) }
+    ensures open { P.is_open parts.new }
+    ensures keeps { P.keeps parts.old parts.new }
 {
-    let size = match write.value() {
-        Some(value) => value.len(),
-        None => 0,
-    };
-    WEIGHT_OF_KEY + write.key().len() + size
-}
-
-/// What a write weighs before these others: nothing where one of them is to its key.
-fn weigh_before(write: &Write, others: &[Write]) -> usize
-    requires { weight (write.now ∷ others.now) ≤ WEIGHT_MAX }
-    ensures { result ≡ (if writes_key others.now write.now.0 then 0 else weigh write.now) }
-{
-    if writes_to(others, write.key()) {
-        return 0;
+    let shares = shares_of(writes, stripes);
+    let purpose = purpose_of(writes);
+    for stripe in 0..stripes {
+        reserve_share(parts, stripes, stripe, shares[stripe], purpose, device)?;
     }
-    weigh(write)
+    Ok(())
 }
 
 /// What the writes to each stripe weigh.
@@ -58,6 +70,29 @@ fn shares_of(writes: &[Write], stripes: usize) -> [usize; 64]
         left = others;
     }
     shares
+}
+
+/// What a write weighs before these others: nothing where one of them is to its key.
+fn weigh_before(write: &Write, others: &[Write]) -> usize
+    requires { weight (write.now ∷ others.now) ≤ WEIGHT_MAX }
+    ensures { result ≡ (if writes_key others.now write.now.0 then 0 else weigh write.now) }
+{
+    if writes_to(others, write.key()) {
+        return 0;
+    }
+    weigh(write)
+}
+
+/// What a write weighs that no later one hides.
+fn weigh(write: &Write) -> usize
+    requires { weigh write.now ≤ WEIGHT_MAX }
+    ensures { result ≡ weigh write.now }
+{
+    let size = match write.value() {
+        Some(value) => value.len(),
+        None => 0,
+    };
+    WEIGHT_OF_KEY + write.key().len() + size
 }
 
 /// For what room is made: deletions alone, or writes of which one at least gives a value.
@@ -110,39 +145,4 @@ fn reserve_share<R: Shows, D: Device<Receipt = R>, P: Parts<Shard<R>>>(
         Err(Fault::DeviceFault) => Err(Stop::DeviceFault),
         Err(Fault::StoreFull) => Err(Stop::StoreFull(stripe)),
     }
-}
-
-/// Makes room for writes in each stripe that they write, in rising order. What keys have and all marks stay.
-pub(crate) fn reserve_all<R: Shows, D: Device<Receipt = R>, P: Parts<Shard<R>>>(
-    parts: &mut P,
-    stripes: usize,
-    writes: &[Write],
-    device: &mut D,
-) -> Result<(), Stop<R>>
-    requires open { P.is_open parts.old }
-    requires some { 1 ≤ stripes }
-    requires most { stripes ≤ 64 }
-    requires light { weight writes.now ≤ WEIGHT_MAX }
-    requires there { AreThere stripes (P.part_of parts.old) (keys_written writes.now) }
-    ensures became { Became (shard_meaning R.is_steady) stripes [] stays (P.part_of parts.old) (P.part_of parts.new) }
-    ensures room { OnOk result (AreRoomy stripes (logs_of (P.part_of parts.new)) writes.now) }
-    ensures made { OnOk result (MakesRoom D.wrote (kept_by R.identity R.shown) stripes stripes writes.now (logs_of (P.part_of parts.old)) device.old (logs_of (P.part_of parts.new)) device.new) }
-    ensures full { IfErr result (λ stop. IfFull stop (λ stripe. MeetsFull D.wrote (kept_by R.identity R.shown) stripes stripe (λ due. due ≡ writes.now) (logs_of (P.part_of parts.old)) device.old (logs_of (P.part_of parts.new)) device.new)) }
-    ensures few { ShedFew stripes writes.now (logs_of (P.part_of parts.old)) (logs_of (P.part_of parts.new)) }
-    ensures kept { OnOk result (LeaveFrames stripes writes.now (logs_of (P.part_of parts.old)) (logs_of (P.part_of parts.new))) }
-    ensures device { StillServes D.serves D.releases device.old device.new }
-    ensures never_cold { IfErr result (λ stop. IfCold stop (λ receipts. ⊥)) }
-    ensures memory { IfErr result (λ stop. IfNoMemory stop ⊥) }
-    ensures faults { IfErr result (λ stop. D.failures device.new ≡ D.failures device.old + faults stop) }
-    ensures no_fault { OnOk result (D.failures device.new ≡ D.failures device.old) }
-    ensures waits { SameWaits (P.part_of parts.old) (P.part_of parts.new) }
-    ensures open { P.is_open parts.new }
-    ensures keeps { P.keeps parts.old parts.new }
-{
-    let shares = shares_of(writes, stripes);
-    let purpose = purpose_of(writes);
-    for stripe in 0..stripes {
-        reserve_share(parts, stripes, stripe, shares[stripe], purpose, device)?;
-    }
-    Ok(())
 }

@@ -224,7 +224,8 @@ fn goes_on<R: Wait, D: Device>(
         return true;
     }
     let used = engine.used_places(rt, pass, stripe);
-    laps.begins(used, chores.places) && laps.goes_on()
+    let opened = engine.lacks_spare_frames(rt, pass, stripe);
+    laps.begins(used, chores.places, opened) && laps.goes_on()
 }
 
 /// Whether serving is over. Where there was nothing to do, it rests before.

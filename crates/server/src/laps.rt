@@ -1,5 +1,7 @@
 //! When the cleaner works at a stripe.
 
+ghost use Rattle.std.specs.Prelude.{◌≡◌, IsTrue, true, false};
+
 /// How many steps a place takes from its page to its release: unlinked, retired, drained, released.
 const STEPS_EACH: usize = 4;
 /// A lap that gave back fewer places than this part of those that were used is in vain.
@@ -11,10 +13,14 @@ const LOOKS_MIN: usize = 10;
 const LOOKS_MAX: usize = 1_000;
 /// Those who write wait for a lap where fewer places than this part are left.
 const LEFT_PART: usize = 8;
+/// The most steps of a short lap, which begins where a deletion has opened a page: one page that is gained is room for the next.
+const SHORT_STEPS: usize = 64;
 
 /// The cleaner's laps over the places of a stripe. A lap has as many steps as it takes to come by each used place once. Where
 /// one was in vain, since nearly all that it copied still lives, the cleaner leaves the stripe alone until more places are
-/// used; a full stripe, where keys may be deleted meanwhile, it tries again after a while.
+/// used. A full stripe, where keys may be overwritten or deleted meanwhile, it tries again after a while. Where a deletion has
+/// opened the page that is left for it, a short lap begins at once, so that the next one finds a page too; where that gave no
+/// page back, a whole one follows soon.
 #[derive(Clone, Copy, Drop)]
 pub(crate) struct Laps {
     /// The steps that are left of this lap.
@@ -27,6 +33,10 @@ pub(crate) struct Laps {
     looks: usize,
     /// After how many looks it tries a full stripe again.
     patience: usize,
+    /// Whether a deletion had opened the page that is left for it, at the last look.
+    opened: bool,
+    /// Whether the last lap began for that, with a few steps.
+    short: bool,
 }
 
 impl Laps {
@@ -38,6 +48,8 @@ impl Laps {
             vain: 0,
             looks: 0,
             patience: LOOKS_MIN,
+            opened: false,
+            short: false,
         }
     }
 
@@ -60,34 +72,48 @@ impl Laps {
         self.left = 0;
     }
 
-    /// Whether a new lap begins, at a stripe of so many places, of which so many are used.
-    pub(crate) fn begins(&mut self, used: usize, places: usize) -> bool {
+    /// Whether a new lap begins, at a stripe of so many places, of which so many are used, where a deletion has opened the page
+    /// that is left for it or has not. One begins where it has since the last look.
+    pub(crate) fn begins(&mut self, used: usize, places: usize, opened: bool) -> bool
+        ensures deletion { opened ≡ true → self.old.opened ≡ false → IsTrue result }
+        ensures look { self.new.opened ≡ opened }
+    {
         if self.began > 0 {
-            self.end(used);
+            self.end(used, opened);
         }
-        if self.vain > 0 && !self.is_worth(used, places) {
+        let short = self.vain > 0 && opened && !self.opened;
+        self.opened = opened;
+        if self.vain > 0 && !short && !self.is_worth(used, places) {
             return false;
         }
+        let most = if short { SHORT_STEPS } else { usize::MAX };
+        self.left = used.saturating_mul(STEPS_EACH).min(most);
+        self.short = short;
         self.began = used;
         self.vain = 0;
         self.looks = 0;
-        self.left = used.saturating_mul(STEPS_EACH);
         true
     }
 
     /// Ends a lap.
-    fn end(&mut self, used: usize) {
+    fn end(&mut self, used: usize, opened: bool)
+        ensures look { self.new.opened ≡ self.old.opened }
+    {
         let gained = self.began.saturating_sub(used);
-        if gained < self.began / GAIN_PART + 1 {
+        let in_vain = gained < self.began / GAIN_PART + 1;
+        if in_vain {
             self.vain = used;
-        } else {
+        }
+        if !in_vain || (self.short && opened) {
             self.patience = LOOKS_MIN;
         }
         self.began = 0;
     }
 
     /// Whether a lap is worth another try after one in vain.
-    fn is_worth(&mut self, used: usize, places: usize) -> bool {
+    fn is_worth(&mut self, used: usize, places: usize) -> bool
+        ensures look { self.new.opened ≡ self.old.opened }
+    {
         if used > self.vain.saturating_add(places / GAIN_PART) {
             return true;
         }

@@ -20,7 +20,7 @@ const ROUNDS: u32 = 32;
 /// How often a piece is sent again that found the store full, after a rest of 10 milliseconds.
 const TRIES: u32 = 1_000;
 
-const FULL: &[u8] = b"-FULL store is full";
+pub(crate) const FULL: &[u8] = b"-FULL store is full";
 
 /// How 30 requests were answered.
 #[derive(Clone, Copy, Debug, PartialEq, Eq)]

@@ -1,5 +1,5 @@
-use Rattle.std.proofs.Common.{◌≡◌, ◌+◌, ◌-◌, ◌<◌, ◌≤◌, ℕ, arith, subst, sym}
-use Rattle.plans.proofs.Freed.{IsTurning, turning_begin, turning_end, turning_more}
+use Rattle.std.proofs.Common.{◌-◌, arith}
+use Rattle.plans.proofs.Freed.{turning_begin, turning_end, turning_more}
 use Rattle.plans.proofs.freeing.drain_all.Goals as goal
 
 pub each-init : goal.each-init

@@ -1,4 +1,4 @@
-use Rattle.std.proofs.Common.{◌≡◌, ◌∙◌, ◌+◌, ◌<◌, ℕ, true, false, refl, arith}
+use Rattle.std.proofs.Common.{◌∙◌, ◌+◌, refl, arith}
 use Rattle.plans.proofs.Freed.{released_end, released_fewer, released_more, released_none}
 use Rattle.plans.proofs.freeing.release_all.Goals as goal
 

@@ -1,4 +1,4 @@
-use Rattle.std.proofs.Common.{◌≡◌, ◌∙◌, ◌+◌, ◌<◌, ◌∷◌, [], ℕ, refl, sym, ap, subst, arith}
+use Rattle.std.proofs.Common.{◌∙◌, ◌+◌, ◌∷◌, [], ℕ, refl, ap, arith}
 use Rattle.std.proofs.lemmas.Bool.{not-false, not-true}
 use Rattle.plans.specs.Shards.{shard_meaning}
 use Rattle.plans.specs.Stops.{faults}

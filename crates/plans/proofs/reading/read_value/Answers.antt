@@ -1,11 +1,10 @@
-use Rattle.std.proofs.Common.{◌∙◌, ◌+◌, ◌<◌, ◌≤◌, [], ◌∷◌, ℕ, List, length, unwrap_or, refl, sym, ap, subst}
+use Rattle.std.proofs.Common.{◌∙◌, ◌<◌, ◌≤◌, [], ◌∷◌, ℕ, List, length, unwrap_or, refl, sym, ap, subst}
 use Rattle.transact.specs.Tables.{AllRead, AreThere, joined}
 use Rattle.words.specs.declared.word.TheConstants.{WORD_INLINE}
 use Rattle.hybrid.specs.Staging.{AreRight, StagedPage}
 use Rattle.plans.specs.Memory.{AreAtHand}
 use Rattle.plans.specs.Reading.{unread}
 use Rattle.plans.specs.Shards.{logs_of, shard_meaning}
-use Rattle.plans.specs.Stops.{faults}
 use Rattle.words.specs.History.{after}
 use Rattle.plans.proofs.Hand.{none_cold}
 use Rattle.plans.proofs.Logs.{logs_same}

@@ -1,8 +1,7 @@
-use Rattle.std.proofs.Common.{◌≡◌, ◌∙◌, ◌∷◌, ◌++◌, [], ℕ, List, refl, sym, ap, subst}
+use Rattle.std.proofs.Common.{◌∙◌, ◌∷◌, [], List, ap}
 use Rattle.std.proofs.lemmas.List.{map-append}
 use Rattle.std.specs.Prelude.{map}
-use Rattle.hybrid.specs.HybridLog.{HybridLog, Kept}
-use Rattle.plans.specs.Counted.{Counted}
+use Rattle.hybrid.specs.HybridLog.{Kept}
 use Rattle.plans.specs.Receipts.{drained_by, kept_by, refused_of, retired_by}
 use Rattle.plans.proofs.Counts.{unlinked_by}
 use Rattle.plans.proofs.counted.CountedLog.clean_oldest.Goals as goal

@@ -1,8 +1,6 @@
-use Rattle.std.proofs.Common.{◌≡◌, ◌∙◌, ◌∷◌, ◌++◌, [], ℕ, List, refl, sym, ap, subst}
-use Rattle.std.proofs.lemmas.List.{map-append}
+use Rattle.std.proofs.Common.{ap}
 use Rattle.std.specs.Prelude.{map}
-use Rattle.hybrid.specs.HybridLog.{HybridLog, Kept}
-use Rattle.plans.specs.Counted.{Counted}
+use Rattle.hybrid.specs.HybridLog.{HybridLog}
 use Rattle.plans.specs.Receipts.{drained_by, kept_by, refused_of, retired_by}
 use Rattle.plans.proofs.Counts.{released_by}
 use Rattle.plans.proofs.counted.CountedLog.release.Goals as goal

@@ -1,4 +1,4 @@
-use Rattle.std.proofs.Common.{◌≡◌, ◌+◌, ◌-◌, ◌≤◌, ℕ, ap, subst}
+use Rattle.std.proofs.Common.{◌-◌, ◌≤◌, ℕ, ap, subst}
 use Rattle.hybrid.specs.HybridLog.{HybridLog, free}
 use Rattle.hybrid.specs.Reserving.{IsReserved, frames_for}
 use Rattle.hybrid.specs.Shedding.{HasShed}

@@ -1,9 +1,8 @@
-use Rattle.std.proofs.Common.{◌≡◌, ◌∙◌, ◌∷◌, ◌++◌, [], ℕ, List, refl, sym, ap, subst}
+use Rattle.std.proofs.Common.{◌≡◌, ◌∙◌, ◌∷◌, ◌++◌, [], List, ap}
 use Rattle.std.proofs.lemmas.List.{map-append}
 use Rattle.std.specs.Prelude.{map}
 use Rattle.epoch.specs.Seats.{refusals}
-use Rattle.hybrid.specs.HybridLog.{HybridLog, Kept}
-use Rattle.plans.specs.Counted.{Counted}
+use Rattle.hybrid.specs.HybridLog.{Kept}
 use Rattle.plans.specs.Receipts.{drained_by, kept_by, refused_of, retired_by}
 use Rattle.plans.proofs.Counts.{retired_by_step, both_lists}
 use Rattle.plans.proofs.counted.CountedLog.retire.Goals as goal

@@ -1,8 +1,5 @@
-use Rattle.std.proofs.Common.{◌≡◌, ◌∙◌, ◌∷◌, ◌++◌, [], ℕ, List, refl, sym, ap, subst}
-use Rattle.std.proofs.lemmas.List.{map-append}
+use Rattle.std.proofs.Common.{refl, ap}
 use Rattle.std.specs.Prelude.{map}
-use Rattle.hybrid.specs.HybridLog.{HybridLog, Kept}
-use Rattle.plans.specs.Counted.{Counted}
 use Rattle.plans.specs.Receipts.{kept_by}
 use Rattle.plans.proofs.Counts.{taken_by}
 use Rattle.plans.proofs.counted.CountedLog.take_unlinked.Goals as goal

@@ -1,4 +1,4 @@
-use Rattle.std.proofs.Common.{◌≡◌, ap, subst, sym}
+use Rattle.std.proofs.Common.{ap, subst, sym}
 use Rattle.epoch.specs.Seats.{known}
 use Rattle.epoch.specs.declared.epochs.EpochSeat.{EpochSeat}
 use Rattle.gates.specs.Background.{IsStep}

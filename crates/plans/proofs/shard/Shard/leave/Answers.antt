@@ -1,4 +1,4 @@
-use Rattle.std.proofs.Common.{◌≡◌, ◌∙◌, ◌<◌, ◌≤◌, ℕ, refl, sym, ap, subst, arith}
+use Rattle.std.proofs.Common.{◌≡◌, ◌∙◌, refl, sym, ap, subst, arith}
 use Rattle.epoch.specs.Seats.{known}
 use Rattle.words.specs.Store.{Store}
 use Rattle.plans.specs.Cleaning.{HasMadeRoom}

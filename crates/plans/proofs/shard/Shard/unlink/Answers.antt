@@ -1,9 +1,7 @@
-use Rattle.std.proofs.Common.{◌≡◌, ◌≤◌, ◌<◌, ◌∙◌, ◌+◌, ℕ, List, false, refl, sym, ap, subst}
+use Rattle.std.proofs.Common.{◌≡◌, ◌<◌, ◌∙◌, ◌+◌, refl, sym, ap, subst}
 use Rattle.hybrid.specs.HybridLog.{HasRoom, HybridLog}
 use Rattle.hybrid.specs.Reading.{unread}
 use Rattle.hybrid.specs.Staging.{IsMissing}
-use Rattle.hybrid.specs.Weighing.{MatchWeighed}
-use Rattle.hybrid.specs.declared.stripe.TheConstants.{CLEAN_WEIGHT}
 use Rattle.plans.specs.Cleaning.{IsFetched, SameWaiting}
 use Rattle.plans.specs.Counted.{Counted, HasUnlinked}
 use Rattle.plans.specs.Shards.{shard_counted, shard_log, shard_marks, shard_store}

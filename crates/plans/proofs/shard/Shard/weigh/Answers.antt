@@ -1,13 +1,10 @@
-use Rattle.std.proofs.Common.{◌≡◌, ◌≤◌, ◌<◌, ◌∙◌, ◌+◌, ℕ, List, false, refl, sym, ap, subst}
-use Rattle.hybrid.specs.HybridLog.{HasRoom, HybridLog}
-use Rattle.hybrid.specs.Reading.{unread}
+use Rattle.std.proofs.Common.{◌≡◌, ◌≤◌, ◌<◌, ◌∙◌, ◌+◌, false, refl, ap, subst}
+use Rattle.hybrid.specs.HybridLog.{HybridLog}
 use Rattle.hybrid.specs.Staging.{IsMissing}
 use Rattle.hybrid.specs.Weighing.{MatchWeighed}
 use Rattle.hybrid.specs.declared.stripe.TheConstants.{CLEAN_WEIGHT}
 use Rattle.plans.specs.Cleaning.{IsFetched}
-use Rattle.plans.specs.Counted.{Counted, HasUnlinked}
-use Rattle.plans.specs.Shards.{shard_counted, shard_log, shard_marks, shard_store}
-use Rattle.plans.specs.declared.shard.Shard.{Shard}
+use Rattle.plans.specs.Shards.{shard_log}
 use Rattle.plans.proofs.Cleaned.{fault_more, fetched_less, weighed_by}
 use Rattle.plans.proofs.shard.Shard.weigh.Goals as goal
 

@@ -1,0 +1,12 @@
+use Rattle.plans.specs.Shards.{shard_meaning}
+use Rattle.background.proofs.Visiting.{fit_held}
+use Rattle.background.proofs.look.lacks_spare_frames.Goals as goal
+
+pub give-requires-clause-fit : goal.give-requires-clause-fit
+give-requires-clause-fit g c =
+    fit_held (shard_meaning g.R.Shows.is_steady) c.args.gates.now c.args.stripe _ c.take-held.result c.lacks_spare_frames_at-found.new.parts c.take-held.ensures.gates_are c.lacks_spare_frames_at-found.ensures.keeps c.lacks_spare_frames_at-found.ensures.stepped c.take-held.ensures.fit
+
+pub give-requires-clause-told : goal.give-requires-clause-told
+give-requires-clause-told g c =
+    let s = c.lacks_spare_frames_at-found.ensures.stepped in
+    record { part = s.new; there = s.is; is = s.says.1 }
