@@ -1,5 +1,5 @@
 -- What calls come to, from where their stripes are taken and from before that.
-use Rattle.std.proofs.Common.{◌≡◌, ◌≢◌, subst, ◌∙◌, ◌+◌, ℕ, List, [], ◌∷◌, ◌++◌, length, append_assoc, Option, Some, None, refl, sym, ap, arith}
+use Rattle.std.proofs.Common.{◌≡◌, ◌≢◌, subst, ◌∙◌, ℕ, List, [], ◌∷◌, ◌++◌, length, append_assoc, Option, Some, None, sym, ap, arith}
 use Rattle.words.specs.declared.history.Entry.{Entry}
 use Rattle.words.specs.declared.reply.Reply.{Reply}
 use Rattle.words.specs.declared.reply.Fault.{Fault}

@@ -20,7 +20,7 @@ use Rattle.gates.specs.declared.view.Note.{Note}
 use Rattle.gates.specs.declared.view.Note.TheVariants.{Full, Worn}
 use Rattle.gates.specs.declared.report.Report.{Report}
 use Rattle.gates.specs.declared.report.Report.TheVariants as report
-use Rattle.gates.specs.Background.{IsAt, IsSpent, IsToldOf, notes_of}
+use Rattle.gates.specs.Background.{IsSpent, IsToldOf, notes_of}
 use Rattle.gates.specs.declared.view.Refused.{Refused}
 use Rattle.std.specs.Option.{is_some}
 use Rattle.gates.specs.Pages as pages
@@ -51,7 +51,7 @@ use Rattle.engine.specs.Entering.{MayBeGiven, MayEnter, at_fault}
 use Rattle.engine.specs.Memory.{AsksNoMemory}
 use Rattle.engine.specs.Passes.{Known, know}
 use Rattle.engine.specs.Stops.{IfSpent, IsOfCall, fault_of, report_of}
-use Rattle.engine.proofs.Parts.{some_is, there_after}
+use Rattle.engine.proofs.Parts.{there_after}
 use Rattle.engine.proofs.Fit.{forgot_all, installed_all, kept_all, keys_held, stand_of}
 
 pub asks : (call : Call) → IsEntry call → asked_of call ≡ Some (asked_for call)

@@ -1,5 +1,5 @@
 -- Calls that need no memory are not answered by want of it.
-use Rattle.std.proofs.Common.{◌≡◌, ◌≤◌, ℕ, List, length, unwrap_or, [], Option, IsSome, refl, sym, subst}
+use Rattle.std.proofs.Common.{◌≡◌, ◌≤◌, ℕ, length, unwrap_or, [], Option, refl, sym, subst}
 use Rattle.words.specs.declared.word.TheConstants.{WORD_INLINE}
 use Rattle.words.specs.declared.command.Command.{Command}
 use Rattle.words.specs.declared.command.Command.TheVariants.{Get, Set}

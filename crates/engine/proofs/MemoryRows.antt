@@ -1,5 +1,5 @@
 -- Computed rows of which commands need no memory on a store where the key "c" has the value 41 and no other key is there.
-use Rattle.std.proofs.Common.{[], ◌∷◌, Some, refl, arith}
+use Rattle.std.proofs.Common.{[], ◌∷◌, Some, arith}
 use Rattle.std.specs.Prelude.{codes}
 use Rattle.words.specs.declared.command.Command.TheVariants.{Get, Set}
 use Rattle.words.specs.declared.command.When.TheVariants.{Always}

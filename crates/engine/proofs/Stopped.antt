@@ -1,6 +1,5 @@
 -- Plans that were not made, and what they are answered.
-use Rattle.std.proofs.Common.{◌≡◌, ◌≢◌, ◌∙◌, ◌+◌, ℕ, List, [], ◌∷◌, Option, Some, false, refl, sym, ap}
-use Rattle.words.specs.declared.command.Command.{Command}
+use Rattle.std.proofs.Common.{◌≡◌, ◌≢◌, ◌∙◌, ◌+◌, ℕ, List, [], ◌∷◌, Some, false, refl, sym, ap}
 use Rattle.words.specs.declared.command.Command.TheVariants.{Set}
 use Rattle.words.specs.declared.command.When.TheVariants.{Always}
 use Rattle.words.specs.History.{Pair, after}
@@ -21,7 +20,7 @@ use Rattle.plans.specs.Stops.{IfCold, IfFull, IfNoMemory, faults}
 use Rattle.engine.specs.Calls.{HasItsPlace, IsUndone, Promises}
 use Rattle.engine.specs.Entering.{given}
 use Rattle.engine.specs.Passes.{know}
-use Rattle.engine.specs.Memory.{AsksNoMemory, NeedsNoMemory, set_call}
+use Rattle.engine.specs.Memory.{AsksNoMemory, set_call}
 use Rattle.engine.specs.Stops.{fault_of, report_of}
 use Rattle.gates.specs.declared.view.Refused.{Refused}
 use Rattle.engine.proofs.Entering.{stopped_by}

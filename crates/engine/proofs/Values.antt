@@ -1,5 +1,5 @@
 -- The values of the store that was seen are not too long.
-use Rattle.std.proofs.Common.{◌≡◌, ◌≤◌, ◌∙◌, ℕ, List, [], length, Option, Some, None, IsSome, refl, sym, ap, subst, arith}
+use Rattle.std.proofs.Common.{◌≡◌, ◌≤◌, ℕ, length, Option, Some, None, IsSome, refl, sym, subst, arith}
 use Rattle.words.specs.declared.limits.TheConstants.{VALUE_BYTES_MAX}
 use Rattle.words.specs.Bounds.{IsStoreBounded}
 use Rattle.words.specs.History.{after}

@@ -1,7 +1,7 @@
 //! The steps of the threads that work in the background: at one stripe each, by a pass, which is told what a step came to.
 //! None makes an entry in the history, and no key and no mark changes.
 
-ghost use Rattle.std.specs.Prelude.{◌≡◌, ◌<◌, [], ◌∷◌, Some, IfErr, IfOk};
+ghost use Rattle.std.specs.Prelude.{◌≡◌, ◌+◌, ◌<◌, [], ◌∷◌, Some, IfErr, IfOk};
 ghost use Rattle.epoch.specs.Seats as seats;
 ghost use Rattle.epoch.specs.declared.epochs.EpochSeat.{EpochSeat};
 ghost use Rattle.gates.specs.Passes.{WasBusy, known};

@@ -1,4 +1,4 @@
-use Rattle.std.proofs.Common.{◌≡◌, ◌∙◌, [], Ok, Err, true, false, ap, sym, subst, rules}
+use Rattle.std.proofs.Common.{◌∙◌, [], Ok, Err, true, false, ap, sym, subst, rules}
 use Rattle.epoch.specs.Seats as seats
 use Rattle.gates.specs.declared.report.Report.{Report}
 use Rattle.gates.specs.Background.{IsToldOf, notes_of}

@@ -3,7 +3,7 @@ use Rattle.epoch.specs.Seats as seats
 use Rattle.gates.specs.Passes.{known}
 use Rattle.gates.specs.declared.view.Note.TheVariants as note
 use Rattle.gates.specs.declared.view.Work.TheVariants.{Flush}
-use Rattle.background.proofs.Settling.{full_later, heard_both, looked_never, looked_twice}
+use Rattle.background.proofs.Settling.{full_later, looked_never, looked_twice}
 use Rattle.background.proofs.Visiting.{visited_twice}
 use Rattle.background.proofs.flush.end.Goals as goal
 

@@ -1,4 +1,4 @@
-use Rattle.std.proofs.Common.{◌≡◌, ◌∙◌, ℕ, sym, ap}
+use Rattle.std.proofs.Common.{◌∙◌, ℕ, sym, ap}
 use Rattle.transact.specs.Calls.{call_keys}
 use Rattle.transact.specs.Submits.{stripes_asked}
 use Rattle.engine.proofs.Entering.{given_here, may_enter, parts_of}

@@ -1,4 +1,4 @@
-use Rattle.std.proofs.Common.{◌≡◌, ◌∙◌, ◌+◌, ℕ, List, [], false, sym, ap, subst, rules}
+use Rattle.std.proofs.Common.{◌∙◌, ◌+◌, ℕ, List, false, sym, ap, subst, rules}
 use Rattle.gates.specs.declared.report.Report.TheVariants.{Nothing}
 use Rattle.gates.specs.declared.view.Knowledge.{Knowledge}
 use Rattle.gates.specs.Passes.{ToldBusy, known, stripes_of}

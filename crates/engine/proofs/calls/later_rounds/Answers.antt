@@ -1,4 +1,4 @@
-use Rattle.std.proofs.Common.{◌≡◌, ◌∙◌, ◌+◌, ◌≤◌, ℕ, List, false, nat_eq, refl, sym, ap, subst, arith}
+use Rattle.std.proofs.Common.{◌∙◌, ℕ, List, refl, sym, subst, arith}
 use Rattle.words.specs.History.{Pair}
 use Rattle.gates.specs.Passes.{known, stripes_of}
 use Rattle.transact.specs.Calls.{asked_of}

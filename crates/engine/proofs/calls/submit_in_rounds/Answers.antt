@@ -1,4 +1,4 @@
-use Rattle.std.proofs.Common.{◌≡◌, ◌∙◌, ℕ, List, sym, ap, subst}
+use Rattle.std.proofs.Common.{ℕ, List, sym, subst}
 use Rattle.words.specs.History.{Pair}
 use Rattle.gates.specs.Passes.{known, stripes_of}
 use Rattle.transact.specs.Calls.{asked_of}

@@ -1,4 +1,4 @@
-use Rattle.std.proofs.Common.{◌≡◌, ◌∙◌, ◌+◌, ◌++◌, ◌∷◌, [], Some, ℕ, List, length, vec_len, append_assoc, append-nil, refl, sym, ap, subst, arith, rules}
+use Rattle.std.proofs.Common.{◌≡◌, ◌∙◌, ◌+◌, ◌++◌, ◌∷◌, [], Some, ℕ, length, vec_len, append_assoc, append-nil, refl, sym, ap, subst, arith}
 use Rattle.gates.specs.Passes.{AreNew}
 use Rattle.gates.specs.Plays.{newcomer}
 use Rattle.engine.specs.Passes.{AreDealt}

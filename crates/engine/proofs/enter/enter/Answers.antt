@@ -17,7 +17,7 @@ use Rattle.plans.specs.declared.shard.Shard.{Shard}
 use Rattle.plans.specs.Rooms.{AreRoomy}
 use Rattle.plans.specs.Shards.{logs_of, shard_meaning}
 use Rattle.transact.specs.Calls.{asked_of, call_keys}
-use Rattle.transact.specs.Plans.{IsInstalled, keys_begun, keys_ended}
+use Rattle.transact.specs.Plans.{keys_begun, keys_ended}
 use Rattle.transact.specs.Submits.{asked_for}
 use Rattle.transact.specs.Tables.{AreThere, Became, HasBegun, begins, stays}
 use Rattle.engine.specs.Calls.{IsDone, IsUndone, promises_of}

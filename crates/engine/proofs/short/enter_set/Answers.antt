@@ -1,10 +1,9 @@
-use Rattle.std.proofs.Common.{◌≡◌, ◌∙◌, ℕ, List, [], ◌∷◌, Option, Some, false, true, refl, sym, ap, subst}
+use Rattle.std.proofs.Common.{◌≡◌, ◌∙◌, ℕ, List, [], ◌∷◌, Some, false, true, refl, sym, ap, subst}
 use Rattle.std.specs.Borrow.{Bor}
 use Rattle.words.specs.declared.command.Command.TheVariants.{Set}
 use Rattle.words.specs.declared.command.When.TheVariants.{Always}
 use Rattle.words.specs.declared.reply.Fault.{Fault}
 use Rattle.words.specs.declared.reply.Line.TheVariants.{Done}
-use Rattle.words.specs.History.{after}
 use Rattle.words.specs.Session.{line_reply}
 use Rattle.words.specs.Session as asked
 use Rattle.gates.specs.declared.gates.Gates.{Gates}
@@ -23,7 +22,7 @@ use Rattle.engine.specs.Calls.{IsUndone, promises_of}
 use Rattle.engine.specs.Entering.{given}
 use Rattle.engine.specs.Memory.{set_call}
 use Rattle.engine.specs.Passes.{know}
-use Rattle.engine.specs.Stops.{IfSpent, fault_of, report_of}
+use Rattle.engine.specs.Stops.{IfSpent, fault_of}
 use Rattle.plans.specs.Heard.{HasHeardWorn}
 use Rattle.gates.specs.declared.view.Refused.{Refused}
 use Rattle.gates.specs.Passes.{AreAsTaken}

@@ -1,10 +1,8 @@
-use Rattle.std.proofs.Common.{◌≡◌, ◌∙◌, ◌+◌, ◌≤◌, ℕ, List, false, nat_eq, refl, sym, ap, subst, arith}
-use Rattle.words.specs.History.{Pair}
+use Rattle.std.proofs.Common.{◌∙◌, ℕ, List, refl, subst, arith}
 use Rattle.gates.specs.Passes.{known, stripes_of}
 use Rattle.transact.specs.Calls.{answer_with, asked_of}
-use Rattle.transact.specs.Plans.{EndsAll}
 use Rattle.transact.specs.Submits.{IfFault, IfReply, stripes_asked}
-use Rattle.engine.specs.Calls.{HasItsPlace, IsDone, IsUndone, promises_of}
+use Rattle.engine.specs.Calls.{IsDone, IsUndone, promises_of}
 use Rattle.engine.specs.Memory.{get_call}
 use Rattle.engine.specs.Passes.{know}
 use Rattle.engine.proofs.Behind.{answer_later, fault_later}

@@ -8,7 +8,6 @@ use Rattle.transact.specs.Submits.{IfFault, IfReply, stripes_asked}
 use Rattle.engine.specs.Calls.{IsDone, IsUndone, promises_of}
 use Rattle.engine.specs.Entering.{given}
 use Rattle.engine.specs.Passes.{know}
-use Rattle.gates.specs.declared.report.Report.TheVariants.{Nothing}
 use Rattle.engine.specs.Memory.{set_call}
 use Rattle.engine.proofs.Entering.{given_here, may_enter, parts_of}
 use Rattle.engine.proofs.Behind.{answer_behind, fault_behind}
