@@ -949,21 +949,36 @@ fn sets_to<R: Wait, L: Latch, D: Device>(
         && engine.set(rt, pass, key, value, latch).is_ok()
 }
 
-#[test]
-fn a_latch_is_told_where_each_call_is(rt: HostRuntime) -> Result<(), Fail> {
-    let alloc = rt.alloc();
-    let (engine, mut pass, _other) = with_two(alloc)?;
-    let trail = Trail {
-        digits: AtomicU64::new(0),
-    };
-    let key = Word::from_slice(alloc, b"n")?;
-    let value = Word::from_slice(alloc, b"2")?;
+/// Whether a call, a GET and a SET are answered, each of which tells this latch where it is.
+fn tells_of_each<R: Wait>(
+    rt: &R,
+    alloc: Global,
+    engine: &Engine<MemoryDevice>,
+    pass: &mut Pass<MemoryDevice>,
+    trail: &Trail,
+) -> Option<bool>
+    requires { Rests ⊤ engine.now pass.old }
+{
+    let key = Word::from_slice(alloc, b"n").ok()?;
+    let value = Word::from_slice(alloc, b"2").ok()?;
     let request = "INCR n";
     let due = ":1";
     let exchange = Exchange { request, due };
-    assert!(rt; is_due(&rt, alloc, &trail, &engine, &mut pass, exchange));
-    assert!(rt; gets(&rt, &engine, &mut pass, &key, &trail));
-    assert!(rt; sets_to(&rt, &engine, &mut pass, &key, &value, &trail));
+    Some(
+        is_due(rt, alloc, trail, engine, pass, exchange)
+            && gets(rt, engine, pass, &key, trail)
+            && sets_to(rt, engine, pass, &key, &value, trail),
+    )
+}
+
+#[test]
+fn a_latch_is_told_where_each_call_is(rt: HostRuntime) -> Result<(), Fail> {
+    let (engine, mut pass, _other) = with_two(rt.alloc())?;
+    let trail = Trail {
+        digits: AtomicU64::new(0),
+    };
+    let told = tells_of_each(&rt, rt.alloc(), &engine, &mut pass, &trail);
+    assert!(rt; told == Some(true));
     assert_eq!(rt; trail.digits.load(Ordering::SeqCst), 123_123_123);
     Ok(())
 }

@@ -6,7 +6,7 @@ ghost use Rattle.engine.specs.Passes.{knows, Rests, stripe_count};
 
 use super::held::three_steps;
 use super::is_due;
-use super::moving::{AFTER, BEFORE, MOVES, Told, all_move};
+use super::moving::{BEFORE, Told, all_move, both_find_what_is_left, have_all_moved};
 use super::steps::{KEYS, VALUE, fill};
 use super::watched::{Added, both_add, counts_all};
 use device::MemoryDevice;
@@ -116,13 +116,11 @@ fn whole_is_kept_beside<R: Threads + Wait + Sync>(rt: &R, alloc: Global) -> Opti
     let two = passes.swap_remove(1);
     let one = passes.swap_remove(0);
     let set = is_due(rt, alloc, &Open, &engine, &mut three, BEFORE);
-    let (done, ((mut first, moved), ((_second, also), (mut reader, found)))) = all_move_beside(
+    let (done, ((first, moved), ((_second, also), (reader, found)))) = all_move_beside(
         rt, alloc, &engine, one, two, three, background,
     );
-    engine.meet(&mut first, &mut reader);
-    let all = is_due(rt, alloc, &Open, &engine, &mut first, AFTER)
-        && is_due(rt, alloc, &Open, &engine, &mut reader, AFTER);
-    Some(set && all && moved == MOVES && also == MOVES && found == MOVES && done > 0)
+    let left = both_find_what_is_left(rt, alloc, &engine, first, reader);
+    Some(left && done > 0 && have_all_moved(set, (moved, also, found)))
 }
 
 /// Pages are written, leave their frames and are cleaned while two passes move and a third one reads.

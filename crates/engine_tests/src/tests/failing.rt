@@ -139,12 +139,27 @@ fn tried_beside<R: Threads + Sync>(
 /// Whether one try reads a cold page while it holds the stripe, and is answered. `None` where there was no memory.
 fn reads_while_held<R: Threads + Wait + Sync>(rt: &R, alloc: Global) -> Option<bool> {
     let signal = Arc::new(alloc, Signal::new()).ok()?;
-    let (engine, reader, mut other) = with_two(alloc, &signal, &[])?;
-    if !chills(rt, alloc, &engine, &mut other, &VALUE, KEYS) {
-        return None;
+    let (engine, reader, other) = with_two(alloc, &signal, &[])?;
+    Some(is_read_while_held(rt, alloc, &signal, &engine, reader, other))
+}
+
+/// Whether it is so over this engine, once the page is cold.
+fn is_read_while_held<R: Threads + Wait + Sync>(
+    rt: &R,
+    alloc: Global,
+    signal: &Signal,
+    engine: &Engine<Opening>,
+    reader: Pass<Opening>,
+    mut other: Pass<Opening>,
+) -> bool
+    requires reader { Rests ⊤ engine.now reader }
+    requires other { Rests ⊤ engine.now other }
+{
+    if !chills(rt, alloc, engine, &mut other, &VALUE, KEYS) {
+        return false;
     }
-    let (answer, is_held) = tried_beside(rt, alloc, &signal, &engine, reader, other);
-    Some(is_value(&answer, &VALUE) && is_held && signal.is_in_time())
+    let (answer, is_held) = tried_beside(rt, alloc, signal, engine, reader, other);
+    is_value(&answer, &VALUE) && is_held && signal.is_in_time()
 }
 
 #[test]

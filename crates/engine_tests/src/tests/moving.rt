@@ -21,7 +21,7 @@ use words::reply::{CommandReply, Item, Reply};
 use words::word::{OutOfMemory, Word};
 
 /// How often each of two passes moves, and a third one reads.
-pub(super) const MOVES: u64 = 500;
+const MOVES: u64 = 500;
 
 /// What the two keys have together.
 const WHOLE: i64 = 1_000;
@@ -32,7 +32,7 @@ pub(super) const BEFORE: Exchange<'static> = Exchange {
     due: "+OK",
 };
 
-pub(super) const AFTER: Exchange<'static> = Exchange {
+const AFTER: Exchange<'static> = Exchange {
     request: "MGET a b",
     due: "$0 $1000",
 };
@@ -239,13 +239,32 @@ fn with_three(
 fn whole_is_kept<R: Threads + Wait + Sync>(rt: &R, alloc: Global) -> Result<bool, OutOfMemory> {
     let (engine, one, two, mut three) = with_three(alloc)?;
     let set = is_due(rt, alloc, &Open, &engine, &mut three, BEFORE);
-    let ((mut first, moved), ((_second, also), (mut reader, found))) = all_move(
+    let ((first, moved), ((_second, also), (reader, found))) = all_move(
         rt, alloc, &engine, one, two, three,
     );
+    let left = both_find_what_is_left(rt, alloc, &engine, first, reader);
+    Ok(left && have_all_moved(set, (moved, also, found)))
+}
+
+/// Whether two passes find what is left once they have met.
+pub(super) fn both_find_what_is_left<R: Wait>(
+    rt: &R,
+    alloc: Global,
+    engine: &Engine<MemoryDevice>,
+    mut first: Pass<MemoryDevice>,
+    mut reader: Pass<MemoryDevice>,
+) -> bool
+    requires first { Rests ⊤ engine.now first }
+    requires reader { Rests ⊤ engine.now reader }
+{
     engine.meet(&mut first, &mut reader);
-    let all = is_due(rt, alloc, &Open, &engine, &mut first, AFTER)
-        && is_due(rt, alloc, &Open, &engine, &mut reader, AFTER);
-    Ok(set && all && moved == MOVES && also == MOVES && found == MOVES)
+    is_due(rt, alloc, &Open, engine, &mut first, AFTER)
+        && is_due(rt, alloc, &Open, engine, &mut reader, AFTER)
+}
+
+/// Whether all was set before, and two passes moved and a third one found the whole each time.
+pub(super) fn have_all_moved(set: bool, counts: (u64, u64, u64)) -> bool {
+    set && counts.0 == MOVES && counts.1 == MOVES && counts.2 == MOVES
 }
 
 #[test]

@@ -208,11 +208,15 @@ pub(super) fn counts_all<R: Wait>(
 {
     let ((mut first, a), (mut second, b)) = added;
     engine.meet(&mut first, &mut second);
-    let (one, two) = (
-        number_at(rt, engine, &mut first, key)?,
-        number_at(rt, engine, &mut second, key)?,
-    );
-    let all = a?.checked_add(b?)?;
+    let one = number_at(rt, engine, &mut first, key);
+    let two = number_at(rt, engine, &mut second, key);
+    is_sum((one, two), (a, b))
+}
+
+/// Whether two found the sum of what both have set. `None` where an answer was not as is due.
+fn is_sum(found: (Option<i64>, Option<i64>), set: (Option<u64>, Option<u64>)) -> Option<bool> {
+    let (one, two) = (found.0?, found.1?);
+    let all = set.0?.checked_add(set.1?)?;
     Some(one == two && u64::try_from(one).ok()? == all && all >= TRIES)
 }
 

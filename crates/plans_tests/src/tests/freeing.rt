@@ -4,6 +4,8 @@ ghost use Rattle.std.specs.Prelude.{IfSome};
 ghost use Rattle.epoch.specs.Seats.{IsOutside};
 
 use super::full::{Small, clean_once, set, small};
+use crate::held::Store;
+use device::Device;
 use epoch::{EpochSeat, Epochs};
 use plans::freeing::Freed;
 use plans::retires::Retires;
@@ -34,15 +36,19 @@ fn fill_in_turn(alloc: Global, both: &mut Small) -> Option<u64> {
 }
 
 /// Releases each place of the first stripe that can be. `None` where there is no stripe.
-fn free<S: Retires>(both: &mut Small, epochs: &Epochs, own: &mut S) -> Option<Freed>
+fn free<D: Device, S: Retires>(
+    store: &mut Store<D>,
+    epochs: &Epochs,
+    own: &mut S,
+) -> Option<Freed>
     requires { S.is_of epochs.now own.old }
     ensures { S.is_of epochs.now own.new }
 {
-    if both.store.stripes.shards.is_empty() {
+    if store.stripes.shards.is_empty() {
         return None;
     }
-    let shard = &mut both.store.stripes.shards[0];
-    Some(shard.free_places(epochs, own, &mut both.store.device))
+    let shard = &mut store.stripes.shards[0];
+    Some(shard.free_places(epochs, own, &mut store.device))
 }
 
 #[test]
@@ -51,13 +57,13 @@ fn a_retired_place_is_released_and_a_value_is_taken(rt: HostRuntime) -> Result<(
     let mut both = small(alloc).ok_or("no store")?;
     let (epochs, mut seat, _other) = two_seats(alloc).ok_or("no seats")?;
     let time = fill_in_turn(alloc, &mut both).ok_or("not full")?;
-    let freed = free(&mut both, &epochs, &mut seat).ok_or("no stripe")?;
+    let freed = free(&mut both.store, &epochs, &mut seat).ok_or("no stripe")?;
     assert!(rt; !freed.released);
     let unlinked = clean_once(alloc, &mut both.store, &epochs, &mut seat);
     let retired = clean_once(alloc, &mut both.store, &epochs, &mut seat);
     assert!(rt; unlinked && retired);
     assert!(rt; set(alloc, &mut both, time % 400, 1) == Some(false));
-    let freed = free(&mut both, &epochs, &mut seat).ok_or("no stripe")?;
+    let freed = free(&mut both.store, &epochs, &mut seat).ok_or("no stripe")?;
     assert!(rt; freed.released && !freed.refused.drain && !freed.refused.retire);
     assert!(rt; set(alloc, &mut both, time % 400, 1) == Some(true));
     Ok(())
@@ -71,12 +77,12 @@ fn a_stay_of_another_seat_keeps_a_retired_place(rt: HostRuntime) -> Result<(), F
     fill_in_turn(alloc, &mut both).ok_or("not full")?;
     assert!(rt; clean_once(alloc, &mut both.store, &epochs, &mut seat));
     let inside = epochs.enter(&rt, other);
-    let freed = free(&mut both, &epochs, &mut seat);
+    let freed = free(&mut both.store, &epochs, &mut seat);
     let other = epochs.leave(inside);
     let freed = freed.ok_or("no stripe")?;
     assert!(rt; !freed.released && freed.refused.drain);
     let mut inside = epochs.enter(&rt, other);
-    let freed = free(&mut both, &epochs, &mut inside);
+    let freed = free(&mut both.store, &epochs, &mut inside);
     let _other = epochs.leave(inside);
     let freed = freed.ok_or("no stripe")?;
     assert!(rt; freed.released && !freed.refused.drain);
@@ -91,7 +97,7 @@ fn the_own_stay_keeps_a_place_that_is_retired_inside_it(rt: HostRuntime) -> Resu
     fill_in_turn(alloc, &mut both).ok_or("not full")?;
     assert!(rt; clean_once(alloc, &mut both.store, &epochs, &mut seat));
     let mut inside = epochs.enter(&rt, other);
-    let freed = free(&mut both, &epochs, &mut inside);
+    let freed = free(&mut both.store, &epochs, &mut inside);
     let _other = epochs.leave(inside);
     let freed = freed.ok_or("no stripe")?;
     assert!(rt; !freed.released && freed.refused.drain);
