@@ -16,8 +16,10 @@ use std::{io, thread};
 /// More pieces of thirty keys than there is room for: values of 1,000 bytes take 80 pages.
 const PIECES: u32 = 168;
 
-/// How many of them are deleted.
+/// How many of them are deleted, and how many where that is done key by key.
 const DELETED: u32 = 8;
+
+const DELETED_SINGLY: u32 = 3;
 
 /// How often a DEL is sent again that found the store full, after a rest of 10 milliseconds.
 const TRIES: u32 = 200;
@@ -59,8 +61,8 @@ fn deletes<R: AllocGlobal + Clock + Wait>(rt: &R, stream: &TcpStream) -> Option<
 }
 
 /// Whether the pieces that were stored and not deleted have their values.
-fn has_others(alloc: Global, stream: &TcpStream, stored: u32) -> Option<bool> {
-    for piece in DELETED..stored.min(PIECES) {
+fn has_others(alloc: Global, stream: &TcpStream, deleted: u32, stored: u32) -> Option<bool> {
+    for piece in deleted..stored.min(PIECES) {
         if !has_thirty(alloc, stream, FIRST + piece * 30)? {
             return Some(false);
         }
@@ -78,7 +80,7 @@ fn is_deleted<R: AllocGlobal + Clock + Wait>(rt: &R, stream: &TcpStream, key: u3
         }
         let line = reads_line(rt.alloc(), stream)?;
         if line.as_slice() != FULL {
-            return Some(line.as_slice() == b":1");
+            return Some(line.as_slice() == b":1".as_slice());
         }
         thread::sleep(rt, Duration::from_millis(10));
     }
@@ -87,12 +89,12 @@ fn is_deleted<R: AllocGlobal + Clock + Wait>(rt: &R, stream: &TcpStream, key: u3
 
 /// Deletes the keys of the first pieces one by one, tries to store thirty others after each, and says whether each is deleted
 /// soon.
-fn deletes_one_by_one<R>(rt: &R, stream: &TcpStream) -> Option<bool>
+fn deletes_singly<R>(rt: &R, stream: &TcpStream) -> Option<bool>
 where
     R: AllocGlobal + Clock + Wait,
 {
     let sets = thirty_sets(rt.alloc(), FIRST + PIECES * 30).ok()?;
-    for key in FIRST..FIRST + DELETED * 30 {
+    for key in FIRST..FIRST + DELETED_SINGLY * 30 {
         if !is_deleted(rt, stream, key)? || !sends(stream, sets.as_slice()) {
             return Some(false);
         }
@@ -104,7 +106,7 @@ where
 }
 
 /// Whether others are stored in the place of the keys that were deleted, and all have what they should.
-fn serves_again<R>(rt: &R, stream: &TcpStream, stored: u32) -> Option<bool>
+fn serves_again<R>(rt: &R, stream: &TcpStream, deleted: u32, stored: u32) -> Option<bool>
 where
     R: AllocGlobal + Clock + Wait,
 {
@@ -114,7 +116,7 @@ where
         comes_to_room(rt, stream, sets.as_slice())?
             && has_thirty(alloc, stream, FIRST + PIECES * 30)?
             && get_is_answered(alloc, stream, FIRST, b"$-1\r\n")?
-            && has_others(alloc, stream, stored)?,
+            && has_others(alloc, stream, deleted, stored)?,
     )
 }
 
@@ -125,17 +127,17 @@ where
 {
     let stream = connect(rt, port)?;
     let stored = fills(rt.alloc(), &stream)?;
-    Some(deletes(rt, &stream)? && serves_again(rt, &stream, stored)?)
+    Some(deletes(rt, &stream)? && serves_again(rt, &stream, DELETED, stored)?)
 }
 
 /// The same, key by key: others are tried after each.
-fn fills_and_deletes_one_by_one<R>(rt: &R, port: u16) -> Option<bool>
+fn fills_and_deletes_singly<R>(rt: &R, port: u16) -> Option<bool>
 where
     R: AllocGlobal + Clock + Net<Stream = TcpStream> + Wait,
 {
     let stream = connect(rt, port)?;
     let stored = fills(rt.alloc(), &stream)?;
-    Some(deletes_one_by_one(rt, &stream)? && serves_again(rt, &stream, stored)?)
+    Some(deletes_singly(rt, &stream)? && serves_again(rt, &stream, DELETED_SINGLY, stored)?)
 }
 
 #[test]
@@ -147,7 +149,7 @@ fn a_full_store_serves_again_once_keys_are_deleted(rt: HostRuntime) -> Result<()
 
 #[test]
 fn a_full_store_answers_each_deletion_soon(rt: HostRuntime) -> Result<(), Fail> {
-    let outcome = with_options(&rt, &Open, options(64, 1, 1), fills_and_deletes_one_by_one)?;
+    let outcome = with_options(&rt, &Open, options(64, 1, 1), fills_and_deletes_singly)?;
     assert!(rt; outcome.is_well(1));
     Ok(())
 }
