@@ -90,14 +90,11 @@ fn push_call(events: &mut Vec<Event>) -> Option<()> {
     push(events, Event::Give(0, 0))
 }
 
-/// The events by which client 0 sets all keys. A call that wants pages goes in up to three more rounds.
-fn sets(alloc: Global) -> Option<Vec<Event>> {
+/// The events by which client 0 sets so many keys. A call that wants pages goes in up to three more rounds.
+fn sets(alloc: Global, keys: usize, length: Length) -> Option<Vec<Event>> {
     let mut events = Vec::new(alloc);
-    for number in 0..KEYS {
-        push(
-            &mut events,
-            Event::Piece(0, set_of(alloc, number, Length::Short)?),
-        )?;
+    for number in 0..keys {
+        push(&mut events, Event::Piece(0, set_of(alloc, number, length)?))?;
         push_call(&mut events)?;
         for _ in 0..3 {
             push(&mut events, Event::Fetch(0))?;
@@ -111,7 +108,7 @@ fn sets(alloc: Global) -> Option<Vec<Event>> {
 fn filled_world(alloc: Global, places: usize) -> Option<World>
     ensures { IfSome result IsWorld }
 {
-    let events = sets(alloc)?;
+    let events = sets(alloc, KEYS, Length::Short)?;
     let limits = Limits::new(1, 4_096, 12, places, 2)?;
     let world = World::new(alloc, &limits).ok()?;
     world.run(events.as_slice()).ok()
@@ -288,24 +285,11 @@ fn a_full_stripe_refuses_calls(rt: HostRuntime) {
     follow(&rt, alloc, world, text).end();
 }
 
-/// The events by which client 0 sets 20 keys to the long value, which takes ten pages.
-fn long_sets(alloc: Global) -> Option<Vec<Event>> {
-    let mut events = Vec::new(alloc);
-    for number in 0..20 {
-        push(
-            &mut events,
-            Event::Piece(0, set_of(alloc, number, Length::Long)?),
-        )?;
-        push_call(&mut events)?;
-    }
-    Some(events)
-}
-
-/// A world of 64 places, in which client 0 has set keys until no place was left.
+/// A world of 64 places, in which client 0 has set 20 keys in turn, which takes ten pages, until no place was left.
 fn full_world(alloc: Global) -> Option<World>
     ensures { IfSome result IsWorld }
 {
-    let events = long_sets(alloc)?;
+    let events = sets(alloc, 20, Length::Long)?;
     let limits = Limits::new(1, 4_096, 12, 64, 2)?;
     let world = World::new(alloc, &limits).ok()?;
     let world = repeated(world, events.as_slice(), 8)?;
@@ -369,7 +353,7 @@ fn filled_again(alloc: Global, world: World, times: usize) -> Option<World>
     requires { IsWorld world }
     ensures { IfSome result IsWorld }
 {
-    let Some(events) = sets(alloc) else {
+    let Some(events) = sets(alloc, KEYS, Length::Short) else {
         world.end();
         return None;
     };
