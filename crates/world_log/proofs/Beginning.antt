@@ -18,7 +18,7 @@ use Rattle.world_model.specs.Places.{Each}
 use Rattle.world_log.specs.Lanes.{AreNewLanes, IsNewLane}
 use Rattle.world_log.specs.Places.{Receipt, Shelves, places_of}
 use Rattle.world_log.specs.Stripes.{lane_state, marks_in, store_in}
-use Rattle.world_log.specs.WorldLogs.{IsLane, IsWorldLog, state_of}
+use Rattle.world_log.specs.WorldLogs.{AreRising, IsLane, IsWorldLog, state_of}
 use Rattle.world_log.specs.declared.queues.Queues.{Queues}
 use Rattle.world_log.specs.declared.queues.Flushing.TheVariants as has
 use Rattle.world_log.specs.Types.{Lane}
@@ -102,6 +102,7 @@ new_lane shard queues stripes buckets frames places log counted marks fit none f
         numbered = numbered_of (shard_log shard) fit;
         frames = ap (λ (p : HybridLog). p.resident.frames) log;
         places = ap (λ (p : HybridLog). p.places) log;
+        stamps = subst (λ (l : List (Receipt × ℕ)). AreRising 1 (map place_stamped l)) (sym retired) tt;
         given = record {
           kept = λ i kept is. absurd (never_kept i kept (sym (ap (λ (p : HybridLog). slice_index_or p.kept i None) log) ∙ is));
           flushing = subst (IsGivenBy _) (sym flushing) tt;
@@ -185,7 +186,8 @@ module _ (log : WorldLog) (stripes frames limit : ℕ) (lanes : AreNewLanes stri
       most = omega (arith, most, holders_count);
     };
     lanes = λ i lane there.
-        subst (λ (l : ℕ). IsLane log.device log.frames l lane) (sym limit_is)
-        (subst (λ (f : ℕ). IsLane log.device f limit lane) (sym frames_is)
-        (subst (λ (d : Shelves). IsLane d frames limit lane) (sym device) (lanes.each i lane there).right));
+        subst (λ (l : ℕ). IsLane log.device log.frames l log.epoch lane) (sym limit_is)
+        (subst (λ (f : ℕ). IsLane log.device f limit log.epoch lane) (sym frames_is)
+        (subst (λ (e : ℕ). IsLane log.device frames limit e lane) (sym epoch)
+        (subst (λ (d : Shelves). IsLane d frames limit 1 lane) (sym device) (lanes.each i lane there).right)));
   }

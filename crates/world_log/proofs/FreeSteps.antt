@@ -1,31 +1,30 @@
 -- Own steps in one stripe: what becomes of its places that wait.
-use Rattle.std.proofs.Common.{◌≡◌, ℕ, zero, suc, ◌+◌, ◌<◌, ◌≤◌, Bool, true, false, ◌&&◌, ◌||◌, not, List, [], ◌∷◌, ◌++◌, length, length-append, map, get_or, set, replicate, Option, Some, None, nat_lt, nat_le, refl, sym, ap, ap₂, subst, ◌∙◌, arith, length-set}
+use Rattle.std.proofs.Common.{◌≡◌, ℕ, zero, suc, ◌+◌, ◌<◌, Bool, true, false, ◌&&◌, ◌||◌, not, List, [], ◌∷◌, ◌++◌, length, length-append, map, get_or, set, replicate, Option, Some, None, nat_lt, nat_le, refl, sym, ap, ap₂, subst, ◌∙◌, arith, length-set}
 use Rattle.std.specs.Prelude.{slice_get}
 use Rattle.std.specs.Bool.{OnFalse, OnTrue}
 use Rattle.std.proofs.lemmas.Bool.{ltb-true}
 use Rattle.std.proofs.lemmas.List.{get_or-set_same, length-map}
 use Rattle.words.specs.Store.{Bytes}
-use Rattle.world_events.specs.declared.event.Event.{Event}
 use Rattle.world_events.specs.declared.event.Event.TheVariants as event
-use Rattle.world_model.specs.Logs.{LogState, Stamped, LAST_PAGE, new_log, next_page, unreleased, is_full, with_retired, retired_from, with_drained, drained_from, with_released, released_from, dropped, with_receipt}
-use Rattle.world_model.specs.States.{ClientState, State, fresh, log_at, log_of, start, stripe_count}
+use Rattle.world_model.specs.Logs.{LogState, Stamped, LAST_PAGE, new_log, next_page, is_full, with_retired, retired_from, with_drained, drained_from, with_released, released_from, dropped, with_receipt}
+use Rattle.world_model.specs.States.{ClientState, State, fresh, log_at, log_of, start}
 use Rattle.world_model.specs.Advancing.{When}
 use Rattle.world_model.specs.Enabled.{are_none, holds, is_enabled_in, may_drain}
-use Rattle.world_model.specs.Effects.{Works, Unlinks, StopsFull, Cleans}
+use Rattle.world_model.specs.Effects.{Unlinks, StopsFull, Cleans}
 use Rattle.world_model.specs.Releasing.{after_retire, after_drain, after_release}
-use Rattle.world_model.specs.Rooms.{Leaves, Frees, Retires, Drains, Releases, Steps, ByPage, ByPlace, StepsAll, HasNoPlace, is_spent}
+use Rattle.world_model.specs.Rooms.{Leaves, Frees, Retires, Drains, Releases, Steps, ByPage, ByPlace, StepsAll, HasNoPlace, are_held_back, is_spent}
 use Rattle.world_log.specs.Freeing.{HasCleaned, HasFreed, HasMetFull, HasStepped, IsCold, SameWaiting, StaysFull, count_waiting, waiting, waiting_in}
-use Rattle.world_log.specs.Given.{IsGiven, StaysGiven}
+use Rattle.world_log.specs.Given.{StaysGiven}
 use Rattle.world_log.specs.Cleaning.{DoesUnlink}
-use Rattle.world_log.specs.Places.{Receipt, Shelves}
+use Rattle.world_log.specs.Places.{Shelves}
 use Rattle.world_log.specs.PlanLaws.{SameValues}
 use Rattle.world_log.specs.Beside.{Beside, IsNumbered, log_state}
 use Rattle.world_log.specs.Stripes.{KeepsOthers, lane_beside, lane_log, lane_state, states_of}
-use Rattle.world_log.specs.WorldLogs.{IsWorldLog, KeepsHeld, Took, state_of, stays_of, with_values}
+use Rattle.world_log.specs.WorldLogs.{AreRising, IsWorldLog, KeepsHeld, Took, state_of, stays_of, with_values}
 use Rattle.world_log.specs.Types.{Lane, Stripes}
 use Rattle.world_log.specs.declared.logs.WorldLog.{WorldLog}
 use Rattle.world_log.proofs.Held.{held_same}
-use Rattle.world_log.proofs.LaneSteps.{drain_counts, reached, retire_counts, with_both}
+use Rattle.world_log.proofs.LaneSteps.{drain_counts, log_there, reached, retire_counts, with_both}
 use Rattle.world_log.proofs.Planning.{beside_lent}
 use Rattle.world_log.proofs.RoomSteps.{cleaned, met_full, met_waits, steps_last, one_more, steps_both}
 use Rattle.world_log.proofs.Values.{values_state}
@@ -355,10 +354,24 @@ release_none i page old new within off took =
 
 -- ALL OF THEM
 
-pub spent_is : (clients : List ClientState) (log : LogState) → log.drained ≡ [] → log.unlinked ≡ [] → may_drain clients log.retired ≡ false
+pub spent_is : (clients : List ClientState) (log : LogState) → log.drained ≡ [] → log.unlinked ≡ [] → are_held_back clients log.retired ≡ true
     → is_spent clients log ≡ true
 spent_is clients log drained unlinked retired =
-    λ j. are_none (drained j) && (are_none (unlinked j) && not (retired j))
+    λ j. are_none (drained j) && (are_none (unlinked j) && retired j)
+
+-- the stamps of a stripe rise
+pub stamps_at : (log : WorldLog) (i : ℕ) → IsWorldLog log → AreRising log.epoch (log_at (states_of log.stripes) i).retired
+stamps_at log i is = by_lane (slice_get log.stripes.lanes.items i) refl
+  where
+    none_there : (lanes : List Lane) (i : ℕ) → slice_get lanes i ≡ None → log_at (map lane_state lanes) i ≡ new_log
+    none_there [] i at = refl
+    none_there (lane ∷ lanes) zero at = cc at
+    none_there (lane ∷ lanes) (suc i) at = none_there lanes i at
+
+    by_lane : (o : Option Lane) → slice_get log.stripes.lanes.items i ≡ o → AreRising log.epoch (log_at (states_of log.stripes) i).retired
+    by_lane None at = subst (λ (l : LogState). AreRising log.epoch l.retired) (sym (none_there log.stripes.lanes.items i at)) tt
+    by_lane (Some lane) at =
+        subst (λ (l : LogState). AreRising log.epoch l.retired) (sym (log_there log.stripes.lanes.items i lane at)) (is.lanes i lane at).stamps
 
 -- A PLAN LEAVES WHAT WAITS
 
@@ -467,7 +480,7 @@ unlinks_after count before i mid _ steps (Cleans more last place opened later co
 
 spent_still : (clients : List ClientState) (old new : LogState) → SameWaiting old new → is_spent clients old ≡ true → is_spent clients new ≡ true
 spent_still clients old new same is =
-    (λ j. are_none (same.drained j) && (are_none (same.unlinked j) && not (may_drain clients (same.retired j)))) ∙ is
+    (λ j. are_none (same.drained j) && (are_none (same.unlinked j) && are_held_back clients (same.retired j))) ∙ is
 
 pub stepped_none : (stays : List (Option ℕ)) (old : WorldLog) → IsWorldLog old → HasStepped stays old old
 stepped_none stays old is = record { log = is; steps = λ rest same. ([], refl) }

@@ -1,5 +1,5 @@
 -- Steps on one stripe, as steps of the plain state of all.
-use Rattle.std.proofs.Common.{◌≡◌, ◌⊎◌, ℕ, zero, suc, ◌+◌, ◌<◌, Bool, true, false, ◌&&◌, not, List, [], ◌∷◌, ◌++◌, length, length-append, map, get_or, set, Option, Some, None, is_some, is_none, nat_lt, refl, sym, ap, subst, ◌∙◌, inl, inr, arith, length-set}
+use Rattle.std.proofs.Common.{◌≡◌, ◌⊎◌, ℕ, zero, suc, ◌+◌, ◌<◌, ◌≤◌, Bool, true, false, ◌&&◌, not, List, [], ◌∷◌, ◌++◌, length, length-append, map, get_or, set, Option, Some, None, is_some, is_none, nat_lt, refl, sym, ap, subst, ◌∙◌, inl, inr, arith, length-set}
 use Rattle.std.specs.Prelude.{slice_get}
 use Rattle.std.specs.Vec.{with_item}
 use Rattle.std.proofs.lemmas.List.{map-set, map-append, length-map, set-get_or}
@@ -21,10 +21,11 @@ use Rattle.plans.specs.Counted.{Counted}
 use Rattle.plans.specs.Shards.{shard_counted, shard_log}
 use Rattle.plans.specs.declared.shard.Shard.{Shard}
 use Rattle.world_log.specs.Stripes.{lane_beside, lane_counted, lane_log, lane_state}
-use Rattle.world_log.specs.WorldLogs.{IsLane, IsWorldLog, IsOldest, state_beside, all_stays_past, stays_of}
+use Rattle.world_log.specs.WorldLogs.{AreRising, IsLane, IsWorldLog, IsOldest, state_beside, all_stays_past, stays_of}
 use Rattle.world_log.proofs.Agreeing.{total}
 use Rattle.world_log.specs.Given.{AreAllGiven, StaysGiven}
 use Rattle.world_log.proofs.AllGiven.{all_stays, retire_given, drain_given, write_stays, write_given}
+use Rattle.world_log.proofs.Rising.{drain_rises, retire_rises, rising_later, write_stamps}
 use Rattle.world_log.specs.declared.queues.Queues.{Queues}
 use Rattle.world_log.specs.declared.queues.Flushing.{Flushing}
 use Rattle.world_log.specs.declared.queues.Flushing.TheVariants as has
@@ -62,25 +63,32 @@ abbrev pub with_both : WorldLog → ℕ → Lane → Shelves → WorldLog
 with_both store i new device = record store { stripes = record (store.stripes) { lanes = with_item store.stripes.lanes i new }; device = device }
 
 pub lane_of : (store : WorldLog) (i : ℕ) (lane : Lane) → IsWorldLog store → slice_get store.stripes.lanes.items i ≡ Some lane
-    → IsLane store.device store.frames store.limit lane
+    → IsLane store.device store.frames store.limit store.epoch lane
 lane_of store i lane is there = is.lanes i lane there
 
 -- a log with another lane
 pub store_with : (store : WorldLog) (i : ℕ) (lane new : Lane) → IsWorldLog store → slice_get store.stripes.lanes.items i ≡ Some lane
     → IsAlike (lane_log lane) (lane_log new) → Agrees (lane_counted new) new.queues → IsNumbered (lane_log new)
-    → AreAllGiven store.device (lane_log new) (lane_beside new) → IsWorldLog (with_lane store i new)
-store_with store i lane new is there alike agrees numbered given =
-    let old : IsLane store.device store.frames store.limit lane = is.lanes i lane there in
-    let one : IsLane store.device store.frames store.limit new =
-    record { agrees = agrees; numbered = numbered; frames = alike.frames ∙ old.frames; places = alike.places ∙ old.places; given = given } in
+    → AreAllGiven store.device (lane_log new) (lane_beside new) → AreRising store.epoch (lane_state new).retired → IsWorldLog (with_lane store i new)
+store_with store i lane new is there alike agrees numbered given rising =
+    let old : IsLane store.device store.frames store.limit store.epoch lane = is.lanes i lane there in
+    let one : IsLane store.device store.frames store.limit store.epoch new =
+    record {
+      agrees = agrees;
+      numbered = numbered;
+      frames = alike.frames ∙ old.frames;
+      places = alike.places ∙ old.places;
+      stamps = rising;
+      given = given;
+    } in
     record {
       even = record {
         lanes = length-set store.stripes.lanes.items i new ∙ (is.even).lanes;
         some = (is.even).some;
         most = (is.even).most;
       };
-      lanes = λ j x at. elim (set_cases store.stripes.lanes.items i j new x at) as (λ _. IsLane store.device store.frames store.limit x) [
-        | inl same ↦ subst (IsLane store.device store.frames store.limit) (sym same) one
+      lanes = λ j x at. elim (set_cases store.stripes.lanes.items i j new x at) as (λ _. IsLane store.device store.frames store.limit store.epoch x) [
+        | inl same ↦ subst (IsLane store.device store.frames store.limit store.epoch) (sym same) one
         | inr before ↦ is.lanes j x before
       ];
     }
@@ -90,27 +98,45 @@ pub store_device : (store : WorldLog) (device : Shelves) → StaysGiven store.de
 store_device store device stays is = record {
   even = is.even;
   lanes = λ j x at.
-      let one : IsLane store.device store.frames store.limit x = is.lanes j x at in
+      let one : IsLane store.device store.frames store.limit store.epoch x = is.lanes j x at in
       record {
         agrees = one.agrees;
         numbered = one.numbered;
         frames = one.frames;
         places = one.places;
+        stamps = one.stamps;
         given = all_stays store.device device (lane_log x) (lane_beside x) stays one.given;
+      };
+}
+
+-- a log at a later epoch
+pub store_later : (store : WorldLog) (next : ℕ) → store.epoch ≤ next → IsWorldLog store → IsWorldLog (record store { epoch = next })
+store_later store next later is = record {
+  even = is.even;
+  lanes = λ j x at.
+      let one : IsLane store.device store.frames store.limit store.epoch x = is.lanes j x at in
+      record {
+        agrees = one.agrees;
+        numbered = one.numbered;
+        frames = one.frames;
+        places = one.places;
+        stamps = rising_later store.epoch next (lane_state x).retired later one.stamps;
+        given = one.given;
       };
 }
 
 -- a log with another lane, whose own log is as it was
 pub store_beside : (store : WorldLog) (i : ℕ) (lane new : Lane) → IsWorldLog store → slice_get store.stripes.lanes.items i ≡ Some lane
     → lane_log new ≡ lane_log lane → Agrees (lane_counted new) new.queues → AreAllGiven store.device (lane_log lane) (lane_beside new)
-    → IsWorldLog (with_lane store i new)
-store_beside store i lane new is there same agrees given =
-    let one : IsLane store.device store.frames store.limit lane = is.lanes i lane there in
+    → AreRising store.epoch (lane_state new).retired → IsWorldLog (with_lane store i new)
+store_beside store i lane new is there same agrees given rising =
+    let one : IsLane store.device store.frames store.limit store.epoch lane = is.lanes i lane there in
     store_with store i lane new is there
     (record { frames = ap (λ (q : HybridLog). q.resident.frames) same; places = ap (λ (q : HybridLog). q.places) same })
     agrees
     (subst IsNumbered (sym same) one.numbered)
     (subst (λ (q : HybridLog). AreAllGiven store.device q (lane_beside new)) (sym same) given)
+    rising
 
 pub logs_with : (store : WorldLog) (i : ℕ) (lane new : Lane) (log : LogState) → slice_get store.stripes.lanes.items i ≡ Some lane → lane_state new ≡ log
     → map lane_state (set store.stripes.lanes.items i new) ≡ set (map lane_state store.stripes.lanes.items) i log
@@ -207,7 +233,7 @@ copy_enabled : (rest : State) (store : WorldLog) (i : ℕ) (lane : Lane) → IsW
     → is_none (get_or store.stripes.holders.items i None) ≡ true
     → is_enabled_in (state_beside rest store) (event.Copy i) ≡ may_copy (lane_log lane) (lane_beside lane)
 copy_enabled rest store i lane is at free =
-    let one : IsLane store.device store.frames store.limit lane = is.lanes i lane at.there in
+    let one : IsLane store.device store.frames store.limit store.epoch lane = is.lanes i lane at.there in
     both_true _ _ (copy_test store.frames store.limit (log_of (state_beside rest store) i)) at.below free
     ∙ ap (copy_test store.frames store.limit) (log_there store.stripes.lanes.items i lane at.there)
     ∙ ap (λ (f : ℕ). copy_test f store.limit (lane_state lane)) (sym one.frames)
@@ -224,7 +250,7 @@ pub took_copy : (rest : State) (store : WorldLog) (i : ℕ) (lane new : Lane) (d
     → is_none (get_or store.stripes.holders.items i None) ≡ true
     → DoesCopy done (lane_log lane) (lane_beside lane) (lane_log new) (lane_beside new) → TookBeside rest (event.Copy i) store (with_lane store i new)
 took_copy rest store i lane new done is at free does =
-    let one : IsLane store.device store.frames store.limit lane = is.lanes i lane at.there in
+    let one : IsLane store.device store.frames store.limit store.epoch lane = is.lanes i lane at.there in
     took rest (event.Copy i) store i lane new done (may_copy (lane_log lane) (lane_beside lane)) (with_copy (lane_log lane).resident.frames) at.there
     (copy_enabled rest store i lane is at free)
     (λ after same. same ∙ ap (λ (f : ℕ). with_log (state_beside rest store) i (with_copy f (log_of (state_beside rest store) i))) one.frames)
@@ -255,7 +281,7 @@ pub took_install : (rest : State) (store : WorldLog) (i : ℕ) (lane new : Lane)
     → is_none (get_or store.stripes.holders.items i None) ≡ true
     → DoesInstall done (lane_log lane) (lane_beside lane) (lane_log new) (lane_beside new) → TookBeside rest (event.Install i) store (with_lane store i new)
 took_install rest store i lane new done is at free does =
-    let one : IsLane store.device store.frames store.limit lane = is.lanes i lane at.there in
+    let one : IsLane store.device store.frames store.limit store.epoch lane = is.lanes i lane at.there in
     took rest (event.Install i) store i lane new done (has_receipt lane.queues.flushing) (with_installed (lane_log lane).resident.frames) at.there
     (install_enabled rest store i lane at free)
     (λ after same. same ∙ ap (λ (f : ℕ). with_log (state_beside rest store) i (with_installed f (log_of (state_beside rest store) i))) one.frames)
@@ -373,13 +399,15 @@ took_retire_not rest store i lane new at same does =
 
 -- a log where the epoch has changed, and a lane, whose own log is as it was
 pub store_retired : (store : WorldLog) (i : ℕ) (lane new : Lane) (next : ℕ) → IsWorldLog store → slice_get store.stripes.lanes.items i ≡ Some lane
-    → lane_log new ≡ lane_log lane → Agrees (lane_counted new) new.queues → DoesRetire true store.epoch (lane_beside lane) (lane_beside new)
-    → IsWorldLog (with_epoch store i new next)
-store_retired store i lane new next is there same agrees does =
-    let one : IsLane store.device store.frames store.limit lane = is.lanes i lane there in
-    let kept : IsWorldLog (with_lane store i new) =
-    store_beside store i lane new is there same agrees
-    (retire_given store.device (lane_log lane) (lane_beside lane) (lane_beside new) store.epoch does one.given) in
+    → next ≡ store.epoch + 1 → lane_log new ≡ lane_log lane → Agrees (lane_counted new) new.queues
+    → DoesRetire true store.epoch (lane_beside lane) (lane_beside new) → IsWorldLog (with_epoch store i new next)
+store_retired store i lane new next is there up same agrees does =
+    let one : IsLane store.device store.frames store.limit store.epoch lane = is.lanes i lane there in
+    let later : store.epoch < next = omega (arith, up) in
+    let kept : IsWorldLog (with_lane (record store { epoch = next }) i new) =
+    store_beside (record store { epoch = next }) i lane new (store_later store next (omega (arith, up)) is) there same agrees
+    (retire_given store.device (lane_log lane) (lane_beside lane) (lane_beside new) store.epoch does one.given)
+    (retire_rises store.epoch next (lane_log lane) (lane_log new) (lane_beside lane) (lane_beside new) later does one.stamps) in
     record { even = kept.even; lanes = kept.lanes }
 
 -- nothing of what stands beside it has changed
@@ -388,6 +416,7 @@ pub store_same : (store : WorldLog) (i : ℕ) (lane new : Lane) → IsWorldLog s
 store_same store i lane new is there same agrees beside_same =
     store_beside store i lane new is there same agrees
     (subst (AreAllGiven store.device (lane_log lane)) (sym beside_same) (is.lanes i lane there).given)
+    (subst (λ (b : Beside). AreRising store.epoch (map place_stamped b.retired)) (sym beside_same) (is.lanes i lane there).stamps)
 
 -- WRITE
 
@@ -485,17 +514,19 @@ took_write rest store i lane new device false at same does =
 -- what the world has beside a log has changed, and its shard has not
 pub store_queues : (store : WorldLog) (i : ℕ) (lane : Lane) (queues : Queues) → IsWorldLog store → slice_get store.stripes.lanes.items i ≡ Some lane
     → Agrees (lane_counted lane) queues → AreAllGiven store.device (lane_log lane) (beside_of (lane_counted lane) queues)
-    → IsWorldLog (with_lane store i (record { shard = lane.shard; queues = queues }))
-store_queues store i lane queues is there agrees given = store_beside store i lane (record { shard = lane.shard; queues = queues }) is there refl agrees given
+    → AreRising store.epoch (map place_stamped queues.retired.items) → IsWorldLog (with_lane store i (record { shard = lane.shard; queues = queues }))
+store_queues store i lane queues is there agrees given rising =
+    store_beside store i lane (record { shard = lane.shard; queues = queues }) is there refl agrees given rising
 
 pub store_written : (store : WorldLog) (i : ℕ) (lane : Lane) (queues : Queues) (device : Shelves) (done : Bool) → IsWorldLog store
     → slice_get store.stripes.lanes.items i ≡ Some lane → DoesWrite done lane.queues store.device queues device
     → IsWorldLog (with_both store i (record { shard = lane.shard; queues = queues }) device)
 store_written store i lane queues device done is there does =
-    let one : IsLane store.device store.frames store.limit lane = is.lanes i lane there in
+    let one : IsLane store.device store.frames store.limit store.epoch lane = is.lanes i lane there in
     store_queues (record store { device = device }) i lane queues
     (store_device store device (write_stays done lane.queues store.device queues device does) is) there (agrees done does)
     (write_given done (lane_counted lane) lane.queues store.device queues device does one.given)
+    (subst (λ (l : List (Receipt × ℕ)). AreRising store.epoch (map place_stamped l)) (sym (write_stamps done lane.queues store.device queues device does)) one.stamps)
   where
     agrees : (t : Bool) → DoesWrite t lane.queues store.device queues device → Agrees (lane_counted lane) queues
     agrees true does =
@@ -628,7 +659,7 @@ took_drain_held rest store i lane stays one others at same_stays is held =
 pub store_drained : (store : WorldLog) (i : ℕ) (lane : Lane) (queues : Queues) → IsWorldLog store → slice_get store.stripes.lanes.items i ≡ Some lane
     → DoesDrain true lane.queues queues → IsWorldLog (with_lane store i (record { shard = lane.shard; queues = queues }))
 store_drained store i lane queues is there does =
-    let one : IsLane store.device store.frames store.limit lane = is.lanes i lane there in
+    let one : IsLane store.device store.frames store.limit store.epoch lane = is.lanes i lane there in
     let before : Agrees (lane_counted lane) lane.queues = one.agrees in
     store_queues store i lane queues is there
     (record {
@@ -639,6 +670,7 @@ store_drained store i lane queues is there does =
       faithful = subst (IsFaithful (lane_log lane)) (sym does.5) before.faithful;
     })
     (drain_given store.device (lane_counted lane) lane.queues queues does one.given)
+    (drain_rises store.epoch lane.queues queues does one.stamps)
 
 -- the oldest one is past all stays
 pub took_drain_by : (rest : State) (store : WorldLog) (i : ℕ) (lane new : Lane) (stays : List (Option ℕ)) (epoch : ℕ) (done : Bool) → IsReached store i lane

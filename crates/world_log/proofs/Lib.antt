@@ -3,6 +3,7 @@ pub mod Shedding
 pub mod CleanSteps
 pub mod GivenSteps
 pub mod AllGiven
+pub mod Rising
 pub mod LaneSteps
 pub mod CountSteps
 pub mod RoomSteps

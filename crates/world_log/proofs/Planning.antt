@@ -19,13 +19,13 @@ use Rattle.world_model.specs.Enabled.{holds}
 use Rattle.world_model.specs.Logs.{LogState, is_full, unreleased}
 use Rattle.world_model.specs.Rooms.{StepsAll, is_written_in, AreWritten, HasNoPlace}
 use Rattle.world_model.specs.States.{State, log_at, log_of}
-use Rattle.world_log.specs.Beside.{Agrees, Beside, IsFaithful, IsNumbered, flights, log_state}
+use Rattle.world_log.specs.Beside.{Agrees, Beside, IsFaithful, IsNumbered, flights, log_state, place_stamped}
 use Rattle.world_log.specs.Given.{AreAllGiven, AreGivenKept, StaysGiven}
 use Rattle.world_log.specs.MakingRoom.{HasMadeRoom, ShedsMany}
 use Rattle.world_log.specs.Places.{Receipt, Shelves, Wrote, places_of, view}
 use Rattle.world_log.specs.PlanLaws.{IsMade, SameValues, logs_lent, with_parts}
 use Rattle.world_log.specs.Stripes.{KeepsOthers, lane_beside, lane_counted, lane_log, lane_state, lent, part_in, queues_in, states_of}
-use Rattle.world_log.specs.WorldLogs.{IsLane, IsWorldLog, state_of}
+use Rattle.world_log.specs.WorldLogs.{AreRising, IsLane, IsWorldLog, state_of}
 use Rattle.world_log.specs.declared.queues.Queues.{Queues}
 use Rattle.world_log.specs.declared.queues.Flushing.{Flushing}
 use Rattle.world_log.specs.Types.{Lane, Stripes}
@@ -228,7 +228,7 @@ pub record IsRight (log : WorldLog) (device : Shelves) (lane : Lane) (p : Hybrid
 
 pub lane_right : (log : WorldLog) (i : ℕ) (lane : Lane) → IsWorldLog log → slice_get log.stripes.lanes.items i ≡ Some lane → IsRight log log.device lane (lane_log lane)
 lane_right log i lane is there =
-    let one : IsLane log.device log.frames log.limit lane = is.lanes i lane there in
+    let one : IsLane log.device log.frames log.limit log.epoch lane = is.lanes i lane there in
     record {
       numbered = one.numbered;
       counted = (one.agrees).counted;
@@ -257,19 +257,20 @@ lanes_right log stripes device is keeps stays right = record {
     some_lane : {a b : Lane} → Option.Some a ≡ Some b → a ≡ b
     some_lane x = cc x
 
-    with_given : (lane : Lane) → IsLane log.device log.frames log.limit lane → IsLane device log.frames log.limit lane
+    with_given : (lane : Lane) → IsLane log.device log.frames log.limit log.epoch lane → IsLane device log.frames log.limit log.epoch lane
     with_given lane one = record {
       agrees = one.agrees;
       numbered = one.numbered;
       frames = one.frames;
       places = one.places;
+      stamps = one.stamps;
       given = all_stays log.device device (lane_log lane) (lane_beside lane) stays one.given;
     }
 
     by_holder : (i : ℕ) (lane other : Lane) → slice_get log.stripes.lanes.items i ≡ Some lane → slice_get stripes.lanes.items i ≡ Some other
-        → (t : Bool) → holds stripes.holders.items stripes.acting i ≡ t → IsLane device log.frames log.limit other
+        → (t : Bool) → holds stripes.holders.items stripes.acting i ≡ t → IsLane device log.frames log.limit log.epoch other
     by_holder i lane other there at false away =
-        subst (IsLane device log.frames log.limit)
+        subst (IsLane device log.frames log.limit log.epoch)
         (some_lane (sym there ∙ sym (keeps.others i ((λ j. holds ((sym keeps.holders j).items) (sym keeps.acting j) i) ∙ away)) ∙ at))
         (with_given lane (is.lanes i lane there))
     by_holder i lane other there at true held =
@@ -291,12 +292,13 @@ lanes_right log stripes device is keeps stays right = record {
           numbered = one.numbered;
           frames = one.frames;
           places = one.places;
+          stamps = subst (λ (b : Beside). AreRising log.epoch (map place_stamped b.retired)) (sym beside) (is.lanes i lane there).stamps;
           given = subst (AreAllGiven device (lane_log other)) (sym beside)
               (record { kept = one.kept; flushing = was.flushing; unlinked = was.unlinked; retired = was.retired; drained = was.drained });
         }
 
     by_old : (i : ℕ) (other : Lane) → slice_get stripes.lanes.items i ≡ Some other → (o : Option Lane) → slice_get log.stripes.lanes.items i ≡ o
-        → IsLane device log.frames log.limit other
+        → IsLane device log.frames log.limit log.epoch other
     by_old i other at None there = absurd (none (sym (sym (ap queues_in at) ∙ keeps.queues i ∙ ap queues_in there)))
     by_old i other at (Some lane) there = by_holder i lane other there at (holds stripes.holders.items stripes.acting i) refl
 

@@ -115,7 +115,7 @@ made_lift : (rest : State) (store : WorldLog) (i : ℕ) (lane : Lane) (mid : Hyb
     → StepsAll (state_beside rest store) (replicate made.count i) (placed (state_beside rest store) i (log_state mid (lane_beside lane)) (places_of device))
 made_lift rest store i lane mid device is at made =
     let state : State = state_beside rest store in
-    let one : IsLane store.device store.frames store.limit lane = is.lanes i lane at.there in
+    let one : IsLane store.device store.frames store.limit store.epoch lane = is.lanes i lane at.there in
     let within : i < length store.stripes.lanes.items = slice_get_within store.stripes.lanes.items i lane at.there in
     let below : i < length state.logs = omega (arith, within, length-map store.stripes.lanes.items lane_state) in
     let frames = subst (λ (f : ℕ). ShedsMany f (lane_log lane).places made.count (lane_state lane) (places_of store.device) (log_state mid (lane_beside lane)) (places_of device))
@@ -134,7 +134,7 @@ pub met_full : (rest : State) (store : WorldLog) (i : ℕ) (lane new : Lane) (de
     × HasNoPlace (state_beside rest (with_both store i new device)) i
 met_full rest store i lane new device is at fit alike does =
     let state : State = state_beside rest store in
-    let one : IsLane store.device store.frames store.limit lane = is.lanes i lane at.there in
+    let one : IsLane store.device store.frames store.limit store.epoch lane = is.lanes i lane at.there in
     let within : i < length store.stripes.lanes.items = slice_get_within store.stripes.lanes.items i lane at.there in
     let below : i < length state.logs = omega (arith, within, length-map store.stripes.lanes.items lane_state) in
     let log : lane_state new ≡ log_state (lane_log new) (lane_beside lane) = ap (log_state (lane_log new)) does.2 in

@@ -1,17 +1,17 @@
 -- A key of a stripe that is given a value: what the tests do.
-use Rattle.std.proofs.Common.{◌≡◌, ℕ, ◌∙◌, Some, ap, sym, subst}
+use Rattle.std.proofs.Common.{◌≡◌, ℕ, ◌∙◌, map, Some, ap, sym, subst}
 use Rattle.std.specs.Prelude.{slice_get}
 use Rattle.hybrid.specs.HybridLog.{HybridLog, IsGrown}
 use Rattle.hybrid.specs.Shedding.{HasShed}
 use Rattle.plans.specs.Counted.{Waiting}
 use Rattle.plans.specs.Shards.{shard_waiting}
 use Rattle.world_model.specs.Logs.{unreleased}
-use Rattle.world_log.specs.Beside.{Agrees, Beside, IsFaithful, flights, log_state}
+use Rattle.world_log.specs.Beside.{Agrees, Beside, IsFaithful, flights, log_state, place_stamped}
 use Rattle.world_log.specs.Given.{AreAllGiven}
 use Rattle.world_log.specs.Places.{Receipt, Shelves, Wrote, view}
 use Rattle.world_log.specs.Stripes.{lane_beside, lane_counted, lane_log}
 use Rattle.world_log.specs.declared.queues.Queues.{Queues}
-use Rattle.world_log.specs.WorldLogs.{IsLane, IsWorldLog}
+use Rattle.world_log.specs.WorldLogs.{AreRising, IsLane, IsWorldLog}
 use Rattle.world_log.specs.Types.{Lane}
 use Rattle.world_log.specs.declared.logs.WorldLog.{WorldLog}
 use Rattle.world_log.proofs.AllGiven.{all_stays, room_kept, room_stays}
@@ -24,7 +24,7 @@ pub set_right : (store : WorldLog) (i : ℕ) (lane new : Lane) (mid : HybridLog)
     → slice_get store.stripes.lanes.items i ≡ Some lane → HasShed {D = Shelves} {R = Receipt} Wrote view (lane_log lane) store.device mid device
     → IsGrown mid (lane_log new) weight → new.queues ≡ lane.queues → shard_waiting new.shard ≡ shard_waiting lane.shard → IsWorldLog (with_both store i new device)
 set_right store i lane new mid device weight is there shed grown same waits =
-    let one : IsLane store.device store.frames store.limit lane = is.lanes i lane there in
+    let one : IsLane store.device store.frames store.limit store.epoch lane = is.lanes i lane there in
     let old : Agrees (lane_counted lane) lane.queues = one.agrees in
     let room = room_right (lane_log lane) mid (lane_beside lane) store.device device one.numbered old.counted shed in
     let stays = room_stays (lane_log lane) mid store.device device shed in
@@ -53,3 +53,4 @@ set_right store i lane new mid device weight is there shed grown same waits =
     right.numbered
     (subst (AreAllGiven device (lane_log new)) (sym beside)
     (record { kept = right.kept; flushing = was.flushing; unlinked = was.unlinked; retired = was.retired; drained = was.drained }))
+    (subst (λ (b : Beside). AreRising store.epoch (map place_stamped b.retired)) (sym beside) one.stamps)

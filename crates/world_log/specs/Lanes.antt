@@ -29,7 +29,7 @@ pub record IsNewLane (frame_count limit : ℕ) (lane : Lane) : Type 0 where
   pub log : lane_state lane ≡ new_log
   pub store : (key : Bytes) → shard_store lane.shard key ≡ None
   pub marks : (key : Bytes) (session : ℕ) → shard_marks lane.shard key session ≡ None
-  pub right : IsLane (record { shelves = []; failures = 0; reads = 0; releases = 0 }) frame_count limit lane
+  pub right : IsLane (record { shelves = []; failures = 0; reads = 0; releases = 0 }) frame_count limit 1 lane
 
 -- so many
 pub record AreNewLanes (count frame_count limit : ℕ) (lanes : List Lane) : Type 0 where

@@ -5,13 +5,11 @@ use Rattle.words.specs.Store.{Store, empty}
 use Rattle.words.specs.Watches.{Marks}
 use Rattle.words.specs.Stripes.{stripe_of}
 use Rattle.hybrid.specs.HybridLog.{HybridLog}
-use Rattle.plans.specs.declared.shard.Shard.{Shard}
 use Rattle.plans.specs.Counted.{Counted}
 use Rattle.plans.specs.Shards.{SameWaits, shard_counted, shard_log, shard_store, shard_marks}
 use Rattle.world_model.specs.Enabled.{holds}
 use Rattle.world_model.specs.Logs.{LogState, place_at}
 use Rattle.world_model.specs.States.{log_at}
-use Rattle.world_log.specs.Places.{Receipt}
 use Rattle.world_log.specs.Beside.{Beside, beside_of, log_state}
 use Rattle.world_log.specs.declared.queues.Queues.{Queues}
 use Rattle.world_log.specs.Types.{Lane, Stripes}

@@ -1,9 +1,9 @@
 -- All stripes of the world on their logs, as the plain state that they stand for.
-use Rattle.std.specs.Prelude.{ℕ, ◌≡◌, Bool, true, ◌&&◌, List, [], ◌∷◌, map, get_or, Option, None, Some, slice_get}
+use Rattle.std.specs.Prelude.{ℕ, ◌≡◌, ◌<◌, Bool, true, ◌&&◌, List, [], ◌∷◌, map, get_or, Option, None, Some, slice_get}
 use Rattle.hybrid.specs.HybridLog.{HasRoom}
 use Rattle.world_events.specs.declared.event.Event.{Event}
-use Rattle.world_model.specs.Logs.{place_at}
-use Rattle.world_model.specs.Places.{standing}
+use Rattle.world_model.specs.Logs.{Stamped, place_at}
+use Rattle.world_model.specs.Places.{Each, standing}
 use Rattle.world_model.specs.States.{ClientState, State, log_at, start}
 use Rattle.world_model.specs.Advancing.{When}
 use Rattle.world_model.specs.Enabled.{is_enabled_in, is_past}
@@ -11,7 +11,7 @@ use Rattle.world_model.specs.Effects.{Works}
 use Rattle.world_log.specs.Places.{Receipt, Shelves, places_of}
 use Rattle.world_log.specs.Beside.{Agrees, IsNumbered}
 use Rattle.world_log.specs.Given.{AreAllGiven}
-use Rattle.world_log.specs.Stripes.{IsEven, lane_beside, lane_counted, lane_log, marks_of, states_of, stores_of}
+use Rattle.world_log.specs.Stripes.{IsEven, lane_beside, lane_counted, lane_log, lane_state, marks_of, states_of, stores_of}
 use Rattle.world_log.specs.declared.queues.Queues.{Queues}
 use Rattle.world_log.specs.Types.{Lane, Stripes}
 use Rattle.world_log.specs.declared.logs.WorldLog.{WorldLog}
@@ -42,18 +42,25 @@ abbrev pub IsNew : (stripes frames limit : ℕ) → WorldLog → Type 0
 IsNew stripes frames limit log =
     (rest : State) → state_of rest log ≡ record (start stripes 0 frames limit) { clients = rest.clients; history = rest.history }
 
--- a stripe's log agrees with what stands beside it, has so many frames and places, and the device gave all of its receipts
-pub record IsLane (device : Shelves) (frame_count limit : ℕ) (lane : Lane) : Type 0 where
+-- the epochs of these places are below this one, and each is below that of the places behind it
+abbrev pub AreRising : ℕ → List Stamped → Type 0
+AreRising epoch [] = Unit {0}
+AreRising epoch (one ∷ others) = (one.epoch < epoch) × Each (λ (other : Stamped). one.epoch < other.epoch) others × AreRising epoch others
+
+-- a stripe's log agrees with what stands beside it, has so many frames and places, its stamps rise and are below the epoch, and the device gave
+-- all of its receipts
+pub record IsLane (device : Shelves) (frame_count limit epoch : ℕ) (lane : Lane) : Type 0 where
   pub agrees : Agrees (lane_counted lane) lane.queues
   pub numbered : IsNumbered (lane_log lane)
   pub frames : (lane_log lane).resident.frames ≡ frame_count
   pub places : (lane_log lane).places ≡ limit
+  pub stamps : AreRising epoch (lane_state lane).retired
   pub given : AreAllGiven device (lane_log lane) (lane_beside lane)
 
 -- there is a log for each stripe, and each is right
 pub record IsWorldLog (log : WorldLog) : Type 0 where
   pub even : IsEven log.stripes
-  pub lanes : (i : ℕ) (lane : Lane) → slice_get log.stripes.lanes.items i ≡ Some lane → IsLane log.device log.frames log.limit lane
+  pub lanes : (i : ℕ) (lane : Lane) → slice_get log.stripes.lanes.items i ≡ Some lane → IsLane log.device log.frames log.limit log.epoch lane
 
 -- an event of a stripe did what it does where it is enabled, and else nothing
 abbrev pub Took : State → Event → WorldLog → WorldLog → Type 0

@@ -15,9 +15,8 @@ use Rattle.transact.specs.Calls.{asked_of}
 use Rattle.transact.specs.Tables.{Change, clears}
 use Rattle.transact.specs.Plans.{keys_ended}
 use Rattle.connection.specs.Clients.{Progress}
-use Rattle.world_model.specs.States.{Phase, Serving, Calling, Leaving, Left, Ended, Due, ClientState, State, fresh, client, stripe_count}
+use Rattle.world_model.specs.States.{Phase, Serving, Calling, Leaving, Left, Ended, ClientState, State, fresh, client, stripe_count}
 use Rattle.world_model.specs.Enabled.{holds_none}
-use Rattle.world_model.specs.Advancing.{When}
 use Rattle.world_model.specs.Planning.{reply_now, writes_now}
 use Rattle.world_model.specs.Commits.{Told, Refused, Commits, Installs, OpensPages, marks_changed, writes_of_call}
 use Rattle.world_model.specs.Told.{mine}

@@ -1,9 +1,9 @@
 -- Counting places.
-use Rattle.std.proofs.Common.{◌≡◌, ◌≢◌, ℕ, zero, suc, ◌+◌, ◌-◌, ◌<◌, ◌≤◌, Bool, true, false, cond, ◌&&◌, nat_eq, nat_lt, nat_le, List, [], ◌∷◌, ◌++◌, length, get_or, set, drop, replicate, slice_get, Option, None, Some, sym, refl, ap, ◌∙◌, arith, eq-eqb, ne_eqb, if◌then◌else◌}
+use Rattle.std.proofs.Common.{◌≡◌, ◌≢◌, ℕ, zero, suc, ◌+◌, ◌-◌, ◌<◌, ◌≤◌, Bool, true, false, cond, nat_lt, nat_le, List, [], ◌∷◌, ◌++◌, length, get_or, set, drop, replicate, slice_get, Option, None, Some, sym, refl, ap, ◌∙◌, arith, eq-eqb, ne_eqb, if◌then◌else◌}
 use mathlib.Core.Logic.{dite}
 use native.Mathlib.Decide.{ℕ_discrete}
 use Rattle.words.specs.Store.{Bytes}
-use Rattle.world_model.specs.Logs.{Stamped, LogState, Flushing, Nothing, Copied, Wrote, new_log, places_of, places_kept, place_written, places_stamped, place_at}
+use Rattle.world_model.specs.Logs.{Stamped, LogState, places_of, places_kept, place_written, places_stamped, place_at}
 use Rattle.world_model.specs.States.{log_at}
 use Rattle.world_model.specs.Places.{hit, times, all_places, standing, stands, stamped_from, readable}
 

@@ -4,7 +4,7 @@ use Rattle.world_events.specs.declared.event.Event.TheVariants.{Fetch, Copy, Wri
 use Rattle.world_model.specs.Logs.{new_log, with_opened, without_oldest, with_copy, with_written, with_installed, dropped}
 use Rattle.world_model.specs.States.{State, start, fresh, log_of, with_log, with_log_and_place}
 use Rattle.world_model.specs.Enabled.{is_enabled}
-use Rattle.world_model.specs.Releasing.{after_retire, after_drain, after_release}
+use Rattle.world_model.specs.Releasing.{after_retire, after_drain}
 use Rattle.world_model.specs.Effects.{Cleans}
 use Rattle.world_model.specs.Turns.{Turns}
 

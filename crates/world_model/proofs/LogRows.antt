@@ -1,10 +1,11 @@
 -- Rows of plain logs, each computed: a stripe of 12 frames with ten pages, of which the first six are sealed, and the life of page 0's place.
 use Rattle.std.proofs.Common.{◌≡◌, true, false, [], ◌∷◌, Some, None, refl}
-use Rattle.world_model.specs.Logs.{LogState, Nothing, Copied, Wrote, new_log, next_page, place_at, first_mutable, is_sealed, oldest_sealed}
+use Rattle.world_model.specs.Logs.{LogState, Copied, Wrote, new_log, next_page, place_at, first_mutable, is_sealed, oldest_sealed}
 use Rattle.world_model.specs.Logs.{unreleased, is_full, dropped, with_opened, with_receipt, without_oldest, with_copy, with_written}
 use Rattle.world_model.specs.Logs.{with_installed, with_retired, with_drained, with_released}
 use Rattle.world_model.specs.States.{fresh}
 use Rattle.world_model.specs.Enabled.{may_drain}
+use Rattle.world_model.specs.Rooms.{is_spent}
 
 -- ten pages
 abbrev ten : LogState
@@ -110,3 +111,32 @@ full_at_last = refl
 
 not_full_before_last : is_full 64 (record ten { oldest = 70368744177654 }) ≡ false
 not_full_before_last = refl
+
+-- WHERE NOTHING THAT WAITS CAN COME NEARER TO ITS RELEASE
+
+nothing_waits : is_spent [] new_log ≡ true
+nothing_waits = refl
+
+-- two places are retired
+abbrev two_retired : LogState
+two_retired = record new_log { retired = record { place = 0; epoch = 1 } ∷ record { place = 1; epoch = 2 } ∷ [] }
+
+each_is_held_back : is_spent (fresh ∷ record fresh { stay = Some 1 } ∷ []) two_retired ≡ true
+each_is_held_back = refl
+
+the_oldest_is_not : is_spent (fresh ∷ record fresh { stay = Some 2 } ∷ []) two_retired ≡ false
+the_oldest_is_not = refl
+
+none_is_without_a_stay : is_spent (fresh ∷ fresh ∷ []) two_retired ≡ false
+none_is_without_a_stay = refl
+
+-- of each one it is asked, and not of the oldest alone
+a_younger_one_is_not : is_spent (record fresh { stay = Some 2 } ∷ [])
+    (record new_log { retired = record { place = 0; epoch = 2 } ∷ record { place = 1; epoch = 1 } ∷ [] }) ≡ false
+a_younger_one_is_not = refl
+
+one_is_unlinked : is_spent (record fresh { stay = Some 1 } ∷ []) (record two_retired { unlinked = 2 ∷ [] }) ≡ false
+one_is_unlinked = refl
+
+one_is_drained : is_spent (record fresh { stay = Some 1 } ∷ []) (record two_retired { drained = record { place = 2; epoch = 1 } ∷ [] }) ≡ false
+one_is_drained = refl

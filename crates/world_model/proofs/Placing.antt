@@ -1,17 +1,17 @@
 -- What becomes of places, stays and epochs by each event.
-use Rattle.std.proofs.Common.{◌≡◌, ◌≢◌, ◌⊎◌, ℕ, zero, suc, ◌+◌, ◌-◌, ◌/◌, ◌<◌, ◌≤◌, max, Bool, true, false, ◌&&◌, not, cond, List, [], ◌∷◌, ◌++◌, length, get_or, set, drop, replicate, is_some, is_none, nat_lt, nat_le, Option, None, Some, sym, refl, ap, subst, ◌∙◌, arith, inl, inr, ⊎_elim, if◌then◌else◌, length-set}
-use Rattle.std.proofs.lemmas.List.{get_or-set_same, get_or-set_other, get_or-replicate}
+use Rattle.std.proofs.Common.{◌≡◌, ◌⊎◌, ℕ, zero, suc, ◌+◌, ◌-◌, ◌<◌, ◌≤◌, Bool, true, false, not, List, [], ◌∷◌, ◌++◌, length, get_or, set, is_none, nat_lt, nat_le, Option, None, Some, sym, refl, ap, subst, ◌∙◌, arith, inl, inr, ⊎_elim, if◌then◌else◌}
+use Rattle.std.proofs.lemmas.List.{get_or-set_same, get_or-set_other}
 use mathlib.Core.Logic.{dite}
 use native.Mathlib.Decide.{ℕ_discrete}
 use Rattle.words.specs.Store.{Bytes}
 use Rattle.epoch.specs.Clear.{Clear}
-use Rattle.world_model.specs.Logs.{Stamped, LogState, Flushing, Nothing, Copied, Wrote, new_log, next_page, first_mutable, is_sealed, oldest_sealed, copied_page, places_of, places_kept, place_written, places_stamped, place_at, with_receipt, dropped, with_opened, without_oldest, with_copy, with_written, written_to, with_installed, installed_from, with_retired, retired_from, with_drained, drained_from, with_released, released_from}
+use Rattle.world_model.specs.Logs.{Stamped, LogState, Flushing, Nothing, Copied, Wrote, new_log, first_mutable, is_sealed, oldest_sealed, copied_page, places_of, places_kept, place_written, places_stamped, place_at, with_receipt, dropped, with_opened, without_oldest, with_copy, with_written, written_to, with_installed, installed_from, with_retired, retired_from, with_drained, drained_from, with_released, released_from}
 use Rattle.world_model.specs.States.{Due, ClientState, fresh, log_at}
 use Rattle.world_model.specs.Enabled.{are_none, all_past, is_past, may_drain, has_none, has_copied, has_written}
 use Rattle.world_model.specs.Releasing.{places_released}
-use Rattle.world_model.specs.Places.{Each, hit, times, all_places, standing, IsAt, stamped_from, readable, IsReadable, ArePlaced}
-use Rattle.world_model.proofs.Holding.{both, not_true}
-use Rattle.world_model.proofs.Counting.{times_append, count, total_set, part_le, all_same, kept_set, kept_opened, kept_cleaned, kept_at, place_some, place_none, stamped_more, from_more, from_head, count_readable, readable_le, standing_le, standing_grown, standing_set}
+use Rattle.world_model.specs.Places.{Each, hit, times, standing, IsAt, stamped_from, readable, IsReadable, ArePlaced}
+use Rattle.world_model.proofs.Holding.{both}
+use Rattle.world_model.proofs.Counting.{times_append, count, total_set, part_le, all_same, kept_set, kept_opened, kept_cleaned, place_some, place_none, stamped_more, from_more, from_head, count_readable, standing_le, standing_grown, standing_set}
 
 -- EACH OF A LIST
 

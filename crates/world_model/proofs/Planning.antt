@@ -1,5 +1,5 @@
 -- A plan stays the one that is due until its call is committed, whatever else happens.
-use Rattle.std.proofs.Common.{◌≡◌, ◌≢◌, ◌⊎◌, ℕ, zero, suc, ◌<◌, Bool, true, false, ◌&&◌, ◌||◌, not, List, [], ◌∷◌, ◌++◌, length, get_or, set, replicate, Option, Some, None, is_none, nat_lt, nat_eq, refl, sym, ap, ap₂, ◌∙◌, subst, inl, inr, if◌then◌else◌, length-set}
+use Rattle.std.proofs.Common.{◌≡◌, ◌≢◌, ℕ, zero, suc, ◌<◌, Bool, true, false, ◌&&◌, ◌||◌, not, List, [], ◌∷◌, ◌++◌, length, get_or, set, replicate, Option, Some, None, is_none, nat_lt, nat_eq, refl, sym, ap, ap₂, ◌∙◌, subst, inl, inr, if◌then◌else◌, length-set}
 use Rattle.std.specs.Bool.{Decides}
 use Rattle.std.proofs.lemmas.Bool.{ltb-true}
 use Rattle.std.proofs.lemmas.Bool.Decides.{Decides-eqb}
@@ -9,9 +9,9 @@ use native.Mathlib.Decide.{ℕ_discrete}
 use Rattle.words.specs.declared.reply.Reply.{Reply}
 use Rattle.words.specs.declared.history.Entry.{Entry}
 use Rattle.words.specs.declared.history.Operation.{Operation}
-use Rattle.words.specs.Store.{Bytes, Store, Write}
+use Rattle.words.specs.Store.{Bytes, Write}
 use Rattle.words.specs.History.{History, Pair, after, due, outcome, was_not_done, keys_named, keys_of_pairs}
-use Rattle.words.specs.Locality.{AreSameAt, IsNoneOf, NoEntryNames, NamesNone}
+use Rattle.words.specs.Locality.{AreSameAt, IsNoneOf, NamesNone}
 use Rattle.words.specs.Stripes.{stripe_of}
 use Rattle.words.specs.Session.{Asked, Run, Watch, Exec, operation_of}
 use Rattle.gates.specs.Sets.{inserted}
@@ -24,16 +24,16 @@ use Rattle.world_events.specs.declared.event.Event.TheVariants.{Piece, Close, Ta
 use Rattle.world_model.specs.Logs.{place_at}
 use Rattle.world_model.specs.States.{Phase, Serving, Calling, Leaving, Left, Ended, Due, ClientState, State, fresh, client, log_of, stripe_count, open_call, with_client}
 use Rattle.world_events.specs.Actors.{actor}
-use Rattle.world_model.specs.Enabled.{is_number, holds, holds_none, first_missing, next_stripe, are_none, is_enabled_for, is_enabled_in, is_enabled_of}
+use Rattle.world_model.specs.Enabled.{is_number, holds, holds_none, first_missing, next_stripe, are_none, is_enabled_for, is_enabled_of}
 use Rattle.world_model.specs.Advancing.{is_idle, When, Goes}
 use Rattle.world_model.specs.Rooms.{Leaves, Sheds, Frees, Retires, Drains, Releases, Steps, ByPage, ByPlace, StepsAll}
-use Rattle.world_model.specs.Planning.{Plans, Names, MakesRoom, MeetsFull, PlansFor, asked_by, stay_begun, taken, Takes, reply_now}
+use Rattle.world_model.specs.Planning.{Plans, Names, MakesRoom, MeetsFull, PlansFor, asked_by, taken, Takes, reply_now}
 use Rattle.world_model.specs.Commits.{Told, Refused, Commits}
-use Rattle.world_model.specs.Effects.{Does, Works, fed, heard, given, fetched, Unlinks, StopsFull, Cleans}
+use Rattle.world_model.specs.Effects.{Does, Works, fed, heard, Unlinks, StopsFull, Cleans}
 use Rattle.world_model.specs.Turns.{DoesAndGoes, Turn}
 use Rattle.world_model.specs.Soundness.{IsSound}
-use Rattle.world_model.specs.Planned.{LocalLaws, IsCall, IsPlanned, IsNoCommitOf}
-use Rattle.world_model.proofs.Holding.{when_cases, both, not_true, none_is, apart_eqb, same_eqb, held_by_one}
+use Rattle.world_model.specs.Planned.{LocalLaws, IsPlanned, IsNoCommitOf}
+use Rattle.world_model.proofs.Holding.{when_cases, both, none_is, apart_eqb, held_by_one}
 use Rattle.world_model.proofs.Marking.{call_given}
 
 -- A HISTORY WITH AN ENTRY MORE

@@ -1,25 +1,23 @@
 -- Each event keeps the world sound.
-use Rattle.std.proofs.Common.{◌≡◌, ◌≢◌, ◌⊎◌, ℕ, zero, suc, ◌<◌, Bool, true, false, ◌&&◌, not, List, [], ◌∷◌, length, get_or, set, replicate, Option, Some, None, is_none, nat_lt, refl, sym, ap, ◌∙◌, subst, inl, inr, arith, if◌then◌else◌, length-set}
+use Rattle.std.proofs.Common.{◌≡◌, ◌⊎◌, ℕ, ◌<◌, Bool, true, false, ◌&&◌, List, [], ◌∷◌, length, get_or, set, replicate, Option, Some, None, is_none, refl, sym, ap, ◌∙◌, inl, inr, arith, if◌then◌else◌, length-set}
 use Rattle.std.proofs.lemmas.Bool.{ltb-true}
 use Rattle.std.proofs.lemmas.List.{get_or-set_same}
 use Rattle.words.specs.Store.{Bytes, Write}
 use Rattle.words.specs.History.{Pair}
-use Rattle.words.specs.Session.{Asked, operation_of}
-use Rattle.transact.specs.declared.call.Call.{Call}
+use Rattle.words.specs.Session.{Asked}
 use Rattle.world_events.specs.declared.event.Event.{Event}
 use Rattle.world_events.specs.declared.event.Event.TheVariants.{Piece, Close, Take, Commit, Give, Fetch, Copy, Write as WriteIt, Install, Drop, Unlink, Retire, Drain, Release}
-use Rattle.world_model.specs.Logs.{LogState, place_at, dropped, with_receipt}
-use Rattle.world_model.specs.States.{Phase, Serving, Calling, Leaving, Left, Ended, Due, ClientState, State, fresh, client, log_of, stripe_count, open_call, with_client}
+use Rattle.world_model.specs.Logs.{LogState, place_at}
+use Rattle.world_model.specs.States.{Phase, Serving, Calling, Leaving, Left, Ended, Due, ClientState, State, fresh, client, log_of, stripe_count, open_call}
 use Rattle.world_events.specs.Actors.{actor}
 use Rattle.world_model.specs.Enabled.{is_number, holds, holds_none, are_none, is_enabled_for, is_enabled_in, is_enabled_of, next_stripe}
 use Rattle.world_model.specs.Advancing.{When}
-use Rattle.world_model.specs.Releasing.{after_retire, after_drain, after_release}
 use Rattle.world_model.specs.Rooms.{Leaves, Sheds, Frees, Retires, Drains, Releases, Steps, ByPage, ByPlace, StepsAll}
-use Rattle.world_model.specs.Planning.{AreCold, Plans, Names, MakesRoom, MeetsFull, PlansFor, asked_by, stay_begun, taken, Takes, writes_now}
-use Rattle.world_model.specs.Effects.{Does, Works, fed, heard, given, fetched, Unlinks, StopsFull, Cleans}
+use Rattle.world_model.specs.Planning.{AreCold, Plans, Names, MakesRoom, MeetsFull, PlansFor, asked_by, stay_begun, taken, Takes}
+use Rattle.world_model.specs.Effects.{Does, Works, fed, heard, fetched, Unlinks, StopsFull, Cleans}
 use Rattle.world_model.specs.Turns.{DoesAndGoes, Turn, Turns}
-use Rattle.world_model.specs.Told.{mine, Headline}
-use Rattle.world_model.specs.Places.{Each, times, IsReadable, ArePlaced, NoneReleased, standing, stay_of, due_of}
+use Rattle.world_model.specs.Told.{mine}
+use Rattle.world_model.specs.Places.{Each, IsReadable, ArePlaced, NoneReleased, standing, stay_of, due_of}
 use Rattle.world_model.specs.Soundness.{ReadsFor, IsSound}
 use Rattle.world_model.specs.Laws.{TalkLaws, WatchLaws}
 use Rattle.world_model.proofs.Holding.{when_cases, both, not_true, none_is, apart_eqb, held_by_one}

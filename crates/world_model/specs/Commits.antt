@@ -1,5 +1,5 @@
 -- The commit of a call.
-use Rattle.std.specs.Prelude.{ℕ, ◌≡◌, ◌≤◌, Bool, false, List, [], ◌∷◌, ◌++◌, length, set, Option, Some, None, nat_eq, if◌then◌else◌}
+use Rattle.std.specs.Prelude.{ℕ, ◌≡◌, ◌≤◌, false, List, [], ◌∷◌, ◌++◌, length, set, Option, Some, None, nat_eq, if◌then◌else◌}
 use Rattle.words.specs.declared.reply.Fault.TheVariants.{StoreFull}
 use Rattle.words.specs.declared.history.Operation.{Operation}
 use Rattle.words.specs.declared.history.Entry.{Entry}
@@ -18,7 +18,7 @@ use Rattle.transact.specs.Plans.{keys_begun, keys_ended}
 use Rattle.transact.specs.Tables.{Change, begins, clears, touches}
 use Rattle.connection.specs.Clients.{Stage, Progress, Resumes}
 use Rattle.world_model.specs.Logs.{with_opened}
-use Rattle.world_model.specs.States.{Phase, Serving, Calling, Leaving, Left, Ended, ClientState, State, log_of, stripe_count}
+use Rattle.world_model.specs.States.{Phase, Serving, Calling, Leaving, Left, ClientState, State, log_of, stripe_count}
 use Rattle.world_model.specs.Advancing.{When}
 use Rattle.world_model.specs.Rooms.{is_written_in}
 use Rattle.world_model.specs.Planning.{reply_now, writes_now}

@@ -4,7 +4,7 @@ use Rattle.std.specs.Prelude.{is_some, is_none, nat_eq, nat_lt, if◌then◌else
 use Rattle.transact.specs.declared.call.Call.{Call}
 use Rattle.transact.specs.Submits.{stripes_asked}
 use Rattle.world_model.specs.Logs.{Flushing, Nothing, Copied, Wrote, Stamped, place_at, oldest_sealed, is_full}
-use Rattle.world_model.specs.States.{Phase, Serving, Calling, Leaving, Left, Ended, Due, ClientState, State, client, log_of, stripe_count, open_call}
+use Rattle.world_model.specs.States.{Phase, Ended, ClientState, State, client, log_of, stripe_count, open_call}
 use Rattle.world_events.specs.Actors.{actor}
 use Rattle.world_events.specs.declared.event.Event.{Event}
 use Rattle.world_events.specs.declared.event.Event.TheVariants as event

@@ -1,7 +1,6 @@
 -- A stripe's log as plain data (FASTER, SIGMOD 2018, "HybridLog"), and what flusher, evictor and cleaner make of it.
-use Rattle.std.specs.Prelude.{ℕ, zero, suc, ◌+◌, ◌-◌, ◌/◌, Bool, true, false, ◌||◌, ◌&&◌, List, [], ◌∷◌, ◌++◌, length, get_or, set, drop}
+use Rattle.std.specs.Prelude.{ℕ, zero, suc, ◌+◌, ◌-◌, ◌/◌, Bool, ◌||◌, ◌&&◌, List, [], ◌∷◌, ◌++◌, length, get_or, set, drop}
 use Rattle.std.specs.Prelude.{max, replicate, Option, Some, None, is_none, nat_lt, nat_le, if◌then◌else◌}
-use Rattle.words.specs.Store.{Bytes}
 
 -- What the flusher has of a stripe: nothing; a copy of the page with this number; or that, and the receipt of the place to which it was
 -- written. A place is numbered by the write that took it, among all writes to the device.

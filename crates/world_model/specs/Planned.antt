@@ -3,7 +3,7 @@ use Rattle.std.specs.Prelude.{ℕ, ◌≡◌, ◌≢◌, List, [], ◌++◌, Som
 use Rattle.words.specs.declared.reply.Reply.{Reply}
 use Rattle.words.specs.declared.history.Operation.{Operation}
 use Rattle.words.specs.Store.{Bytes, Store, Write}
-use Rattle.words.specs.History.{History, Pair, after, due, outcome, keys_named}
+use Rattle.words.specs.History.{History, after, due, outcome, keys_named}
 use Rattle.words.specs.Locality.{AreSameAt, NoEntryNames, NamesNone}
 use Rattle.words.specs.Session.{Asked, operation_of}
 use Rattle.transact.specs.declared.call.Call.{Call}

@@ -1,5 +1,5 @@
 -- A call's plan, which is made when its client takes the last of its stripes.
-use Rattle.std.specs.Prelude.{ℕ, ◌≡◌, ◌<◌, Bool, true, false, List, [], ◌∷◌, set, Option, Some, None, is_none, nat_lt, if◌then◌else◌}
+use Rattle.std.specs.Prelude.{ℕ, ◌≡◌, ◌<◌, true, false, List, [], ◌∷◌, set, Option, Some, None, is_none, nat_lt, if◌then◌else◌}
 use Rattle.words.specs.declared.limits.TheConstants.{WEIGHT_MAX}
 use Rattle.words.specs.declared.history.Operation.{Operation}
 use Rattle.words.specs.declared.reply.Reply.{Reply}

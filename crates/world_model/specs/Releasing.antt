@@ -1,7 +1,7 @@
 -- How a place that has left its log comes to its release (FASTER, SIGMOD 2018, "Epoch Protection").
 use Rattle.std.specs.Prelude.{ℕ, ◌+◌, List, [], ◌∷◌, set, Option, Some}
 use Rattle.words.specs.Store.{Bytes}
-use Rattle.world_model.specs.Logs.{Stamped, LogState, with_retired, with_drained, with_released}
+use Rattle.world_model.specs.Logs.{Stamped, with_retired, with_drained, with_released}
 use Rattle.world_model.specs.States.{State, log_of, with_log}
 
 -- Retire: the oldest unlinked place is stamped with the present epoch, and the next one begins.

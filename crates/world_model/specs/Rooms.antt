@@ -3,9 +3,9 @@
 use Rattle.std.specs.Prelude.{ℕ, ◌≡◌, ◌<◌, Bool, true, false, not, ◌&&◌, ◌||◌, List, [], ◌∷◌, length, Option, Some, None, nat_eq, nat_lt}
 use Rattle.words.specs.Store.{Bytes, Write}
 use Rattle.words.specs.Stripes.{stripe_of}
-use Rattle.world_model.specs.Logs.{LogState, place_at, first_mutable, is_full, with_receipt, dropped}
+use Rattle.world_model.specs.Logs.{LogState, Stamped, place_at, first_mutable, is_full, with_receipt, dropped}
 use Rattle.world_model.specs.States.{ClientState, State, log_of, stripe_count, with_log, with_log_and_place}
-use Rattle.world_model.specs.Enabled.{are_none, may_drain}
+use Rattle.world_model.specs.Enabled.{all_past, are_none, may_drain}
 use Rattle.world_model.specs.Releasing.{after_retire, after_drain, after_release}
 
 -- The oldest resident page of a stripe leaves its frame. Where no receipt of it is kept, it is written to a new place first, which may be
@@ -42,9 +42,14 @@ StepsAll before (i ∷ more) after = (mid : State) × Steps before i mid × Step
 abbrev pub HasNoPlace : State → ℕ → Type 0
 HasNoPlace state i = is_full state.limit (log_of state i) ≡ true
 
--- Whether no place of a log can come nearer to its release: none is drained, none unlinked, and the oldest retired one may not be drained.
+-- whether a client's stay is at the epoch of each of these places, or below it
+abbrev pub are_held_back : List ClientState → List Stamped → Bool
+are_held_back clients [] = true
+are_held_back clients (one ∷ others) = not (all_past clients one.epoch) && are_held_back clients others
+
+-- Whether no place of a log can come nearer to its release: none is drained, none unlinked, and each retired one is held back by a stay.
 abbrev pub is_spent : List ClientState → LogState → Bool
-is_spent clients log = are_none log.drained && (are_none log.unlinked && not (may_drain clients log.retired))
+is_spent clients log = are_none log.drained && (are_none log.unlinked && are_held_back clients log.retired)
 
 -- A stripe is full: a call or the cleaner that needs a place there meets that. None can be taken, and none of those that wait can come nearer
 -- to its release.

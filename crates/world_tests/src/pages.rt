@@ -16,12 +16,37 @@ use world_events::Event;
 /// How many keys are set.
 const KEYS: usize = 630;
 
-/// How many bytes each value has.
-const VALUE_BYTES: usize = 1_000;
+/// How long a value is.
+#[derive(Clone, Copy)]
+enum Length {
+    /// A page takes 63 records of it.
+    Short,
+    /// A page takes two records of it.
+    Long,
+}
 
-/// Adds the value, and CR LF.
-fn add_value(text: &mut Vec<u8>) -> Option<()> {
-    for _ in 0..VALUE_BYTES {
+impl Length {
+    /// How many bytes the value has.
+    fn bytes(self) -> usize {
+        match self {
+            Length::Short => 1_000,
+            Length::Long => 32_000,
+        }
+    }
+
+    /// How that is spelled before a bulk string.
+    fn spelling(self) -> &'static [u8] {
+        match self {
+            Length::Short => b"$1000\r\n",
+            Length::Long => b"$32000\r\n",
+        }
+    }
+}
+
+/// Adds the value as a bulk string.
+fn add_value(text: &mut Vec<u8>, length: Length) -> Option<()> {
+    add(text, length.spelling())?;
+    for _ in 0..length.bytes() {
         add(text, b"v")?;
     }
     add(text, b"\r\n")
@@ -33,7 +58,7 @@ fn digit(number: usize) -> u8 {
 }
 
 /// The request that sets the key of a number below 10,000.
-fn set_of(alloc: Global, number: usize) -> Option<Bytes> {
+fn set_of(alloc: Global, number: usize, length: Length) -> Option<Bytes> {
     let mut text = Vec::new(alloc);
     add(&mut text, b"*3\r\n$3\r\nSET\r\n$5\r\nk")?;
     add(
@@ -45,8 +70,8 @@ fn set_of(alloc: Global, number: usize) -> Option<Bytes> {
             digit(number),
         ],
     )?;
-    add(&mut text, b"\r\n$1000\r\n")?;
-    add_value(&mut text)?;
+    add(&mut text, b"\r\n")?;
+    add_value(&mut text, length)?;
     Bytes::from_vec(text).ok()
 }
 
@@ -65,11 +90,11 @@ fn push_call(events: &mut Vec<Event>) -> Option<()> {
     push(events, Event::Give(0, 0))
 }
 
-/// The events by which client 0 sets all keys. A call that wants pages goes in up to three more rounds.
-fn sets(alloc: Global) -> Option<Vec<Event>> {
+/// The events by which client 0 sets so many keys. A call that wants pages goes in up to three more rounds.
+fn sets(alloc: Global, keys: usize, length: Length) -> Option<Vec<Event>> {
     let mut events = Vec::new(alloc);
-    for number in 0..KEYS {
-        push(&mut events, Event::Piece(0, set_of(alloc, number)?))?;
+    for number in 0..keys {
+        push(&mut events, Event::Piece(0, set_of(alloc, number, length)?))?;
         push_call(&mut events)?;
         for _ in 0..3 {
             push(&mut events, Event::Fetch(0))?;
@@ -83,7 +108,7 @@ fn sets(alloc: Global) -> Option<Vec<Event>> {
 fn filled_world(alloc: Global, places: usize) -> Option<World>
     ensures { IfSome result IsWorld }
 {
-    let events = sets(alloc)?;
+    let events = sets(alloc, KEYS, Length::Short)?;
     let limits = Limits::new(1, 4_096, 12, places, 2)?;
     let world = World::new(alloc, &limits).ok()?;
     world.run(events.as_slice()).ok()
@@ -92,7 +117,7 @@ fn filled_world(alloc: Global, places: usize) -> Option<World>
 /// Whether this is the value, as a client is told it.
 fn is_value(alloc: Global, told: &[u8]) -> bool {
     let mut due = Vec::new(alloc);
-    add(&mut due, b"$1000\r\n").is_some() && add_value(&mut due).is_some() && told == due.as_slice()
+    add_value(&mut due, Length::Short).is_some() && told == due.as_slice()
 }
 
 /// Follows a text in a filled world. Client 1 has the value then, or nothing; and there are so many entries.
@@ -236,18 +261,14 @@ fn a_receipt_that_comes_late_is_unlinked(rt: HostRuntime) {
     world.end();
 }
 
-/// A world of 64 places, in which all keys were set until no place was left.
-fn full_world(alloc: Global) -> Option<World>
-    ensures { IfSome result IsWorld }
-{
-    filled_again(alloc, filled_world(alloc, 64)?, 7)
-}
-
 /// Where no place is left, calls are refused, and the history has no entry of them.
 #[test]
 fn a_full_stripe_refuses_calls(rt: HostRuntime) {
     let alloc = rt.alloc();
-    let Some(world) = full_world(alloc) else {
+    let Some(world) = filled_world(alloc, 64) else {
+        panic!(rt; "no world")
+    };
+    let Some(world) = filled_again(alloc, world, 7) else {
         panic!(rt; "stopped")
     };
     if world.clients() != 2 || !world.output(0).ends_with(b"-FULL store is full\r\n") {
@@ -264,17 +285,52 @@ fn a_full_stripe_refuses_calls(rt: HostRuntime) {
     follow(&rt, alloc, world, text).end();
 }
 
+/// A world of 64 places, in which client 0 has set 20 keys in turn, which takes ten pages, until no place was left.
+fn full_world(alloc: Global) -> Option<World>
+    ensures { IfSome result IsWorld }
+{
+    let events = sets(alloc, 20, Length::Long)?;
+    let limits = Limits::new(1, 4_096, 12, 64, 2)?;
+    let world = World::new(alloc, &limits).ok()?;
+    let world = repeated(world, events.as_slice(), 8)?;
+    if world.clients() == 2 && world.output(0).ends_with(b"-FULL store is full\r\n") {
+        return Some(world);
+    }
+    world.end();
+    None
+}
+
+/// Follows a text in the world; then client 1 asks to set a new key to the long value; and it follows the other text.
+fn follow_with_set<R: Abort>(
+    rt: &R,
+    alloc: Global,
+    world: World,
+    first: &str,
+    second: &str,
+) -> World
+    requires { IsWorld world }
+    ensures { IsWorld result }
+{
+    let world = follow(rt, alloc, world, first);
+    let Some(piece) = set_of(alloc, 20, Length::Long) else {
+        panic!(rt; "no memory")
+    };
+    let Ok(world) = world.run(&[Event::Piece(1, piece)]) else {
+        panic!(rt; "stopped")
+    };
+    follow(rt, alloc, world, second)
+}
+
 /// A call that needs a place releases a retired one itself, where no stay keeps it.
 #[test]
 fn a_call_releases_a_retired_place(rt: HostRuntime) {
     let alloc = rt.alloc();
     let Some(world) = full_world(alloc) else {
-        panic!(rt; "stopped")
+        panic!(rt; "no full world")
     };
-    let text =
-        "do unlink 0; do retire 0; do ask 1 SET a 1; do take 1 0; not drain 0; not release 0 255; do commit 1; \
-        told 1 +OK|; do give 1 0; do ask 1 GET a; do take 1 0; do commit 1; told 1 +OK|$1|1|; do give 1 0";
-    follow(&rt, alloc, world, text).end();
+    let second =
+        "do take 1 0; not drain 0; not release 0 255; do commit 1; told 1 +OK|; do give 1 0";
+    follow_with_set(&rt, alloc, world, "do unlink 0; do retire 0", second).end();
 }
 
 /// The call's own stay counts: a place that was unlinked is retired by a call that needs one, and released by the next.
@@ -282,13 +338,14 @@ fn a_call_releases_a_retired_place(rt: HostRuntime) {
 fn a_call_keeps_a_place_that_it_retires(rt: HostRuntime) {
     let alloc = rt.alloc();
     let Some(world) = full_world(alloc) else {
-        panic!(rt; "stopped")
+        panic!(rt; "no full world")
     };
-    let text =
-        "do unlink 0; do ask 1 SET a 1; do take 1 0; not retire 0; not drain 0; do commit 1; \
-        told 1 -FULL store is full|; do give 1 0; do ask 1 SET a 1; do take 1 0; not drain 0; do commit 1; \
-        told 1 -FULL store is full|+OK|; do give 1 0";
-    follow(&rt, alloc, world, text).end();
+    let second =
+        "do take 1 0; not retire 0; not drain 0; do commit 1; told 1 -FULL store is full|; do give 1 0";
+    let world = follow_with_set(&rt, alloc, world, "do unlink 0", second);
+    let third =
+        "do take 1 0; not drain 0; not release 0 255; do commit 1; told 1 -FULL store is full|+OK|; do give 1 0";
+    follow_with_set(&rt, alloc, world, "not retire 0; not release 0 255", third).end();
 }
 
 /// A world in which all keys were set so many times more.
@@ -296,13 +353,21 @@ fn filled_again(alloc: Global, world: World, times: usize) -> Option<World>
     requires { IsWorld world }
     ensures { IfSome result IsWorld }
 {
-    if times == 0 {
-        return Some(world);
-    }
-    let Some(events) = sets(alloc) else {
+    let Some(events) = sets(alloc, KEYS, Length::Short) else {
         world.end();
         return None;
     };
-    let world = world.run(events.as_slice()).ok()?;
-    filled_again(alloc, world, times - 1)
+    repeated(world, events.as_slice(), times)
+}
+
+/// A world after the same events so many times more.
+fn repeated(world: World, events: &[Event], times: usize) -> Option<World>
+    requires { IsWorld world }
+    ensures { IfSome result IsWorld }
+{
+    if times == 0 {
+        return Some(world);
+    }
+    let world = world.run(events).ok()?;
+    repeated(world, events, times - 1)
 }

@@ -1,4 +1,4 @@
-use Rattle.std.proofs.Common.{◌≡◌, ◌<◌, length, sym, subst, false}
+use Rattle.std.proofs.Common.{◌<◌, length, sym, subst}
 use Rattle.world_log.specs.Freeing.{HasCleaned, HasMetFull}
 use Rattle.world_log.proofs.FreeSteps.{cleans_again, cleans_not, held_both, is_false, resting, rests_so, stays_cold, stepped_freed, stepped_none}
 use Rattle.world_log.proofs.logs.WorldLog.clean.Goals as goal

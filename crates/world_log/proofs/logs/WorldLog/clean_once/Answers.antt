@@ -1,11 +1,14 @@
-use Rattle.std.proofs.Common.{◌≡◌, ◌∙◌, ◌<◌, length, ap, refl, arith, sym, subst}
+use Rattle.std.proofs.Common.{◌<◌, length, refl, arith, sym, subst}
 use Rattle.std.proofs.lemmas.Option.{slice_get_read}
 use Rattle.world_model.specs.Logs.{LogState}
 use Rattle.world_log.proofs.FreeSteps.{cleaned_is}
 use Rattle.world_log.proofs.Held.{held_free}
 use Rattle.world_log.proofs.LaneSteps.{lane_of, log_there, store_with, store_device}
+use Rattle.world_log.proofs.Rising.{unlink_stamps}
 use Rattle.world_log.proofs.RoomSteps.{served_at}
 use Rattle.world_log.proofs.Values.{both_values}
+use Rattle.world_log.specs.Stripes.{lane_beside, lane_log}
+use Rattle.world_log.specs.WorldLogs.{AreRising}
 use Rattle.world_log.proofs.logs.WorldLog.clean_once.Goals as goal
 
 pub unlink-requires-clause-agrees : goal.unlink-requires-clause-agrees
@@ -45,6 +48,10 @@ returns-clause-log c =
     store_with (record c.args.self.now { device = c.unlink.new.device }) c.args.i c.index_mut-lane.result.now c.unlink.new.self
     (store_device c.args.self.now c.unlink.new.device c.in_ok-done.ensures.stays c.requires.log) there right.alike right.agrees right.numbered
     (c.in_ok-done.ensures.given (lane_of c.args.self.now c.args.i c.index_mut-lane.result.now c.requires.log there).given)
+    (subst (AreRising c.args.self.now.epoch)
+    (sym (unlink_stamps c.in_ok-done.done (lane_log c.index_mut-lane.result.now) (lane_log c.unlink.new.self) (lane_beside c.index_mut-lane.result.now)
+    (lane_beside c.unlink.new.self) c.args.self.now.device c.unlink.new.device c.in_ok-done.ensures.does))
+    (lane_of c.args.self.now c.args.i c.index_mut-lane.result.now c.requires.log there).stamps)
 
 pub returns-clause-held : goal.returns-clause-held
 returns-clause-held c =

@@ -1,4 +1,4 @@
-use Rattle.std.proofs.Common.{◌≡◌, ◌∙◌, ◌<◌, ap, refl, sym, subst, true, false, length}
+use Rattle.std.proofs.Common.{◌∙◌, ◌<◌, ap, refl, sym, subst, length}
 use Rattle.world_model.specs.Logs.{LogState}
 use Rattle.world_log.proofs.FreeSteps.{drain_none, drain_one, drain_step, freed_more, freed_none, freed_same, full_both, logs_same, not_done, resting, rests_so, same_full, same_waits}
 use Rattle.world_log.proofs.logs.WorldLog.drain_all.Goals as goal

@@ -1,4 +1,4 @@
-use Rattle.std.proofs.Common.{◌≡◌, ◌<◌, ℕ, List, Option, length}
+use Rattle.std.proofs.Common.{◌≡◌, ◌<◌, length}
 use Rattle.world_model.specs.States.{log_at}
 use Rattle.world_log.specs.Freeing.{HasFreed, StaysFull, waiting_in}
 use Rattle.world_log.specs.Stripes.{holders_of, states_of}

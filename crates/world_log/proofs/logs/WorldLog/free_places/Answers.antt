@@ -1,5 +1,10 @@
-use Rattle.std.proofs.Common.{◌∙◌, ◌<◌, [], length, sym, subst}
-use Rattle.world_log.proofs.FreeSteps.{freed_both, full_both, on_false}
+use Rattle.std.proofs.Common.{◌∙◌, ◌<◌, List, [], length, ap, sym, subst}
+use Rattle.world_model.specs.Enabled.{may_drain}
+use Rattle.world_model.specs.Logs.{Stamped}
+use Rattle.world_model.specs.States.{log_at}
+use Rattle.world_log.specs.Stripes.{states_of}
+use Rattle.world_log.proofs.FreeSteps.{freed_both, full_both, on_false, spent_is, stamps_at}
+use Rattle.world_log.proofs.Rising.{held_all}
 use Rattle.world_log.proofs.logs.WorldLog.free_places.Goals as goal
 
 pub drain_all-requires-clause-log : goal.drain_all-requires-clause-log
@@ -20,6 +25,15 @@ returns-clause-freed c =
     freed_both stays c.args.i c.args.self.now c.drain_all.new.self c.release_all.new.self
     (freed_both stays c.args.i c.args.self.now c.retire_all.new.self c.drain_all.new.self (c.in_ok-retire_all.ensures.freed stays) c.in_ok-drain_all.ensures.freed)
     (c.in_ok-released.ensures.freed stays)
+
+pub returns-clause-spent : goal.returns-clause-spent
+returns-clause-spent c rest stays =
+    let new = c.release_all.new.self in
+    let retired : List Stamped = (log_at (states_of new.stripes) c.args.i).retired in
+    spent_is rest.clients (log_at (states_of new.stripes) c.args.i) c.in_ok-released.ensures.none
+    (c.in_ok-released.ensures.unlinked ∙ c.in_ok-drain_all.ensures.unlinked ∙ c.in_ok-retire_all.ensures.none)
+    (held_all rest.clients new.epoch retired (stamps_at new c.args.i (c.in_ok-released.ensures.freed c.args.stays.now).log)
+    (ap (may_drain rest.clients) c.in_ok-released.ensures.retired ∙ c.in_ok-drain_all.ensures.none rest stays))
 
 pub returns-clause-full : goal.returns-clause-full
 returns-clause-full c =

@@ -1,10 +1,12 @@
-use Rattle.std.proofs.Common.{length, refl, arith}
+use Rattle.std.proofs.Common.{length, refl, arith, subst, sym}
 use Rattle.std.proofs.lemmas.Option.{slice_get_read}
 use Rattle.world_log.proofs.LaneSteps.{lane_of, reached, free_is, took_install, store_with, with_lane, told_install}
 use Rattle.world_log.proofs.Values.{lane_values, took_values}
 use Rattle.world_events.specs.declared.event.Event.TheVariants as event
 use Rattle.world_log.proofs.Held.{held_free}
-use Rattle.world_log.specs.WorldLogs.{with_values}
+use Rattle.world_log.proofs.Rising.{install_stamps}
+use Rattle.world_log.specs.Stripes.{lane_beside, lane_log}
+use Rattle.world_log.specs.WorldLogs.{AreRising, with_values}
 use Rattle.world_log.proofs.logs.WorldLog.install.Goals as goal
 
 pub install-requires : goal.install-requires
@@ -33,6 +35,10 @@ returns-clause-log c =
     let right = c.install.ensures.right in
     store_with c.args.self.now c.args.i c.index_mut-lane.result.now c.install.new.self c.requires.log there right.alike right.agrees right.numbered
     (c.install.ensures.given c.args.self.now.device (lane_of c.args.self.now c.args.i c.index_mut-lane.result.now c.requires.log there).given)
+    (subst (AreRising c.args.self.now.epoch)
+    (sym (install_stamps c.install.result (lane_log c.index_mut-lane.result.now) (lane_log c.install.new.self) (lane_beside c.index_mut-lane.result.now) (lane_beside c.install.new.self)
+    c.install.ensures.does))
+    (lane_of c.args.self.now c.args.i c.index_mut-lane.result.now c.requires.log there).stamps)
 
 pub returns-clause-held : goal.returns-clause-held
 returns-clause-held c =

@@ -1,4 +1,4 @@
-use Rattle.std.proofs.Common.{◌∙◌, length, refl, arith, subst}
+use Rattle.std.proofs.Common.{◌∙◌, length, refl, arith, subst, sym}
 use Rattle.world_log.specs.Stripes.{lane_beside, lane_log}
 use Rattle.std.proofs.lemmas.Option.{slice_get_read}
 use Rattle.words.specs.Store.{Bytes}
@@ -9,7 +9,8 @@ use Rattle.world_log.proofs.AllGiven.{release_stays, release_given}
 use Rattle.world_log.proofs.Values.{both_values, took_values}
 use Rattle.world_events.specs.declared.event.Event.TheVariants as event
 use Rattle.world_log.proofs.Held.{held_release, held_with}
-use Rattle.world_log.specs.WorldLogs.{with_values}
+use Rattle.world_log.proofs.Rising.{release_stamps}
+use Rattle.world_log.specs.WorldLogs.{AreRising, with_values}
 use Rattle.world_log.proofs.logs.WorldLog.release.Goals as goal
 
 pub release-requires-clause-agrees : goal.release-requires-clause-agrees
@@ -48,6 +49,10 @@ returns-clause-log c =
     there right.alike right.agrees right.numbered
     (release_given c.release.result _ _ (lane_beside c.index_mut-lane.result.now) c.args.self.now.device _ _ _ c.release.ensures.does
     (lane_of c.args.self.now c.args.i c.index_mut-lane.result.now c.requires.log there).given)
+    (subst (AreRising c.args.self.now.epoch)
+    (sym (release_stamps c.release.result _ (lane_log c.index_mut-lane.result.now) (lane_log c.release.new.self) (lane_beside c.index_mut-lane.result.now)
+    (lane_beside c.release.new.self) c.args.self.now.device c.release.new.device c.release.ensures.does))
+    (lane_of c.args.self.now c.args.i c.index_mut-lane.result.now c.requires.log there).stamps)
 
 pub returns-clause-given : goal.returns-clause-given
 returns-clause-given c =

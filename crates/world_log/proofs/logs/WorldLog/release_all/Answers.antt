@@ -1,4 +1,4 @@
-use Rattle.std.proofs.Common.{◌≡◌, ◌∙◌, ◌<◌, ◌≤◌, [], ap, refl, sym, subst, true, false, length, arith}
+use Rattle.std.proofs.Common.{◌∙◌, ◌<◌, [], ap, refl, sym, subst, length, arith}
 use Rattle.world_model.specs.Logs.{LogState}
 use Rattle.world_log.specs.Freeing.{waiting_in}
 use Rattle.world_model.specs.States.{start}

@@ -31,8 +31,8 @@ pub returns-then-done-clause-log : goal.returns-then-done-clause-log
 returns-then-done-clause-log c =
     let there = slice_get_read c.args.self.now.stripes.lanes.items (length c.args.self.now.stripes.lanes.items) c.args.i c.index_mut-lane.result.now refl
     (omega (arith, c.if-i-len.false, c.len.ensures)) c.index_mut-lane.ensures.value in
-    store_retired c.args.self.now c.args.i c.index_mut-lane.result.now c.retire.new.self c.in-Some.next c.requires.log there c.in_ok-done.ensures.log
-    c.in_ok-done.ensures.right.agrees (rw c.if-done.true at c.in_ok-done.ensures.does)
+    store_retired c.args.self.now c.args.i c.index_mut-lane.result.now c.retire.new.self c.in-Some.next c.requires.log there
+    (omega (arith, c.in-Some.ensures)) c.in_ok-done.ensures.log c.in_ok-done.ensures.right.agrees (rw c.if-done.true at c.in_ok-done.ensures.does)
 
 pub returns-then-done-clause-held : goal.returns-then-done-clause-held
 returns-then-done-clause-held c =

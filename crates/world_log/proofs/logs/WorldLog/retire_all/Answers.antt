@@ -1,4 +1,4 @@
-use Rattle.std.proofs.Common.{◌≡◌, ◌∙◌, ◌<◌, [], ap, refl, sym, subst, true, false, length}
+use Rattle.std.proofs.Common.{◌∙◌, ◌<◌, [], refl, sym, subst, length}
 use Rattle.world_model.specs.States.{start}
 use Rattle.world_log.proofs.FreeSteps.{freed_more, freed_none, freed_same, full_both, not_done, retire_none, retire_one, retire_step, same_full, same_waits}
 use Rattle.world_log.proofs.logs.WorldLog.retire_all.Goals as goal
