@@ -152,6 +152,7 @@ fn is_read_while_held<R: Threads + Wait + Sync>(
     reader: Pass<Opening>,
     mut other: Pass<Opening>,
 ) -> bool
+    requires stripes { stripe_count engine.now ≡ 1 }
     requires reader { Rests ⊤ engine.now reader }
     requires other { Rests ⊤ engine.now other }
 {

@@ -36,11 +36,7 @@ fn fill_in_turn(alloc: Global, both: &mut Small) -> Option<u64> {
 }
 
 /// Releases each place of the first stripe that can be. `None` where there is no stripe.
-fn free<D: Device, S: Retires>(
-    store: &mut Store<D>,
-    epochs: &Epochs,
-    own: &mut S,
-) -> Option<Freed>
+fn free<D: Device, S: Retires>(store: &mut Store<D>, epochs: &Epochs, own: &mut S) -> Option<Freed>
     requires { S.is_of epochs.now own.old }
     ensures { S.is_of epochs.now own.new }
 {
