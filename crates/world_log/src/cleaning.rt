@@ -22,6 +22,41 @@ use hybrid::{Room, Staged, Stripe, Weighed};
 use plans::counted::{Cleaning, CountedLog};
 use std::alloc::Global;
 
+/// Makes room for what lives in the oldest page, which is not resident, and unlinks it; and says whether it
+/// did. It does not where the stripe is full.
+pub(crate) fn unlink_oldest(
+    alloc: Global,
+    log: &mut CountedLog<WorldReceipt>,
+    queues: &Queues,
+    device: &mut WorldDevice,
+) -> Result<bool, Stopped>
+    requires agrees { Agrees log.old queues.now }
+    requires served { AreServed log.old.log device.old }
+    requires cold { log.old.log.oldest < log.old.log.resident.oldest }
+    ensures does { IfOk result (λ done. DoesUnlink done log.old.log (beside_of log.old queues.now) device.old log.new.log (beside_of log.new queues.now) device.new) }
+    ensures given { OnOk result (AreAllGiven device.old log.old.log (beside_of log.old queues.now) → AreAllGiven device.new log.new.log (beside_of log.new queues.now)) }
+    ensures stays { OnOk result (StaysGiven device.old device.new) }
+    ensures alike { OnOk result (IsAlike log.old.log log.new.log) }
+    ensures agrees { OnOk result (Agrees log.new queues.now) }
+    ensures same { OnOk result (SameContents log.old.log log.new.log) }
+{
+    let _oldest = log.stripe().oldest();
+    let mut staged = Staged::new(alloc);
+    let weight = weigh(log.stripe(), &mut staged, device)?;
+    if !make_room(log, queues, device, weight)? {
+        return Ok(false);
+    }
+    clean(log, queues, device, &mut staged, weight)?;
+    Ok(true)
+}
+
+/// Whether the oldest page is not resident.
+pub(crate) fn is_cold(stripe: &Stripe<WorldReceipt>) -> bool
+    ensures { result ≡ nat_lt stripe.now.oldest stripe.now.resident.oldest }
+{
+    stripe.page(stripe.oldest()).is_none()
+}
+
 /// Reads the page of this number, of which a receipt is kept, and stages it.
 fn fetch(
     stripe: &Stripe<WorldReceipt>,
@@ -107,39 +142,4 @@ fn clean(
             Cleaning::Resident => unreachable!(),
         }
     }
-}
-
-/// Makes room for what lives in the oldest page, which is not resident, and unlinks it; and says whether it
-/// did. It does not where the stripe is full.
-pub(crate) fn unlink_oldest(
-    alloc: Global,
-    log: &mut CountedLog<WorldReceipt>,
-    queues: &Queues,
-    device: &mut WorldDevice,
-) -> Result<bool, Stopped>
-    requires agrees { Agrees log.old queues.now }
-    requires served { AreServed log.old.log device.old }
-    requires cold { log.old.log.oldest < log.old.log.resident.oldest }
-    ensures does { IfOk result (λ done. DoesUnlink done log.old.log (beside_of log.old queues.now) device.old log.new.log (beside_of log.new queues.now) device.new) }
-    ensures given { OnOk result (AreAllGiven device.old log.old.log (beside_of log.old queues.now) → AreAllGiven device.new log.new.log (beside_of log.new queues.now)) }
-    ensures stays { OnOk result (StaysGiven device.old device.new) }
-    ensures alike { OnOk result (IsAlike log.old.log log.new.log) }
-    ensures agrees { OnOk result (Agrees log.new queues.now) }
-    ensures same { OnOk result (SameContents log.old.log log.new.log) }
-{
-    let _oldest = log.stripe().oldest();
-    let mut staged = Staged::new(alloc);
-    let weight = weigh(log.stripe(), &mut staged, device)?;
-    if !make_room(log, queues, device, weight)? {
-        return Ok(false);
-    }
-    clean(log, queues, device, &mut staged, weight)?;
-    Ok(true)
-}
-
-/// Whether the oldest page is not resident.
-pub(crate) fn is_cold(stripe: &Stripe<WorldReceipt>) -> bool
-    ensures { result ≡ nat_lt stripe.now.oldest stripe.now.resident.oldest }
-{
-    stripe.page(stripe.oldest()).is_none()
 }
