@@ -34,3 +34,13 @@ give-requires-in-Idle-clause-told g c =
       there = s.is;
       is = (s.says, (lent.0, s.old), ap (λ took. part_at took c.args.stripe) c.evict_at-outcome.ensures.keeps.taken ∙ lent.1, tt);
     }
+
+pub give-requires-in-Full-clause-told : goal.give-requires-in-Full-clause-told
+give-requires-in-Full-clause-told g c =
+    let s = c.in-Full.ensures.stepped in
+    let lent = c.take-held.ensures.lent c.args.stripe s.old s.was in
+    record {
+      part = s.new;
+      there = s.is;
+      is = (s.says.0, (lent.0, s.old), ap (λ took. part_at took c.args.stripe) c.evict_at-outcome.ensures.keeps.taken ∙ lent.1, s.says.1);
+    }
