@@ -15,7 +15,7 @@ use Rattle.engine.proofs.short.submit_set.Goals as goal
 
 pub enter_set-answer-requires-clause-may : goal.enter_set-answer-requires-clause-may
 enter_set-answer-requires-clause-may g c =
-    may_enter g.R.Shows.is_steady c.stripes-stripes.result (set_call c.args.key.now c.args.value.now) c.args.gates.now c.stripe_of_key-wanted.result _ c.take-held.result c.stripes-stripes.ensures.some c.stripes-stripes.ensures.most c.stripes-stripes.ensures.count
+    may_enter g.R.Shows.is_steady c.stripes-stripes.result _ c.args.gates.now c.stripe_of_key-wanted.result _ c.take-held.result c.stripes-stripes.ensures.some c.stripes-stripes.ensures.most c.stripes-stripes.ensures.count
     (c.stripes_hold_keys.ensures c.stripes-stripes.result (parts_of g.R.Shows.is_steady c.take-held.result) c.stripe_of_key-wanted.result (call_keys (set_call c.args.key.now c.args.value.now)) c.stripe_of_key-wanted.ensures.exact c.take-held.ensures.has) c.take-held.ensures
 
 pub give-requires-clause-fit : goal.give-requires-clause-fit
