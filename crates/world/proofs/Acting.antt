@@ -1,31 +1,24 @@
 -- An event leaves a world as it is to be: sound, with all that is kept beside the plain state right.
-use Rattle.std.proofs.Common.{◌≡◌, ◌≢◌, ◌∙◌, ℕ, ◌<◌, ◌≤◌, Bool, true, false, ◌&&◌, List, [], ◌∷◌, length, get_or, map, Option, Some, None, refl, sym, ap, ap₂, subst, nat_lt, nat_eq, if◌then◌else◌}
+use Rattle.std.proofs.Common.{◌≡◌, ◌∙◌, ℕ, ◌<◌, ◌≤◌, Bool, true, false, ◌&&◌, List, [], ◌∷◌, length, Option, Some, None, refl, sym, ap, ap₂, subst}
 use Rattle.std.specs.Prelude.{slice_get, IfOk, OnOk, Result, Ok, Err}
 use Rattle.std.proofs.lemmas.Bool.{le-ltb, lt-ltb}
-use Rattle.std.proofs.lemmas.Bool.Decides.{Decides-eqb}
 use Rattle.std.proofs.lemmas.List.{length-map}
-use Rattle.hybrid.specs.HybridLog.{HybridLog, HasRoom}
-use Rattle.plans.specs.Shards.{logs_of}
 use Rattle.world_events.specs.Actors.{actor}
 use Rattle.world_events.specs.declared.event.Event.{Event}
 use Rattle.world_events.specs.declared.event.Event.TheVariants as event
 use Rattle.world_log.specs.Given.{StaysGiven}
-use Rattle.world_log.specs.Stripes.{acts_for, lane_log, lent}
 use Rattle.world_log.specs.Freeing.{HasStepped}
 use Rattle.world_log.specs.WorldLogs.{IsWorldLog, KeepsHeld, NoneReleasedAt, Took, stays_of}
 use Rattle.world_log.specs.WorldLogs as logs
-use Rattle.world_log.specs.Types.{Lane, Stripes}
 use Rattle.world_log.specs.declared.logs.WorldLog.{WorldLog}
 use Rattle.world_model.specs.Advancing.{Goes, When}
-use Rattle.world_model.specs.States.{ClientState, State, client, stripe_count}
-use Rattle.world_model.specs.Enabled.{holds, is_enabled, is_enabled_for, is_enabled_in, is_enabled_of, is_number}
+use Rattle.world_model.specs.States.{State, client}
+use Rattle.world_model.specs.Enabled.{is_enabled, is_enabled_for, is_enabled_in, is_enabled_of}
 use Rattle.world_model.specs.Planned.{IsNoCommitOf}
-use Rattle.world_model.specs.Soundness.{IsSound}
-use Rattle.world_model.specs.Turns.{DoesAndGoes, Turn, Turns}
+use Rattle.world_model.specs.Turns.{DoesAndGoes, Turn}
 use Rattle.world.specs.Desks.{IsRight, client_of}
 use Rattle.world.specs.Laws.{TurnLaws}
-use Rattle.world.specs.Tables.{Handled, Handles, HasGoneOn, HasWorked, IsKept, IsWorld, PlanStays, Same, New, StaysRoomy, rest_of, state_of}
-use Rattle.world.specs.declared.desk.Plan.{Plan}
+use Rattle.world.specs.Tables.{Handled, Handles, HasGoneOn, HasWorked, IsKept, IsWorld, PlanStays, Same, New, rest_of, state_of}
 use Rattle.world.specs.declared.member.Member.{Member}
 use Rattle.world.specs.declared.world.World.{World}
 use Rattle.world.proofs.Coming.{held_roomy}

@@ -1,7 +1,6 @@
 -- Pages that a plan names, to be read for it.
-use Rattle.std.proofs.Common.{◌≡◌, ℕ, Bool, true, false, List, [], ◌∷◌, length, Option, refl, sym, ap, subst, arith}
-use Rattle.words.specs.Store.{Bytes}
-use Rattle.hybrid.specs.HybridLog.{HybridLog, Kept}
+use Rattle.std.proofs.Common.{◌≡◌, ℕ, false, List, [], ◌∷◌, length, Option, refl, sym, ap, subst, arith}
+use Rattle.hybrid.specs.HybridLog.{Kept}
 use Rattle.hybrid.specs.Staging.{AreRight, StagedPage}
 use Rattle.transact.specs.declared.call.Call.{Call}
 use Rattle.plans.specs.declared.shard.Shard.{Shard}

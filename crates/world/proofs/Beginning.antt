@@ -1,25 +1,18 @@
 -- A world at its beginning.
-use Rattle.std.proofs.Common.{◌≡◌, ◌∙◌, ℕ, List, [], map, reverse, replicate, Some, refl, sym, ap, ap₂, subst, length, arith}
-use Rattle.std.specs.Prelude.{slice_get}
-use Rattle.words.specs.declared.history.Entry.{Entry}
+use Rattle.std.proofs.Common.{◌≡◌, ◌∙◌, ℕ, List, [], reverse, sym, ap, ap₂, subst, arith}
 use Rattle.words.specs.History.{History}
 use Rattle.hybrid.specs.Staging.{AreRight}
 use Rattle.world_log.specs.Places.{Receipt, Shelves}
 use Rattle.world_log.specs.Given.{IsGiven}
 use Rattle.world_log.specs.WorldLogs.{IsNew as IsNewLog, IsWorldLog}
 use Rattle.world_log.specs.Types.{Stripes}
-use Rattle.world_model.specs.States.{ClientState, State, fresh, start}
-use Rattle.world_model.specs.Enabled.{are_none}
+use Rattle.world_model.specs.States.{ClientState, State, start}
 use Rattle.world_model.specs.Places.{Each}
 use Rattle.world_model.specs.Soundness.{IsSound}
-use Rattle.world_model.specs.Planning.{ROUNDS}
-use Rattle.world.specs.Desks.{IsNew, IsRight, client_of}
+use Rattle.world.specs.Desks.{IsNew, IsRight}
 use Rattle.world.specs.Laws.{TurnLaws}
 use Rattle.world.specs.Tables.{AreNew, IsKept, IsWorld, rest_of, state_of}
 use Rattle.world.specs.declared.desk.Desk.{Desk}
-use Rattle.world.specs.declared.desk.Plan.{Plan}
-use Rattle.world.specs.declared.desk.Plan.TheVariants as plan
-use Rattle.world.specs.declared.member.Member.{Member}
 use Rattle.world.specs.declared.world.World.{World}
 use Rattle.world.proofs.Coming.{no_due}
 

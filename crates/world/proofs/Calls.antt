@@ -1,8 +1,6 @@
 -- What plans over the stripes say of a client that acts.
-use Rattle.std.proofs.Common.{◌≡◌, ◌∙◌, ℕ, zero, suc, ◌+◌, ◌<◌, ◌≤◌, List, [], Option, Some, None, refl, sym, ap, subst, ⊎_elim, arith}
-use Rattle.std.specs.Prelude.{Result, Ok, Err}
-use Rattle.words.specs.declared.reply.Reply.{Reply}
-use Rattle.words.specs.Store.{Write, weight}
+use Rattle.std.proofs.Common.{◌≡◌, ◌∙◌, ℕ, zero, suc, ◌+◌, List, [], Option, Some, refl, sym, ap, subst, ⊎_elim, arith}
+use Rattle.words.specs.Store.{Write}
 use Rattle.words.specs.History.{History, Pair}
 use Rattle.words.specs.Session.{Asked, operation_of}
 use Rattle.gates.specs.Passes.{AreWatched}

@@ -1,5 +1,5 @@
 -- A client that took the last of its stripes: what its call comes to is what the world's definitions plan.
-use Rattle.std.proofs.Common.{◌≡◌, ◌≢◌, ◌∙◌, ℕ, zero, suc, ◌+◌, ◌<◌, ◌≤◌, Bool, true, false, List, [], ◌∷◌, ◌++◌, length, get_or, set, map, replicate, Option, Some, None, IsSome, refl, sym, ap, ap₂, subst, inl, inr, length-set, nat_eq, if◌then◌else◌}
+use Rattle.std.proofs.Common.{◌≡◌, ◌≢◌, ◌∙◌, ℕ, zero, suc, ◌<◌, Bool, true, false, List, [], ◌∷◌, ◌++◌, length, get_or, set, map, replicate, Option, Some, None, refl, sym, ap, ap₂, subst, inl, length-set, nat_eq, if◌then◌else◌}
 use Rattle.std.specs.Prelude.{slice_get, option_map}
 use Rattle.std.specs.Vec.{with_item}
 use Rattle.std.proofs.lemmas.List.{get_or-set_same}
@@ -16,9 +16,9 @@ use Rattle.hybrid.specs.HybridLog.{HybridLog, HasRoom, Kept}
 use Rattle.hybrid.specs.Staging.{AreRight}
 use Rattle.transact.specs.declared.call.Call.{Call}
 use Rattle.transact.specs.Calls.{asked_of, call_keys}
-use Rattle.transact.specs.Plans.{IsEntry, IsPlan, EndsAll, keys_begun, made}
+use Rattle.transact.specs.Plans.{IsEntry, IsPlan, keys_begun, made}
 use Rattle.transact.specs.Submits.{stripes_asked}
-use Rattle.transact.specs.Tables.{Became, PartBecame, Stand, begins, stays}
+use Rattle.transact.specs.Tables.{Became, Stand, begins, stays}
 use Rattle.plans.specs.declared.plan.Planned.{Planned}
 use Rattle.plans.specs.declared.shard.Shard.{Shard}
 use Rattle.plans.specs.Rooms.{AreRoomy, MakesRoom}
@@ -27,28 +27,27 @@ use Rattle.plans.specs.Sizes.{IsPlaced}
 use Rattle.plans.specs.Shards.{logs_of, shard_log, shard_meaning, shard_store, shard_marks}
 use Rattle.connection.specs.Clients.{Progress}
 use Rattle.world_log.specs.Places.{Receipt, Shelves, Wrote, SamePlaces, view}
-use Rattle.world_log.specs.Freeing.{HasFreed, HasStepped, StaysFull}
+use Rattle.world_log.specs.Freeing.{HasFreed, HasStepped}
 use Rattle.world_log.specs.Given.{IsGiven, StaysGiven}
-use Rattle.world_log.specs.PlanLaws.{IsMade as RoomIsMade, IsStill, OpeningLaw, ReadLaws, RoomLaws, SameValues, ValueLaw, logs_lent, with_parts}
-use Rattle.world_log.specs.Stripes.{IsEven, KeepsOthers, acts_for, lane_log, lent, part_in, states_of, stores_of, marks_of}
+use Rattle.world_log.specs.PlanLaws.{IsMade as RoomIsMade, IsStill, ReadLaws, SameValues, logs_lent, with_parts}
+use Rattle.world_log.specs.Stripes.{KeepsOthers, acts_for, lane_log, lent, part_in, states_of, stores_of, marks_of}
 use Rattle.world_log.specs.WorldLogs.{IsWorldLog, KeepsHeld, NoneReleasedAt, stays_of}
 use Rattle.world_log.specs.WorldLogs as logs
 use Rattle.world_log.specs.Types.{Lane, Stripes}
 use Rattle.world_log.specs.declared.logs.WorldLog.{WorldLog}
-use Rattle.world_model.specs.Logs.{place_at}
-use Rattle.world_model.specs.States.{Phase, Calling, Due, ClientState, State, client, fresh, log_at, log_of, open_call, stripe_count, with_client}
+use Rattle.world_model.specs.States.{Phase, Calling, ClientState, State, client, fresh, log_at, open_call, stripe_count, with_client}
 use Rattle.world_model.specs.Enabled.{are_none, first_missing, holds, is_number, next_stripe}
-use Rattle.world_model.specs.Places.{Each, standing}
+use Rattle.world_model.specs.Places.{Each}
 use Rattle.world_model.specs.Planned.{IsPlanned}
-use Rattle.world_model.specs.Planning.{AreCold, Plans, Names, MakesRoom as MakesRoomFor, MeetsFull as MeetsFullAt, PlansFor, ROUNDS, asked_by, taken, writes_now}
+use Rattle.world_model.specs.Planning.{AreCold, Plans, Names, MakesRoom as MakesRoomFor, MeetsFull as MeetsFullAt, PlansFor, ROUNDS, asked_by, writes_now}
 use Rattle.world_model.specs.Rooms.{AreWritten, HasNoPlace, Leaves, Frees as FreesPlace, Retires, Drains, Releases, Steps, ByPage, ByPlace, StepsAll, is_spent, is_written_in}
 use Rattle.world_model.specs.Soundness.{IsSound}
 use Rattle.world.specs.Laws.{HistoryLaws, PlanLaws, TurnLaws}
 use Rattle.world.specs.Desks.{IsRight, beside, client_of, due_of, is_full_plan}
-use Rattle.world.specs.Peers.{Attends, IsAsking, IsSteady}
+use Rattle.world.specs.Peers.{Attends, IsAsking}
 use Rattle.world.specs.Members.{HasPlannedFor, IsReadyToPlan, Plans as PlansCall, Waits as WaitsCall}
 use Rattle.world.specs.Planning.{AreShort, HasArranged, HasEnded, HasMet, HasNamed, HasPlanned, IsDue, IsReadFor, KeepsDesk, count_of, looks_up, Again, Frees, Makes, Names as NamesPages, Meets, Stays}
-use Rattle.world.specs.Tables.{HasComeTo, IsKept, IsMade, IsMet, IsTaken, StaysRoomy, rest_of, state_of}
+use Rattle.world.specs.Tables.{HasComeTo, IsKept, IsMade, IsTaken, StaysRoomy, rest_of, state_of}
 use Rattle.world.specs.declared.desk.Desk.{Desk}
 use Rattle.world.specs.declared.desk.Plan.{Plan}
 use Rattle.world.specs.declared.desk.Plan.TheVariants as plan

@@ -1,5 +1,5 @@
 -- A commit of a client's open call leaves a world as it is to be.
-use Rattle.std.proofs.Common.{◌≡◌, ◌≢◌, ◌∙◌, ℕ, zero, suc, ◌+◌, ◌<◌, ◌≤◌, Bool, true, false, List, [], ◌∷◌, ◌++◌, length, get_or, set, map, reverse, Option, Some, None, refl, sym, ap, ap₂, subst, nat_lt, if◌then◌else◌, arith, Bor}
+use Rattle.std.proofs.Common.{◌≡◌, ◌∙◌, ℕ, ◌≤◌, Bool, true, false, List, [], ◌∷◌, ◌++◌, length, set, map, reverse, Option, Some, None, refl, sym, ap, subst, nat_lt, if◌then◌else◌, arith, Bor}
 use Rattle.std.specs.Prelude.{slice_get}
 use Rattle.std.specs.Vec.{with_item}
 use Rattle.std.proofs.lemmas.List.{length-reverse, reverse-append}
@@ -10,20 +10,19 @@ use Rattle.words.specs.declared.history.Operation.{Operation}
 use Rattle.words.specs.declared.reply.Reply.{Reply}
 use Rattle.words.specs.declared.reply.Reply.TheVariants.{NullArray}
 use Rattle.words.specs.Store.{Bytes, Write, weight}
-use Rattle.words.specs.History.{History, Pair, due, outcome, after, is_dirty, pairs_of, too_much, was_not_done}
+use Rattle.words.specs.History.{History, due, outcome, after, is_dirty, pairs_of, too_much, was_not_done}
 use Rattle.words.specs.Session.{Asked, operation_of}
 use Rattle.transact.specs.declared.call.Call.{Call}
 use Rattle.transact.specs.declared.call.Call.TheVariants.{One, Watch, Exec, Forget}
 use Rattle.transact.specs.declared.call.Watching.{Watching}
-use Rattle.transact.specs.Calls.{asked_of, call_keys}
+use Rattle.transact.specs.Calls.{asked_of}
 use Rattle.transact.specs.Plans.{IsPlan, keys_ended, made}
 use Rattle.transact.specs.Submits.{stripes_asked}
 use Rattle.transact.specs.Tables.{AreThere, Change, clears}
-use Rattle.hybrid.specs.HybridLog.{HybridLog, IsGrown}
+use Rattle.hybrid.specs.HybridLog.{HybridLog}
 use Rattle.hybrid.specs.Staging.{AreRight}
 use Rattle.plans.specs.declared.plan.Planned.{Planned}
 use Rattle.plans.specs.Rooms.{AreRoomy, HaveGrown}
-use Rattle.plans.specs.Shards.{logs_of}
 use Rattle.connection.specs.Clients.{Progress}
 use Rattle.world_events.specs.declared.event.Event.TheVariants as event
 use Rattle.world_log.specs.Places.{Receipt, Shelves}
@@ -34,20 +33,19 @@ use Rattle.world_log.specs.WorldLogs.{IsWorldLog}
 use Rattle.world_log.specs.WorldLogs as logs
 use Rattle.world_log.specs.Types.{Stripes}
 use Rattle.world_log.specs.declared.logs.WorldLog.{WorldLog}
-use Rattle.world_model.specs.States.{Phase, Serving, Calling, Leaving, Left, Ended, ClientState, State, client, fresh, open_call, stripe_count}
+use Rattle.world_model.specs.States.{Phase, Serving, Calling, Leaving, Left, Ended, ClientState, State, client, open_call}
 use Rattle.world_model.specs.Enabled.{are_none, first_missing, is_enabled_for, next_stripe}
 use Rattle.world_model.specs.Places.{Each}
 use Rattle.world_model.specs.Commits.{Commits, Installs, OpensPages, marks_changed}
 use Rattle.world_model.specs.Planned.{IsPlanned}
-use Rattle.world_model.specs.Soundness.{IsSound}
 use Rattle.world.specs.Desks.{IsDone, IsRight, IsStage, beside, client_of, is_full_plan}
 use Rattle.world.specs.Laws.{HistoryLaws, PlanLaws}
-use Rattle.world.specs.Peers.{Attends, HasAnswered, HasBeenRefused, HasForgotten, IsAsking, IsForgetting, IsSteady, OnCall}
+use Rattle.world.specs.Peers.{Attends, HasAnswered, HasBeenRefused, HasForgotten, IsForgetting, IsSteady, OnCall}
 use Rattle.world.specs.declared.peer.Open.TheVariants as opens
 use Rattle.world.specs.declared.desk.Stage.TheVariants as stage
 use Rattle.world.specs.Planning.{AreShort, HasCleared, HasPut, HasRun, IsDue, count_of}
 use Rattle.world.specs.Stripes.{HasInstalled}
-use Rattle.world.specs.Tables.{HasAnsweredAt, HasCommitted, IsKept, IsMade, IsMet, IsReadyFor, IsWorld, PlanStays, New, StaysRoomy, Tended, rest_of, state_of}
+use Rattle.world.specs.Tables.{HasAnsweredAt, HasCommitted, IsKept, IsMade, IsReadyFor, IsWorld, New, Tended, rest_of, state_of}
 use Rattle.world.specs.declared.desk.Desk.{Desk}
 use Rattle.world.specs.declared.desk.Plan.{Plan}
 use Rattle.world.specs.declared.desk.Plan.TheVariants as plan
@@ -58,7 +56,7 @@ use Rattle.world.proofs.Coming.{StandIn, acting_right, apart_roomy, plan_is}
 use Rattle.world.proofs.Installing.{calls_there, clears_only, even_acts}
 use Rattle.world.proofs.Members.{clients_with}
 use Rattle.world.proofs.Handling.{steady_here}
-use Rattle.world.proofs.Moving.{commit_parts, right_kept, set-set_at, tended_by}
+use Rattle.world.proofs.Moving.{commit_parts, set-set_at, tended_by}
 use Rattle.world.proofs.Settling.{forgotten, refused, settled}
 use Rattle.world.proofs.Worlds.{here, set_here, some_same}
 

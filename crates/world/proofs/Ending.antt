@@ -1,5 +1,5 @@
 -- A plan that met a full stripe, and what is planned again.
-use Rattle.std.proofs.Common.{◌≡◌, ◌∙◌, ℕ, ◌<◌, Bool, true, false, List, [], ◌++◌, length, replicate, Option, None, refl, sym, ap, subst}
+use Rattle.std.proofs.Common.{◌≡◌, ℕ, ◌<◌, Bool, true, false, List, [], ◌++◌, length, replicate, Option, None, refl, sym, subst}
 use Rattle.std.specs.Bool.{OnFalse, OnTrue}
 use Rattle.transact.specs.declared.call.Call.{Call}
 use Rattle.transact.specs.Submits.{stripes_asked}
@@ -7,7 +7,7 @@ use Rattle.transact.specs.Tables.{stays}
 use Rattle.world_log.specs.Freeing.{HasFreed, HasStepped, waiting_in}
 use Rattle.world_log.specs.PlanLaws.{IsMade, with_parts}
 use Rattle.world_log.specs.Stripes.{acts_for, holders_of}
-use Rattle.world_log.specs.WorldLogs.{IsWorldLog, state_of, stays_of}
+use Rattle.world_log.specs.WorldLogs.{IsWorldLog, state_of}
 use Rattle.world_log.specs.Types.{Stripes}
 use Rattle.world_log.specs.declared.logs.WorldLog.{WorldLog}
 use Rattle.world_model.specs.Enabled.{first_missing}

@@ -1,19 +1,19 @@
 -- What an event of a client leaves of a world, where one client alone has changed.
-use Rattle.std.proofs.Common.{◌≡◌, ◌∙◌, ℕ, zero, suc, Bool, true, false, ◌&&◌, List, [], ◌∷◌, set, Option, Some, refl, sym, ap, ap₂, subst, length-set}
+use Rattle.std.proofs.Common.{◌≡◌, ◌∙◌, ℕ, zero, suc, Bool, true, false, ◌&&◌, List, [], ◌∷◌, set, Some, refl, sym, ap, ap₂, subst, length-set}
 use Rattle.std.specs.Prelude.{slice_get}
 use Rattle.std.specs.Vec.{with_item}
 use Rattle.words.specs.Store.{Bytes}
 use Rattle.world_events.specs.declared.event.Event.{Event}
 use Rattle.world_events.specs.declared.event.Event.TheVariants as event
 use Rattle.world_log.specs.Types.{Stripes}
-use Rattle.world_model.specs.States.{Phase, ClientState, State, client, with_client}
+use Rattle.world_model.specs.States.{ClientState, State, client, with_client}
 use Rattle.world_model.specs.Enabled.{hears, holds_none}
-use Rattle.world_model.specs.Advancing.{Advances, Goes, When, is_idle}
+use Rattle.world_model.specs.Advancing.{Advances, Goes, is_idle}
 use Rattle.world_model.specs.Effects.{heard}
 use Rattle.world_model.specs.Planned.{IsNoCommitOf}
 use Rattle.world.specs.Desks.{IsRight, beside, client_of}
 use Rattle.world.specs.Peers.{IsSteady}
-use Rattle.world.specs.Tables.{Handled, HasGoneOn, IsReadyFor, IsWorld, PlanStays, Same, StaysRoomy, Tended, state_of}
+use Rattle.world.specs.Tables.{Handled, HasGoneOn, IsReadyFor, IsWorld, Same, StaysRoomy, Tended, state_of}
 use Rattle.world.specs.declared.desk.Desk.{Desk}
 use Rattle.world.specs.declared.member.Member.{Member}
 use Rattle.world.specs.declared.world.World.{World}

@@ -17,7 +17,7 @@ use Rattle.transact.specs.declared.call.Call.TheVariants.{One, Watch, Exec, Forg
 use Rattle.transact.specs.Calls.{call_keys}
 use Rattle.gates.specs.Sets.{inserted}
 use Rattle.transact.specs.Plans.{keys_begun, keys_ended, stripes_with}
-use Rattle.transact.specs.Tables.{AreThere, Became, PartBecame, begins, clears, stays, touches, touches_and_clears}
+use Rattle.transact.specs.Tables.{AreThere, Became, PartBecame, begins, clears, touches, touches_and_clears}
 use Rattle.hybrid.specs.HybridLog.{HybridLog}
 use Rattle.plans.specs.declared.shard.Shard.{Shard}
 use Rattle.plans.specs.Rooms.{AreRoomy}

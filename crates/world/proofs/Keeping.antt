@@ -1,6 +1,5 @@
 -- Receipts that are to be read, each with the stripe that keeps it.
-use Rattle.std.proofs.Common.{◌≡◌, ◌∙◌, ℕ, ◌+◌, ◌<◌, Bool, true, false, List, [], ◌∷◌, ◌++◌, length, Option, Some, refl, sym, ap, subst, arith}
-use Rattle.words.specs.Store.{Bytes}
+use Rattle.std.proofs.Common.{◌≡◌, ◌∙◌, ℕ, ◌+◌, Bool, true, false, List, [], ◌∷◌, ◌++◌, length, Option, refl, sym, ap, subst, arith}
 use Rattle.hybrid.specs.HybridLog.{Kept}
 use Rattle.plans.specs.Stops as plans
 use Rattle.world_log.specs.Places.{Receipt, flag, view}

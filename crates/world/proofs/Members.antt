@@ -1,7 +1,7 @@
 -- A client's session goes its way whatever it has beside it.
-use Rattle.std.proofs.Common.{◌≡◌, ℕ, zero, suc, ◌<◌, Bool, true, false, List, [], ◌∷◌, ◌++◌, length, map, get_or, set, Option, Some, None, refl, sym, ap, ◌∙◌, subst, arith}
+use Rattle.std.proofs.Common.{◌≡◌, ℕ, zero, suc, List, [], ◌∷◌, ◌++◌, map, get_or, set, Option, Some, refl, ap, ◌∙◌}
 use Rattle.std.specs.Prelude.{slice_get}
-use Rattle.std.proofs.lemmas.List.{length-map, map-set}
+use Rattle.std.proofs.lemmas.List.{map-set}
 use Rattle.words.specs.Encoding.{encoding}
 use Rattle.words.specs.History.{Pair}
 use Rattle.transact.specs.declared.call.Answer.{Answer}
@@ -10,7 +10,7 @@ use Rattle.world_model.specs.States.{Phase, Serving, Calling, Leaving, Left, End
 use Rattle.world_model.specs.Advancing.{Pauses, Waits, Finishes, Quits, Fails, Opens, Answers, Here, Says, Advances}
 use Rattle.world_model.specs.Commits.{Resumed}
 use Rattle.world.specs.Peers.{Took}
-use Rattle.world.specs.Desks.{IsDone, beside, client_of, due_of, is_full_plan}
+use Rattle.world.specs.Desks.{IsDone, beside, client_of, due_of}
 use Rattle.world.specs.declared.desk.Desk.{Desk}
 use Rattle.world.specs.declared.member.Member.{Member}
 

@@ -1,48 +1,43 @@
 -- What an event of a client leaves, where one client has changed and others may see other stripes and another device.
-use Rattle.std.proofs.Common.{◌≡◌, ◌≢◌, ◌⊎◌, ◌∙◌, ℕ, zero, suc, ◌+◌, ◌<◌, ◌≤◌, Bool, true, false, not, ◌&&◌, ◌||◌, List, [], ◌∷◌, length, get_or, set, map, Option, Some, None, is_none, is_some, refl, sym, ap, ap₂, subst, inl, inr, ⊎_elim, length-set, nat_eq, if◌then◌else◌, arith}
+use Rattle.std.proofs.Common.{◌≡◌, ◌≢◌, ◌⊎◌, ◌∙◌, ℕ, zero, suc, ◌<◌, Bool, true, false, not, ◌&&◌, ◌||◌, List, [], ◌∷◌, length, get_or, set, map, Option, Some, None, is_none, is_some, refl, sym, ap, ap₂, subst, inl, inr, ⊎_elim, length-set, if◌then◌else◌, arith}
 use Rattle.std.specs.Prelude.{slice_get}
 use Rattle.std.specs.Vec.{with_item}
 use Rattle.std.proofs.lemmas.Bool.Decides.{Decides-eqb}
 use Rattle.std.proofs.lemmas.List.{get_or-set_same, get_or-set_other}
-use Rattle.words.specs.Watches.{Marks}
 use Rattle.words.specs.Store.{Bytes}
 use Rattle.words.specs.Stripes.{stripe_of}
-use Rattle.hybrid.specs.HybridLog.{HybridLog, HasRoom}
 use Rattle.words.specs.declared.reply.Reply.{Reply}
 use Rattle.words.specs.Store.{Write}
 use Rattle.words.specs.Session.{Asked}
 use Rattle.hybrid.specs.Staging.{AreRight}
 use Rattle.transact.specs.declared.call.Call.{Call}
 use Rattle.plans.specs.Shards.{logs_of}
-use Rattle.world_events.specs.Actors.{actor}
 use Rattle.world_events.specs.declared.event.Event.{Event}
 use Rattle.world_events.specs.declared.event.Event.TheVariants as event
 use Rattle.world_log.specs.Places.{Receipt, Shelves, places_of}
 use Rattle.world_log.specs.Given.{IsGiven, StaysGiven}
-use Rattle.world_log.specs.Stripes.{IsEven, KeepsOthers, acts_for, lent, marks_in, marks_of, with_holder}
+use Rattle.world_log.specs.Stripes.{acts_for, lent, marks_in, with_holder}
 use Rattle.world_log.specs.WorldLogs.{IsWorldLog}
 use Rattle.world_log.specs.WorldLogs as logs
-use Rattle.world_log.specs.Types.{Lane, Stripes}
+use Rattle.world_log.specs.Types.{Stripes}
 use Rattle.world_log.specs.declared.logs.WorldLog.{WorldLog}
-use Rattle.world_model.specs.Advancing.{When}
-use Rattle.world_model.specs.States.{Phase, Due, ClientState, State, client, fresh, open_call, stripe_count, with_client}
-use Rattle.world_model.specs.Enabled.{are_none, holds, holds_none, is_enabled_for, is_free, is_number, next_stripe}
+use Rattle.world_model.specs.States.{Phase, Due, ClientState, State, client, fresh, open_call, with_client}
+use Rattle.world_model.specs.Enabled.{are_none, holds, holds_none, is_enabled_for, is_number, next_stripe}
 use Rattle.world_model.specs.Places.{Each, standing}
 use Rattle.world_model.specs.Planned.{IsNoCommitOf, IsPlanned}
-use Rattle.world_model.specs.Planning.{PlansFor, ROUNDS, asked_by, stay_begun, taken, Takes}
+use Rattle.world_model.specs.Planning.{PlansFor, ROUNDS, asked_by, stay_begun, taken}
 use Rattle.world_model.specs.Effects.{fetched, given}
-use Rattle.world_model.specs.Soundness.{IsSound}
-use Rattle.world.specs.Desks.{HasFetched, IsRight, beside, client_of, due_of, is_full_plan}
+use Rattle.world.specs.Desks.{HasFetched, IsRight, client_of, due_of, is_full_plan}
 use Rattle.world.specs.Laws.{TurnLaws}
 use Rattle.world.specs.Peers.{IsSteady}
-use Rattle.world.specs.Tables.{AreEndable, Handled, HasComeTo, HasHeld, IsKept, IsReadyFor, IsTaken, IsWorld, PlanStays, Same, New, StaysRoomy, Tended, rest_of, state_of}
+use Rattle.world.specs.Tables.{AreEndable, Handled, HasComeTo, HasHeld, IsKept, IsTaken, IsWorld, PlanStays, Same, New, StaysRoomy, Tended, rest_of, state_of}
 use Rattle.world.specs.declared.desk.Desk.{Desk}
 use Rattle.world.specs.declared.desk.Plan.{Plan}
 use Rattle.world.specs.declared.desk.Plan.TheVariants as plan
 use Rattle.world.specs.declared.member.Member.{Member}
 use Rattle.world.specs.declared.world.World.{World}
 use Rattle.world.proofs.Coming.{held_apart, logs_in, roomy_both, some_held}
-use Rattle.world.proofs.Handling.{ready_with, roomy_same, state_with, steady_here, with_member}
+use Rattle.world.proofs.Handling.{roomy_same, steady_here}
 use Rattle.world.proofs.Members.{clients_with}
 use Rattle.world.proofs.Settling.{when_false, when_true}
 use Rattle.world.proofs.Worlds.{endable_set, here, set_here, some_same}

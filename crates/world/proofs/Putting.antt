@@ -1,20 +1,19 @@
 -- What a call that is planned makes of the stripes when it is installed, and what watches leave that end.
-use Rattle.std.proofs.Common.{◌≡◌, ◌∙◌, ℕ, zero, suc, ◌+◌, ◌<◌, Bool, true, false, List, [], ◌∷◌, length, Option, Some, None, refl, sym, ap, ap₂, subst, nat_eq, if◌then◌else◌, ⊎_elim, arith, ne_eqb}
+use Rattle.std.proofs.Common.{◌≡◌, ◌∙◌, ℕ, zero, suc, ◌<◌, Bool, true, false, List, [], ◌∷◌, length, Option, None, refl, sym, ap, subst, nat_eq, if◌then◌else◌, ⊎_elim, arith, ne_eqb}
 use Rattle.std.specs.Bool.{◌==◌}
 use mathlib.Core.Path.{fun_ext}
 use Rattle.words.specs.declared.reply.Reply.{Reply}
 use Rattle.words.specs.Store.{Bytes, Write}
-use Rattle.words.specs.History.{History, Pair, is_among}
+use Rattle.words.specs.History.{is_among}
 use Rattle.words.specs.Stripes.{stripe_of}
-use Rattle.words.specs.Session.{Asked, operation_of}
-use Rattle.gates.specs.Passes.{AreWatched}
+use Rattle.words.specs.Session.{operation_of}
 use Rattle.hybrid.specs.HybridLog.{HybridLog}
 use Rattle.transact.specs.declared.call.Call.{Call}
 use Rattle.transact.specs.declared.call.Call.TheVariants.{One, Watch, Exec, Forget}
-use Rattle.transact.specs.Calls.{asked_of, call_keys}
-use Rattle.transact.specs.Plans.{EndsAll, IsPlan, keys_begun, keys_ended, stripes_with}
+use Rattle.transact.specs.Calls.{call_keys}
+use Rattle.transact.specs.Plans.{IsPlan, keys_begun, keys_ended}
 use Rattle.transact.specs.Submits.{stripes_asked}
-use Rattle.transact.specs.Tables.{AreThere, Became, Stand, begins, clears, joined, touches_and_clears}
+use Rattle.transact.specs.Tables.{AreThere, Became, begins, clears, joined, touches_and_clears}
 use Rattle.plans.specs.declared.plan.Planned.{Planned}
 use Rattle.plans.specs.declared.shard.Shard.{Shard}
 use Rattle.plans.specs.Rooms.{AreRoomy, HaveGrown, MakesRoom}
@@ -27,10 +26,10 @@ use Rattle.world_log.specs.Types.{Stripes}
 use Rattle.world_log.specs.declared.logs.WorldLog.{WorldLog}
 use Rattle.world_model.specs.Commits.{marks_changed}
 use Rattle.world_model.specs.Enabled.{first_missing}
-use Rattle.world.specs.Planning.{HasCleared, HasPut, HasRun, count_of, looks_up}
+use Rattle.world.specs.Planning.{HasCleared, HasPut, HasRun, looks_up}
 use Rattle.world.specs.Stripes.{HasInstalled}
 use Rattle.world.proofs.Calls.{IsDueOn}
-use Rattle.world.proofs.Installing.{begins_none, calls_there, clears_none, ended_there, even_acts, has_forgotten, has_installed, keeps_same, only_clears}
+use Rattle.world.proofs.Installing.{begins_none, calls_there, clears_none, even_acts, has_forgotten, has_installed, keeps_same, only_clears}
 
 -- THE PARTS OF A CALL
 

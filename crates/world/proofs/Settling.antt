@@ -1,5 +1,5 @@
 -- A call that was answered is committed as the world's definitions say.
-use Rattle.std.proofs.Common.{◌≡◌, ◌∙◌, ℕ, ◌<◌, Bool, true, false, List, [], ◌∷◌, length, set, Option, Some, None, refl, sym, ap, ap₂, subst}
+use Rattle.std.proofs.Common.{◌≡◌, ◌∙◌, ℕ, ◌<◌, Bool, true, false, List, [], ◌∷◌, length, set, Option, Some, None, refl, ap₂, subst}
 use Rattle.words.specs.declared.history.Entry.{Entry}
 use Rattle.words.specs.declared.history.Operation.{Operation}
 use Rattle.words.specs.declared.reply.Reply.{Reply}
@@ -17,7 +17,7 @@ use Rattle.transact.specs.Plans.{EndsAll, IsEntry, IsPlan, keys_ended}
 use Rattle.transact.specs.Tables.{clears}
 use Rattle.connection.specs.Clients.{Progress}
 use Rattle.plans.specs.Sizes.{IsPlaced}
-use Rattle.world_model.specs.States.{Phase, Calling, Leaving, Left, ClientState, State, client}
+use Rattle.world_model.specs.States.{Phase, Calling, ClientState, State, client}
 use Rattle.world_model.specs.Advancing.{When}
 use Rattle.world_model.specs.Planning.{reply_now, writes_now}
 use Rattle.world_model.specs.Commits.{Commits, Installs, OpensPages, Resumed, marks_changed}

@@ -1,7 +1,6 @@
 -- A call that is planned when its client takes the last of its stripes.
-use Rattle.std.proofs.Common.{◌≡◌, ◌≢◌, ◌∙◌, ℕ, zero, suc, ◌+◌, ◌<◌, ◌≤◌, Bool, true, false, ◌||◌, List, [], ◌∷◌, length, get_or, set, map, replicate, reverse, Option, Some, None, IsSome, refl, sym, ap, ap₂, subst, inl, inr, nat_eq, nat_lt, if◌then◌else◌, length-set, unwrap_or, arith, eq-eqb}
+use Rattle.std.proofs.Common.{◌≡◌, ◌∙◌, ℕ, ◌≤◌, Bool, true, false, List, [], length, Option, Some, None, refl, sym, ap, nat_eq, nat_lt, if◌then◌else◌, arith}
 use Rattle.std.specs.Prelude.{slice_get}
-use Rattle.std.proofs.lemmas.List.{get_or-set_same, get_or-set_other, length-map}
 use Rattle.words.specs.declared.limits.TheConstants.{VALUE_BYTES_MAX, WEIGHT_MAX}
 use Rattle.words.specs.declared.history.Operation.{Operation}
 use Rattle.words.specs.declared.reply.Reply.{Reply}
@@ -9,32 +8,28 @@ use Rattle.words.specs.declared.reply.Reply.TheVariants.{NullArray}
 use Rattle.words.specs.Store.{Bytes, Store, Write, weight}
 use Rattle.words.specs.Bounds.{IsStoreBounded}
 use Rattle.words.specs.Watches.{Marks}
-use Rattle.words.specs.Stripes.{IsPart, stripe_of}
-use Rattle.words.specs.History.{History, Pair, after, due, keys_named, keys_of_pairs, outcome, pairs_of, too_much, was_not_done}
+use Rattle.words.specs.Stripes.{stripe_of}
+use Rattle.words.specs.History.{Pair, keys_named, keys_of_pairs, outcome, pairs_of, too_much, was_not_done}
 use Rattle.words.specs.Session.{Asked, operation_of}
 use Rattle.words.specs.Session as asked
-use Rattle.gates.specs.Passes.{AreWatched}
-use Rattle.hybrid.specs.HybridLog.{HybridLog, HasRoom, Kept}
 use Rattle.transact.specs.declared.call.Call.{Call}
 use Rattle.transact.specs.declared.call.Call.TheVariants.{One, Watch, Exec, Forget}
 use Rattle.transact.specs.Calls.{asked_of, call_keys, call_of}
-use Rattle.transact.specs.Plans.{IsPlan, keys_begun, made}
-use Rattle.transact.specs.Tables.{Became, Change, Stand, any_marked, begins, joined, stays, value_in}
+use Rattle.transact.specs.Plans.{keys_begun}
+use Rattle.transact.specs.Tables.{any_marked, begins, value_in}
 use Rattle.plans.specs.declared.shard.Shard.{Shard}
-use Rattle.plans.specs.Rooms.{MakesRoom, RoomAt}
-use Rattle.plans.specs.Shards.{logs_of, shard_meaning, shard_store, shard_marks}
-use Rattle.plans.specs.Sizes.{AllShort, IsShort}
+use Rattle.plans.specs.Shards.{shard_meaning, shard_store, shard_marks}
+use Rattle.plans.specs.Sizes.{IsShort}
 use Rattle.connection.specs.Clients.{Progress}
-use Rattle.world_log.specs.Places.{Receipt, Shelves, Wrote, view}
+use Rattle.world_log.specs.Places.{Receipt}
 use Rattle.world_log.specs.PlanLaws.{IsStill}
 use Rattle.world_log.specs.Stripes.{acts_for, lent, part_in, stores_of, marks_of}
 use Rattle.world_log.specs.Stripes as lanes
 use Rattle.world_log.specs.Types.{Lane, Stripes}
-use Rattle.world_model.specs.States.{Phase, Serving, Calling, Leaving, Left, Ended, ClientState, State, client, fresh, open_call, stripe_count, whole, with_client}
-use Rattle.world_model.specs.Enabled.{holds, is_number}
-use Rattle.world_model.specs.Planning.{reply_now, stay_begun, taken, writes_now}
-use Rattle.world_model.specs.Soundness.{IsSound}
-use Rattle.world.specs.Planning.{AreShort, IsDue, WouldWrite, count_of, looks_up}
+use Rattle.world_model.specs.States.{Phase, Serving, Calling, Leaving, Left, Ended, State, open_call, stripe_count}
+use Rattle.world_model.specs.Enabled.{holds}
+use Rattle.world_model.specs.Planning.{writes_now}
+use Rattle.world.specs.Planning.{AreShort, looks_up}
 
 -- A CALL THAT LOOKS KEYS UP
 

@@ -1,14 +1,11 @@
 -- What an event leaves of a world, once its client has gone on.
-use Rattle.std.proofs.Common.{◌≡◌, ◌∙◌, ℕ, ◌<◌, Bool, true, false, ◌&&◌, List, [], ◌∷◌, length, Option, Some, None, nat_lt, refl, sym, ap, ap₂, subst}
-use Rattle.std.specs.Prelude.{slice_get}
+use Rattle.std.proofs.Common.{◌≡◌, ◌∙◌, ℕ, ◌<◌, Bool, true, false, ◌&&◌, List, length, Some, nat_lt, refl, sym, ap, ap₂, subst}
 use Rattle.std.proofs.lemmas.Bool.{lt-ltb}
 use Rattle.words.specs.declared.reply.Reply.{Reply}
 use Rattle.words.specs.Store.{Write}
 use Rattle.words.specs.Session.{Asked}
 use Rattle.transact.specs.declared.call.Call.{Call}
-use Rattle.hybrid.specs.HybridLog.{HybridLog, HasRoom}
-use Rattle.plans.specs.declared.plan.Planned.{Planned}
-use Rattle.plans.specs.Rooms.{AreRoomy, IsRoomyAt}
+use Rattle.plans.specs.Rooms.{AreRoomy}
 use Rattle.plans.specs.Shards.{logs_of}
 use Rattle.connection.specs.Clients.{Progress}
 use Rattle.world_log.specs.Stripes.{acts_for, lent}
@@ -20,7 +17,7 @@ use Rattle.world_model.specs.Enabled.{holds_none, is_enabled, is_enabled_for, is
 use Rattle.world_model.specs.Advancing.{When, Goes, is_idle}
 use Rattle.world_model.specs.Planned.{IsNoCommitOf, IsPlanned}
 use Rattle.world_model.specs.Soundness.{IsSound}
-use Rattle.world_model.specs.Turns.{DoesAndGoes, Turn}
+use Rattle.world_model.specs.Turns.{Turn}
 use Rattle.world.specs.declared.desk.Plan.{Plan}
 use Rattle.world.specs.declared.desk.Plan.TheVariants as plan
 use Rattle.world_model.specs.Effects.{Does}

@@ -1,5 +1,5 @@
 -- What a client of the world has beside its session, and the client that both are.
-use Rattle.std.specs.Prelude.{ℕ, ◌≡◌, ◌+◌, ◌<◌, Bool, true, false, List, [], ◌∷◌, map, None}
+use Rattle.std.specs.Prelude.{ℕ, ◌≡◌, ◌+◌, ◌<◌, Bool, true, false, [], map, None}
 use Rattle.hybrid.specs.Staging.{AreRight}
 use Rattle.world_log.specs.Places.{Receipt, Shelves}
 use Rattle.world_log.specs.Given.{IsGiven, StaysGiven}

@@ -11,7 +11,7 @@ use Rattle.world_log.specs.Places.{Serves, identity}
 use Rattle.world_log.specs.PlanLaws.{logs_lent}
 use Rattle.world_log.specs.Stripes.{acts_for}
 use Rattle.world_log.specs.declared.logs.WorldLog.{WorldLog}
-use Rattle.world_model.specs.States.{Phase, Calling, open_call}
+use Rattle.world_model.specs.States.{open_call}
 use Rattle.world_model.specs.Enabled.{first_missing}
 use Rattle.world.specs.Planning.{HasArranged, count_of, looks_up}
 use Rattle.world.specs.declared.desk.Desk.{Desk}

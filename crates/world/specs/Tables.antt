@@ -1,20 +1,17 @@
 -- The state that a world stands for, and what its steps do.
-use Rattle.std.specs.Prelude.{ℕ, ◌≡◌, ◌≢◌, ◌<◌, Bool, true, false, List, [], ◌∷◌, ◌++◌, length, map, replicate, reverse, get_or, Option, None, Some, slice_get}
+use Rattle.std.specs.Prelude.{ℕ, ◌≡◌, ◌≢◌, ◌<◌, Bool, true, false, List, [], ◌∷◌, ◌++◌, length, map, replicate, reverse, get_or, None, Some, slice_get}
 use Rattle.std.specs.Vec.{with_item}
-use Rattle.words.specs.declared.history.Entry.{Entry}
 use Rattle.words.specs.declared.history.Operation.{Operation}
 use Rattle.words.specs.declared.reply.Reply.{Reply}
 use Rattle.words.specs.Store.{Write}
 use Rattle.words.specs.Session.{Asked}
 use Rattle.transact.specs.declared.call.Call.{Call}
 use Rattle.hybrid.specs.HybridLog.{HybridLog, HasRoom}
-use Rattle.hybrid.specs.Staging.{AreRight}
 use Rattle.hybrid.specs.Writing.{AreFit}
 use Rattle.plans.specs.declared.plan.Planned.{Planned}
 use Rattle.plans.specs.Rooms.{AreRoomy}
 use Rattle.plans.specs.Shards.{logs_of}
-use Rattle.world_log.specs.Places.{Receipt, Shelves}
-use Rattle.world_log.specs.Given.{IsGiven, StaysGiven}
+use Rattle.world_log.specs.Given.{StaysGiven}
 use Rattle.world_log.specs.Stripes.{acts_for, lent, with_holder}
 use Rattle.world_log.specs.WorldLogs.{IsWorldLog, KeepsHeld, Took, epoch_of}
 use Rattle.world_log.specs.WorldLogs as logs
@@ -23,11 +20,10 @@ use Rattle.world_events.specs.declared.event.Event.{Event}
 use Rattle.world_events.specs.declared.event.Event.TheVariants.{Commit}
 use Rattle.world_events.specs.Actors.{actor}
 use Rattle.world_model.specs.States.{ClientState, State, client, fresh, open_call, start, stripe_count}
-use Rattle.world_model.specs.Enabled.{are_none, is_enabled_for}
-use Rattle.world_model.specs.Planning.{PlansFor, ROUNDS, asked_by, stay_begun, taken}
+use Rattle.world_model.specs.Enabled.{is_enabled_for}
+use Rattle.world_model.specs.Planning.{PlansFor, asked_by, stay_begun, taken}
 use Rattle.world_model.specs.Commits.{Commits}
 use Rattle.world_model.specs.Effects.{Does}
-use Rattle.world_model.specs.Places.{Each}
 use Rattle.world_model.specs.Planned.{IsNoCommitOf, IsPlanned}
 use Rattle.world_model.specs.Soundness.{IsSound}
 use Rattle.world.specs.Planning.{looks_up}

@@ -218,9 +218,7 @@ fn free_and_plan(
             desk.plan = Plan::Made(planned);
             Ok(())
         }
-        Err(Stop::StoreFull(next)) => {
-            free_and_plan(alloc, log, client, call, desk, stays, next)
-        }
+        Err(Stop::StoreFull(next)) => { free_and_plan(alloc, log, client, call, desk, stays, next) }
         Err(Stop::Cold(_)) => unreachable!(),
         Err(Stop::OutOfMemory) | Err(Stop::DeviceFault) => Err(Stopped),
     }

@@ -1,13 +1,12 @@
-use Rattle.std.proofs.Common.{◌≡◌, ◌∙◌, ◌<◌, ap, arith, refl, rules, sym, subst}
+use Rattle.std.proofs.Common.{◌∙◌, ◌<◌, arith, refl, rules}
 use Rattle.plans.specs.Reading.{AreServed}
 use Rattle.world_log.specs.Freeing.{HasStepped, waiting_in}
 use Rattle.world_log.specs.Places.{Serves, identity}
 use Rattle.world_log.specs.PlanLaws.{logs_lent}
 use Rattle.world_log.specs.Stripes.{acts_for}
 use Rattle.world_log.specs.declared.logs.WorldLog.{WorldLog}
-use Rattle.world.specs.Planning.{Again, Frees, HasEnded, KeepsDesk, Stays}
+use Rattle.world.specs.Planning.{Again, Frees, Stays}
 use Rattle.world.specs.declared.desk.Desk.{Desk}
-use Rattle.world.proofs.Arranging.{keeps_desk}
 use Rattle.world.proofs.Ending.{held_all, is_false, is_true, met_right, met_stepped, met_waits, met_within, stepped_both, stepped_free}
 use Rattle.world.proofs.Worlds.{ok_then}
 use Rattle.world.proofs.planning.+free_and_plan.Goals as goal

@@ -1,5 +1,5 @@
-use Rattle.std.proofs.Common.{refl, ap, subst, sym}
-use Rattle.world.specs.Planning.{HasArranged, Makes, Meets, Names}
+use Rattle.std.proofs.Common.{refl, ap}
+use Rattle.world.specs.Planning.{Makes, Meets, Names}
 use Rattle.world.specs.declared.desk.Desk.{Desk}
 use Rattle.world.proofs.Arranging.{keeps_desk, keeps_staged, named_cold, named_right, some_named}
 use Rattle.world.proofs.Ending.{held_all, met_right, met_stepped, met_within, stepped_both, stepped_none}

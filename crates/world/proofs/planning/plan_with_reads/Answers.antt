@@ -1,4 +1,3 @@
-use Rattle.std.proofs.Common.{refl}
 use Rattle.transact.specs.Calls.{call_keys}
 use Rattle.world.proofs.Calls.{came_is, full_as, full_read, met_is, met_so, read_places, served_as}
 use Rattle.world.proofs.Putting.{lent_all, some_of_them, there_of}

@@ -1,6 +1,4 @@
-use Rattle.std.proofs.Common.{◌≡◌, ◌∙◌, ◌+◌, ◌++◌, ◌∷◌, [], ap, sym, subst, arith, length, refl}
-use Rattle.plans.specs.Stops as plans
-use Rattle.world_model.specs.Places.{Each}
+use Rattle.std.proofs.Common.{◌∙◌, ap, arith, length, refl}
 use Rattle.world_log.specs.Places.{view}
 use Rattle.world_log.specs.PlanLaws.{IsColdIn}
 use Rattle.world.specs.Planning.{IsReadFor}

@@ -1,4 +1,4 @@
-use Rattle.std.proofs.Common.{◌≡◌, ◌∙◌, ap, sym, subst, ℕ}
+use Rattle.std.proofs.Common.{◌≡◌, ◌∙◌, ap, ℕ}
 use Rattle.world_model.specs.States.{State, start}
 use Rattle.world_model.specs.Places.{standing}
 use Rattle.world_log.specs.Places.{Receipt, places_of}

@@ -1,4 +1,4 @@
-use Rattle.std.proofs.Common.{List, length}
+use Rattle.std.proofs.Common.{length}
 use Rattle.world_model.specs.States.{State}
 use Rattle.world_model.specs.Turns.{Turns}
 use Rattle.world.specs.Tables.{IsWorld, state_of}

@@ -4,7 +4,7 @@ use Rattle.world.specs.Peers.{IsForgetting}
 use Rattle.world.specs.declared.member.Member.{Member}
 use Rattle.world.proofs.Committing.{call_all, forgets_by, forgets_nothing, phase_here}
 use Rattle.world.proofs.Moving.{commit_parts}
-use Rattle.world.proofs.Worlds.{endable_set, ok_then, on_call, read_at}
+use Rattle.world.proofs.Worlds.{endable_set, on_call, read_at}
 use Rattle.world.proofs.PeerSteps.{on_both}
 use Rattle.world.proofs.world.World.forget.Goals as goal
 

@@ -1,4 +1,4 @@
-use Rattle.std.proofs.Common.{length, ◌<◌, arith, refl}
+use Rattle.std.proofs.Common.{length, ◌<◌}
 use Rattle.world.specs.Tables.{state_of}
 use Rattle.world.proofs.Moving.{given_end, given_free}
 use Rattle.world.proofs.Worlds.{member_at, read_at}

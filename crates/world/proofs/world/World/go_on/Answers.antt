@@ -1,4 +1,3 @@
-use Rattle.world.specs.Tables.{state_of}
 use Rattle.world.proofs.Handling.{goes_by, gone_on, ready_parts}
 use Rattle.world.proofs.Worlds.{endable_set, ok_then, read_at}
 use Rattle.world.proofs.world.World.go_on.Goals as goal

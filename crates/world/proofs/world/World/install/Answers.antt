@@ -1,6 +1,6 @@
 use Rattle.std.proofs.Common.{◌∙◌, ap, sym, subst}
 use Rattle.world_model.specs.States.{open_call}
-use Rattle.world.specs.Peers.{IsAsking, IsEndable, IsSteady}
+use Rattle.world.specs.Peers.{IsAsking, IsSteady}
 use Rattle.world.specs.Planning.{looks_up}
 use Rattle.world.specs.declared.member.Member.{Member}
 use Rattle.world.proofs.Committing.{call_all, installs_by, made_call, made_kept, made_roomy, phase_here}

@@ -2,7 +2,7 @@ use Rattle.world.specs.declared.member.Member.{Member}
 use Rattle.std.proofs.Common.{refl}
 use Rattle.world.proofs.Committing.{refuses_by, stage_full}
 use Rattle.world.proofs.Moving.{commit_parts}
-use Rattle.world.proofs.Worlds.{endable_set, ok_then, on_call, read_at}
+use Rattle.world.proofs.Worlds.{endable_set, on_call, read_at}
 use Rattle.world.proofs.PeerSteps.{on_both}
 use Rattle.world.proofs.world.World.refuse.Goals as goal
 

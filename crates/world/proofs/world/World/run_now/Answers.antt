@@ -1,6 +1,6 @@
 use Rattle.std.proofs.Common.{◌∙◌, ap, sym, subst}
 use Rattle.world_model.specs.States.{open_call}
-use Rattle.world.specs.Peers.{IsAsking, IsEndable, IsSteady}
+use Rattle.world.specs.Peers.{IsAsking, IsSteady}
 use Rattle.world.specs.declared.member.Member.{Member}
 use Rattle.world.proofs.Committing.{call_all, phase_here, runs_by}
 use Rattle.world.proofs.Handling.{steady_here}

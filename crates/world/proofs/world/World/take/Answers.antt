@@ -1,4 +1,4 @@
-use Rattle.world.proofs.Moving.{held_all, held_endable, held_log, held_more, held_planned, held_taken}
+use Rattle.world.proofs.Moving.{held_endable, held_log, held_more, held_planned, held_taken}
 use Rattle.world.proofs.Worlds.{ok_then}
 use Rattle.world.proofs.world.World.take.Goals as goal
 
