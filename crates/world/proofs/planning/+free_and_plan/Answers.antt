@@ -11,6 +11,12 @@ use Rattle.world.proofs.Ending.{held_all, is_false, is_true, met_right, met_step
 use Rattle.world.proofs.Worlds.{ok_then}
 use Rattle.world.proofs.planning.+free_and_plan.Goals as goal
 
+pub returns-then-not-released : goal.returns-then-not-released
+returns-then-not-released t c =
+    Stays c.args.log.now c.args.stripe c.args.desk.now refl c.in_ok-released.ensures.freed
+    (is_false c.in_ok-released.released c.if-not-released.true c.in_ok-released.ensures.full) c.in_ok-released.ensures.spent
+    (record { due = refl; fetched = refl; stay = refl; right = c.requires.right })
+
 pub plan_with_reads-requires-clause-all : goal.plan_with_reads-requires-clause-all
 plan_with_reads-requires-clause-all t c =
     held_all c.args.log.now.stripes c.free_places.new.self.stripes c.args.client c.args.call.now c.in_ok-released.ensures.freed.held.holders c.requires.all
@@ -42,12 +48,6 @@ free_and_plan-requires t c =
     let served : (mid : WorldLog) → HasStepped now late mid → AreServed Serves identity mid.device (logs_lent (acts_for mid.stripes d)) =
     λ mid more. c.requires.served mid (stepped_both now old late mid stepped more) in
     search (rules, log, all, below, right, less, served)
-
-pub returns-then-not-released : goal.returns-then-not-released
-returns-then-not-released t c =
-    Stays c.args.log.now c.args.stripe c.args.desk.now refl c.in_ok-released.ensures.freed
-    (is_false c.in_ok-released.released c.if-not-released.true c.in_ok-released.ensures.full) c.in_ok-released.ensures.spent
-    (record { due = refl; fetched = refl; stay = refl; right = c.requires.right })
 
 pub returns-in-Ok : goal.returns-in-Ok
 returns-in-Ok t c =
