@@ -16,10 +16,11 @@ use std::{io, thread};
 /// More pieces of thirty keys than there is room for: values of 1,000 bytes take 80 pages.
 const PIECES: u32 = 168;
 
-/// How many of them are deleted, and how many where that is done key by key.
+/// How many of them are deleted.
 const DELETED: u32 = 8;
 
-const DELETED_SINGLY: u32 = 3;
+/// How many of them are deleted key by key.
+const DELETED_SINGLY: u32 = 1;
 
 /// How often a DEL is sent again that found the store full, after a rest of 10 milliseconds.
 const TRIES: u32 = 200;
@@ -87,7 +88,7 @@ fn is_deleted<R: AllocGlobal + Clock + Wait>(rt: &R, stream: &TcpStream, key: u3
     Some(false)
 }
 
-/// Deletes the keys of the first pieces one by one, tries to store thirty others after each, and says whether each is deleted
+/// Deletes the keys of the first piece one by one, tries to store thirty others after each, and says whether each is deleted
 /// soon.
 fn deletes_singly<R>(rt: &R, stream: &TcpStream) -> Option<bool>
 where
@@ -130,7 +131,7 @@ where
     Some(deletes(rt, &stream)? && serves_again(rt, &stream, DELETED, stored)?)
 }
 
-/// The same, key by key: others are tried after each.
+/// Fills the store, deletes keys one by one, tries to store others after each, and stores others in their place.
 fn fills_and_deletes_singly<R>(rt: &R, port: u16) -> Option<bool>
 where
     R: AllocGlobal + Clock + Net<Stream = TcpStream> + Wait,
