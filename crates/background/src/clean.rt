@@ -47,8 +47,9 @@ enum Round {
 ///
 /// # Errors
 ///
-/// [`Fault::OutOfMemory`] where there is no memory for a page that is read, so not where receipts lend their pages; [`Fault::DeviceFault`] where a call of the device
-/// failed; [`Fault::StoreFull`] where what lives in the oldest page has no room, and no place can be released.
+/// [`Fault::OutOfMemory`] where there is no memory for a page that is read, so not where receipts lend their pages;
+/// [`Fault::DeviceFault`] where a call of the device failed; [`Fault::StoreFull`] where what lives in the oldest page has no
+/// room, and no place can be released.
 pub fn clean_one<R: Shows, D: Device<Receipt = R>, W: Wait>(
     rt: &W,
     gates: &Gates<Shard<R>>,

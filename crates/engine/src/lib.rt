@@ -104,10 +104,10 @@ impl<D: Device> Engine<D> {
     ///
     /// # Errors
     ///
-    /// [`Answer::Fault`], and no key was changed, and there is no entry. It has [`Fault::OutOfMemory`] where a growth
-    /// was refused, [`Fault::DeviceFault`] where a call of the device failed, [`Fault::StoreFull`] where a stripe that it
-    /// writes has no place left on the device, once each was released that could be, and [`Fault::CommitsWornOut`] where the commit word was read at 2^62 or more.
-    /// A call that ends watches is not answered so.
+    /// [`Answer::Fault`], and no key was changed, and there is no entry. It has [`Fault::OutOfMemory`] where a growth was
+    /// refused, [`Fault::DeviceFault`] where a call of the device failed, [`Fault::StoreFull`] where a stripe that it writes has
+    /// no place left on the device, once each was released that could be, and [`Fault::CommitsWornOut`] where the commit word was
+    /// read at 2^62 or more. A call that ends watches is not answered so.
     ///
     /// [`Fault::OutOfMemory`]: words::reply::Fault::OutOfMemory
     /// [`Fault::DeviceFault`]: words::reply::Fault::DeviceFault

@@ -150,8 +150,8 @@ impl<D: Device> Engine<D> {
     /// # Errors
     ///
     /// [`Fault::OutOfMemory`] where there is no memory for a page that is read, so not where receipts lend their pages;
-    /// [`Fault::DeviceFault`] where a call of the device failed; [`Fault::StoreFull`] where what lives in the oldest page has no room, and no
-    /// place can be released.
+    /// [`Fault::DeviceFault`] where a call of the device failed; [`Fault::StoreFull`] where what lives in the oldest page has no
+    /// room, and no place can be released.
     pub fn clean_one<T: Wait>(
         &self,
         rt: &T,
