@@ -19,7 +19,7 @@ use epoch::{EpochSeat, Epochs, Inside};
 use gates::{Gates, Latch, Pass, Report, Sorted};
 use hybrid::Staged;
 use plans::laws::stripes_hold_keys;
-use plans::shard::Shard;
+use shards::shard::Shard;
 use std::alloc::Global;
 use std::sync::Wait;
 use transact::call::{Answer, Busy, Call};

@@ -10,8 +10,8 @@ use device::{Device, Shows};
 use epoch::{EpochSeat, Epochs};
 use gates::Gates;
 use hybrid::Staged;
-use plans::shard::Shard;
 use records::Page;
+use shards::shard::Shard;
 use std::alloc::Global;
 use words::word::OutOfMemory;
 

@@ -12,8 +12,8 @@ use device::{Device, Shows};
 use gates::{Held, Report};
 use hybrid::Staged;
 use plans::reading::read_all;
-use plans::shard::Shard;
 use plans::stop::{Receipts, Stop};
+use shards::shard::Shard;
 
 /// How often a call gives its stripes back to read the pages that it wants: a page may lead to another one, and the stripes may
 /// change meanwhile. After that it reads while it holds them.
