@@ -13,7 +13,7 @@ ghost use Rattle.engine.specs.Entering.{WasAbandoned};
 ghost use Rattle.engine.specs.Passes.{HasSeat, know};
 
 use crate::enter::{Entered, NOTHING, enter_at_once, enter_call, give_back, refuse, told_of};
-use crate::outside::{ROUNDS, read_outside};
+use crate::outside::{ROUNDS, read_in_a_stay, read_outside};
 use crate::site::Site;
 use device::{Device, Shows};
 use epoch::{EpochSeat, Inside};
@@ -142,11 +142,10 @@ fn first_round<T: Wait, L: Latch, R: Shows, D: Device<Receipt = R>>(
             Ok(answer)
         }
         Err(receipts) => {
-            let inside = site.epochs.enter(rt, own);
-            match read_outside(held, device, staged, receipts) {
-                Ok(()) => Err(inside),
-                Err(stop) => {
-                    *seat = Some(site.epochs.leave(inside));
+            match read_in_a_stay(rt, site.epochs, own, held, device, staged, receipts) {
+                Ok(inside) => Err(inside),
+                Err((own, stop)) => {
+                    *seat = Some(own);
                     let fault = told_of(stop, NOTHING).fault;
                     Ok(abandon(rt, site, pass, wanted, call, fault))
                 }

@@ -22,7 +22,7 @@ ghost use Rattle.engine.specs.Stops.{IfSpent};
 ghost use Rattle.shards.specs.Heard.{HasHeard, HasHeardWorn};
 
 use crate::enter::{NOTHING, Stopped, told_of};
-use crate::outside::{ROUNDS, read_outside};
+use crate::outside::{ROUNDS, read_in_a_stay, read_outside};
 use crate::site::Site;
 use device::{Device, Shows};
 use epoch::{EpochSeat, Inside};
@@ -184,11 +184,10 @@ fn first_get<T: Wait, L: Latch, R: Shows, D: Device<Receipt = R>>(
             let Some(own) = seat.take() else {
                 unreachable!()
             };
-            let inside = site.epochs.enter(rt, own);
-            match read_outside(held, device, staged, receipts) {
-                Ok(()) => Err(inside),
-                Err(stop) => {
-                    *seat = Some(site.epochs.leave(inside));
+            match read_in_a_stay(rt, site.epochs, own, held, device, staged, receipts) {
+                Ok(inside) => Err(inside),
+                Err((own, stop)) => {
+                    *seat = Some(own);
                     Ok(Err(told_of(stop, NOTHING).fault))
                 }
             }

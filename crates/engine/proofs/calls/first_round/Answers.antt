@@ -37,8 +37,8 @@ give_back-requires g c =
           (c.in-Ok.ensures.back.gates ∙ c.take-held.ensures.gates_are) c.in-Ok.ensures.back;
     }
 
-pub read_outside-requires-clause-may : goal.read_outside-requires-clause-may
-read_outside-requires-clause-may g c =
+pub read_in_a_stay-requires-clause-may : goal.read_in_a_stay-requires-clause-may
+read_in_a_stay-requires-clause-may g c =
     given_here g.R.Shows.is_steady false Nothing c.stripes-stripes.result c.take-held.result c.enter_call.new.held c.args.site.now.gates.now c.stripes-stripes.ensures.count
     (c.in-Err.ensures.cold.back.gates ∙ c.take-held.ensures.gates_are) c.in-Err.ensures.cold.back
 
@@ -66,18 +66,18 @@ returns-in-Ok-clause-undone g c =
     (fault_behind stripes before mid f0 (know (given c.in-Ok.entered.ends c.in-Ok.entered.report (known_to c.enter_call.new.held)) f1) c.take-held.ensures.learned
     (subst (λ (l : List ℕ). ToldBusy l before mid) c.requires.wanted c.take-held.ensures.told) (promises_of g.R.Shows.is_steady g.R.Shows.lends) c.in-Ok.entered.answer (asked_of c.args.call.now) c.in-Ok.ensures.undone)
 
-pub returns-in-Err-read_outside-clause-done : goal.returns-in-Err-read_outside-clause-done
-returns-in-Err-read_outside-clause-done g c = no_reply c.abandon.result c.told_of-fault.result.fault _ c.abandon.ensures.answer
+pub returns-in-Err-read_in_a_stay-clause-done : goal.returns-in-Err-read_in_a_stay-clause-done
+returns-in-Err-read_in_a_stay-clause-done g c = no_reply c.abandon.result c.told_of-fault.result.fault _ c.abandon.ensures.answer
 
-pub returns-in-Err-read_outside-clause-undone : goal.returns-in-Err-read_outside-clause-undone
-returns-in-Err-read_outside-clause-undone g c =
+pub returns-in-Err-read_in_a_stay-clause-undone : goal.returns-in-Err-read_in_a_stay-clause-undone
+returns-in-Err-read_in_a_stay-clause-undone g c =
     let before : Knowledge = known c.args.pass.now in
     let mid : Knowledge = known_to c.take-held.result in
-    let outside = c.read_outside.ensures.known in
+    let outside = c.read_in_a_stay.ensures.known in
     let left = c.abandon.ensures.known in
     let stripes : List ℕ = stripes_asked (stripes_of c.args.site.now.gates.now) c.args.call.now in
-    this_fault c.abandon.result (fault_of c.in-Err-read_outside.stop) _ (c.abandon.ensures.answer ∙ ap answer.Fault c.told_of-fault.ensures.fault)
-    (failed_outside (promises_of g.R.Shows.is_steady g.R.Shows.lends) c.args.call.now c.args.wanted.now stripes c.in-Err-read_outside.stop before mid _ left.taken _ (g.D.Device.failures c.args.device.now) (g.D.Device.failures c.read_outside.new.device)
+    this_fault c.abandon.result (fault_of c.in-Err-read_in_a_stay.stop) _ (c.abandon.ensures.answer ∙ ap answer.Fault c.told_of-fault.ensures.fault)
+    (failed_outside (promises_of g.R.Shows.is_steady g.R.Shows.lends) c.args.call.now c.args.wanted.now stripes c.in-Err-read_in_a_stay.stop before mid _ left.taken _ (g.D.Device.failures c.args.device.now) (g.D.Device.failures c.read_in_a_stay.new.device)
     c.in-Err.ensures.cold.entry c.in-Err.ensures.cold.other c.in-Err.ensures.cold.unlent c.requires.wanted c.take-held.ensures.learned c.take-held.ensures.told
     (search (rules, outside) ∙ c.in-Err.ensures.cold.known) left.learned left.told left.is
-    c.told_of-fault.ensures.never_cold c.in-Err-read_outside.ensures.never_full (c.in-Err-read_outside.ensures.faults ∙ ap (λ (f : ℕ). f + faults c.in-Err-read_outside.stop) c.in-Err.ensures.no_fault))
+    c.told_of-fault.ensures.never_cold c.in-Err-read_in_a_stay.ensures.never_full (c.in-Err-read_in_a_stay.ensures.faults ∙ ap (λ (f : ℕ). f + faults c.in-Err-read_in_a_stay.stop) c.in-Err.ensures.no_fault))
