@@ -19,17 +19,17 @@ use Rattle.gates.specs.Plays.{kept}
 use Rattle.gates.specs.Sets.{part_at}
 use Rattle.hybrid.specs.HybridLog.{HybridLog, receipt_at, receipt_of}
 use Rattle.hybrid.specs.Staging.{IsMissing, StagedPage}
-use Rattle.plans.specs.declared.cleaning.Stepped.{Stepped}
-use Rattle.plans.specs.declared.cleaning.Stepped.TheVariants as stepped
-use Rattle.plans.specs.declared.shard.Shard.{Shard}
-use Rattle.plans.specs.Cleaning.{MatchFault, MatchStepped}
-use Rattle.plans.specs.Flushing.{MatchUnflushed}
-use Rattle.plans.specs.declared.flushing.Unflushed.{Unflushed}
-use Rattle.plans.specs.declared.flushing.Unflushed.TheVariants as unflushed
-use Rattle.plans.specs.Shards.{shard_meaning, shard_pages}
+use Rattle.shards.specs.declared.cleaning.Stepped.{Stepped}
+use Rattle.shards.specs.declared.cleaning.Stepped.TheVariants as stepped
+use Rattle.shards.specs.declared.shard.Shard.{Shard}
+use Rattle.shards.specs.Cleaning.{MatchFault, MatchStepped}
+use Rattle.shards.specs.Flushing.{MatchUnflushed}
+use Rattle.shards.specs.declared.flushing.Unflushed.{Unflushed}
+use Rattle.shards.specs.declared.flushing.Unflushed.TheVariants as unflushed
+use Rattle.shards.specs.Shards.{shard_meaning, shard_pages}
 use Rattle.background.specs.declared.clean.Round.{Round}
 use Rattle.background.specs.declared.clean.Round.TheVariants as round
-use Rattle.plans.specs.Heard.{HasHeard, HasHeardWorn, HasTried, worn_times}
+use Rattle.shards.specs.Heard.{HasHeard, HasHeardWorn, HasTried, worn_times}
 use Rattle.background.specs.Visits.{HasCleaned, HasLooked, MatchRound, MayTell, Visited, WasFull, none_refused, report_for, round_for}
 use Rattle.background.proofs.Visiting.{visited, visited_twice}
 

@@ -18,18 +18,18 @@ use Rattle.gates.specs.Pages.{IsFull, Pages}
 use Rattle.gates.specs.Passes.{AreBusy}
 use Rattle.gates.specs.Rule.{Meaning}
 use Rattle.hybrid.specs.HybridLog.{Kept, receipt_at}
-use Rattle.plans.specs.declared.flushing.Ending.{Ending}
-use Rattle.plans.specs.declared.flushing.Ending.TheVariants as ending
-use Rattle.plans.specs.declared.cleaning.Stepped.{Stepped}
-use Rattle.plans.specs.declared.cleaning.Stepped.TheVariants as stepped
+use Rattle.shards.specs.declared.flushing.Ending.{Ending}
+use Rattle.shards.specs.declared.flushing.Ending.TheVariants as ending
+use Rattle.shards.specs.declared.cleaning.Stepped.{Stepped}
+use Rattle.shards.specs.declared.cleaning.Stepped.TheVariants as stepped
 use Rattle.background.specs.declared.cells.Began.{Began}
 use Rattle.background.specs.declared.cells.Began.TheVariants as began
 use Rattle.background.specs.declared.cells.Flight.{Flight}
-use Rattle.plans.specs.declared.shard.Shard.{Shard}
-use Rattle.plans.specs.Shards.{shard_log}
+use Rattle.shards.specs.declared.shard.Shard.{Shard}
+use Rattle.shards.specs.Shards.{shard_log}
 use Rattle.background.specs.declared.clean.Round.{Round}
 use Rattle.background.specs.declared.clean.Round.TheVariants as round
-use Rattle.plans.specs.Heard.{HasHeard, HasHeardWorn}
+use Rattle.shards.specs.Heard.{HasHeard, HasHeardWorn}
 
 -- The pass was told this last, and before it that others had stripes of these, and nothing else. It made no entry, and watches what it did.
 pub record Visited (stripes : List ℕ) (last : List Note) (was now : Knowledge) : Type 0 where

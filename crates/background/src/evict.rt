@@ -8,7 +8,7 @@ ghost use Rattle.background.specs.Visits.{Visited, told};
 use crate::cells::evict_at;
 use device::Shows;
 use gates::{Gates, Pass, Report, Sorted, Work};
-use plans::shard::Shard;
+use shards::shard::Shard;
 use std::sync::Wait;
 use transact::call::Busy;
 

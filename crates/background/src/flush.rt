@@ -4,17 +4,17 @@ ghost use Rattle.std.specs.Prelude.{◌≡◌, ◌+◌, ◌<◌, ⊤, [], ◌∷
 ghost use Rattle.epoch.specs.Seats.{IsOutside};
 ghost use Rattle.epoch.specs.Seats as seats;
 ghost use Rattle.gates.specs.Passes.{IsResting, WasBusy, known, stripes_of};
-ghost use Rattle.plans.specs.Flushing.{MatchEnding};
-ghost use Rattle.plans.specs.Heard.{HasHeard, HasHeardWorn};
+ghost use Rattle.shards.specs.Flushing.{MatchEnding};
+ghost use Rattle.shards.specs.Heard.{HasHeard, HasHeardWorn};
 ghost use Rattle.background.specs.Visits.{HasBegun, HasEnded, HasFlushed, Visited, told_at_end};
 
 use crate::cells::{Began, Flight, begin_at, end_at, fail_at, flush_at};
 use device::{Device, Shows};
 use epoch::{EpochSeat, Epochs};
 use gates::{Gates, Pass, Report, Sorted, Work};
-use plans::flushing::{Ending, Unflushed};
-use plans::shard::Shard;
 use records::Page;
+use shards::flushing::{Ending, Unflushed};
+use shards::shard::Shard;
 use std::sync::Wait;
 use transact::call::Busy;
 use words::reply::Fault;

@@ -6,13 +6,13 @@ ghost use Rattle.gates.specs.Passes.{IsResting, known, stripes_of};
 ghost use Rattle.gates.specs.declared.view.Look.TheVariants.{FewerExpected, FewerFree, HalfUsed, Used};
 ghost use Rattle.gates.specs.declared.view.Note.TheVariants as note;
 ghost use Rattle.hybrid.specs.declared.stripe.TheConstants.{CALL_PAGES, CLEAN_PAGES};
-ghost use Rattle.plans.specs.Shards.{shard_meaning, shard_pages};
+ghost use Rattle.shards.specs.Shards.{shard_meaning, shard_pages};
 ghost use Rattle.background.specs.Visits.{HasStepped, Visited};
 
 use device::Shows;
 use gates::{Gates, Look, Parts, Pass, Report, Sorted};
 use hybrid::{CALL_PAGES, CLEAN_PAGES};
-use plans::shard::Shard;
+use shards::shard::Shard;
 use std::sync::Wait;
 
 /// Whether at least half of a stripe's places on the device are taken and not released. It waits where another pass holds the

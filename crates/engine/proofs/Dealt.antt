@@ -4,7 +4,7 @@ use Rattle.std.specs.List.{All}
 use Rattle.epoch.specs.declared.epochs.Epochs.{Epochs}
 use Rattle.gates.specs.declared.gates.Gates.{Gates}
 use Rattle.gates.specs.declared.view.Knowledge.{Knowledge}
-use Rattle.plans.specs.declared.shard.Shard.{Shard}
+use Rattle.shards.specs.declared.shard.Shard.{Shard}
 use Rattle.engine.specs.declared.pass.Pass.{Pass}
 use Rattle.engine.specs.Passes.{AreDealt, IsNew, RestsOf, knows}
 

@@ -34,13 +34,13 @@ use Rattle.transact.specs.declared.call.Answer.{Answer}
 use Rattle.transact.specs.declared.call.Answer.TheVariants as answer
 use Rattle.transact.specs.declared.call.Call.{Call}
 use Rattle.transact.specs.declared.call.Call.TheVariants.{One, Watch, Exec, Forget}
-use Rattle.plans.specs.declared.shard.Shard.{Shard}
+use Rattle.shards.specs.declared.shard.Shard.{Shard}
 use Rattle.transact.specs.Calls.{asked_of, call_keys}
 use Rattle.transact.specs.Plans.{EndsAll, IsEntry, IsInstalled, IsPlan, made}
-use Rattle.plans.specs.Counted.{Waiting}
-use Rattle.plans.specs.Freeing.{IsSpentAt}
-use Rattle.plans.specs.Rooms.{IsFullAt}
-use Rattle.plans.specs.Shards.{SameLogs, SameWaits, logs_of, shard_log, shard_meaning, shard_pages, shard_waiting}
+use Rattle.shards.specs.Counted.{Waiting}
+use Rattle.shards.specs.Freeing.{IsSpentAt}
+use Rattle.shards.specs.Rooms.{IsFullAt}
+use Rattle.shards.specs.Shards.{SameLogs, SameWaits, logs_of, shard_log, shard_meaning, shard_pages, shard_waiting}
 use Rattle.plans.specs.declared.stop.Stop.{Stop}
 use Rattle.plans.specs.declared.stop.Stop.TheVariants as stop
 use Rattle.plans.specs.Stops.{IfCold, IfFull, IfNoMemory, faults}

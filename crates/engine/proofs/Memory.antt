@@ -15,9 +15,9 @@ use Rattle.transact.specs.declared.call.Call.TheVariants.{One, Watch, Exec, Forg
 use Rattle.transact.specs.Calls.{call_keys}
 use Rattle.transact.specs.Submits.{asked_for}
 use Rattle.transact.specs.Tables.{AllRead, AreThere, joined}
-use Rattle.plans.specs.declared.shard.Shard.{Shard}
+use Rattle.shards.specs.declared.shard.Shard.{Shard}
 use Rattle.plans.specs.Memory.{IsBrief, IsBriefOn, IsPlannedInPlace, NeedsNoMemoryOn}
-use Rattle.plans.specs.Shards.{shard_meaning}
+use Rattle.shards.specs.Shards.{shard_meaning}
 use Rattle.engine.specs.Memory.{AsksNoMemory, NeedsNoMemory, set_call}
 use Rattle.engine.proofs.Parts.{joined_at}
 use Rattle.engine.proofs.Entering.{Fit, parts_of, stands}

@@ -8,7 +8,7 @@ use Rattle.gates.specs.declared.gates.Pass as gates_pass
 use Rattle.gates.specs.Rule.{Meaning}
 use Rattle.gates.specs.Plays.{AreEmpty, newcomer}
 use Rattle.gates.specs.Passes.{known, IsResting, AreNew}
-use Rattle.plans.specs.declared.shard.Shard.{Shard}
+use Rattle.shards.specs.declared.shard.Shard.{Shard}
 use Rattle.engine.specs.declared.pass.Pass.{Pass}
 use Rattle.engine.specs.Passes.{AreDealt, IsNew}
 

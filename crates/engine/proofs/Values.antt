@@ -9,8 +9,8 @@ use Rattle.gates.specs.declared.held.Held.{Held}
 use Rattle.gates.specs.Helds.{known_to}
 use Rattle.gates.specs.Rule.{Meaning}
 use Rattle.transact.specs.Tables.{AllRead, joined, value_in}
-use Rattle.plans.specs.declared.shard.Shard.{Shard}
-use Rattle.plans.specs.Shards.{shard_meaning}
+use Rattle.shards.specs.declared.shard.Shard.{Shard}
+use Rattle.shards.specs.Shards.{shard_meaning}
 use Rattle.plans.specs.Sizes.{AllShort, IsShort}
 use Rattle.engine.proofs.Parts.{joined_at}
 use Rattle.engine.proofs.Entering.{Fit, parts_of, stands}

@@ -18,8 +18,8 @@ use Rattle.transact.specs.declared.call.Call.{Call}
 use Rattle.transact.specs.Calls.{call_keys}
 use Rattle.transact.specs.Plans.{IsEntry}
 use Rattle.transact.specs.Tables.{AreThere}
-use Rattle.plans.specs.declared.shard.Shard.{Shard}
-use Rattle.plans.specs.Shards.{shard_meaning}
+use Rattle.shards.specs.declared.shard.Shard.{Shard}
+use Rattle.shards.specs.Shards.{shard_meaning}
 use Rattle.engine.specs.Memory.{set_call}
 use Rattle.engine.specs.declared.short.Found.{Found}
 use Rattle.engine.specs.declared.short.Getting.{Getting}

@@ -9,7 +9,7 @@ use Rattle.gates.specs.declared.view.Note.{Note}
 use Rattle.gates.specs.declared.gates.Gates.{Gates}
 use Rattle.gates.specs.Plays.{newcomer}
 use Rattle.gates.specs.Passes.{known, stripes_of, IsResting}
-use Rattle.plans.specs.declared.shard.Shard.{Shard}
+use Rattle.shards.specs.declared.shard.Shard.{Shard}
 use Rattle.engine.specs.declared.pass.Pass.{Pass}
 use Rattle.engine.specs.declared.Engine.{Engine}
 

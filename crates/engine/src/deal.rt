@@ -1,6 +1,6 @@
 //! The passes of a new engine.
 
-ghost use Rattle.std.specs.Prelude.{◌≡◌, ℕ, All, IfOk, vec_len};
+ghost use Rattle.std.specs.Prelude.{◌≡◌, ℕ, All, IfOk, Some, [], vec_len};
 ghost use Rattle.gates.specs.Passes.{AreNew};
 ghost use Rattle.epoch.specs.Seats.{IsOutside};
 ghost use Rattle.engine.specs.Passes.{AreDealt};
@@ -10,8 +10,8 @@ use device::{Device, Shows};
 use epoch::{EpochSeat, Epochs};
 use gates::Gates;
 use hybrid::Staged;
-use plans::shard::Shard;
 use records::Page;
+use shards::shard::Shard;
 use std::alloc::Global;
 use words::word::OutOfMemory;
 
@@ -48,16 +48,34 @@ pub(crate) fn deal<R: Shows, D: Device<Receipt = R>>(
         let Some(seat) = seats.pop() else {
             unreachable!()
         };
-        let page = Page::new(alloc, 0)?;
-        let staged = Staged::new(alloc);
-        let pass = Pass {
-            gates,
-            device,
-            seat: Some(seat),
-            staged,
-            page,
-        };
+        let pass = pass_of(alloc, gates, device, seat)?;
         dealt.insert(0, pass)?;
     }
     Ok(dealt)
+}
+
+/// A pass of an engine, with no page staged.
+///
+/// # Errors
+///
+/// [`OutOfMemory`] where there is no memory for the page that it reads into.
+fn pass_of<R: Shows, D: Device<Receipt = R>>(
+    alloc: Global,
+    gates: gates::Pass<Shard<R>>,
+    device: D,
+    seat: EpochSeat,
+) -> Result<Pass<D>, OutOfMemory>
+    ensures gates { IfOk result (λ pass. pass.gates ≡ gates) }
+    ensures device { IfOk result (λ pass. pass.device ≡ device) }
+    ensures seat { IfOk result (λ pass. pass.seat ≡ Some seat) }
+    ensures staged { IfOk result (λ pass. pass.staged ≡ []) }
+{
+    let page = Page::new(alloc, 0)?;
+    Ok(Pass {
+        gates,
+        device,
+        seat: Some(seat),
+        staged: Staged::new(alloc),
+        page,
+    })
 }

@@ -15,22 +15,21 @@ ghost use Rattle.hybrid.specs.Staging.{AreRight};
 ghost use Rattle.engine.specs.Memory.{set_call};
 ghost use Rattle.engine.specs.Passes.{know};
 ghost use Rattle.engine.specs.Stops.{IfSpent, IsOfCall, fault_of, report_of};
-ghost use Rattle.plans.specs.Heard.{HasHeard, HasHeardWorn};
-ghost use Rattle.plans.specs.Shards.{shard_meaning};
+ghost use Rattle.shards.specs.Heard.{HasHeard, HasHeardWorn};
+ghost use Rattle.shards.specs.Shards.{shard_meaning};
 ghost use Rattle.plans.specs.Stops.{IfCold};
 
 use crate::short::enter_set;
+use crate::site::Site;
 use device::{Device, Shows};
-use epoch::Epochs;
-use gates::{Held, Latch, Open, Point, Refused, Report};
+use gates::{Held, Latch, Point, Refused, Report};
 use hybrid::Staged;
 use plans::freeing::{Halt, plan_freeing};
 use plans::laws::writes_install_a_call;
 use plans::marks::forget;
-use plans::retires::Retires;
-use plans::shard::Shard;
 use plans::stop::{Receipts, Stop};
-use std::alloc::Global;
+use shards::retires::Retires;
+use shards::shard::Shard;
 use transact::call::{Answer, Call};
 use words::bounds::values_are_bounded;
 use words::command::{Command, When};
@@ -60,24 +59,22 @@ pub(crate) struct Entered {
 /// Copies of the receipts of the pages that are wanted, where they may not be read: nothing has changed then. A call that
 /// ends watches wants none, nor does a SET without an option.
 pub(crate) fn enter_call<L: Latch, R: Shows, D: Device<Receipt = R>, S: Retires>(
-    alloc: Global,
+    site: &Site<L, R>,
     held: &mut Held<'_, Shard<R>>,
     stripes: usize,
     device: &mut D,
-    call: &Call,
     staged: &mut Staged<R>,
-    reads: bool,
-    epochs: &Epochs,
     own: &mut S,
-    latch: &L,
+    call: &Call,
+    reads: bool,
 ) -> Result<Entered, Receipts<R>>
     requires may { MayEnter R.is_steady stripes call.now held.old }
     requires lent { AreAsTaken (held_taken held.old) (held_parts held.old) }
-    requires is { S.is_of epochs.now own.old }
+    requires is { S.is_of site.now.epochs.now own.old }
     requires place { HasItsPlace (known_to held.old).watched (asked_of call.now) }
     requires ends { EndsAll call.now (known_to held.old).watched }
     requires right { R.is_steady → AreRight staged.old }
-    ensures is { S.is_of epochs.now own.new }
+    ensures is { S.is_of site.now.epochs.now own.new }
     ensures heard { HasHeard (S.knows own.old) (S.knows own.new) }
     ensures worn { IfOk result (λ entered. IfSpent entered.report (λ refused. refused.retire ≡ true → HasHeardWorn (S.knows own.old) (S.knows own.new))) }
     ensures right { R.is_steady → AreRight staged.new }
@@ -98,47 +95,42 @@ pub(crate) fn enter_call<L: Latch, R: Shows, D: Device<Receipt = R>, S: Retires>
             })
         }
         Call::One(Command::Set(key, value, When::Always)) => {
-            latch.at(held.number(), Point::Holding);
-            let (line, report) = enter_set(held, stripes, device, key, value, epochs, own);
+            site.latch.at(held.number(), Point::Holding);
+            let (line, report) = enter_set(site, held, stripes, device, own, key, value);
             Ok(Entered {
                 answer: Answer::of_line(line),
                 ends: false,
                 report,
             })
         }
-        call => enter(
-            alloc, held, stripes, device, call, staged, reads, epochs, own, latch,
-        ),
+        call => enter(site, held, stripes, device, staged, own, call, reads),
     }
 }
 
 /// Enters a call as [`enter_call`] does, and reads the pages that it wants while its stripes are held.
-pub(crate) fn enter_at_once<R: Shows, D: Device<Receipt = R>, S: Retires>(
-    alloc: Global,
+pub(crate) fn enter_at_once<L: Latch, R: Shows, D: Device<Receipt = R>, S: Retires>(
+    site: &Site<L, R>,
     held: &mut Held<'_, Shard<R>>,
     stripes: usize,
     device: &mut D,
-    call: &Call,
     staged: &mut Staged<R>,
-    epochs: &Epochs,
     own: &mut S,
+    call: &Call,
 ) -> Entered
     requires may { MayEnter R.is_steady stripes call.now held.old }
     requires lent { AreAsTaken (held_taken held.old) (held_parts held.old) }
-    requires is { S.is_of epochs.now own.old }
+    requires is { S.is_of site.now.epochs.now own.old }
     requires place { HasItsPlace (known_to held.old).watched (asked_of call.now) }
     requires ends { EndsAll call.now (known_to held.old).watched }
     requires right { R.is_steady → AreRight staged.old }
-    ensures is { S.is_of epochs.now own.new }
+    ensures is { S.is_of site.now.epochs.now own.new }
     ensures heard { HasHeard (S.knows own.old) (S.knows own.new) }
     ensures worn { IfSpent result.report (λ refused. refused.retire ≡ true → HasHeardWorn (S.knows own.old) (S.knows own.new)) }
     ensures back { MayBeGiven R.is_steady result.ends result.report stripes held.old held.new }
     ensures done { IfReply result.answer (λ reply. IsDone [] (asked_of call.now) reply (know (known_to held.old) (D.failures device.old)) (know (given result.ends result.report (known_to held.new)) (D.failures device.new))) }
     ensures undone { IfFault result.answer (λ fault. IsUndone (promises_of R.is_steady R.lends) [] (asked_of call.now) fault (know (known_to held.old) (D.failures device.old)) (know (given result.ends result.report (known_to held.new)) (D.failures device.new))) }
 {
-    match enter_call(
-        alloc, held, stripes, device, call, staged, true, epochs, own, &Open,
-    ) {
+    match enter_call(site, held, stripes, device, staged, own, call, true) {
         Ok(entered) => entered,
         Err(_receipts) => unreachable!(),
     }
@@ -160,26 +152,24 @@ pub(crate) fn give_back<R: Shows>(held: Held<'_, Shard<R>>, ends: bool, report: 
 /// Runs a call over the parts that are held: plans it, commits its one entry, and installs what it writes. With a fault
 /// nothing was committed, and values are as they were.
 fn enter<L: Latch, R: Shows, D: Device<Receipt = R>, S: Retires>(
-    alloc: Global,
+    site: &Site<L, R>,
     held: &mut Held<'_, Shard<R>>,
     stripes: usize,
     device: &mut D,
-    call: &Call,
     staged: &mut Staged<R>,
-    reads: bool,
-    epochs: &Epochs,
     own: &mut S,
-    latch: &L,
+    call: &Call,
+    reads: bool,
 ) -> Result<Entered, Receipts<R>>
     requires may { MayEnter R.is_steady stripes call.now held.old }
     requires lent { AreAsTaken (held_taken held.old) (held_parts held.old) }
-    requires is { S.is_of epochs.now own.old }
+    requires is { S.is_of site.now.epochs.now own.old }
     requires entry { IsEntry call.now }
     requires place { HasItsPlace (known_to held.old).watched (asked_of call.now) }
     requires ends { EndsAll call.now (known_to held.old).watched }
     requires other { (key value : Bytes) → call.now ≡ set_call key value → ⊥ }
     requires right { R.is_steady → AreRight staged.old }
-    ensures is { S.is_of epochs.now own.new }
+    ensures is { S.is_of site.now.epochs.now own.new }
     ensures heard { HasHeard (S.knows own.old) (S.knows own.new) }
     ensures worn { IfOk result (λ entered. IfSpent entered.report (λ refused. refused.retire ≡ true → HasHeardWorn (S.knows own.old) (S.knows own.new))) }
     ensures right { R.is_steady → AreRight staged.new }
@@ -192,6 +182,7 @@ fn enter<L: Latch, R: Shows, D: Device<Receipt = R>, S: Retires>(
     values_are_bounded();
     writes_install_a_call::<R>();
     let seat = held.number();
+    let (alloc, epochs) = (site.alloc, site.epochs);
     let planned = match plan_freeing(
         alloc, held, stripes, seat, call, staged, reads, epochs, own, device,
     ) {
@@ -204,7 +195,7 @@ fn enter<L: Latch, R: Shows, D: Device<Receipt = R>, S: Retires>(
             }
         },
     };
-    latch.at(seat, Point::Holding);
+    site.latch.at(seat, Point::Holding);
     match held.commit(call, &planned.reply) {
         Ok(_) => {
             let reply = planned.install(held, stripes, seat, call);

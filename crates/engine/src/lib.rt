@@ -20,7 +20,7 @@ ghost use Rattle.gates.specs.Sets.{times};
 ghost use Rattle.transact.specs.Calls.{answer_of, answer_with, asked_of};
 ghost use Rattle.transact.specs.Plans.{EndsAll};
 ghost use Rattle.transact.specs.Submits.{IfReply, IfFault, stripes_asked};
-ghost use Rattle.plans.specs.Shards.{shard_meaning};
+ghost use Rattle.shards.specs.Shards.{shard_meaning};
 ghost use Rattle.engine.specs.Memory.{get_call, set_call};
 ghost use Rattle.engine.specs.Passes.{AreOf, knows, Rests, stripe_count};
 ghost use Rattle.engine.specs.Calls.{FoundBusy, HasItsPlace, HasLearned, IsDone, IsUndone, promises_of};
@@ -28,10 +28,11 @@ ghost use Rattle.engine.specs.Calls.{FoundBusy, HasItsPlace, HasLearned, IsDone,
 use crate::calls::{submit, try_submit};
 use crate::deal::deal;
 use crate::short::{submit_get, submit_set};
+use crate::site::Site;
 use device::{Device, Shows};
 use epoch::Epochs;
 use gates::{Gates, Latch, Open, Point};
-use plans::shard::Shard;
+use shards::shard::Shard;
 use std::alloc::Global;
 use std::marker::PhantomData;
 use std::sync::Wait;
@@ -46,6 +47,7 @@ mod enter;
 mod outside;
 mod pass;
 mod short;
+mod site;
 mod steps;
 
 pub use pass::Pass;
@@ -143,17 +145,20 @@ impl<D: Device> Engine<D> {
     {
         let number = pass.gates.number();
         latch.at(number, Point::Before);
+        let site = Site {
+            alloc: self.alloc,
+            gates: &self.gates,
+            epochs: &self.epochs,
+            latch,
+        };
         let answer = submit(
             rt,
-            self.alloc,
-            &self.gates,
-            &self.epochs,
+            &site,
             &mut pass.gates,
             &mut pass.device,
             &mut pass.seat,
             &mut pass.staged,
             call,
-            latch,
         );
         latch.at(number, Point::After);
         answer
@@ -180,17 +185,20 @@ impl<D: Device> Engine<D> {
     {
         let number = pass.gates.number();
         latch.at(number, Point::Before);
+        let site = Site {
+            alloc: self.alloc,
+            gates: &self.gates,
+            epochs: &self.epochs,
+            latch,
+        };
         let answer = submit_get(
             rt,
-            self.alloc,
-            &self.gates,
-            &self.epochs,
+            &site,
             &mut pass.gates,
             &mut pass.device,
             &mut pass.seat,
             &mut pass.staged,
             key,
-            latch,
         );
         latch.at(number, Point::After);
         answer
@@ -218,16 +226,20 @@ impl<D: Device> Engine<D> {
     {
         let number = pass.gates.number();
         latch.at(number, Point::Before);
+        let site = Site {
+            alloc: self.alloc,
+            gates: &self.gates,
+            epochs: &self.epochs,
+            latch,
+        };
         let answer = submit_set(
             rt,
-            &self.gates,
-            &self.epochs,
+            &site,
             &mut pass.gates,
             &mut pass.device,
             &mut pass.seat,
             key,
             value,
-            latch,
         );
         latch.at(number, Point::After);
         answer
@@ -251,10 +263,14 @@ impl<D: Device> Engine<D> {
         ensures busy { IfErr result (λ refusal. FoundBusy refusal.0.stripe (knows D.failures pass.old) (knows D.failures pass.new)) }
         ensures back { IfErr result (λ refusal. refusal.1 ≡ call) }
     {
+        let site = Site {
+            alloc: self.alloc,
+            gates: &self.gates,
+            epochs: &self.epochs,
+            latch: &Open,
+        };
         try_submit(
-            self.alloc,
-            &self.gates,
-            &self.epochs,
+            &site,
             &mut pass.gates,
             &mut pass.device,
             &mut pass.seat,

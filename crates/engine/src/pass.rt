@@ -3,8 +3,8 @@
 use device::{Device, Shows};
 use epoch::EpochSeat;
 use hybrid::Staged;
-use plans::shard::Shard;
 use records::Page;
+use shards::shard::Shard;
 
 /// The right to call an [`Engine`](crate::Engine), for one session at a time, with an opening of the device of its own. It
 /// has a number, by which the entries of its calls are known in the history.

@@ -19,22 +19,22 @@ ghost use Rattle.engine.specs.Entering.{MayBeGiven, MayEnter, WasCold, given};
 ghost use Rattle.engine.specs.Memory.{get_call, set_call};
 ghost use Rattle.engine.specs.Passes.{HasSeat, know};
 ghost use Rattle.engine.specs.Stops.{IfSpent};
-ghost use Rattle.plans.specs.Heard.{HasHeard, HasHeardWorn};
+ghost use Rattle.shards.specs.Heard.{HasHeard, HasHeardWorn};
 
 use crate::enter::{NOTHING, Stopped, told_of};
-use crate::outside::{ROUNDS, read_outside};
+use crate::outside::{ROUNDS, read_in_a_stay, read_outside};
+use crate::site::Site;
 use device::{Device, Shows};
-use epoch::{EpochSeat, Epochs, Inside};
-use gates::{Asks, CommitsWornOut, Gates, Held, Latch, Pass, Point, Report, Says, Sorted};
+use epoch::{EpochSeat, Inside};
+use gates::{Asks, CommitsWornOut, Held, Latch, Pass, Point, Report, Says, Sorted};
 use hybrid::Staged;
 use plans::freeing::reserve_freeing;
 use plans::laws::{stripes_hold_keys, writes_install_a_command};
 use plans::reading::value_staged;
-use plans::retires::Retires;
-use plans::shard::Shard;
 use plans::short::install_set;
 use plans::stop::{Receipts, Stop};
-use std::alloc::Global;
+use shards::retires::Retires;
+use shards::shard::Shard;
 use std::sync::Wait;
 use transact::stripes::stripe_of_key;
 use transact::weight::weighs_too_much;
@@ -87,29 +87,24 @@ impl Asks for Setting<'_> {
 /// The fault that a call is answered which is not done.
 pub(crate) fn submit_get<T: Wait, L: Latch, R: Shows, D: Device<Receipt = R>>(
     rt: &T,
-    alloc: Global,
-    gates: &Gates<Shard<R>>,
-    epochs: &Epochs,
+    site: &Site<L, R>,
     pass: &mut Pass<Shard<R>>,
     device: &mut D,
     seat: &mut Option<EpochSeat>,
     staged: &mut Staged<R>,
     key: &Word,
-    latch: &L,
 ) -> Result<Option<Word>, Fault>
-    requires rests { IsResting R.is_steady gates.now pass.old }
+    requires rests { IsResting R.is_steady site.now.gates.now pass.old }
     requires place { IsBounded (Command.Get key.now) }
-    requires seat { HasSeat epochs.now seat.old }
+    requires seat { HasSeat site.now.epochs.now seat.old }
     requires none { staged.old ≡ [] }
-    ensures rests { IsResting R.is_steady gates.now pass.new }
-    ensures seat { HasSeat epochs.now seat.new }
+    ensures rests { IsResting R.is_steady site.now.gates.now pass.new }
+    ensures seat { HasSeat site.now.epochs.now seat.new }
     ensures none { staged.new ≡ [] }
-    ensures done { IfReply (answer_with result) (λ reply. IsDone (stripes_asked (stripes_of gates.now) (get_call key.now)) (asked_of (get_call key.now)) reply (know (known pass.old) (D.failures device.old)) (know (known pass.new) (D.failures device.new))) }
-    ensures undone { IfFault (answer_with result) (λ fault. IsUndone (promises_of R.is_steady R.lends) (stripes_asked (stripes_of gates.now) (get_call key.now)) (asked_of (get_call key.now)) fault (know (known pass.old) (D.failures device.old)) (know (known pass.new) (D.failures device.new))) }
+    ensures done { IfReply (answer_with result) (λ reply. IsDone (stripes_asked (stripes_of site.now.gates.now) (get_call key.now)) (asked_of (get_call key.now)) reply (know (known pass.old) (D.failures device.old)) (know (known pass.new) (D.failures device.new))) }
+    ensures undone { IfFault (answer_with result) (λ fault. IsUndone (promises_of R.is_steady R.lends) (stripes_asked (stripes_of site.now.gates.now) (get_call key.now)) (asked_of (get_call key.now)) fault (know (known pass.old) (D.failures device.old)) (know (known pass.new) (D.failures device.new))) }
 {
-    let answer = get_in_rounds(
-        rt, alloc, gates, epochs, pass, device, seat, staged, key, latch,
-    );
+    let answer = get_in_rounds(rt, site, pass, device, seat, staged, key);
     staged.clear();
     answer
 }
@@ -117,34 +112,28 @@ pub(crate) fn submit_get<T: Wait, L: Latch, R: Shows, D: Device<Receipt = R>>(
 /// Runs a GET in rounds, until one answers it. From the first page that it wants until the answer it has a stay.
 fn get_in_rounds<T: Wait, L: Latch, R: Shows, D: Device<Receipt = R>>(
     rt: &T,
-    alloc: Global,
-    gates: &Gates<Shard<R>>,
-    epochs: &Epochs,
+    site: &Site<L, R>,
     pass: &mut Pass<Shard<R>>,
     device: &mut D,
     seat: &mut Option<EpochSeat>,
     staged: &mut Staged<R>,
     key: &Word,
-    latch: &L,
 ) -> Result<Option<Word>, Fault>
-    requires rests { IsResting R.is_steady gates.now pass.old }
+    requires rests { IsResting R.is_steady site.now.gates.now pass.old }
     requires place { IsBounded (Command.Get key.now) }
-    requires seat { HasSeat epochs.now seat.old }
+    requires seat { HasSeat site.now.epochs.now seat.old }
     requires right { R.is_steady → AreRight staged.old }
-    ensures rests { IsResting R.is_steady gates.now pass.new }
-    ensures seat { HasSeat epochs.now seat.new }
-    ensures done { IfReply (answer_with result) (λ reply. IsDone (stripes_asked (stripes_of gates.now) (get_call key.now)) (asked_of (get_call key.now)) reply (know (known pass.old) (D.failures device.old)) (know (known pass.new) (D.failures device.new))) }
-    ensures undone { IfFault (answer_with result) (λ fault. IsUndone (promises_of R.is_steady R.lends) (stripes_asked (stripes_of gates.now) (get_call key.now)) (asked_of (get_call key.now)) fault (know (known pass.old) (D.failures device.old)) (know (known pass.new) (D.failures device.new))) }
+    ensures rests { IsResting R.is_steady site.now.gates.now pass.new }
+    ensures seat { HasSeat site.now.epochs.now seat.new }
+    ensures done { IfReply (answer_with result) (λ reply. IsDone (stripes_asked (stripes_of site.now.gates.now) (get_call key.now)) (asked_of (get_call key.now)) reply (know (known pass.old) (D.failures device.old)) (know (known pass.new) (D.failures device.new))) }
+    ensures undone { IfFault (answer_with result) (λ fault. IsUndone (promises_of R.is_steady R.lends) (stripes_asked (stripes_of site.now.gates.now) (get_call key.now)) (asked_of (get_call key.now)) fault (know (known pass.old) (D.failures device.old)) (know (known pass.new) (D.failures device.new))) }
 {
-    let stripes = gates.stripes();
-    let wanted = stripe_of_key(key, stripes);
-    match first_get(
-        rt, alloc, gates, epochs, pass, device, seat, staged, &wanted, key, latch,
-    ) {
+    let wanted = stripe_of_key(key, site.gates.stripes());
+    match first_get(rt, site, pass, device, seat, staged, &wanted, key) {
         Ok(answer) => answer,
         Err(inside) => {
-            let answer = later_gets(rt, alloc, gates, pass, device, staged, &wanted, key, latch);
-            *seat = Some(epochs.leave(inside));
+            let answer = later_gets(rt, site, pass, device, staged, &wanted, key);
+            *seat = Some(site.epochs.leave(inside));
             answer
         }
     }
@@ -158,37 +147,35 @@ fn get_in_rounds<T: Wait, L: Latch, R: Shows, D: Device<Receipt = R>>(
 /// The stay, where a page was read and there is no answer yet.
 fn first_get<T: Wait, L: Latch, R: Shows, D: Device<Receipt = R>>(
     rt: &T,
-    alloc: Global,
-    gates: &Gates<Shard<R>>,
-    epochs: &Epochs,
+    site: &Site<L, R>,
     pass: &mut Pass<Shard<R>>,
     device: &mut D,
     seat: &mut Option<EpochSeat>,
     staged: &mut Staged<R>,
     wanted: &Sorted,
     key: &Word,
-    latch: &L,
 ) -> Result<Result<Option<Word>, Fault>, Inside>
-    requires rests { IsResting R.is_steady gates.now pass.old }
+    requires rests { IsResting R.is_steady site.now.gates.now pass.old }
     requires place { IsBounded (Command.Get key.now) }
-    requires wanted { wanted.now ≡ stripes_asked (stripes_of gates.now) (get_call key.now) }
-    requires below { AreBelow (stripes_of gates.now) wanted.now }
-    requires seat { HasSeat epochs.now seat.old }
+    requires wanted { wanted.now ≡ stripes_asked (stripes_of site.now.gates.now) (get_call key.now) }
+    requires below { AreBelow (stripes_of site.now.gates.now) wanted.now }
+    requires seat { HasSeat site.now.epochs.now seat.old }
     requires right { R.is_steady → AreRight staged.old }
-    ensures rests { IsResting R.is_steady gates.now pass.new }
-    ensures seat { OnOk result (HasSeat epochs.now seat.new) }
+    ensures rests { IsResting R.is_steady site.now.gates.now pass.new }
+    ensures seat { OnOk result (HasSeat site.now.epochs.now seat.new) }
     ensures right { R.is_steady → AreRight staged.new }
-    ensures done { IfOk result (λ answer. IfReply (answer_with answer) (λ reply. IsDone (stripes_asked (stripes_of gates.now) (get_call key.now)) (asked_of (get_call key.now)) reply (know (known pass.old) (D.failures device.old)) (know (known pass.new) (D.failures device.new)))) }
-    ensures undone { IfOk result (λ answer. IfFault (answer_with answer) (λ fault. IsUndone (promises_of R.is_steady R.lends) (stripes_asked (stripes_of gates.now) (get_call key.now)) (asked_of (get_call key.now)) fault (know (known pass.old) (D.failures device.old)) (know (known pass.new) (D.failures device.new)))) }
-    ensures stay { IfErr result (IsInside epochs.now) }
+    ensures done { IfOk result (λ answer. IfReply (answer_with answer) (λ reply. IsDone (stripes_asked (stripes_of site.now.gates.now) (get_call key.now)) (asked_of (get_call key.now)) reply (know (known pass.old) (D.failures device.old)) (know (known pass.new) (D.failures device.new)))) }
+    ensures undone { IfOk result (λ answer. IfFault (answer_with answer) (λ fault. IsUndone (promises_of R.is_steady R.lends) (stripes_asked (stripes_of site.now.gates.now) (get_call key.now)) (asked_of (get_call key.now)) fault (know (known pass.old) (D.failures device.old)) (know (known pass.new) (D.failures device.new)))) }
+    ensures stay { IfErr result (IsInside site.now.epochs.now) }
     ensures learned { OnErr result (Learned (known pass.old) (known pass.new)) }
-    ensures told { OnErr result (ToldBusy (stripes_asked (stripes_of gates.now) (get_call key.now)) (known pass.old) (known pass.new)) }
+    ensures told { OnErr result (ToldBusy (stripes_asked (stripes_of site.now.gates.now) (get_call key.now)) (known pass.old) (known pass.new)) }
     ensures no_fault { OnErr result (D.failures device.new ≡ D.failures device.old) }
 {
     stripes_hold_keys::<R>();
+    let gates = site.gates;
     let stripes = gates.stripes();
     let mut held = gates.take(rt, pass, wanted);
-    match enter_get(alloc, &mut held, stripes, device, key, staged, false, latch) {
+    match enter_get(site, &mut held, stripes, device, staged, key, false) {
         Ok(answer) => {
             held.give(&Report::Nothing);
             Ok(answer)
@@ -197,11 +184,10 @@ fn first_get<T: Wait, L: Latch, R: Shows, D: Device<Receipt = R>>(
             let Some(own) = seat.take() else {
                 unreachable!()
             };
-            let inside = epochs.enter(rt, own);
-            match read_outside(held, device, staged, receipts) {
-                Ok(()) => Err(inside),
-                Err(stop) => {
-                    *seat = Some(epochs.leave(inside));
+            match read_in_a_stay(rt, site.epochs, own, held, device, staged, receipts) {
+                Ok(inside) => Err(inside),
+                Err((own, stop)) => {
+                    *seat = Some(own);
                     Ok(Err(told_of(stop, NOTHING).fault))
                 }
             }
@@ -212,30 +198,26 @@ fn first_get<T: Wait, L: Latch, R: Shows, D: Device<Receipt = R>>(
 /// Runs a GET in the rounds after its first one, until one answers it.
 fn later_gets<T: Wait, L: Latch, R: Shows, D: Device<Receipt = R>>(
     rt: &T,
-    alloc: Global,
-    gates: &Gates<Shard<R>>,
+    site: &Site<L, R>,
     pass: &mut Pass<Shard<R>>,
     device: &mut D,
     staged: &mut Staged<R>,
     wanted: &Sorted,
     key: &Word,
-    latch: &L,
 ) -> Result<Option<Word>, Fault>
-    requires rests { IsResting R.is_steady gates.now pass.old }
+    requires rests { IsResting R.is_steady site.now.gates.now pass.old }
     requires place { IsBounded (Command.Get key.now) }
-    requires wanted { wanted.now ≡ stripes_asked (stripes_of gates.now) (get_call key.now) }
-    requires below { AreBelow (stripes_of gates.now) wanted.now }
+    requires wanted { wanted.now ≡ stripes_asked (stripes_of site.now.gates.now) (get_call key.now) }
+    requires below { AreBelow (stripes_of site.now.gates.now) wanted.now }
     requires right { R.is_steady → AreRight staged.old }
-    ensures rests { IsResting R.is_steady gates.now pass.new }
-    ensures done { IfReply (answer_with result) (λ reply. IsDone (stripes_asked (stripes_of gates.now) (get_call key.now)) (asked_of (get_call key.now)) reply (know (known pass.old) (D.failures device.old)) (know (known pass.new) (D.failures device.new))) }
-    ensures undone { IfFault (answer_with result) (λ fault. IsUndone (promises_of R.is_steady R.lends) (stripes_asked (stripes_of gates.now) (get_call key.now)) (asked_of (get_call key.now)) fault (know (known pass.old) (D.failures device.old)) (know (known pass.new) (D.failures device.new))) }
+    ensures rests { IsResting R.is_steady site.now.gates.now pass.new }
+    ensures done { IfReply (answer_with result) (λ reply. IsDone (stripes_asked (stripes_of site.now.gates.now) (get_call key.now)) (asked_of (get_call key.now)) reply (know (known pass.old) (D.failures device.old)) (know (known pass.new) (D.failures device.new))) }
+    ensures undone { IfFault (answer_with result) (λ fault. IsUndone (promises_of R.is_steady R.lends) (stripes_asked (stripes_of site.now.gates.now) (get_call key.now)) (asked_of (get_call key.now)) fault (know (known pass.old) (D.failures device.old)) (know (known pass.new) (D.failures device.new))) }
 {
     let mut round = 1;
     'rounds: loop {
         let reads = round == ROUNDS;
-        if let Some(answer) = later_get(
-            rt, alloc, gates, pass, device, staged, wanted, key, reads, latch,
-        ) {
+        if let Some(answer) = later_get(rt, site, pass, device, staged, wanted, key, reads) {
             return answer;
         }
         round += 1;
@@ -246,34 +228,33 @@ fn later_gets<T: Wait, L: Latch, R: Shows, D: Device<Receipt = R>>(
 /// yet.
 fn later_get<T: Wait, L: Latch, R: Shows, D: Device<Receipt = R>>(
     rt: &T,
-    alloc: Global,
-    gates: &Gates<Shard<R>>,
+    site: &Site<L, R>,
     pass: &mut Pass<Shard<R>>,
     device: &mut D,
     staged: &mut Staged<R>,
     wanted: &Sorted,
     key: &Word,
     reads: bool,
-    latch: &L,
 ) -> Option<Result<Option<Word>, Fault>>
-    requires rests { IsResting R.is_steady gates.now pass.old }
+    requires rests { IsResting R.is_steady site.now.gates.now pass.old }
     requires place { IsBounded (Command.Get key.now) }
-    requires wanted { wanted.now ≡ stripes_asked (stripes_of gates.now) (get_call key.now) }
-    requires below { AreBelow (stripes_of gates.now) wanted.now }
+    requires wanted { wanted.now ≡ stripes_asked (stripes_of site.now.gates.now) (get_call key.now) }
+    requires below { AreBelow (stripes_of site.now.gates.now) wanted.now }
     requires right { R.is_steady → AreRight staged.old }
-    ensures rests { IsResting R.is_steady gates.now pass.new }
+    ensures rests { IsResting R.is_steady site.now.gates.now pass.new }
     ensures right { R.is_steady → AreRight staged.new }
-    ensures done { IfSome result (λ answer. IfReply (answer_with answer) (λ reply. IsDone (stripes_asked (stripes_of gates.now) (get_call key.now)) (asked_of (get_call key.now)) reply (know (known pass.old) (D.failures device.old)) (know (known pass.new) (D.failures device.new)))) }
-    ensures undone { IfSome result (λ answer. IfFault (answer_with answer) (λ fault. IsUndone (promises_of R.is_steady R.lends) (stripes_asked (stripes_of gates.now) (get_call key.now)) (asked_of (get_call key.now)) fault (know (known pass.old) (D.failures device.old)) (know (known pass.new) (D.failures device.new)))) }
+    ensures done { IfSome result (λ answer. IfReply (answer_with answer) (λ reply. IsDone (stripes_asked (stripes_of site.now.gates.now) (get_call key.now)) (asked_of (get_call key.now)) reply (know (known pass.old) (D.failures device.old)) (know (known pass.new) (D.failures device.new)))) }
+    ensures undone { IfSome result (λ answer. IfFault (answer_with answer) (λ fault. IsUndone (promises_of R.is_steady R.lends) (stripes_asked (stripes_of site.now.gates.now) (get_call key.now)) (asked_of (get_call key.now)) fault (know (known pass.old) (D.failures device.old)) (know (known pass.new) (D.failures device.new)))) }
     ensures outside { IfNone result (reads ≡ false) }
     ensures learned { IfNone result (Learned (known pass.old) (known pass.new)) }
-    ensures told { IfNone result (ToldBusy (stripes_asked (stripes_of gates.now) (get_call key.now)) (known pass.old) (known pass.new)) }
+    ensures told { IfNone result (ToldBusy (stripes_asked (stripes_of site.now.gates.now) (get_call key.now)) (known pass.old) (known pass.new)) }
     ensures no_fault { IfNone result (D.failures device.new ≡ D.failures device.old) }
 {
     stripes_hold_keys::<R>();
+    let gates = site.gates;
     let stripes = gates.stripes();
     let mut held = gates.take(rt, pass, wanted);
-    match enter_get(alloc, &mut held, stripes, device, key, staged, reads, latch) {
+    match enter_get(site, &mut held, stripes, device, staged, key, reads) {
         Ok(answer) => {
             held.give(&Report::Nothing);
             Some(answer)
@@ -292,24 +273,23 @@ fn later_get<T: Wait, L: Latch, R: Shows, D: Device<Receipt = R>>(
 /// The fault that a call is answered which is not done.
 pub(crate) fn submit_set<T: Wait, L: Latch, R: Shows, D: Device<Receipt = R>>(
     rt: &T,
-    gates: &Gates<Shard<R>>,
-    epochs: &Epochs,
+    site: &Site<L, R>,
     pass: &mut Pass<Shard<R>>,
     device: &mut D,
     seat: &mut Option<EpochSeat>,
     key: &Word,
     value: &Word,
-    latch: &L,
 ) -> Result<Line, Fault>
-    requires rests { IsResting R.is_steady gates.now pass.old }
+    requires rests { IsResting R.is_steady site.now.gates.now pass.old }
     requires place { IsBounded (Command.Set key.now value.now When.Always) }
-    requires seat { HasSeat epochs.now seat.old }
-    ensures rests { IsResting R.is_steady gates.now pass.new }
-    ensures seat { HasSeat epochs.now seat.new }
-    ensures done { IfReply (answer_of result) (λ reply. IsDone (stripes_asked (stripes_of gates.now) (set_call key.now value.now)) (asked_of (set_call key.now value.now)) reply (know (known pass.old) (D.failures device.old)) (know (known pass.new) (D.failures device.new))) }
-    ensures undone { IfFault (answer_of result) (λ fault. IsUndone (promises_of R.is_steady R.lends) (stripes_asked (stripes_of gates.now) (set_call key.now value.now)) (asked_of (set_call key.now value.now)) fault (know (known pass.old) (D.failures device.old)) (know (known pass.new) (D.failures device.new))) }
+    requires seat { HasSeat site.now.epochs.now seat.old }
+    ensures rests { IsResting R.is_steady site.now.gates.now pass.new }
+    ensures seat { HasSeat site.now.epochs.now seat.new }
+    ensures done { IfReply (answer_of result) (λ reply. IsDone (stripes_asked (stripes_of site.now.gates.now) (set_call key.now value.now)) (asked_of (set_call key.now value.now)) reply (know (known pass.old) (D.failures device.old)) (know (known pass.new) (D.failures device.new))) }
+    ensures undone { IfFault (answer_of result) (λ fault. IsUndone (promises_of R.is_steady R.lends) (stripes_asked (stripes_of site.now.gates.now) (set_call key.now value.now)) (asked_of (set_call key.now value.now)) fault (know (known pass.old) (D.failures device.old)) (know (known pass.new) (D.failures device.new))) }
 {
     stripes_hold_keys::<R>();
+    let gates = site.gates;
     let stripes = gates.stripes();
     let number = pass.number();
     let wanted = stripe_of_key(key, stripes);
@@ -317,8 +297,8 @@ pub(crate) fn submit_set<T: Wait, L: Latch, R: Shows, D: Device<Receipt = R>>(
         unreachable!()
     };
     let mut held = gates.take(rt, pass, &wanted);
-    latch.at(number, Point::Holding);
-    let (answer, report) = enter_set(&mut held, stripes, device, key, value, epochs, &mut own);
+    site.latch.at(number, Point::Holding);
+    let (answer, report) = enter_set(site, &mut held, stripes, device, &mut own, key, value);
     *seat = Some(own);
     held.give(&report);
     answer
@@ -327,20 +307,20 @@ pub(crate) fn submit_set<T: Wait, L: Latch, R: Shows, D: Device<Receipt = R>>(
 /// Runs a SET without an option over the parts that are held: makes room for its key and value, commits its one entry, and
 /// copies them into the page. It looks nothing up, and takes no memory. A value that weighs too much is refused by the
 /// reply. Beside the answer it gives what is told where the stripes are given back.
-pub(crate) fn enter_set<R: Shows, D: Device<Receipt = R>, S: Retires>(
+pub(crate) fn enter_set<L: Latch, R: Shows, D: Device<Receipt = R>, S: Retires>(
+    site: &Site<L, R>,
     held: &mut Held<'_, Shard<R>>,
     stripes: usize,
     device: &mut D,
+    own: &mut S,
     key: &Word,
     value: &Word,
-    epochs: &Epochs,
-    own: &mut S,
 ) -> (Result<Line, Fault>, Report)
     requires may { MayEnter R.is_steady stripes (set_call key.now value.now) held.old }
     requires lent { AreAsTaken (held_taken held.old) (held_parts held.old) }
     requires place { IsBounded (Command.Set key.now value.now When.Always) }
-    requires is { S.is_of epochs.now own.old }
-    ensures is { S.is_of epochs.now own.new }
+    requires is { S.is_of site.now.epochs.now own.old }
+    ensures is { S.is_of site.now.epochs.now own.new }
     ensures heard { HasHeard (S.knows own.old) (S.knows own.new) }
     ensures worn { IfSpent result.1 (λ refused. refused.retire ≡ true → HasHeardWorn (S.knows own.old) (S.knows own.new)) }
     ensures back { MayBeGiven R.is_steady false result.1 stripes held.old held.new }
@@ -351,6 +331,7 @@ pub(crate) fn enter_set<R: Shows, D: Device<Receipt = R>, S: Retires>(
     if weighs_too_much(key, value) {
         return (refuse_set(held, stripes, key, value), Report::Nothing);
     }
+    let epochs = site.epochs;
     if let Err(halt) = reserve_freeing(held, stripes, key, value, epochs, own, device) {
         let Stopped { fault, report } = told_of(halt.stop, halt.refused);
         return (Err(fault), report);
@@ -371,14 +352,13 @@ pub(crate) fn enter_set<R: Shows, D: Device<Receipt = R>, S: Retires>(
 ///
 /// Copies of the receipts of the pages that are wanted, where they may not be read: nothing has changed then.
 fn enter_get<L: Latch, R: Shows, D: Device<Receipt = R>>(
-    alloc: Global,
+    site: &Site<L, R>,
     held: &mut Held<'_, Shard<R>>,
     stripes: usize,
     device: &mut D,
-    key: &Word,
     staged: &mut Staged<R>,
+    key: &Word,
     reads: bool,
-    latch: &L,
 ) -> Result<Result<Option<Word>, Fault>, Receipts<R>>
     requires may { MayEnter R.is_steady stripes (get_call key.now) held.old }
     requires place { IsBounded (Command.Get key.now) }
@@ -391,12 +371,12 @@ fn enter_get<L: Latch, R: Shows, D: Device<Receipt = R>>(
     ensures no_fault { OnErr result (D.failures device.new ≡ D.failures device.old) }
 {
     writes_install_a_command::<R>();
-    let value = match value_staged(alloc, held, stripes, key, staged, reads, device) {
+    let value = match value_staged(site.alloc, held, stripes, key, staged, reads, device) {
         Ok(value) => value,
         Err(Stop::Cold(receipts)) => return Err(receipts),
         Err(stop) => return Ok(Err(told_of(stop, NOTHING).fault)),
     };
-    latch.at(held.number(), Point::Holding);
+    site.latch.at(held.number(), Point::Holding);
     match held.commit(&Getting { key }, &Found { value: &value }) {
         Ok(_) => Ok(Ok(value)),
         Err(_) => Ok(Err(Fault::CommitsWornOut)),

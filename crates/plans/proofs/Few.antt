@@ -7,13 +7,13 @@ use Rattle.frames.specs.Resident.{Resident}
 use Rattle.hybrid.specs.HybridLog.{HybridLog}
 use Rattle.hybrid.specs.declared.stripe.room.Purpose.{Purpose}
 use Rattle.hybrid.specs.Staging.{StagedPage}
-use Rattle.plans.specs.declared.shard.Shard.{Shard}
+use Rattle.shards.specs.declared.shard.Shard.{Shard}
 use Rattle.plans.specs.declared.stop.Stop.{Stop}
 use Rattle.plans.specs.declared.stop.Stop.TheVariants as stop
 use Rattle.plans.specs.Reading.{HasMore}
-use Rattle.plans.specs.Devices.{IsReadAlone, StillServes}
-use Rattle.plans.specs.Rooms.{LacksRoom, LacksRoomAt, LeaveFrames, LeavesFrames, LeavesFramesAt, ShedFew, ShedsFew, ShedsFewAt, purpose_of, share}
-use Rattle.plans.specs.Shards.{logs_of, shard_log}
+use Rattle.shards.specs.Devices.{IsReadAlone, StillServes}
+use Rattle.shards.specs.Rooms.{LacksRoom, LacksRoomAt, LeaveFrames, LeavesFrames, LeavesFramesAt, ShedFew, ShedsFew, ShedsFewAt, purpose_of, share}
+use Rattle.shards.specs.Shards.{logs_of, shard_log}
 use Rattle.plans.specs.Stops.{IfNoMemory}
 use Rattle.plans.proofs.Logs.{log_at}
 use Rattle.plans.proofs.Stores.{some_is}

@@ -7,11 +7,11 @@ use Rattle.words.specs.Stripes.{stripe_of}
 use Rattle.hybrid.specs.HybridLog.{HybridLog, Kept}
 use Rattle.hybrid.specs.Staging.{StagedPage}
 use Rattle.transact.specs.Tables.{values_of}
-use Rattle.plans.specs.declared.shard.Shard.{Shard}
+use Rattle.shards.specs.declared.shard.Shard.{Shard}
 use Rattle.std.specs.Prelude.{slice_get, Result, Ok, Err, IfErr}
 use Rattle.plans.specs.declared.stop.Stop.{Stop}
 use Rattle.plans.specs.declared.stop.Stop.TheVariants as stop
-use Rattle.plans.specs.Shards.{logs_of, shard_log}
+use Rattle.shards.specs.Shards.{logs_of, shard_log}
 use Rattle.plans.specs.Sizes.{AllShort, AreShort, IsShort}
 use Rattle.plans.specs.Stops.{Each, HasFound, IfCold, IsCold, IsNeeded, IsWanted, IsWantedFor, IsNotEmpty}
 use Rattle.plans.proofs.Logs.{log_at}

@@ -5,8 +5,8 @@ use Rattle.words.specs.Store.{Write, writes_key}
 use Rattle.words.specs.Stripes.{stripe_of}
 use Rattle.hybrid.specs.HybridLog.{HybridLog, IsGrown}
 use Rattle.hybrid.specs.Growth.{GrowthLaws}
-use Rattle.plans.specs.Rooms.{GrowsAt, HaveGrown, share}
-use Rattle.plans.specs.Shards.{weigh}
+use Rattle.shards.specs.Rooms.{GrowsAt, HaveGrown, share}
+use Rattle.shards.specs.Shards.{weigh}
 use Rattle.plans.proofs.Rooms.{share_away, share_hidden, share_last}
 use Rattle.plans.proofs.Stores.{some_is}
 

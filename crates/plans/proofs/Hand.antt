@@ -1,37 +1,20 @@
 -- What the log's invariant says of lookups, and where no page is wanted.
-use Rattle.std.proofs.Common.{inl, inr, ◌≡◌, ◌∙◌, ℕ, zero, suc, ◌-◌, ◌<◌, ◌≤◌, true, false, List, [], ◌∷◌, ◌++◌, ◌||◌, Option, Some, None, Result, Ok, Err, IfErr, IsOk, cond, bytes_eq, length, ap, subst, arith}
+use Rattle.std.proofs.Common.{inl, inr, ◌≡◌, ◌∙◌, ℕ, zero, suc, ◌-◌, ◌<◌, true, false, List, [], ◌∷◌, ◌++◌, ◌||◌, Option, Some, None, Result, Ok, Err, IfErr, IsOk, cond, length, ap, arith}
 use Rattle.std.specs.Prelude.{slice_index_or}
-use Rattle.std.specs.List.{All}
 use Rattle.std.proofs.lemmas.Bool.{cases_lt, le-ltb}
-use Rattle.records.specs.Records.{Stored, value_bytes}
-use Rattle.words.specs.declared.limits.TheConstants.{VALUE_BYTES_MAX}
 use Rattle.words.specs.Store.{Bytes, Store, Write}
 use Rattle.transact.specs.Tables.{values_of}
 use Rattle.words.specs.History.{is_among}
 use Rattle.words.specs.Stripes.{stripe_of}
-use Rattle.hybrid.specs.Log.{Log, IsShort, contents, newest, value_of}
-use Rattle.hybrid.specs.HybridLog.{HybridLog, IsHybridLog, Kept, log_of, receipt_at, receipt_of}
+use Rattle.hybrid.specs.HybridLog.{HybridLog, IsHybridLog, Kept, receipt_at, receipt_of}
 use Rattle.hybrid.specs.Staging.{StagedPage, IsMissing}
-use Rattle.plans.specs.declared.shard.Shard.{Shard}
+use Rattle.shards.specs.declared.shard.Shard.{Shard}
 use Rattle.plans.specs.declared.stop.Stop.{Stop}
 use Rattle.plans.specs.Memory.{AreAtHand, IsAtHand}
-use Rattle.plans.specs.Shards.{logs_of, shard_log}
+use Rattle.shards.specs.Shards.{logs_of, shard_log}
 use Rattle.plans.specs.Stops.{AreCold, IfNoMemory, IsCold}
 use Rattle.plans.proofs.Logs.{log_at}
 use Rattle.plans.proofs.Stores.{same_key}
-
-short_in : (log : Log) (key value : List ℕ) → All (λ (e : ℕ × Stored). IsShort e.1) log → contents log key ≡ Some value → length value ≤ VALUE_BYTES_MAX
-unfolding newest contents
-short_in [] key value all has = absurd (cc has)
-short_in (e ∷ log) key value all has =
-    elim (bytes_eq e.1.key key) as (λ b. value_of (cond b (Some e) (newest log key)) ≡ Some value → length value ≤ VALUE_BYTES_MAX) [
-      | true ↦ λ h. subst (λ (v : Option (List ℕ)). length (value_bytes v) ≤ VALUE_BYTES_MAX) h (all 0 e (omega arith)).fits.value_fits
-      | false ↦ λ h. short_in log key value (λ k d below. all (suc k) d (omega (arith, below))) h
-    ] has
-
--- a value that a log has is not longer than a value may be
-pub short_value : (p : HybridLog) (key value : List ℕ) → IsHybridLog p → contents (log_of p) key ≡ Some value → length value ≤ VALUE_BYTES_MAX
-short_value p key value is has = short_in (log_of p) key value is.short has
 
 within : (kept : List (Option Kept)) (i : ℕ) (k : Kept) → slice_index_or kept i None ≡ Some k → i < length kept
 within [] i k there = absurd (cc there)

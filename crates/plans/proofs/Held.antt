@@ -4,7 +4,7 @@ use Rattle.words.specs.Store.{Write}
 use Rattle.hybrid.specs.Staging.{AreRight}
 use Rattle.plans.specs.declared.stop.Stop.{Stop}
 use Rattle.plans.specs.declared.stop.Stop.TheVariants as stop
-use Rattle.plans.specs.Rooms.{share}
+use Rattle.shards.specs.Rooms.{share}
 use Rattle.plans.specs.Stops.{IfFull}
 
 -- no page is staged

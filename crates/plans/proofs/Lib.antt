@@ -16,8 +16,5 @@ pub mod Hand
 pub mod Few
 pub mod Installed
 pub mod Held
-pub mod Counts
 pub mod Raised
 pub mod Freed
-pub mod Refreed
-pub mod Cleaned

@@ -2,8 +2,8 @@
 use Rattle.std.proofs.Common.{◌≡◌, ◌≢◌, ◌∙◌, ⊎_elim, ℕ, Option, Some, ap, sym}
 use Rattle.std.proofs.lemmas.Bool.{cases_eq}
 use Rattle.std.specs.Prelude.{option_map}
-use Rattle.plans.specs.declared.shard.Shard.{Shard}
-use Rattle.plans.specs.Shards.{SameLogs, logs_of, shard_log}
+use Rattle.shards.specs.declared.shard.Shard.{Shard}
+use Rattle.shards.specs.Shards.{SameLogs, logs_of, shard_log}
 
 module _ {R : Type 0} where
   -- the log of a part that is there

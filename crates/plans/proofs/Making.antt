@@ -7,7 +7,7 @@ use Rattle.hybrid.specs.declared.stripe.room.Purpose.{Purpose}
 use Rattle.hybrid.specs.HybridLog.{HybridLog, Kept}
 use Rattle.plans.specs.declared.stop.Stop.{Stop}
 use Rattle.plans.specs.declared.stop.Stop.TheVariants as stop
-use Rattle.plans.specs.Rooms.{AreRoomy, IsFullAt, LacksRoom, LacksRoomAt, MakesRoom, MeetsFull, RoomAt, ShedFew, ShedsAt, purpose_of, share}
+use Rattle.shards.specs.Rooms.{AreRoomy, IsFullAt, LacksRoom, LacksRoomAt, MakesRoom, MeetsFull, RoomAt, ShedFew, ShedsAt, purpose_of, share}
 use Rattle.plans.specs.Stops.{IfCold, IfFull, faults}
 use Rattle.plans.proofs.Few.{few_from}
 

@@ -1,5 +1,5 @@
 -- Counts that were raised, some of which have gone.
-use Rattle.std.proofs.Common.{◌+◌, ◌<◌, inl, inr, ⊎_elim, ℕ, List, [], ◌∷◌, ◌++◌, append_assoc, append-nil, subst, arith}
+use Rattle.std.proofs.Common.{◌+◌, inl, inr, ⊎_elim, ℕ, List, [], ◌∷◌, ◌++◌, append_assoc, subst, arith}
 use Rattle.gates.specs.Background.{AreRaised, IsEachRefused}
 
 all_gone : (by : ℕ) (was : List ℕ) → AreRaised by was []
@@ -34,13 +34,6 @@ raised_twice one two (w ∷ a) (n ∷ b) (z ∷ c) first second =
     ⊎_elim
     (λ left. ⊎_elim (λ x. inl (omega (arith, left.0, x.0), raised_twice one two a b c left.1 x.1)) (λ y. inr (raised_twice one two a b (z ∷ c) left.1 y)) second)
     (λ gone. inr (raised_twice one two a (n ∷ b) (z ∷ c) gone second)) first
-
--- one more was tried: it has gone, or its count is greater
-pub raised_gone : (a b : List ℕ) (w : ℕ) → AreRaised 1 a b → AreRaised 1 (a ++ w ∷ []) b
-raised_gone a b w is = subst (λ (l : List ℕ). AreRaised 1 (a ++ w ∷ []) l) (append-nil b) (raised_both 1 a b (w ∷ []) [] is tt)
-
-pub raised_left : (a b : List ℕ) (w n : ℕ) → w < n → AreRaised 1 a b → AreRaised 1 (a ++ w ∷ []) (b ++ n ∷ [])
-raised_left a b w n less is = raised_both 1 a b (w ∷ []) (n ∷ []) is (inl (omega (arith, less), tt))
 
 -- counts to which some came may be raised again
 pub each_later : (a b c : List ℕ) → (more : List ℕ) → AreRaised 0 (a ++ more) b → IsEachRefused b c → IsEachRefused a c

@@ -5,9 +5,9 @@ use Rattle.words.specs.Store.{Bytes, Write, writes_key, weight}
 use Rattle.words.specs.Stripes.{stripe_of}
 use Rattle.hybrid.specs.HybridLog.{HybridLog, HasRoom}
 use Rattle.transact.specs.Tables.{AreThere, keys_written}
-use Rattle.plans.specs.Shards.{weigh}
+use Rattle.shards.specs.Shards.{weigh}
 use Rattle.plans.proofs.Stores.{some_is}
-use Rattle.plans.specs.Rooms.{share, AreRoomy, IsRoomyAt}
+use Rattle.shards.specs.Rooms.{share, AreRoomy, IsRoomyAt}
 
 -- room for more is room for less
 pub room_less : (p : HybridLog) (u w : ℕ) → u ≤ w → HasRoom p w → HasRoom p u

@@ -2,8 +2,8 @@
 use Rattle.std.proofs.Common.{◌≡◌, ◌≢◌, ◌∙◌, ⊎_elim, ℕ, Option, Some, ap, sym}
 use Rattle.std.proofs.lemmas.Bool.{cases_eq}
 use Rattle.std.specs.Prelude.{option_map}
-use Rattle.plans.specs.declared.shard.Shard.{Shard}
-use Rattle.plans.specs.Shards.{SameWaits, shard_waiting, waits_of}
+use Rattle.shards.specs.declared.shard.Shard.{Shard}
+use Rattle.shards.specs.Shards.{SameWaits, shard_waiting, waits_of}
 
 module _ {R : Type 0} where
   waits_at : (parts : ℕ → Option (Shard R)) (i : ℕ) (part : Shard R) → parts i ≡ Some part → waits_of parts i ≡ Some (shard_waiting part)

@@ -1,13 +1,4 @@
-pub mod Counted
-pub mod Cleaning
-pub mod Freeing
-pub mod Flushing
-pub mod Heard
-pub mod Receipts
-pub mod Shards
-pub mod Rooms
 pub mod Stops
 pub mod Sizes
 pub mod Reading
 pub mod Memory
-pub mod Devices

@@ -10,16 +10,16 @@ ghost use Rattle.strings.specs.Overlays.{NeedsNoMemory, shown};
 ghost use Rattle.transact.specs.Memory.{of_one_key};
 ghost use Rattle.transact.specs.Tables.{AreThere, joined};
 ghost use Rattle.hybrid.specs.Staging.{AreRight};
-ghost use Rattle.plans.specs.Shards.{logs_of, shard_meaning};
+ghost use Rattle.shards.specs.Shards.{logs_of, shard_meaning};
 ghost use Rattle.plans.specs.Memory.{AreAtHand};
 ghost use Rattle.plans.specs.Stops.{HasFound, IsNeeded};
 
 use crate::cells::find_key;
-use crate::shard::Shard;
 use crate::stop::Receipts;
 use device::Shows;
 use gates::Parts;
 use hybrid::Staged;
+use shards::shard::Shard;
 use std::alloc::Global;
 use strings::found::Findings;
 use strings::keys::{key_at, key_count};

@@ -1,7 +1,6 @@
 //! What a call releases itself, before it is answered that a stripe is full.
 
-ghost use Rattle.std.specs.Prelude.{◌≡◌, ◌≢◌, ◌+◌, ◌<◌, ◌≤◌, ◌∷◌, ℕ, List, Some, IsSome, IfErr, IfOk, OnErr, OnOk, [], true, false};
-ghost use Rattle.std.specs.Bool.{OnFalse, OnTrue};
+ghost use Rattle.std.specs.Prelude.{◌≡◌, ◌≢◌, ◌+◌, ◌<◌, ◌≤◌, ◌∷◌, List, Some, IsSome, IfErr, IfOk, OnErr, OnOk, [], true, false};
 ghost use Rattle.words.specs.declared.limits.TheConstants.{WEIGHT_MAX};
 ghost use Rattle.words.specs.History.{History, Pair};
 ghost use Rattle.words.specs.Session.{Asked, operation_of};
@@ -12,25 +11,25 @@ ghost use Rattle.hybrid.specs.Writing.{AreFit};
 ghost use Rattle.transact.specs.Calls.{asked_of, call_keys};
 ghost use Rattle.transact.specs.Plans.{EndsAll, IsEntry, IsPlan, keys_begun, made};
 ghost use Rattle.transact.specs.Tables.{AreThere, Became, HasBegun, Stand, begins, joined, stays};
-ghost use Rattle.plans.specs.Freeing.{FreesAt, HasDrainedAll, HasFreed, HasReleasedAll, HasRetiredAll, HasTriedAll, IsSpentAt};
-ghost use Rattle.plans.specs.Heard.{HasHeard, HasHeardWorn};
+ghost use Rattle.shards.specs.Freeing.{FreesAt, HasTriedAll, IsSpentAt};
+ghost use Rattle.shards.specs.Heard.{HasHeard, HasHeardWorn};
 ghost use Rattle.plans.specs.Memory.{NeedsNoMemoryOn};
-ghost use Rattle.plans.specs.Rooms.{AreRoomy, IsFullAt, IsRoomyAt};
-ghost use Rattle.plans.specs.Shards.{logs_of, shard_counted, shard_marks, shard_meaning, shard_store, weigh};
+ghost use Rattle.shards.specs.Rooms.{AreRoomy, IsFullAt, IsRoomyAt};
+ghost use Rattle.shards.specs.Shards.{logs_of, shard_meaning, weigh};
 ghost use Rattle.plans.specs.Sizes.{AllShort, IsPlaced};
 ghost use Rattle.plans.specs.Stops.{IfCold, IfFull, IfNoMemory, faults};
 
-use crate::counted::{CountedLog, Moved};
 use crate::plan::Planned;
 use crate::reading::plan_staged;
-use crate::retires::Retires;
-use crate::shard::Shard;
 use crate::short::reserve_set;
 use crate::stop::Stop;
 use device::{Device, Shows};
 use epoch::Epochs;
 use gates::{Parts, Refused};
 use hybrid::Staged;
+use shards::freeing::Freed;
+use shards::retires::Retires;
+use shards::shard::Shard;
 use std::alloc::Global;
 use transact::call::Call;
 use words::word::Word;
@@ -172,43 +171,6 @@ pub fn reserve_freeing<R: Shows, D: Device<Receipt = R>, P: Parts<Shard<R>>, S: 
     }
 }
 
-/// What came of the places of a stripe that wait for their release.
-#[derive(Clone, Copy, Debug)]
-pub struct Freed {
-    /// Whether one was released.
-    pub released: bool,
-    /// What the epochs refused.
-    pub refused: Refused,
-}
-
-impl<R: Shows> Shard<R> {
-    /// Releases each place that can be: retires each unlinked one, drains each retired one, and gives each drained one back to
-    /// the device. What keys have and marks stay. It takes no memory.
-    pub fn free_places<S: Retires, D: Device<Receipt = R>>(
-        &mut self,
-        epochs: &Epochs,
-        own: &mut S,
-        device: &mut D,
-    ) -> Freed
-        requires is { S.is_of epochs.now own.old }
-        ensures is { S.is_of epochs.now own.new }
-        ensures store { shard_store self.new ≡ shard_store self.old }
-        ensures marks { shard_marks self.new ≡ shard_marks self.old }
-        ensures freed { HasFreed (shard_counted self.old) result (shard_counted self.new) }
-        ensures told { HasTriedAll result.refused.retire (S.knows own.old) (S.knows own.new) }
-        ensures counted { D.releases device.new + (shard_counted self.new).log.unreleased ≡ D.releases device.old + (shard_counted self.old).log.unreleased }
-        ensures no_fault { D.failures device.new ≡ D.failures device.old }
-    {
-        let retire = retire_all(&mut self.log, epochs, own);
-        let drain = drain_all(&mut self.log);
-        let released = release_all(&mut self.log, device);
-        Freed {
-            released,
-            refused: Refused { retire, drain },
-        }
-    }
-}
-
 /// Releases each place of a stripe that can be released. What keys have and all marks stay, and other parts stay as they are.
 fn free_at<R: Shows, D: Device<Receipt = R>, P: Parts<Shard<R>>, S: Retires>(
     parts: &mut P,
@@ -230,50 +192,4 @@ fn free_at<R: Shows, D: Device<Receipt = R>, P: Parts<Shard<R>>, S: Retires>(
     ensures keeps { P.keeps parts.old parts.new }
 {
     parts.part(stripe).free_places(epochs, own, device)
-}
-
-/// Retires each unlinked receipt, and says whether the epochs refused one.
-fn retire_all<S: Retires, R: Shows>(log: &mut CountedLog<R>, epochs: &Epochs, own: &mut S) -> bool
-    requires is { S.is_of epochs.now own.old }
-    ensures is { S.is_of epochs.now own.new }
-    ensures retired { HasRetiredAll log.old log.new }
-    ensures all { OnFalse result (log.new.unlinked ≡ []) }
-    ensures told { HasTriedAll result (S.knows own.old) (S.knows own.new) }
-{
-    'all: loop {
-        match log.retire(epochs, own) {
-            Moved::Done => {}
-            Moved::Nothing => return false,
-            Moved::Refused => return true,
-        }
-    }
-}
-
-/// Drains each retired receipt that can be, and says whether one cannot be.
-fn drain_all<R: Shows>(log: &mut CountedLog<R>) -> bool
-    ensures drained { HasDrainedAll log.old log.new }
-    ensures all { OnFalse result (log.new.retired ≡ []) }
-{
-    let mut left = log.retired();
-    'each: while left > 0 {
-        log.turn();
-        left -= 1;
-    }
-    log.retired() > 0
-}
-
-/// Gives each drained receipt back to the device, and says whether there was one.
-fn release_all<R: Shows, D: Device<Receipt = R>>(log: &mut CountedLog<R>, device: &mut D) -> bool
-    ensures released { (count : ℕ) × HasReleasedAll log.old count log.new × (result ≡ true → 0 < count) × (result ≡ false → count ≡ 0) × (D.releases device.new ≡ D.releases device.old + count) }
-    ensures all { log.new.drained ≡ [] }
-    ensures no_fault { D.failures device.new ≡ D.failures device.old }
-{
-    let mut any = false;
-    'all: loop {
-        let _counted = log.stripe();
-        if !log.release(device) {
-            return any;
-        }
-        any = true;
-    }
 }

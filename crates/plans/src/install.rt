@@ -5,15 +5,15 @@ ghost use Rattle.hybrid.specs.HybridLog.{HybridLog};
 ghost use Rattle.hybrid.specs.Log.{Fits};
 ghost use Rattle.hybrid.specs.Writing.{AreFit};
 ghost use Rattle.transact.specs.Tables.{Became, touches};
-ghost use Rattle.plans.specs.declared.shard.Shard.{Shard};
-ghost use Rattle.plans.specs.Rooms.{AreRoomy, HaveGrown};
-ghost use Rattle.plans.specs.Shards.{SameWaits, logs_of, shard_meaning};
+ghost use Rattle.shards.specs.declared.shard.Shard.{Shard};
+ghost use Rattle.shards.specs.Rooms.{AreRoomy, HaveGrown};
+ghost use Rattle.shards.specs.Shards.{SameWaits, logs_of, shard_meaning};
 
 use crate::cells::write;
-use crate::shard::Shard;
 use device::Shows;
 use gates::Parts;
 use hybrid::laws::growth_adds_up;
+use shards::shard::Shard;
 use strings::writes::{Write, writes_to};
 
 /// Makes a write before these others, or passes it over where one of them is to its key.

@@ -13,8 +13,8 @@ ghost use Rattle.transact.specs.declared.call.Call.{Call};
 ghost use Rattle.transact.specs.Calls.{asked_of};
 ghost use Rattle.transact.specs.Plans.{EndsAll, IsInstalled, IsPlan, keys_begun, keys_ended, stripes_with};
 ghost use Rattle.transact.specs.Tables.{AreThere, Became, Stand, begins, stays, touches, touches_and_clears};
-ghost use Rattle.plans.specs.declared.shard.Shard.{Shard};
-ghost use Rattle.plans.specs.Shards.{shard_meaning};
+ghost use Rattle.shards.specs.declared.shard.Shard.{Shard};
+ghost use Rattle.shards.specs.Shards.{shard_meaning};
 
 use device::Shows;
 

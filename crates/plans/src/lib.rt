@@ -7,19 +7,13 @@
 #![tactic(auto)]
 
 mod cells;
-pub mod cleaning;
-pub mod counted;
 mod find;
-pub mod flushing;
 pub mod freeing;
 mod install;
 pub mod laws;
-pub mod looks;
 pub mod marks;
 pub mod plan;
 pub mod reading;
-pub mod retires;
 mod room;
-pub mod shard;
 pub mod short;
 pub mod stop;

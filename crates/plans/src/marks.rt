@@ -1,16 +1,16 @@
 //! Watches that begin and end.
 
 ghost use Rattle.std.specs.Prelude.{◌≡◌, ◌≤◌, [], ◌∷◌, ℕ, List, Option, OnOk, OnErr};
-ghost use Rattle.plans.specs.declared.shard.Shard.{Shard};
+ghost use Rattle.shards.specs.declared.shard.Shard.{Shard};
 ghost use Rattle.transact.specs.Plans.{keys_ended};
 ghost use Rattle.transact.specs.Tables as tables;
 ghost use Rattle.transact.specs.Tables.{AreThere, Became, HasBegun, begins, clears, joined_marks, stays};
-ghost use Rattle.plans.specs.Shards.{SameLogs, SameWaits, shard_meaning};
+ghost use Rattle.shards.specs.Shards.{SameLogs, SameWaits, shard_meaning};
 
 use crate::cells::{begin, clear, is_marked};
-use crate::shard::Shard;
 use device::Shows;
 use gates::Parts;
+use shards::shard::Shard;
 use transact::call::{Call, Watching};
 use words::word::{OutOfMemory, Word};
 

@@ -4,18 +4,18 @@ ghost use Rattle.std.specs.Prelude.{◌≡◌, ◌≢◌, ◌+◌, ◌<◌, ◌�
 ghost use Rattle.words.specs.Store.{weight, writes_key};
 ghost use Rattle.words.specs.declared.limits.TheConstants.{WEIGHT_MAX};
 ghost use Rattle.transact.specs.Tables.{AreThere, Became, keys_written, stays};
-ghost use Rattle.plans.specs.Devices.{StillServes};
-ghost use Rattle.plans.specs.Receipts.{kept_by};
-ghost use Rattle.plans.specs.Rooms.{AreRoomy, IsFullAt, IsRoomyAt, LacksRoomAt, LeaveFrames, LeavesFramesAt, MakesRoom, MeetsFull, ShedFew, ShedsAt, ShedsFewAt, purpose_of, share};
-ghost use Rattle.plans.specs.Shards.{SameWaits, logs_of, shard_meaning, weigh};
+ghost use Rattle.shards.specs.Devices.{StillServes};
+ghost use Rattle.shards.specs.Receipts.{kept_by};
+ghost use Rattle.shards.specs.Rooms.{AreRoomy, IsFullAt, IsRoomyAt, LacksRoomAt, LeaveFrames, LeavesFramesAt, MakesRoom, MeetsFull, ShedFew, ShedsAt, ShedsFewAt, purpose_of, share};
+ghost use Rattle.shards.specs.Shards.{SameWaits, logs_of, shard_meaning, weigh};
 ghost use Rattle.plans.specs.Stops.{IfCold, IfFull, IfNoMemory, faults};
 
 use crate::cells::reserve_at;
-use crate::shard::Shard;
 use crate::stop::Stop;
 use device::{Device, Shows};
 use gates::Parts;
 use hybrid::{Fault, Purpose};
+use shards::shard::Shard;
 use strings::writes::{Write, writes_to};
 use words::hash::stripe_of;
 use words::limits::WEIGHT_OF_KEY;

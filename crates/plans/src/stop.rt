@@ -1,7 +1,7 @@
 //! Why a plan was not made.
 
 ghost use Rattle.std.specs.Prelude.{◌≡◌, [], ◌∷◌, ◌++◌, length, nat_eq, IsOk, OnOk, OnErr, IfSome, IfNone};
-ghost use Rattle.plans.specs.Receipts.{kept_by};
+ghost use Rattle.shards.specs.Receipts.{kept_by};
 
 use device::Shows;
 use std::alloc::Global;
@@ -34,7 +34,7 @@ pub struct Receipts<R: Shows> {
 impl<R: Shows> Model for Receipts<R> {
     ghost use Rattle.std.specs.Prelude.{List, IfNone, ◌≡◌, []};
     ghost use Rattle.hybrid.specs.HybridLog.{Kept};
-    ghost use Rattle.plans.specs.Receipts.{listed};
+    ghost use Rattle.shards.specs.Receipts.{listed};
 
     ghost Value = { List Kept };
 

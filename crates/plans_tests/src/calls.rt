@@ -6,8 +6,8 @@ ghost use Rattle.words.specs.Commands.{MayBeQueued, touches_keys};
 ghost use Rattle.words.specs.History.{MayAllBeQueued};
 ghost use Rattle.hybrid.specs.Writing.{AreFit};
 ghost use Rattle.transact.specs.Plans.{IsEntry};
-ghost use Rattle.plans.specs.Rooms.{AreRoomy};
-ghost use Rattle.plans.specs.Shards.{logs_of};
+ghost use Rattle.shards.specs.Rooms.{AreRoomy};
+ghost use Rattle.shards.specs.Shards.{logs_of};
 ghost use Rattle.plans.specs.Sizes.{IsPlaced};
 ghost use Rattle.plans_tests.specs.Held.{SameCount, part_at};
 

@@ -4,7 +4,7 @@ ghost use Rattle.std.specs.Prelude.{◌≡◌, length};
 
 use device::Device;
 use gates::Parts;
-use plans::shard::Shard;
+use shards::shard::Shard;
 
 /// The stripes of a store, all of them held, whatever a shard is.
 #[derive(Drop)]

@@ -1,5 +1,5 @@
-//! Tests of calls over stripes that are logs, through the public items of `plans` alone. They stand apart from it,
-//! so that it is not proved a second time with them.
+//! Tests of calls over stripes that are logs, and of such stripes, through the public items of `plans` and `shards` alone.
+//! They stand apart from these, so that neither is proved a second time with them.
 #![tactic(auto)]
 
 pub mod calls;

@@ -3,7 +3,7 @@
 use crate::calls::submit;
 use crate::held::{Store, Stripes};
 use device::{Device, Faulty, MemoryDevice};
-use plans::shard::Shard;
+use shards::shard::Shard;
 use std::alloc::Global;
 use std::collections::BTreeMap;
 use strings::keys::{key_at, key_count};

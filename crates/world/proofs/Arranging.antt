@@ -3,8 +3,8 @@ use Rattle.std.proofs.Common.{◌≡◌, ℕ, false, List, [], ◌∷◌, length
 use Rattle.hybrid.specs.HybridLog.{Kept}
 use Rattle.hybrid.specs.Staging.{AreRight, StagedPage}
 use Rattle.transact.specs.declared.call.Call.{Call}
-use Rattle.plans.specs.declared.shard.Shard.{Shard}
-use Rattle.plans.specs.Shards.{logs_of}
+use Rattle.shards.specs.declared.shard.Shard.{Shard}
+use Rattle.shards.specs.Shards.{logs_of}
 use Rattle.plans.specs.Stops as plans
 use Rattle.plans.specs.Stops.{AreCold, IsCold, IsNotEmpty, keys_looked_up}
 use Rattle.world_log.specs.Places.{Receipt}

@@ -15,9 +15,9 @@ use Rattle.transact.specs.Tables.{Became, Stand, begins, joined, stays}
 use Rattle.plans.specs.declared.plan.Planned.{Planned}
 use Rattle.plans.specs.declared.stop.Stop.{Stop}
 use Rattle.plans.specs.declared.stop.Stop.TheVariants as stop
-use Rattle.plans.specs.Devices.{IsReadAlone}
-use Rattle.plans.specs.Rooms.{AreRoomy, MakesRoom, MeetsFull}
-use Rattle.plans.specs.Shards.{shard_meaning}
+use Rattle.shards.specs.Devices.{IsReadAlone}
+use Rattle.shards.specs.Rooms.{AreRoomy, MakesRoom, MeetsFull}
+use Rattle.shards.specs.Shards.{shard_meaning}
 use Rattle.plans.specs.Sizes.{AllShort}
 use Rattle.plans.specs.Reading.{AreServed}
 use Rattle.plans.specs.Stops.{AreCold, IfCold, IfFull, faults, keys_looked_up}

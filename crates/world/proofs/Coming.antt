@@ -20,11 +20,11 @@ use Rattle.transact.specs.Plans.{IsEntry, IsPlan, keys_begun, made}
 use Rattle.transact.specs.Submits.{stripes_asked}
 use Rattle.transact.specs.Tables.{Became, Stand, begins, stays}
 use Rattle.plans.specs.declared.plan.Planned.{Planned}
-use Rattle.plans.specs.declared.shard.Shard.{Shard}
-use Rattle.plans.specs.Rooms.{AreRoomy, MakesRoom}
-use Rattle.plans.specs.Rooms as rooms
+use Rattle.shards.specs.declared.shard.Shard.{Shard}
+use Rattle.shards.specs.Rooms.{AreRoomy, MakesRoom}
+use Rattle.shards.specs.Rooms as rooms
 use Rattle.plans.specs.Sizes.{IsPlaced}
-use Rattle.plans.specs.Shards.{logs_of, shard_log, shard_meaning, shard_store, shard_marks}
+use Rattle.shards.specs.Shards.{logs_of, shard_log, shard_meaning, shard_store, shard_marks}
 use Rattle.connection.specs.Clients.{Progress}
 use Rattle.world_log.specs.Places.{Receipt, Shelves, Wrote, SamePlaces, view}
 use Rattle.world_log.specs.Freeing.{HasFreed, HasStepped}

@@ -22,7 +22,7 @@ use Rattle.transact.specs.Tables.{AreThere, Change, clears}
 use Rattle.hybrid.specs.HybridLog.{HybridLog}
 use Rattle.hybrid.specs.Staging.{AreRight}
 use Rattle.plans.specs.declared.plan.Planned.{Planned}
-use Rattle.plans.specs.Rooms.{AreRoomy, HaveGrown}
+use Rattle.shards.specs.Rooms.{AreRoomy, HaveGrown}
 use Rattle.connection.specs.Clients.{Progress}
 use Rattle.world_events.specs.declared.event.Event.TheVariants as event
 use Rattle.world_log.specs.Places.{Receipt, Shelves}

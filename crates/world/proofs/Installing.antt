@@ -19,9 +19,9 @@ use Rattle.gates.specs.Sets.{inserted}
 use Rattle.transact.specs.Plans.{keys_begun, keys_ended, stripes_with}
 use Rattle.transact.specs.Tables.{AreThere, Became, PartBecame, begins, clears, touches, touches_and_clears}
 use Rattle.hybrid.specs.HybridLog.{HybridLog}
-use Rattle.plans.specs.declared.shard.Shard.{Shard}
-use Rattle.plans.specs.Rooms.{AreRoomy}
-use Rattle.plans.specs.Shards.{SameWaits, logs_of, shard_log, shard_store, shard_marks, shard_meaning}
+use Rattle.shards.specs.declared.shard.Shard.{Shard}
+use Rattle.shards.specs.Rooms.{AreRoomy}
+use Rattle.shards.specs.Shards.{SameWaits, logs_of, shard_log, shard_store, shard_marks, shard_meaning}
 use Rattle.world_log.specs.Places.{Receipt}
 use Rattle.world_log.specs.Types.{Lane, Stripes}
 use Rattle.world_log.specs.Stripes.{IsEven, KeepsLanes, KeepsOthers, acts_for, lent, part_in, marks_of, stores_of}

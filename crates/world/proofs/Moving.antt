@@ -11,7 +11,7 @@ use Rattle.words.specs.Store.{Write}
 use Rattle.words.specs.Session.{Asked}
 use Rattle.hybrid.specs.Staging.{AreRight}
 use Rattle.transact.specs.declared.call.Call.{Call}
-use Rattle.plans.specs.Shards.{logs_of}
+use Rattle.shards.specs.Shards.{logs_of}
 use Rattle.world_events.specs.declared.event.Event.{Event}
 use Rattle.world_events.specs.declared.event.Event.TheVariants as event
 use Rattle.world_log.specs.Places.{Receipt, Shelves, places_of}

@@ -15,9 +15,9 @@ use Rattle.transact.specs.Plans.{IsPlan, keys_begun, keys_ended}
 use Rattle.transact.specs.Submits.{stripes_asked}
 use Rattle.transact.specs.Tables.{AreThere, Became, begins, clears, joined, touches_and_clears}
 use Rattle.plans.specs.declared.plan.Planned.{Planned}
-use Rattle.plans.specs.declared.shard.Shard.{Shard}
-use Rattle.plans.specs.Rooms.{AreRoomy, HaveGrown, MakesRoom}
-use Rattle.plans.specs.Shards.{SameLogs, shard_marks, shard_meaning}
+use Rattle.shards.specs.declared.shard.Shard.{Shard}
+use Rattle.shards.specs.Rooms.{AreRoomy, HaveGrown, MakesRoom}
+use Rattle.shards.specs.Shards.{SameLogs, shard_marks, shard_meaning}
 use Rattle.plans.specs.Sizes.{AllShort}
 use Rattle.world_log.specs.Places.{Receipt, Shelves, Wrote, view}
 use Rattle.world_log.specs.PlanLaws.{logs_lent, with_parts}

@@ -4,8 +4,8 @@ use Rattle.std.proofs.lemmas.Bool.{cases_eq}
 use Rattle.std.proofs.lemmas.Slice.Eq.{bytes_eq-Decides}
 use Rattle.words.specs.Store.{Bytes, Write, writes_key, weight}
 use Rattle.words.specs.Stripes.{stripe_of}
-use Rattle.plans.specs.Rooms.{share}
-use Rattle.plans.specs.Shards.{weigh}
+use Rattle.shards.specs.Rooms.{share}
+use Rattle.shards.specs.Shards.{weigh}
 use Rattle.world_model.specs.Rooms.{is_written_in}
 
 -- what the first of writes weighs, by whether a later one hides it

@@ -17,8 +17,8 @@ use Rattle.transact.specs.declared.call.Call.TheVariants.{One, Watch, Exec, Forg
 use Rattle.transact.specs.Calls.{asked_of, call_keys, call_of}
 use Rattle.transact.specs.Plans.{keys_begun}
 use Rattle.transact.specs.Tables.{any_marked, begins, value_in}
-use Rattle.plans.specs.declared.shard.Shard.{Shard}
-use Rattle.plans.specs.Shards.{shard_meaning, shard_store, shard_marks}
+use Rattle.shards.specs.declared.shard.Shard.{Shard}
+use Rattle.shards.specs.Shards.{shard_meaning, shard_store, shard_marks}
 use Rattle.plans.specs.Sizes.{IsShort}
 use Rattle.connection.specs.Clients.{Progress}
 use Rattle.world_log.specs.Places.{Receipt}

@@ -5,8 +5,8 @@ use Rattle.words.specs.declared.reply.Reply.{Reply}
 use Rattle.words.specs.Store.{Write}
 use Rattle.words.specs.Session.{Asked}
 use Rattle.transact.specs.declared.call.Call.{Call}
-use Rattle.plans.specs.Rooms.{AreRoomy}
-use Rattle.plans.specs.Shards.{logs_of}
+use Rattle.shards.specs.Rooms.{AreRoomy}
+use Rattle.shards.specs.Shards.{logs_of}
 use Rattle.connection.specs.Clients.{Progress}
 use Rattle.world_log.specs.Stripes.{acts_for, lent}
 use Rattle.world_log.specs.Types.{Stripes}

@@ -14,8 +14,8 @@ use Rattle.transact.specs.Calls.{asked_of}
 use Rattle.transact.specs.Plans.{EndsAll, IsPlan, keys_begun, made}
 use Rattle.transact.specs.Tables.{Became, Stand, begins, clears, joined, stays}
 use Rattle.plans.specs.declared.plan.Planned.{Planned}
-use Rattle.plans.specs.Rooms.{AreRoomy, HaveGrown, MakesRoom, MeetsFull}
-use Rattle.plans.specs.Shards.{shard_meaning}
+use Rattle.shards.specs.Rooms.{AreRoomy, HaveGrown, MakesRoom, MeetsFull}
+use Rattle.shards.specs.Shards.{shard_meaning}
 use Rattle.plans.specs.Sizes.{AllShort}
 use Rattle.plans.specs.Stops.{AreCold, keys_looked_up}
 use Rattle.world_log.specs.Places.{Receipt, Shelves, Wrote, SamePlaces, view}

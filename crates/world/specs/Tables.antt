@@ -9,8 +9,8 @@ use Rattle.transact.specs.declared.call.Call.{Call}
 use Rattle.hybrid.specs.HybridLog.{HybridLog, HasRoom}
 use Rattle.hybrid.specs.Writing.{AreFit}
 use Rattle.plans.specs.declared.plan.Planned.{Planned}
-use Rattle.plans.specs.Rooms.{AreRoomy}
-use Rattle.plans.specs.Shards.{logs_of}
+use Rattle.shards.specs.Rooms.{AreRoomy}
+use Rattle.shards.specs.Shards.{logs_of}
 use Rattle.world_log.specs.Given.{StaysGiven}
 use Rattle.world_log.specs.Stripes.{acts_for, lent, with_holder}
 use Rattle.world_log.specs.WorldLogs.{IsWorldLog, KeepsHeld, Took, epoch_of}

@@ -4,7 +4,7 @@ ghost use Rattle.std.specs.Prelude.{◌≡◌, ◌<◌, None, IfErr, IfOk, OnOk,
 ghost use Rattle.hybrid.specs.Staging.{AreRight};
 ghost use Rattle.plans.specs.Reading.{AreServed};
 ghost use Rattle.plans.specs.Sizes.{IsPlaced};
-ghost use Rattle.plans.specs.Rooms.{AreRoomy};
+ghost use Rattle.shards.specs.Rooms.{AreRoomy};
 ghost use Rattle.plans.specs.Stops.{IfCold, IfFull};
 ghost use Rattle.plans.specs.Stops as plans;
 ghost use Rattle.hybrid.specs.Writing.{AreFit};

@@ -11,7 +11,7 @@ use Rattle.hybrid.specs.Staging.{IsUnlinked}
 use Rattle.frames.specs.Resident.{page_of}
 use Rattle.world_model.specs.Places.{Each}
 use Rattle.world_log.specs.Places.{Receipt, Shelf, Shelves, Wrote, flag, view, with_shelf}
-use Rattle.plans.specs.Counted.{Counted, HasLanded, HasUnlinked, with_flight}
+use Rattle.shards.specs.Counted.{Counted, HasLanded, HasUnlinked, with_flight}
 use Rattle.world_log.specs.Beside.{Beside, DoesDrain, DoesRelease, DoesRetire, DoesWrite, IsWritten, beside_of}
 use Rattle.world_log.specs.declared.queues.Queues.{Queues}
 use Rattle.world_log.specs.Given.{IsGiven, IsGivenKept, AreGivenKept, IsGivenBy, AreAllGiven, StaysGiven, KeepsGiven}

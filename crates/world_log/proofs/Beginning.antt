@@ -7,9 +7,9 @@ use Rattle.records.specs.Page.{empty_page}
 use Rattle.records.specs.Records.{Stored, records_of}
 use Rattle.hybrid.specs.HybridLog.{HybridLog, IsHybridLog, Kept, empty_log, log_of}
 use Rattle.hybrid.specs.Log.{Log, contents, log_from, newest, newest_first, page_log, value_of}
-use Rattle.plans.specs.Counted.{Counted}
-use Rattle.plans.specs.Shards.{shard_counted, shard_log, shard_marks}
-use Rattle.plans.specs.declared.shard.Shard.{Shard}
+use Rattle.shards.specs.Counted.{Counted}
+use Rattle.shards.specs.Shards.{shard_counted, shard_log, shard_marks}
+use Rattle.shards.specs.declared.shard.Shard.{Shard}
 use Rattle.world_model.specs.Logs.{LogState, new_log, unreleased}
 use Rattle.world_model.specs.States.{State, start}
 use Rattle.world_log.specs.Beside.{Beside, IsFaithful, beside_of, count_flushing, flushing_of, log_state, place_of, place_stamped}

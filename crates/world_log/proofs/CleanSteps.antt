@@ -22,8 +22,8 @@ use Rattle.hybrid.specs.HybridLog.{HybridLog, IsHybridLog, Kept, count_kept, rec
 use Rattle.hybrid.specs.Staging.{StagedPage, IsMissing}
 use Rattle.world_log.specs.MakingRoom.{ShedsMany, HasMadeRoom}
 use Rattle.world_log.specs.Places.{Receipt, Shelf, Shelves, Serves, SamePlaces, Wrote, identity, page_released, places_of, view}
-use Rattle.plans.specs.Counted as counting
-use Rattle.plans.specs.Counted.{Counted}
+use Rattle.shards.specs.Counted as counting
+use Rattle.shards.specs.Counted.{Counted}
 use Rattle.world_log.specs.Beside.{Agrees, Beside, IsFaithful, beside_of, log_state, place_kept, place_of}
 use Rattle.world_log.specs.declared.queues.Queues.{Queues}
 use Rattle.world_log.specs.Cleaning.{IsServedBy, AreServed, IsFetched, HasUnlinked}

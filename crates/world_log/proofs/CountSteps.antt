@@ -6,7 +6,7 @@ use Rattle.records.specs.declared.pages.Page.{Page}
 use Rattle.frames.specs.Resident.{first_mutable, page_of}
 use Rattle.hybrid.specs.HybridLog as hybrid
 use Rattle.hybrid.specs.HybridLog.{HybridLog, IsHybridLog, IsSealed}
-use Rattle.plans.specs.Counted.{Counted, HasLanded, HasTaken, IsAsWritten, with_flight, without_flight}
+use Rattle.shards.specs.Counted.{Counted, HasLanded, HasTaken, IsAsWritten, with_flight, without_flight}
 use Rattle.words.specs.Store.{Bytes}
 use Rattle.hybrid.specs.Reserving.{IsReserved}
 use Rattle.hybrid.specs.Shedding.{HasShed}

@@ -2,7 +2,7 @@
 use Rattle.std.proofs.Common.{◌≡◌, ap}
 use Rattle.hybrid.specs.HybridLog.{IsHybridLog, SameContents}
 use Rattle.hybrid.specs.Log.{Log, contents}
-use Rattle.plans.specs.Shards.{shard_marks}
+use Rattle.shards.specs.Shards.{shard_marks}
 use Rattle.world_log.specs.Beside.{Agrees, IsAlike, SameLog}
 use Rattle.world_log.specs.Lanes.{StaysRight}
 use Rattle.world_log.specs.Stripes.{lane_counted, lane_log}

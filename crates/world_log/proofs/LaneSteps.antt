@@ -17,9 +17,9 @@ use Rattle.world_model.specs.States.{with_log}
 use Rattle.world_log.specs.Beside.{Agrees, Beside, Does, DoesCopy, DoesDrain, DoesDrop, DoesInstall, DoesRetire, DoesWrite, IsAlike, IsFaithful, IsNumbered, IsWritten, beside_of, count_flushing, flights, flushing_of, has_copy, has_receipt, log_state, may_copy, place_of, place_stamped}
 use Rattle.words.specs.Store.{Bytes}
 use Rattle.world_log.specs.Places.{Receipt, Shelves, places_of, page_released, with_shelf}
-use Rattle.plans.specs.Counted.{Counted}
-use Rattle.plans.specs.Shards.{shard_counted, shard_log}
-use Rattle.plans.specs.declared.shard.Shard.{Shard}
+use Rattle.shards.specs.Counted.{Counted}
+use Rattle.shards.specs.Shards.{shard_counted, shard_log}
+use Rattle.shards.specs.declared.shard.Shard.{Shard}
 use Rattle.world_log.specs.Stripes.{lane_beside, lane_counted, lane_log, lane_state}
 use Rattle.world_log.specs.WorldLogs.{AreRising, IsLane, IsWorldLog, IsOldest, state_beside, all_stays_past, stays_of}
 use Rattle.world_log.proofs.Agreeing.{total}

@@ -11,8 +11,8 @@ use Rattle.hybrid.specs.Growth.{GrowthLaws}
 use Rattle.hybrid.specs.HybridLog.{HybridLog, IsGrown, Kept, receipt_at, receipt_of}
 use Rattle.hybrid.specs.Staging.{StagedPage}
 use Rattle.plans.specs.Reading as reading
-use Rattle.plans.specs.Rooms as rooms
-use Rattle.plans.specs.Rooms.{share}
+use Rattle.shards.specs.Rooms as rooms
+use Rattle.shards.specs.Rooms.{share}
 use Rattle.plans.specs.Stops.{IsCold}
 use Rattle.world_model.specs.Commits.{OpensPages, OPENED_MAX}
 use Rattle.world_model.specs.Enabled.{holds}

@@ -11,10 +11,10 @@ use Rattle.frames.specs.Resident as resident
 use Rattle.hybrid.specs.HybridLog as hybrid
 use Rattle.hybrid.specs.HybridLog.{HybridLog, IsGrown, Kept, receipt_at, receipt_of}
 use Rattle.hybrid.specs.Shedding as trace
-use Rattle.plans.specs.Rooms as rooms
-use Rattle.plans.specs.Rooms.{share}
-use Rattle.plans.specs.Counted.{Waiting}
-use Rattle.plans.specs.Shards.{shard_log, shard_waiting, waits_of, weigh}
+use Rattle.shards.specs.Rooms as rooms
+use Rattle.shards.specs.Rooms.{share}
+use Rattle.shards.specs.Counted.{Waiting}
+use Rattle.shards.specs.Shards.{shard_log, shard_waiting, waits_of, weigh}
 use Rattle.world_model.specs.Enabled.{holds}
 use Rattle.world_model.specs.Logs.{LogState, is_full, unreleased}
 use Rattle.world_model.specs.Rooms.{StepsAll, is_written_in, AreWritten, HasNoPlace}

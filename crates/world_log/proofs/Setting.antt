@@ -3,8 +3,8 @@ use Rattle.std.proofs.Common.{◌≡◌, ℕ, ◌∙◌, map, Some, ap, sym, sub
 use Rattle.std.specs.Prelude.{slice_get}
 use Rattle.hybrid.specs.HybridLog.{HybridLog, IsGrown}
 use Rattle.hybrid.specs.Shedding.{HasShed}
-use Rattle.plans.specs.Counted.{Waiting}
-use Rattle.plans.specs.Shards.{shard_waiting}
+use Rattle.shards.specs.Counted.{Waiting}
+use Rattle.shards.specs.Shards.{shard_waiting}
 use Rattle.world_model.specs.Logs.{unreleased}
 use Rattle.world_log.specs.Beside.{Agrees, Beside, IsFaithful, flights, log_state, place_stamped}
 use Rattle.world_log.specs.Given.{AreAllGiven}

@@ -4,8 +4,8 @@ use Rattle.std.specs.Prelude.{slice_get}
 use Rattle.std.proofs.lemmas.Bool.{cases_eq}
 use Rattle.words.specs.Store.{Bytes}
 use Rattle.words.specs.Stripes.{stripe_of}
-use Rattle.plans.specs.declared.shard.Shard.{Shard}
-use Rattle.plans.specs.Shards.{shard_marks, shard_meaning, shard_store}
+use Rattle.shards.specs.declared.shard.Shard.{Shard}
+use Rattle.shards.specs.Shards.{shard_marks, shard_meaning, shard_store}
 use Rattle.transact.specs.Tables.{Became, PartBecame, Change}
 use Rattle.world_events.specs.declared.event.Event.{Event}
 use Rattle.world_model.specs.Advancing.{When}

@@ -3,7 +3,7 @@ use Rattle.std.specs.Prelude.{ℕ, ◌≡◌, ◌+◌, ◌-◌, ◌<◌, ◌≤�
 use Rattle.words.specs.Store.{Bytes}
 use Rattle.frames.specs.Resident.{page_of, next_number, first_mutable}
 use Rattle.hybrid.specs.HybridLog.{HybridLog, Kept, log_of}
-use Rattle.plans.specs.Counted.{Counted}
+use Rattle.shards.specs.Counted.{Counted}
 use Rattle.world_model.specs.Logs.{LogState, Stamped, unreleased, is_full, oldest_sealed, with_copy, with_installed, place_at, dropped}
 use Rattle.world_model.specs.Logs as logs
 use Rattle.world_model.specs.Enabled.{has_none}

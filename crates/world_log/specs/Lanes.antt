@@ -1,7 +1,7 @@
 -- What a step on a stripe leaves.
 use Rattle.std.specs.Prelude.{ℕ, ◌≡◌, List, [], Some, None, length, slice_get}
 use Rattle.words.specs.Store.{Bytes}
-use Rattle.plans.specs.Shards.{shard_store, shard_marks}
+use Rattle.shards.specs.Shards.{shard_store, shard_marks}
 use Rattle.hybrid.specs.HybridLog.{HybridLog, receipt_at}
 use Rattle.world_log.specs.Places.{Receipt, view}
 use Rattle.world_log.specs.Beside.{Agrees, IsAlike, IsNumbered}

@@ -3,7 +3,7 @@ use Rattle.std.specs.Prelude.{ℕ, ◌≡◌, ◌+◌, Bool, true, false, List, 
 use Rattle.words.specs.Store.{Bytes}
 use Rattle.records.specs.Page.{empty_page}
 use Rattle.hybrid.specs.HybridLog.{Kept}
-use Rattle.plans.specs.Receipts.{kept_by}
+use Rattle.shards.specs.Receipts.{kept_by}
 
 -- A receipt: a place, the page that it shows, and whether its place was released since. The device gives none of a place that was released;
 -- by these as well, what it serves says all of its places.

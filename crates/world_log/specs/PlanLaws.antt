@@ -6,8 +6,8 @@ use Rattle.hybrid.specs.HybridLog.{HybridLog, Kept}
 use Rattle.hybrid.specs.Staging.{StagedPage}
 use Rattle.transact.specs.Tables.{Became, Change}
 use Rattle.plans.specs.Reading as reading
-use Rattle.plans.specs.Rooms as rooms
-use Rattle.plans.specs.Shards.{logs_of, shard_meaning}
+use Rattle.shards.specs.Rooms as rooms
+use Rattle.shards.specs.Shards.{logs_of, shard_meaning}
 use Rattle.plans.specs.Stops.{IsCold}
 use Rattle.world_model.specs.Commits.{OpensPages}
 use Rattle.world_model.specs.Enabled.{holds}

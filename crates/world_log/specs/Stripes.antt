@@ -5,8 +5,8 @@ use Rattle.words.specs.Store.{Store, empty}
 use Rattle.words.specs.Watches.{Marks}
 use Rattle.words.specs.Stripes.{stripe_of}
 use Rattle.hybrid.specs.HybridLog.{HybridLog}
-use Rattle.plans.specs.Counted.{Counted}
-use Rattle.plans.specs.Shards.{SameWaits, shard_counted, shard_log, shard_store, shard_marks}
+use Rattle.shards.specs.Counted.{Counted}
+use Rattle.shards.specs.Shards.{SameWaits, shard_counted, shard_log, shard_store, shard_marks}
 use Rattle.world_model.specs.Enabled.{holds}
 use Rattle.world_model.specs.Logs.{LogState, place_at}
 use Rattle.world_model.specs.States.{log_at}

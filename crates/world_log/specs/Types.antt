@@ -1,5 +1,5 @@
 -- The stripes of the world: a lane is over any part in code, and here over the shards of the world.
-use Rattle.plans.specs.declared.shard.Shard.{Shard}
+use Rattle.shards.specs.declared.shard.Shard.{Shard}
 use Rattle.world_log.specs.Places.{Receipt}
 use Rattle.world_log.specs.declared.lanes.Lane as any
 use Rattle.world_log.specs.declared.stripes.Stripes as any_lanes

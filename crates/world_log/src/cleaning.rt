@@ -19,7 +19,7 @@ use crate::works::make_room;
 use device::Shows;
 use hybrid::laws::reading_ends;
 use hybrid::{Room, Staged, Stripe, Weighed};
-use plans::counted::{Cleaning, CountedLog};
+use shards::counted::{Cleaning, CountedLog};
 use std::alloc::Global;
 
 /// Makes room for what lives in the oldest page, which is not resident, and unlinks it; and says whether it

@@ -3,7 +3,7 @@
 ghost use Rattle.std.specs.Prelude.{◌≡◌, ◌<◌, ℕ, [], IfOk, OnOk, IfSome, IfNone, length};
 ghost use Rattle.hybrid.specs.Reading.{HasStaged};
 ghost use Rattle.hybrid.specs.Staging.{AreRight};
-ghost use Rattle.plans.specs.Receipts.{kept_by};
+ghost use Rattle.shards.specs.Receipts.{kept_by};
 ghost use Rattle.world_events.specs.declared.event.Event.TheVariants as event;
 ghost use Rattle.world_model.specs.Enabled.{is_enabled_in};
 ghost use Rattle.world_model.specs.Places.{standing};
@@ -23,7 +23,7 @@ use crate::stopped::Stopped;
 use crate::stripes::Stripes;
 use crate::works::{copied, drain, write};
 use hybrid::Staged;
-use plans::shard::Shard;
+use shards::shard::Shard;
 use std::alloc::Global;
 use words::limits::Limits;
 use world_events::ShownPage;

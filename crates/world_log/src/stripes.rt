@@ -12,7 +12,7 @@ use crate::lanes::Lane;
 use crate::shelves::WorldReceipt;
 use crate::stopped::Stopped;
 use gates::{Parts, Sorted};
-use plans::shard::Shard;
+use shards::shard::Shard;
 use std::alloc::Global;
 use transact::call::{Call, Watching};
 use transact::stripes::{keys_of, stripes_of_keys};

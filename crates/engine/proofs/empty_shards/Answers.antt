@@ -1,5 +1,5 @@
 use Rattle.std.proofs.Common.{rules}
-use Rattle.plans.specs.Shards.{shard_meaning}
+use Rattle.shards.specs.Shards.{shard_meaning}
 use Rattle.engine.proofs.New.{empty_more}
 use Rattle.engine.proofs.empty_shards.Goals as goal
 

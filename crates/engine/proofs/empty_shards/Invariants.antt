@@ -1,6 +1,6 @@
 use Rattle.std.proofs.Common.{◌≡◌, vec_len}
 use Rattle.gates.specs.Plays.{AreEmpty}
-use Rattle.plans.specs.Shards.{shard_meaning}
+use Rattle.shards.specs.Shards.{shard_meaning}
 use Rattle.engine.proofs.empty_shards.Given as goal
 
 abbrev pub invariant-loop : goal.invariant-loop

@@ -7,8 +7,8 @@ use super::full::{Small, clean_once, set, small};
 use crate::held::Store;
 use device::Device;
 use epoch::{EpochSeat, Epochs};
-use plans::freeing::Freed;
-use plans::retires::Retires;
+use shards::freeing::Freed;
+use shards::retires::Retires;
 use std::alloc::Global;
 use std::test::Fail;
 

@@ -9,7 +9,7 @@ use crate::held::Store;
 use device::{Device, MemoryDevice};
 use epoch::{EpochSeat, Epochs};
 use hybrid::Staged;
-use plans::cleaning::Stepped;
+use shards::cleaning::Stepped;
 use std::alloc::Global;
 use std::test::Fail;
 

@@ -1,6 +1,6 @@
 use Rattle.std.proofs.Common.{◌≡◌, false}
 use Rattle.hybrid.specs.Staging.{IsMissing}
-use Rattle.plans.specs.Shards.{shard_log, shard_pages}
+use Rattle.shards.specs.Shards.{shard_log, shard_pages}
 use Rattle.background.proofs.Settling.{cold_as, may_tell}
 use Rattle.background.proofs.cells.clean_at.Goals as goal
 

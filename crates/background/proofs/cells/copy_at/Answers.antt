@@ -1,8 +1,8 @@
 use Rattle.std.proofs.Common.{◌≡◌, Option, Some, IsSome, refl, subst, sym}
 use Rattle.hybrid.specs.HybridLog.{Kept, receipt_at}
-use Rattle.plans.specs.declared.shard.Shard.{Shard}
-use Rattle.plans.specs.Receipts.{kept_by}
-use Rattle.plans.specs.Shards.{shard_log}
+use Rattle.shards.specs.declared.shard.Shard.{Shard}
+use Rattle.shards.specs.Receipts.{kept_by}
+use Rattle.shards.specs.Shards.{shard_log}
 use Rattle.background.specs.Visits.{Keeps}
 use Rattle.background.proofs.Settling.{ok_as}
 use Rattle.background.proofs.Visiting.{some_same}

@@ -2,7 +2,7 @@ use Rattle.std.proofs.Common.{ap}
 use Rattle.words.specs.Store.{Store}
 use Rattle.gates.specs.Background.{IsSpent}
 use Rattle.gates.specs.Pages.{IsFull}
-use Rattle.plans.specs.Shards.{shard_pages}
+use Rattle.shards.specs.Shards.{shard_pages}
 use Rattle.background.proofs.Settling.{unflushed_as}
 use Rattle.background.proofs.cells.flush_at.Goals as goal
 

@@ -4,11 +4,11 @@ use Rattle.gates.specs.declared.report.Report.{Report}
 use Rattle.gates.specs.Background.{IsToldOf, notes_of}
 use Rattle.gates.specs.Plays.{kept}
 use Rattle.hybrid.specs.Staging.{IsMissing}
-use Rattle.plans.specs.declared.cleaning.Stepped.TheVariants as stepped
+use Rattle.shards.specs.declared.cleaning.Stepped.TheVariants as stepped
 use Rattle.gates.specs.Helds.{held_parts, held_taken, known_to}
 use Rattle.gates.specs.Passes.{ToldBusy, known}
 use Rattle.gates.specs.Sets.{inserted, part_at}
-use Rattle.plans.specs.Shards.{shard_log, shard_meaning}
+use Rattle.shards.specs.Shards.{shard_log, shard_meaning}
 use Rattle.background.specs.Visits.{report_for, round_for}
 use Rattle.background.proofs.Settling.{cold_is, kept_of, looked_outside, may_be_told, ok_is, on_ok_is, round_is, settled}
 use Rattle.background.proofs.Visiting.{fit_held, fit_same}

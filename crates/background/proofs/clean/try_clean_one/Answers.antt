@@ -6,7 +6,7 @@ use Rattle.gates.specs.Helds.{held_parts, held_taken, known_to}
 use Rattle.gates.specs.Passes.{known}
 use Rattle.gates.specs.Plays.{kept}
 use Rattle.gates.specs.Sets.{part_at}
-use Rattle.plans.specs.Shards.{shard_meaning}
+use Rattle.shards.specs.Shards.{shard_meaning}
 use Rattle.background.specs.declared.clean.Round.TheVariants as round
 use Rattle.background.specs.Visits.{report_for, round_for}
 use Rattle.background.proofs.Settling.{may_be_told, never_again, ok_is, round_is, settled}

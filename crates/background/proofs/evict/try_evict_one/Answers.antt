@@ -1,6 +1,6 @@
 use Rattle.std.proofs.Common.{◌∙◌, ap, rules}
 use Rattle.gates.specs.Sets.{part_at}
-use Rattle.plans.specs.Shards.{shard_meaning}
+use Rattle.shards.specs.Shards.{shard_meaning}
 use Rattle.background.proofs.Visiting.{fit_held, one_of}
 use Rattle.background.proofs.evict.try_evict_one.Goals as goal
 

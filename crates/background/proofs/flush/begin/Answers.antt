@@ -1,7 +1,7 @@
 use Rattle.std.proofs.Common.{◌∙◌, ap}
 use Rattle.epoch.specs.Seats as seats
 use Rattle.gates.specs.Sets.{part_at}
-use Rattle.plans.specs.Shards.{shard_meaning}
+use Rattle.shards.specs.Shards.{shard_meaning}
 use Rattle.background.proofs.Settling.{heard_by}
 use Rattle.background.proofs.Visiting.{fit_held}
 use Rattle.background.proofs.flush.begin.Goals as goal

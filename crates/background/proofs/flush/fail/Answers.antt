@@ -1,4 +1,4 @@
-use Rattle.plans.specs.Shards.{shard_meaning}
+use Rattle.shards.specs.Shards.{shard_meaning}
 use Rattle.background.proofs.Visiting.{fit_held}
 use Rattle.background.proofs.flush.fail.Goals as goal
 

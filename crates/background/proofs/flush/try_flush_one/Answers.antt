@@ -6,7 +6,7 @@ use Rattle.gates.specs.Sets.{part_at}
 use Rattle.gates.specs.declared.view.Note.TheVariants as note
 use Rattle.gates.specs.Background.{IsIdle, IsStep}
 use Rattle.gates.specs.declared.view.Work.TheVariants.{Flush}
-use Rattle.plans.specs.Shards.{shard_meaning, shard_pages}
+use Rattle.shards.specs.Shards.{shard_meaning, shard_pages}
 use Rattle.background.proofs.Visiting.{fit_held, on_false, on_true, one_of, visited_at_once}
 use Rattle.background.proofs.flush.try_flush_one.Goals as goal
 

@@ -17,7 +17,7 @@ rounds-init g c = record {
   right = c.requires.right;
   few = omega arith;
   learned = learned_none (known c.args.pass.now);
-  told = told_none (stripes_asked (stripes_of c.args.gates.now) c.args.call.now) (known c.args.pass.now);
+  told = told_none (stripes_asked (stripes_of c.args.site.now.gates.now) c.args.call.now) (known c.args.pass.now);
   failures = refl;
 }
 
@@ -29,14 +29,14 @@ later_round-requires-clause-ends g c = subst (λ (w : List Pair). EndsAll c.args
 
 pub returns-in-Some-clause-done : goal.returns-in-Some-clause-done
 returns-in-Some-clause-done g c =
-    let stripes : List ℕ = stripes_asked (stripes_of c.args.gates.now) c.args.call.now in
+    let stripes : List ℕ = stripes_asked (stripes_of c.args.site.now.gates.now) c.args.call.now in
     let now = know (known c.later_round.new.pass) (g.D.Device.failures c.later_round.new.device) in
     answer_later stripes (known c.args.pass.now) (known c.rounds.pass) (g.D.Device.failures c.args.device.now) now c.rounds.invariant.learned c.rounds.invariant.told (c.in-Some.answer) (asked_of c.args.call.now)
     (subst (λ (f : ℕ). IfReply (c.in-Some.answer) (λ reply. IsDone stripes (asked_of c.args.call.now) reply (know (known c.rounds.pass) f) now)) c.rounds.invariant.failures c.in-Some.ensures.done)
 
 pub returns-in-Some-clause-undone : goal.returns-in-Some-clause-undone
 returns-in-Some-clause-undone g c =
-    let stripes : List ℕ = stripes_asked (stripes_of c.args.gates.now) c.args.call.now in
+    let stripes : List ℕ = stripes_asked (stripes_of c.args.site.now.gates.now) c.args.call.now in
     let promises = promises_of g.R.Shows.is_steady g.R.Shows.lends in
     let now = know (known c.later_round.new.pass) (g.D.Device.failures c.later_round.new.device) in
     fault_later stripes (known c.args.pass.now) (known c.rounds.pass) (g.D.Device.failures c.args.device.now) now c.rounds.invariant.learned c.rounds.invariant.told promises (c.in-Some.answer) (asked_of c.args.call.now)
@@ -44,7 +44,7 @@ returns-in-Some-clause-undone g c =
 
 pub rounds-preserved : goal.rounds-preserved
 rounds-preserved g c =
-    let stripes : List ℕ = stripes_asked (stripes_of c.args.gates.now) c.args.call.now in
+    let stripes : List ℕ = stripes_asked (stripes_of c.args.site.now.gates.now) c.args.call.now in
     let i = c.rounds.invariant in
     record {
       rests = c.later_round.ensures.rests;

@@ -8,12 +8,12 @@ use Rattle.engine.proofs.calls.later_rounds.Given as goal
 
 abbrev pub invariant-rounds : goal.invariant-rounds
 invariant-rounds g l = record {
-  rests : IsResting g.R.Shows.is_steady l.gates l.pass;
-  stay : IsInside l.epochs l.inside;
+  rests : IsResting g.R.Shows.is_steady l.site.gates.now l.pass;
+  stay : IsInside l.site.epochs.now l.inside;
   right : g.R.Shows.is_steady → AreRight l.staged;
   few : l.round ≤ ROUNDS;
   learned : Learned (known l.fn.pass) (known l.pass);
-  told : ToldBusy (stripes_asked (stripes_of l.gates) l.call) (known l.fn.pass) (known l.pass);
+  told : ToldBusy (stripes_asked (stripes_of l.site.gates.now) l.call) (known l.fn.pass) (known l.pass);
   failures : g.D.Device.failures l.device ≡ g.D.Device.failures l.fn.device;
 }
 

@@ -17,14 +17,14 @@ later_rounds-answer-requires-clause-ends g c = subst (λ (w : List Pair). EndsAl
 
 pub returns-in-Err-clause-done : goal.returns-in-Err-clause-done
 returns-in-Err-clause-done g c =
-    let stripes : List ℕ = stripes_asked (stripes_of c.args.gates.now) c.args.call.now in
+    let stripes : List ℕ = stripes_asked (stripes_of c.args.site.now.gates.now) c.args.call.now in
     let now = know (known c.later_rounds-answer.new.pass) (g.D.Device.failures c.later_rounds-answer.new.device) in
     answer_later stripes (known c.args.pass.now) (known c.first_round.new.pass) (g.D.Device.failures c.args.device.now) now c.in-Err.ensures.learned c.in-Err.ensures.told (c.later_rounds-answer.result) (asked_of c.args.call.now)
     (subst (λ (f : ℕ). IfReply (c.later_rounds-answer.result) (λ reply. IsDone stripes (asked_of c.args.call.now) reply (know (known c.first_round.new.pass) f) now)) c.in-Err.ensures.no_fault c.later_rounds-answer.ensures.done)
 
 pub returns-in-Err-clause-undone : goal.returns-in-Err-clause-undone
 returns-in-Err-clause-undone g c =
-    let stripes : List ℕ = stripes_asked (stripes_of c.args.gates.now) c.args.call.now in
+    let stripes : List ℕ = stripes_asked (stripes_of c.args.site.now.gates.now) c.args.call.now in
     let promises = promises_of g.R.Shows.is_steady g.R.Shows.lends in
     let now = know (known c.later_rounds-answer.new.pass) (g.D.Device.failures c.later_rounds-answer.new.device) in
     fault_later stripes (known c.args.pass.now) (known c.first_round.new.pass) (g.D.Device.failures c.args.device.now) now c.in-Err.ensures.learned c.in-Err.ensures.told promises (c.later_rounds-answer.result) (asked_of c.args.call.now)

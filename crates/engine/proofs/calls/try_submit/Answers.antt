@@ -15,7 +15,7 @@ use Rattle.engine.proofs.calls.try_submit.Goals as goal
 
 pub enter_at_once-answer-requires-clause-may : goal.enter_at_once-answer-requires-clause-may
 enter_at_once-answer-requires-clause-may g c =
-    may_enter g.R.Shows.is_steady c.stripes-stripes.result c.args.call c.args.gates.now c.keys_of-wanted.result _ c.hold-held.result c.stripes-stripes.ensures.some c.stripes-stripes.ensures.most c.stripes-stripes.ensures.count
+    may_enter g.R.Shows.is_steady c.stripes-stripes.result c.args.call c.args.site.now.gates.now c.keys_of-wanted.result _ c.hold-held.result c.stripes-stripes.ensures.some c.stripes-stripes.ensures.most c.stripes-stripes.ensures.count
     (c.stripes_hold_keys.ensures c.stripes-stripes.result (parts_of g.R.Shows.is_steady c.hold-held.result) c.keys_of-wanted.result (call_keys c.args.call) c.keys_of-wanted.ensures.exact (c.hold-held.ensures.taken _ c.in-Ok.ensures.ok).has) (c.hold-held.ensures.taken _ c.in-Ok.ensures.ok)
 
 pub enter_at_once-answer-requires-clause-place : goal.enter_at_once-answer-requires-clause-place
@@ -27,7 +27,7 @@ enter_at_once-answer-requires-clause-ends g c = subst (λ (w : List Pair). EndsA
 pub give_back-requires : goal.give_back-requires
 give_back-requires g c =
     record {
-      may = given_here g.R.Shows.is_steady c.enter_at_once-answer.result.ends c.enter_at_once-answer.result.report c.stripes-stripes.result c.hold-held.result c.enter_at_once-answer.new.held c.args.gates.now c.stripes-stripes.ensures.count
+      may = given_here g.R.Shows.is_steady c.enter_at_once-answer.result.ends c.enter_at_once-answer.result.report c.stripes-stripes.result c.hold-held.result c.enter_at_once-answer.new.held c.args.site.now.gates.now c.stripes-stripes.ensures.count
           (c.enter_at_once-answer.ensures.back.gates ∙ (c.hold-held.ensures.taken _ c.in-Ok.ensures.ok).gates_are) c.enter_at_once-answer.ensures.back;
     }
 

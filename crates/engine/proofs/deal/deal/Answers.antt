@@ -1,5 +1,5 @@
-use Rattle.std.proofs.Common.{◌≡◌, ◌∙◌, ◌+◌, ◌++◌, ◌∷◌, [], Some, ℕ, length, vec_len, append_assoc, append-nil, refl, sym, ap, subst, arith}
-use Rattle.gates.specs.Passes.{AreNew}
+use Rattle.std.proofs.Common.{◌≡◌, ◌∙◌, ◌+◌, ◌++◌, ◌∷◌, [], ℕ, length, vec_len, append_assoc, append-nil, sym, ap, subst, arith}
+use Rattle.gates.specs.Passes.{AreNew, IsResting, known}
 use Rattle.gates.specs.Plays.{newcomer}
 use Rattle.engine.specs.Passes.{AreDealt}
 use Rattle.std.specs.List.{All}
@@ -34,7 +34,7 @@ loop-gates-preserved g c =
         c.in-Some-pop.device ∷ inv.dealt.0,
         inv.dealt.1 ∙ ap (λ l. l ++ inv.dealt.0) c.in-Some-pop.ensures.items ∙ append_assoc c.pop-in-Some.new.self.items (c.in-Some-pop.device ∷ []) inv.dealt.0,
         subst (λ l. AreDealt s gates epochs left l (c.in-Some-pop.device ∷ inv.dealt.0)) (sym c.in_ok-insert.ensures.items)
-            (dealt_before s gates epochs left (vec_len c.loop-gates.passes) (record { gates = c.in-Some.gates; device = c.in-Some-pop.device; seat = Some c.in-Some-pop-2.seat; staged = c.new-staged.result; page = c.in_ok-page.page }) c.in-Some-pop.device c.loop-gates.dealt.items inv.dealt.0
-            (omega (arith, c.in-Some.ensures.cases)) (record { rests = record { rests = last.1; seated = (c.in-Some-pop-2.seat, refl, all_last (IsOutside epochs) c.pop-in-Some-2.new.self.items c.in-Some-pop-2.seat (subst (All (IsOutside epochs)) c.in-Some-pop-2.ensures.items inv.outside)); none_staged = c.new-staged.ensures }; nothing = last.2 ∙ ap newcomer number; device = refl }) inv.dealt.2),
+            (dealt_before s gates epochs left (vec_len c.loop-gates.passes) c.in_ok-pass.pass c.in-Some-pop.device c.loop-gates.dealt.items inv.dealt.0
+            (omega (arith, c.in-Some.ensures.cases)) (record { rests = record { rests = subst (IsResting s gates) (sym c.in_ok-pass.ensures.gates) last.1; seated = (c.in-Some-pop-2.seat, c.in_ok-pass.ensures.seat, all_last (IsOutside epochs) c.pop-in-Some-2.new.self.items c.in-Some-pop-2.seat (subst (All (IsOutside epochs)) c.in-Some-pop-2.ensures.items inv.outside)); none_staged = c.in_ok-pass.ensures.staged }; nothing = ap known c.in_ok-pass.ensures.gates ∙ last.2 ∙ ap newcomer number; device = c.in_ok-pass.ensures.device }) inv.dealt.2),
       );
     }

@@ -13,9 +13,9 @@ use Rattle.gates.specs.Background.{IsToldOf, notes_of}
 use Rattle.gates.specs.Sets.{part_at}
 use Rattle.gates.specs.Helds.{held_parts, held_taken, known_to}
 use Rattle.transact.specs.declared.call.Answer.TheVariants as answer
-use Rattle.plans.specs.declared.shard.Shard.{Shard}
-use Rattle.plans.specs.Rooms.{AreRoomy}
-use Rattle.plans.specs.Shards.{logs_of, shard_meaning}
+use Rattle.shards.specs.declared.shard.Shard.{Shard}
+use Rattle.shards.specs.Rooms.{AreRoomy}
+use Rattle.shards.specs.Shards.{logs_of, shard_meaning}
 use Rattle.transact.specs.Calls.{asked_of, call_keys}
 use Rattle.transact.specs.Plans.{keys_begun, keys_ended}
 use Rattle.transact.specs.Submits.{asked_for}
@@ -24,7 +24,7 @@ use Rattle.engine.specs.Calls.{IsDone, IsUndone, promises_of}
 use Rattle.engine.specs.Entering.{given}
 use Rattle.engine.specs.Passes.{know}
 use Rattle.engine.specs.Stops.{IfSpent, IsOfCall, fault_of, report_of}
-use Rattle.plans.specs.Heard.{HasHeardWorn}
+use Rattle.shards.specs.Heard.{HasHeardWorn}
 use Rattle.gates.specs.declared.view.Refused.{Refused}
 use Rattle.gates.specs.Passes.{AreAsTaken}
 use Rattle.engine.proofs.Parts.{ended_there, there_after}

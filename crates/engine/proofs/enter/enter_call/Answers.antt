@@ -5,7 +5,7 @@ use Rattle.gates.specs.declared.held.Held.{Held}
 use Rattle.gates.specs.Helds.{known_to}
 use Rattle.gates.specs.Plays.{kept}
 use Rattle.transact.specs.declared.call.Call.{Call}
-use Rattle.plans.specs.declared.shard.Shard.{Shard}
+use Rattle.shards.specs.declared.shard.Shard.{Shard}
 use Rattle.transact.specs.Calls.{asked_of, call_keys}
 use Rattle.transact.specs.Plans.{EndsAll}
 use Rattle.transact.specs.Tables.{AreThere}

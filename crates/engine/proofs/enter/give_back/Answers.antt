@@ -2,7 +2,7 @@ use Rattle.std.proofs.Common.{Bool, [], subst}
 use Rattle.gates.specs.Passes.{AllFit, stripes_of}
 use Rattle.gates.specs.Plays.{kept}
 use Rattle.gates.specs.Helds.{gates_of, held_parts, held_taken, known_to}
-use Rattle.plans.specs.Shards.{shard_meaning}
+use Rattle.shards.specs.Shards.{shard_meaning}
 use Rattle.engine.proofs.enter.give_back.Goals as goal
 
 pub forget-requires-clause-fit : goal.forget-requires-clause-fit

@@ -4,8 +4,8 @@ use Rattle.gates.specs.declared.view.Knowledge.{Knowledge}
 use Rattle.gates.specs.Helds.{held_parts, held_taken, known_to}
 use Rattle.gates.specs.Plays.{kept}
 use Rattle.transact.specs.declared.call.Call.{Call}
-use Rattle.plans.specs.declared.shard.Shard.{Shard}
-use Rattle.plans.specs.Shards.{shard_meaning}
+use Rattle.shards.specs.declared.shard.Shard.{Shard}
+use Rattle.shards.specs.Shards.{shard_meaning}
 use Rattle.gates.specs.Background.{IsToldOf}
 use Rattle.transact.specs.Plans.{EndsAll, keys_ended}
 use Rattle.transact.specs.Submits.{asked_for}

@@ -9,8 +9,8 @@ use Rattle.gates.specs.declared.held.Held.{Held}
 use Rattle.gates.specs.declared.report.Report.TheVariants.{Nothing}
 use Rattle.gates.specs.Sets.{part_at}
 use Rattle.gates.specs.Helds.{known_to, same_as_it}
-use Rattle.plans.specs.declared.shard.Shard.{Shard}
-use Rattle.plans.specs.Shards.{shard_meaning}
+use Rattle.shards.specs.declared.shard.Shard.{Shard}
+use Rattle.shards.specs.Shards.{shard_meaning}
 use Rattle.transact.specs.Tables.{AreThere}
 use Rattle.words.specs.declared.reply.Fault.{Fault}
 use Rattle.words.specs.History.{after}

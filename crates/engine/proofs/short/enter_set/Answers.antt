@@ -16,14 +16,14 @@ use Rattle.gates.specs.Sets.{part_at}
 use Rattle.gates.specs.Helds.{held_parts, held_taken, known_to, same_as_it}
 use Rattle.transact.specs.Calls.{asked_of}
 use Rattle.transact.specs.Tables.{Became, stays}
-use Rattle.plans.specs.declared.shard.Shard.{Shard}
-use Rattle.plans.specs.Shards.{shard_meaning}
+use Rattle.shards.specs.declared.shard.Shard.{Shard}
+use Rattle.shards.specs.Shards.{shard_meaning}
 use Rattle.engine.specs.Calls.{IsUndone, promises_of}
 use Rattle.engine.specs.Entering.{given}
 use Rattle.engine.specs.Memory.{set_call}
 use Rattle.engine.specs.Passes.{know}
 use Rattle.engine.specs.Stops.{IfSpent, fault_of}
-use Rattle.plans.specs.Heard.{HasHeardWorn}
+use Rattle.shards.specs.Heard.{HasHeardWorn}
 use Rattle.gates.specs.declared.view.Refused.{Refused}
 use Rattle.gates.specs.Passes.{AreAsTaken}
 use Rattle.engine.proofs.Parts.{there_after}

@@ -16,30 +16,30 @@ use Rattle.engine.proofs.short.later_get.Goals as goal
 
 pub enter_get-requires-clause-may : goal.enter_get-requires-clause-may
 enter_get-requires-clause-may g c =
-    may_enter g.R.Shows.is_steady c.stripes-stripes.result (get_call c.args.key.now) c.args.gates.now c.args.wanted.now _ c.take-held.result c.stripes-stripes.ensures.some c.stripes-stripes.ensures.most c.stripes-stripes.ensures.count
+    may_enter g.R.Shows.is_steady c.stripes-stripes.result (get_call c.args.key.now) c.args.site.now.gates.now c.args.wanted.now _ c.take-held.result c.stripes-stripes.ensures.some c.stripes-stripes.ensures.most c.stripes-stripes.ensures.count
     (c.stripes_hold_keys.ensures c.stripes-stripes.result (parts_of g.R.Shows.is_steady c.take-held.result) c.args.wanted.now (call_keys (get_call c.args.key.now))
     (c.requires.wanted ∙ ap (λ (n : ℕ). stripes_asked n (get_call c.args.key.now)) (sym c.stripes-stripes.ensures.count)) c.take-held.ensures.has) c.take-held.ensures
 
 pub give-requires-clause-fit : goal.give-requires-clause-fit
 give-requires-clause-fit g c =
-    (given_here g.R.Shows.is_steady false Nothing c.stripes-stripes.result c.take-held.result c.enter_get.new.held c.args.gates.now c.stripes-stripes.ensures.count
+    (given_here g.R.Shows.is_steady false Nothing c.stripes-stripes.result c.take-held.result c.enter_get.new.held c.args.site.now.gates.now c.stripes-stripes.ensures.count
     (c.enter_get.ensures.back.gates ∙ c.take-held.ensures.gates_are) c.enter_get.ensures.back).fit
 
 pub give-requires-clause-told : goal.give-requires-clause-told
 give-requires-clause-told g c =
-    (given_here g.R.Shows.is_steady false Nothing c.stripes-stripes.result c.take-held.result c.enter_get.new.held c.args.gates.now c.stripes-stripes.ensures.count
+    (given_here g.R.Shows.is_steady false Nothing c.stripes-stripes.result c.take-held.result c.enter_get.new.held c.args.site.now.gates.now c.stripes-stripes.ensures.count
     (c.enter_get.ensures.back.gates ∙ c.take-held.ensures.gates_are) c.enter_get.ensures.back).told
 
 pub read_outside-requires-clause-may : goal.read_outside-requires-clause-may
 read_outside-requires-clause-may g c =
-    given_here g.R.Shows.is_steady false Nothing c.stripes-stripes.result c.take-held.result c.enter_get.new.held c.args.gates.now c.stripes-stripes.ensures.count
+    given_here g.R.Shows.is_steady false Nothing c.stripes-stripes.result c.take-held.result c.enter_get.new.held c.args.site.now.gates.now c.stripes-stripes.ensures.count
     (c.enter_get.ensures.back.gates ∙ c.take-held.ensures.gates_are) c.enter_get.ensures.back
 
 pub returns-in-Ok-clause-done : goal.returns-in-Ok-clause-done
 returns-in-Ok-clause-done g c =
     let before : Knowledge = known c.args.pass.now in
     let mid : Knowledge = known_to c.take-held.result in
-    let stripes : List ℕ = stripes_asked (stripes_of c.args.gates.now) (get_call c.args.key.now) in
+    let stripes : List ℕ = stripes_asked (stripes_of c.args.site.now.gates.now) (get_call c.args.key.now) in
     let last = c.give.ensures.known in
     let f0 : ℕ = g.D.Device.failures c.args.device.now in
     let f1 : ℕ = g.D.Device.failures c.enter_get.new.device in
@@ -51,7 +51,7 @@ pub returns-in-Ok-clause-undone : goal.returns-in-Ok-clause-undone
 returns-in-Ok-clause-undone g c =
     let before : Knowledge = known c.args.pass.now in
     let mid : Knowledge = known_to c.take-held.result in
-    let stripes : List ℕ = stripes_asked (stripes_of c.args.gates.now) (get_call c.args.key.now) in
+    let stripes : List ℕ = stripes_asked (stripes_of c.args.site.now.gates.now) (get_call c.args.key.now) in
     let last = c.give.ensures.known in
     let f0 : ℕ = g.D.Device.failures c.args.device.now in
     let f1 : ℕ = g.D.Device.failures c.enter_get.new.device in
@@ -65,7 +65,7 @@ returns-in-Err-read_outside-clause-undone g c =
     let mid : Knowledge = known_to c.take-held.result in
     let outside = c.read_outside.ensures.known in
     let promises = promises_of g.R.Shows.is_steady g.R.Shows.lends in
-    let stripes : List ℕ = stripes_asked (stripes_of c.args.gates.now) (get_call c.args.key.now) in
+    let stripes : List ℕ = stripes_asked (stripes_of c.args.site.now.gates.now) (get_call c.args.key.now) in
     get_failed_outside promises c.args.key.now stripes c.in-Err-read_outside.stop c.told_of.result.fault before mid _ (g.D.Device.failures c.args.device.now) (g.D.Device.failures c.read_outside.new.device)
     c.told_of.ensures.fault c.in-Err.ensures.cold.unlent c.take-held.ensures.learned (subst (λ (l : List ℕ). ToldBusy l before mid) c.requires.wanted c.take-held.ensures.told)
     (search (rules, outside) ∙ c.in-Err.ensures.cold.known) c.told_of.ensures.never_cold c.in-Err-read_outside.ensures.never_full

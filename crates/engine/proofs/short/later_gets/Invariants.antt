@@ -8,11 +8,11 @@ use Rattle.engine.proofs.short.later_gets.Given as goal
 
 abbrev pub invariant-rounds : goal.invariant-rounds
 invariant-rounds g l = record {
-  rests : IsResting g.R.Shows.is_steady l.gates l.pass;
+  rests : IsResting g.R.Shows.is_steady l.site.gates.now l.pass;
   right : g.R.Shows.is_steady → AreRight l.staged;
   few : l.round ≤ ROUNDS;
   learned : Learned (known l.fn.pass) (known l.pass);
-  told : ToldBusy (stripes_asked (stripes_of l.gates) (get_call l.key)) (known l.fn.pass) (known l.pass);
+  told : ToldBusy (stripes_asked (stripes_of l.site.gates.now) (get_call l.key)) (known l.fn.pass) (known l.pass);
   failures : g.D.Device.failures l.device ≡ g.D.Device.failures l.fn.device;
 }
 

@@ -7,8 +7,8 @@ use Rattle.gates.specs.declared.held.Held.{Held}
 use Rattle.gates.specs.declared.report.Report.TheVariants.{Nothing}
 use Rattle.gates.specs.Sets.{part_at}
 use Rattle.gates.specs.Helds.{known_to, same_as_it}
-use Rattle.plans.specs.declared.shard.Shard.{Shard}
-use Rattle.plans.specs.Shards.{shard_meaning}
+use Rattle.shards.specs.declared.shard.Shard.{Shard}
+use Rattle.shards.specs.Shards.{shard_meaning}
 use Rattle.engine.specs.Calls.{promises_of}
 use Rattle.engine.specs.Memory.{set_call}
 use Rattle.engine.proofs.Parts.{became_same, unwritten_same}

@@ -15,12 +15,12 @@ use Rattle.engine.proofs.short.submit_set.Goals as goal
 
 pub enter_set-answer-requires-clause-may : goal.enter_set-answer-requires-clause-may
 enter_set-answer-requires-clause-may g c =
-    may_enter g.R.Shows.is_steady c.stripes-stripes.result _ c.args.gates.now c.stripe_of_key-wanted.result _ c.take-held.result c.stripes-stripes.ensures.some c.stripes-stripes.ensures.most c.stripes-stripes.ensures.count
+    may_enter g.R.Shows.is_steady c.stripes-stripes.result _ c.args.site.now.gates.now c.stripe_of_key-wanted.result _ c.take-held.result c.stripes-stripes.ensures.some c.stripes-stripes.ensures.most c.stripes-stripes.ensures.count
     (c.stripes_hold_keys.ensures c.stripes-stripes.result (parts_of g.R.Shows.is_steady c.take-held.result) c.stripe_of_key-wanted.result (call_keys (set_call c.args.key.now c.args.value.now)) c.stripe_of_key-wanted.ensures.exact c.take-held.ensures.has) c.take-held.ensures
 
 pub give-requires-clause-fit : goal.give-requires-clause-fit
 give-requires-clause-fit g c =
-    (given_here g.R.Shows.is_steady false c.enter_set-answer.result.1 c.stripes-stripes.result c.take-held.result c.enter_set-answer.new.held c.args.gates.now c.stripes-stripes.ensures.count
+    (given_here g.R.Shows.is_steady false c.enter_set-answer.result.1 c.stripes-stripes.result c.take-held.result c.enter_set-answer.new.held c.args.site.now.gates.now c.stripes-stripes.ensures.count
     (c.enter_set-answer.ensures.back.gates ∙ c.take-held.ensures.gates_are) c.enter_set-answer.ensures.back).fit
 
 pub returns-clause-done : goal.returns-clause-done
@@ -28,7 +28,7 @@ returns-clause-done g c =
     let before : Knowledge = known c.args.pass.now in
     let mid : Knowledge = known_to c.take-held.result in
     let call : Call = set_call c.args.key.now c.args.value.now in
-    let stripes : List ℕ = stripes_asked (stripes_of c.args.gates.now) call in
+    let stripes : List ℕ = stripes_asked (stripes_of c.args.site.now.gates.now) call in
     let same : c.stripe_of_key-wanted.result ≡ stripes = c.stripe_of_key-wanted.ensures.exact ∙ ap (λ (n : ℕ). stripes_asked n call) c.stripes-stripes.ensures.count in
     let last = c.give.ensures.known in
     let f0 : ℕ = g.D.Device.failures c.args.device.now in
@@ -42,7 +42,7 @@ returns-clause-undone g c =
     let before : Knowledge = known c.args.pass.now in
     let mid : Knowledge = known_to c.take-held.result in
     let call : Call = set_call c.args.key.now c.args.value.now in
-    let stripes : List ℕ = stripes_asked (stripes_of c.args.gates.now) call in
+    let stripes : List ℕ = stripes_asked (stripes_of c.args.site.now.gates.now) call in
     let same : c.stripe_of_key-wanted.result ≡ stripes = c.stripe_of_key-wanted.ensures.exact ∙ ap (λ (n : ℕ). stripes_asked n call) c.stripes-stripes.ensures.count in
     let last = c.give.ensures.known in
     let f0 : ℕ = g.D.Device.failures c.args.device.now in
@@ -53,5 +53,5 @@ returns-clause-undone g c =
 
 pub give-requires-clause-told : goal.give-requires-clause-told
 give-requires-clause-told g c =
-    (given_here g.R.Shows.is_steady false c.enter_set-answer.result.1 c.stripes-stripes.result c.take-held.result c.enter_set-answer.new.held c.args.gates.now c.stripes-stripes.ensures.count
+    (given_here g.R.Shows.is_steady false c.enter_set-answer.result.1 c.stripes-stripes.result c.take-held.result c.enter_set-answer.new.held c.args.site.now.gates.now c.stripes-stripes.ensures.count
     (c.enter_set-answer.ensures.back.gates ∙ c.take-held.ensures.gates_are) c.enter_set-answer.ensures.back).told

@@ -3,7 +3,7 @@ use Rattle.words.specs.Store.{Bytes}
 use Rattle.hybrid.specs.HybridLog.{HybridLog, Kept}
 use Rattle.hybrid.specs.Lookups.{Leads}
 use Rattle.hybrid.specs.Staging.{AreRight}
-use Rattle.plans.specs.Shards.{shard_log}
+use Rattle.shards.specs.Shards.{shard_log}
 use Rattle.plans.specs.Stops.{Each, IsNotEmpty, IsWantedFor}
 use Rattle.plans.proofs.Hand.{none_missing}
 use Rattle.plans.proofs.cells.copy_of.Goals as goal

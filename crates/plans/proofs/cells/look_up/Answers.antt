@@ -1,7 +1,7 @@
 use Rattle.std.proofs.Common.{◌≡◌, ◌∙◌, ◌++◌, ◌∷◌, [], ℕ, Some, None, ap, sym, subst, arith}
 use Rattle.words.specs.Store.{Bytes, Write}
 use Rattle.hybrid.specs.Staging.{AreRight}
-use Rattle.plans.specs.Shards.{shard_log, shard_store}
+use Rattle.shards.specs.Shards.{shard_log, shard_store}
 use Rattle.plans.specs.Stops.{IsWantedFor}
 use Rattle.hybrid.specs.HybridLog.{HybridLog, Kept}
 use Rattle.hybrid.specs.Lookups.{Leads}

@@ -1,5 +1,5 @@
 use Rattle.std.proofs.Common.{ℕ}
-use Rattle.plans.specs.Shards.{shard_log}
+use Rattle.shards.specs.Shards.{shard_log}
 use Rattle.plans.proofs.Few.{err_then, few_at, lacks_at, left_at, ok_then}
 use Rattle.plans.proofs.Logs.{log_at, logs_as}
 use Rattle.plans.proofs.Waits.{waits_one}

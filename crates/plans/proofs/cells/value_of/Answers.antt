@@ -4,7 +4,7 @@ use Rattle.words.specs.Store.{Bytes}
 use Rattle.words.specs.Stripes.{stripe_of}
 use Rattle.hybrid.specs.Staging.{AreRight}
 use Rattle.transact.specs.Tables.{joined, value_in}
-use Rattle.plans.specs.Shards.{logs_of, shard_log, shard_meaning, shard_store}
+use Rattle.shards.specs.Shards.{logs_of, shard_log, shard_meaning, shard_store}
 use Rattle.plans.proofs.Stores.{ok_then_all}
 use Rattle.plans.specs.Stops.{IsCold, IsNeeded, IsWantedFor}
 use Rattle.plans.proofs.Found.{cold_of, needed_of, stop_as, stop_each}

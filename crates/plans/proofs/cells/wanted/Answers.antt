@@ -1,6 +1,6 @@
 use Rattle.std.proofs.Common.{◌≡◌, ◌∙◌, Some, List, ℕ, ap, refl, sym}
 use Rattle.hybrid.specs.HybridLog.{Kept}
-use Rattle.plans.specs.Receipts.{kept_by}
+use Rattle.shards.specs.Receipts.{kept_by}
 use Rattle.plans.proofs.Stores.{ok_then}
 use Rattle.plans.proofs.cells.wanted.Goals as goal
 

@@ -1,6 +1,6 @@
 use Rattle.std.proofs.Common.{◌≡◌, ◌∙◌, ℕ, sym, ap}
 use Rattle.words.specs.Stripes.{stripe_of}
-use Rattle.plans.specs.Shards.{logs_of, shard_log, shard_meaning, weigh}
+use Rattle.shards.specs.Shards.{logs_of, shard_log, shard_meaning, weigh}
 use Rattle.plans.proofs.Become.{wrote_one}
 use Rattle.plans.proofs.Logs.{log_at, logs_as}
 use Rattle.plans.proofs.Rooms.{room_of}

@@ -8,7 +8,7 @@ use Rattle.hybrid.specs.HybridLog.{Kept}
 use Rattle.hybrid.specs.Staging.{AreRight}
 use Rattle.transact.specs.Tables.{AreThere, joined}
 use Rattle.plans.specs.Memory.{AreAtHand}
-use Rattle.plans.specs.Shards.{logs_of, shard_meaning}
+use Rattle.shards.specs.Shards.{logs_of, shard_meaning}
 use Rattle.plans.specs.Stops.{HasFound, IsNeeded}
 use Rattle.plans.proofs.Found.{among_at, found_both, found_none, found_within}
 use Rattle.plans.proofs.Hand.{hand_fewer}

@@ -2,7 +2,7 @@ use Rattle.std.proofs.Common.{◌≡◌, take}
 use Rattle.words.specs.Commands.{keys_of}
 use Rattle.hybrid.specs.Staging.{AreRight}
 use Rattle.transact.specs.Tables.{joined}
-use Rattle.plans.specs.Shards.{logs_of, shard_meaning}
+use Rattle.shards.specs.Shards.{logs_of, shard_meaning}
 use Rattle.plans.specs.Stops.{HasFound, IsNeeded}
 use Rattle.plans.proofs.find.find_command.Given as goal
 

@@ -6,7 +6,7 @@ use Rattle.words.specs.History.{is_among}
 use Rattle.hybrid.specs.HybridLog.{Kept}
 use Rattle.hybrid.specs.Staging.{AreRight}
 use Rattle.transact.specs.Tables.{AreThere, joined}
-use Rattle.plans.specs.Shards.{logs_of, shard_meaning}
+use Rattle.shards.specs.Shards.{logs_of, shard_meaning}
 use Rattle.plans.specs.Stops.{HasFound, IsNeeded}
 use Rattle.plans.proofs.Found.{found_both, found_none, found_within, within_first, within_second}
 use Rattle.plans.proofs.Keys.{there_append}

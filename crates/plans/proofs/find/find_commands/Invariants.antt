@@ -5,7 +5,7 @@ use Rattle.words.specs.History.{is_among}
 use Rattle.hybrid.specs.HybridLog.{Kept}
 use Rattle.hybrid.specs.Staging.{AreRight}
 use Rattle.transact.specs.Tables.{AreThere, joined}
-use Rattle.plans.specs.Shards.{logs_of, shard_meaning}
+use Rattle.shards.specs.Shards.{logs_of, shard_meaning}
 use Rattle.plans.specs.Stops.{HasFound, IsNeeded}
 use Rattle.plans.proofs.find.find_commands.Given as goal
 

@@ -1,7 +1,7 @@
 use Rattle.std.proofs.Common.{ap}
 use Rattle.words.specs.Store.{Store}
 use Rattle.words.specs.Watches.{Marks}
-use Rattle.plans.specs.Shards.{shard_meaning}
+use Rattle.shards.specs.Shards.{shard_meaning}
 use Rattle.plans.proofs.Become.{same_one}
 use Rattle.plans.proofs.freeing.free_at.Goals as goal
 

@@ -3,7 +3,7 @@ use Rattle.std.proofs.lemmas.Bool.{not-false, not-true}
 use Rattle.transact.specs.Calls.{call_keys}
 use Rattle.transact.specs.Plans.{keys_begun}
 use Rattle.transact.specs.Tables.{joined}
-use Rattle.plans.specs.Shards.{shard_meaning}
+use Rattle.shards.specs.Shards.{shard_meaning}
 use Rattle.plans.specs.Stops.{faults}
 use Rattle.plans.proofs.Become.{became_same, became_twice, there_after}
 use Rattle.plans.proofs.Freed.{begins_after, begun_after, full_still, full_there, heard_more, heard_none, heard_worn, joined_same, lasts_freed, lasts_none, lasts_still, needs_same, short_same, spent_at, stand_same, waits_fewer}

@@ -1,9 +1,9 @@
 use Rattle.std.proofs.Common.{◌≡◌, []}
 use Rattle.hybrid.specs.Staging.{AreRight}
 use Rattle.transact.specs.Tables.{Became, stays}
-use Rattle.plans.specs.Freeing.{all_waiting}
-use Rattle.plans.specs.Heard.{HasHeard}
-use Rattle.plans.specs.Shards.{shard_meaning, waits_of}
+use Rattle.shards.specs.Freeing.{all_waiting}
+use Rattle.shards.specs.Heard.{HasHeard}
+use Rattle.shards.specs.Shards.{shard_meaning, waits_of}
 use Rattle.plans.proofs.Freed.{Lasts}
 use Rattle.plans.proofs.freeing.plan_freeing.Given as goal
 

@@ -1,6 +1,6 @@
 use Rattle.std.proofs.Common.{◌∙◌, ◌+◌, ◌∷◌, [], ℕ, refl, ap, arith}
 use Rattle.std.proofs.lemmas.Bool.{not-false, not-true}
-use Rattle.plans.specs.Shards.{shard_meaning}
+use Rattle.shards.specs.Shards.{shard_meaning}
 use Rattle.plans.specs.Stops.{faults}
 use Rattle.plans.proofs.Become.{became_same, became_twice, there_after}
 use Rattle.plans.proofs.Freed.{below_all, full_still, full_there, heard_more, heard_none, heard_worn, lasts_freed, lasts_none, lasts_still, spent_at, waits_fewer}

@@ -2,8 +2,8 @@ use Rattle.std.proofs.Common.{◌≡◌, ℕ, List, [], ◌∷◌, refl, sym, su
 use Rattle.words.specs.Store.{Write}
 use Rattle.hybrid.specs.Writing.{AreFit}
 use Rattle.transact.specs.Tables.{Became, touches}
-use Rattle.plans.specs.Rooms.{AreRoomy, HaveGrown}
-use Rattle.plans.specs.Shards.{logs_of, shard_meaning}
+use Rattle.shards.specs.Rooms.{AreRoomy, HaveGrown}
+use Rattle.shards.specs.Shards.{logs_of, shard_meaning}
 use Rattle.plans.proofs.Become.{became_unwritten}
 use Rattle.plans.proofs.Grown.{grown_none}
 use Rattle.plans.proofs.Rooms.{no_share}

@@ -3,9 +3,9 @@ use Rattle.std.specs.Prelude.{Option}
 use Rattle.hybrid.specs.Writing.{AreFit}
 use Rattle.transact.specs.Tables.{Became, touches}
 use Rattle.hybrid.specs.HybridLog.{HybridLog}
-use Rattle.plans.specs.declared.shard.Shard.{Shard}
-use Rattle.plans.specs.Rooms.{AreRoomy, HaveGrown}
-use Rattle.plans.specs.Shards.{SameWaits, logs_of, shard_meaning}
+use Rattle.shards.specs.declared.shard.Shard.{Shard}
+use Rattle.shards.specs.Rooms.{AreRoomy, HaveGrown}
+use Rattle.shards.specs.Shards.{SameWaits, logs_of, shard_meaning}
 use Rattle.plans.proofs.install.make_writes.Given as goal
 
 abbrev pub invariant-loop-first : goal.invariant-loop-first

@@ -1,8 +1,8 @@
 use Rattle.std.proofs.Common.{◌≡◌, ◌∙◌, ◌+◌, ℕ, List, true, false, sym, ap, arith}
 use Rattle.words.specs.Store.{Write, writes_key}
 use Rattle.words.specs.Stripes.{stripe_of}
-use Rattle.plans.specs.Rooms.{share}
-use Rattle.plans.specs.Shards.{logs_of, shard_meaning, weigh}
+use Rattle.shards.specs.Rooms.{share}
+use Rattle.shards.specs.Shards.{logs_of, shard_meaning, weigh}
 use Rattle.plans.proofs.Become.{became_touches}
 use Rattle.plans.proofs.Covered.{became_hidden}
 use Rattle.plans.proofs.Grown.{grown_hidden, grown_more}

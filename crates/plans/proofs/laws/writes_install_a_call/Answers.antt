@@ -1,4 +1,4 @@
-use Rattle.plans.specs.Shards.{shard_meaning}
+use Rattle.shards.specs.Shards.{shard_meaning}
 use Rattle.plans.proofs.Installed.{call_became, installed}
 use Rattle.plans.proofs.laws.writes_install_a_call.Goals as goal
 

@@ -1,7 +1,7 @@
 use Rattle.std.proofs.Common.{refl}
 use Rattle.words.specs.Session as asked
 use Rattle.transact.specs.declared.call.Call.TheVariants.{One}
-use Rattle.plans.specs.Shards.{shard_meaning}
+use Rattle.shards.specs.Shards.{shard_meaning}
 use Rattle.plans.proofs.Begun.{begins_none, touched_only}
 use Rattle.plans.proofs.Installed.{call_became, installed}
 use Rattle.plans.proofs.laws.writes_install_a_command.Goals as goal

@@ -1,6 +1,6 @@
 use Rattle.std.proofs.Common.{◌≡◌, ◌∙◌, ℕ, List, [], ◌∷◌, ◌++◌, sym, ap, subst}
 use Rattle.words.specs.Store.{Bytes}
-use Rattle.plans.specs.Shards.{shard_meaning}
+use Rattle.shards.specs.Shards.{shard_meaning}
 use Rattle.transact.specs.Tables.{HasBegun}
 use Rattle.plans.proofs.Begun.{begun_again, begun_last, still_begun}
 use Rattle.plans.proofs.marks.begin_one.Goals as goal

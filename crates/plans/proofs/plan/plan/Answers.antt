@@ -9,8 +9,8 @@ use Rattle.words.specs.declared.command.Command.{Command}
 use Rattle.transact.specs.declared.call.Call.{Call}
 use Rattle.plans.specs.Memory.{AreAtHand, NeedsNoMemoryOn}
 use Rattle.plans.specs.Stops.{keys_looked_up}
-use Rattle.plans.specs.Receipts.{kept_by}
-use Rattle.plans.specs.Shards.{logs_of, shard_meaning}
+use Rattle.shards.specs.Receipts.{kept_by}
+use Rattle.shards.specs.Shards.{logs_of, shard_meaning}
 use Rattle.plans.proofs.Few.{few_none, left_none, refused_any, refused_as}
 use Rattle.plans.proofs.Logs.{logs_same}
 use Rattle.plans.proofs.Making.{full_as, made_nothing, no_room, refused_cold, refused_full}

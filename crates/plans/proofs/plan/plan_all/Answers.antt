@@ -8,8 +8,8 @@ use Rattle.words.specs.Commands.{keys_of_all}
 use Rattle.hybrid.specs.Staging.{AreRight}
 use Rattle.hybrid.specs.Writing.{AreFit}
 use Rattle.transact.specs.Tables.{AreThere, joined}
-use Rattle.plans.specs.Receipts.{kept_by}
-use Rattle.plans.specs.Shards.{logs_of, shard_meaning}
+use Rattle.shards.specs.Receipts.{kept_by}
+use Rattle.shards.specs.Shards.{logs_of, shard_meaning}
 use Rattle.plans.proofs.Few.{few_from, left_from, never_refused}
 use Rattle.plans.proofs.Logs.{logs_same}
 use Rattle.plans.proofs.Making.{full_as, made_from}

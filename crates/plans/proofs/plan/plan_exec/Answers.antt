@@ -1,8 +1,8 @@
 use Rattle.std.proofs.Common.{◌∙◌, ℕ, refl, sym, subst}
 use Rattle.words.specs.History.{after}
 use Rattle.transact.specs.Tables.{AllRead}
-use Rattle.plans.specs.Receipts.{kept_by}
-use Rattle.plans.specs.Shards.{logs_of, shard_meaning}
+use Rattle.shards.specs.Receipts.{kept_by}
+use Rattle.shards.specs.Shards.{logs_of, shard_meaning}
 use Rattle.plans.proofs.Few.{few_from, few_none, left_from, left_none, refused_as}
 use Rattle.plans.proofs.Logs.{logs_same}
 use Rattle.plans.proofs.Making.{full_as, made_from, made_nothing}

@@ -1,5 +1,5 @@
 use Rattle.std.proofs.Common.{◌∙◌}
-use Rattle.plans.specs.Shards.{shard_meaning}
+use Rattle.shards.specs.Shards.{shard_meaning}
 use Rattle.plans.proofs.Plans.{plan_of_get}
 use Rattle.plans.proofs.plan.plan_get.Goals as goal
 

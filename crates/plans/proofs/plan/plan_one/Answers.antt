@@ -3,8 +3,8 @@ use Rattle.words.specs.declared.command.Command.{Command}
 use Rattle.words.specs.Commands.{keys_of}
 use Rattle.transact.specs.Tables.{joined}
 use Rattle.plans.specs.Memory.{AreAtHand, IsPlannedInPlace}
-use Rattle.plans.specs.Receipts.{kept_by}
-use Rattle.plans.specs.Shards.{logs_of, shard_meaning}
+use Rattle.shards.specs.Receipts.{kept_by}
+use Rattle.shards.specs.Shards.{logs_of, shard_meaning}
 use Rattle.plans.proofs.Become.{became_same}
 use Rattle.plans.proofs.Few.{few_none, left_none, refused_any}
 use Rattle.plans.proofs.Logs.{logs_same}

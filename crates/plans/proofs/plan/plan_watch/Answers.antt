@@ -1,6 +1,6 @@
 use Rattle.std.proofs.Common.{ℕ, List, [], sym, subst, refl}
 use Rattle.words.specs.Store.{Bytes}
-use Rattle.plans.specs.Shards.{shard_meaning}
+use Rattle.shards.specs.Shards.{shard_meaning}
 use Rattle.transact.specs.Tables.{AreThere, Became, HasBegun, clears}
 use Rattle.plans.proofs.Logs.{logs_both}
 use Rattle.plans.proofs.Become.{became_same, there_after}

@@ -1,9 +1,9 @@
 use Rattle.std.proofs.Common.{◌≡◌, List, refl, sym, subst}
 use Rattle.words.specs.Store.{Write}
-use Rattle.plans.specs.Receipts.{kept_by}
-use Rattle.plans.specs.Rooms.{MeetsFull}
+use Rattle.shards.specs.Receipts.{kept_by}
+use Rattle.shards.specs.Rooms.{MeetsFull}
 use Rattle.plans.specs.Stops.{IfFull}
-use Rattle.plans.specs.Shards.{logs_of}
+use Rattle.shards.specs.Shards.{logs_of}
 use Rattle.plans.proofs.Few.{left_none}
 use Rattle.plans.proofs.Making.{made_nothing}
 use Rattle.plans.proofs.plan.settle.Goals as goal

@@ -5,13 +5,13 @@ use Rattle.transact.specs.Tables.{AreThere, Became, HasBegun, Stand, begins, joi
 use Rattle.words.specs.Store.{Bytes}
 use Rattle.hybrid.specs.Staging.{AreRight, StagedPage}
 use Rattle.plans.specs.Memory.{AreAtHand, NeedsNoMemoryOn}
-use Rattle.plans.specs.Receipts.{kept_by}
+use Rattle.shards.specs.Receipts.{kept_by}
 use Rattle.plans.specs.Reading.{unread}
-use Rattle.plans.specs.Shards.{logs_of, shard_meaning}
+use Rattle.shards.specs.Shards.{logs_of, shard_meaning}
 use Rattle.plans.specs.Sizes.{AllShort}
 use Rattle.plans.specs.Stops.{faults, keys_looked_up}
 use Rattle.plans.proofs.Hand.{none_cold}
-use Rattle.plans.specs.Devices.{IsReadAlone}
+use Rattle.shards.specs.Devices.{IsReadAlone}
 use Rattle.plans.proofs.Few.{few_from, left_from, more_both, more_none, read_both, read_same, still_both, refused_any, stop_spared}
 use Rattle.plans.proofs.Logs.{logs_both, logs_same}
 use Rattle.plans.proofs.Making.{full_read, made_from}

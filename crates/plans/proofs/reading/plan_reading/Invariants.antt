@@ -3,8 +3,8 @@ use Rattle.hybrid.specs.Staging.{AreRight}
 use Rattle.plans.specs.Memory.{AreAtHand}
 use Rattle.plans.specs.Stops.{keys_looked_up}
 use Rattle.plans.specs.Reading.{AreServed, HasMore, unread}
-use Rattle.plans.specs.Devices.{IsReadAlone}
-use Rattle.plans.specs.Shards.{logs_of}
+use Rattle.shards.specs.Devices.{IsReadAlone}
+use Rattle.shards.specs.Shards.{logs_of}
 use Rattle.plans.proofs.reading.plan_reading.Given as goal
 
 abbrev pub invariant-loop-planned : goal.invariant-loop-planned

@@ -1,6 +1,6 @@
 use Rattle.std.proofs.Common.{◌∙◌, refl}
 use Rattle.hybrid.specs.HybridLog.{Kept}
-use Rattle.plans.specs.Receipts.{kept_by}
+use Rattle.shards.specs.Receipts.{kept_by}
 use Rattle.plans.proofs.Few.{more_both, more_none, read_both, read_same}
 use Rattle.plans.proofs.Unread.{each_still, read_more, read_none, served_split}
 use Rattle.plans.proofs.reading.read_all.Goals as goal

@@ -1,7 +1,7 @@
 use Rattle.std.proofs.Common.{◌≡◌, List, length}
 use Rattle.hybrid.specs.Staging.{AreRight, StagedPage}
 use Rattle.plans.specs.Reading.{AreRead, HasMore, ServesEach}
-use Rattle.plans.specs.Devices.{IsReadAlone}
+use Rattle.shards.specs.Devices.{IsReadAlone}
 use Rattle.plans.proofs.reading.read_all.Given as goal
 
 abbrev pub invariant-loop-receipt : goal.invariant-loop-receipt

@@ -4,7 +4,7 @@ use Rattle.words.specs.declared.word.TheConstants.{WORD_INLINE}
 use Rattle.hybrid.specs.Staging.{AreRight, StagedPage}
 use Rattle.plans.specs.Memory.{AreAtHand}
 use Rattle.plans.specs.Reading.{unread}
-use Rattle.plans.specs.Shards.{logs_of, shard_meaning}
+use Rattle.shards.specs.Shards.{logs_of, shard_meaning}
 use Rattle.words.specs.History.{after}
 use Rattle.plans.proofs.Hand.{none_cold}
 use Rattle.plans.proofs.Logs.{logs_same}

@@ -2,7 +2,7 @@ use Rattle.std.proofs.Common.{◌≡◌, ◌∷◌, []}
 use Rattle.hybrid.specs.Staging.{AreRight}
 use Rattle.plans.specs.Memory.{AreAtHand}
 use Rattle.plans.specs.Reading.{AreServed, unread}
-use Rattle.plans.specs.Shards.{logs_of}
+use Rattle.shards.specs.Shards.{logs_of}
 use Rattle.plans.proofs.reading.read_value.Given as goal
 
 abbrev pub invariant-loop-value : goal.invariant-loop-value

@@ -1,5 +1,5 @@
 use Rattle.std.proofs.Common.{◌≡◌, drop}
-use Rattle.plans.specs.Rooms.{purpose_of}
+use Rattle.shards.specs.Rooms.{purpose_of}
 use Rattle.plans.proofs.room.purpose_of.Given as goal
 
 abbrev pub invariant-loop-write : goal.invariant-loop-write

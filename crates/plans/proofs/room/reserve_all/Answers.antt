@@ -3,9 +3,9 @@ use Rattle.std.proofs.lemmas.Bool.{cases_eq}
 use Rattle.std.proofs.lemmas.Result.{err_from_is_err_and}
 use Rattle.words.specs.Store.{Write}
 use Rattle.transact.specs.Tables.{keys_written}
-use Rattle.plans.specs.Receipts.{kept_by}
-use Rattle.plans.specs.Shards.{logs_of, shard_meaning}
-use Rattle.plans.specs.Rooms.{IsRoomyAt, share}
+use Rattle.shards.specs.Receipts.{kept_by}
+use Rattle.shards.specs.Shards.{logs_of, shard_meaning}
+use Rattle.shards.specs.Rooms.{IsRoomyAt, share}
 use Rattle.plans.proofs.Become.{became_same, became_twice, there_after}
 use Rattle.plans.proofs.Few.{few_more, few_none, left_more, still_both, still_same}
 use Rattle.plans.proofs.Making.{made_more, met_stop, room_at}

@@ -1,9 +1,9 @@
 use Rattle.std.proofs.Common.{◌≡◌, ◌<◌, ◌≤◌, [], ℕ}
 use Rattle.transact.specs.Tables.{Became, stays}
-use Rattle.plans.specs.Receipts.{kept_by}
-use Rattle.plans.specs.Rooms.{IsRoomyAt, MakesRoom, ShedFew, share}
-use Rattle.plans.specs.Devices.{StillServes}
-use Rattle.plans.specs.Shards.{SameWaits, logs_of, shard_meaning}
+use Rattle.shards.specs.Receipts.{kept_by}
+use Rattle.shards.specs.Rooms.{IsRoomyAt, MakesRoom, ShedFew, share}
+use Rattle.shards.specs.Devices.{StillServes}
+use Rattle.shards.specs.Shards.{SameWaits, logs_of, shard_meaning}
 use Rattle.plans.proofs.Few.{LeftBelow}
 use Rattle.plans.proofs.room.reserve_all.Given as goal
 

@@ -4,7 +4,7 @@ use Rattle.std.proofs.lemmas.List.{get_or-set_other, get_or-set_same, length-set
 use Rattle.words.specs.declared.limits.TheConstants.{WEIGHT_MAX}
 use Rattle.words.specs.Store.{Write, weight}
 use Rattle.words.specs.Stripes.{stripe_of}
-use Rattle.plans.specs.Rooms.{share}
+use Rattle.shards.specs.Rooms.{share}
 use Rattle.plans.proofs.Rooms.{no_share, rest_light, share_away, share_here, share_light, zero_at}
 use Rattle.plans.proofs.room.shares_of.Goals as goal
 

@@ -1,7 +1,7 @@
 use Rattle.std.proofs.Common.{◌≡◌, ◌+◌, ◌<◌, ◌≤◌, ℕ, length, slice_index}
 use Rattle.words.specs.declared.limits.TheConstants.{WEIGHT_MAX}
 use Rattle.words.specs.Store.{weight}
-use Rattle.plans.specs.Rooms.{share}
+use Rattle.shards.specs.Rooms.{share}
 use Rattle.plans.proofs.room.shares_of.Given as goal
 
 abbrev pub invariant-loop-first : goal.invariant-loop-first

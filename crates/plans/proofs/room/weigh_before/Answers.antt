@@ -1,6 +1,6 @@
 use Rattle.std.proofs.Common.{◌≡◌, ◌∙◌, true, false, sym, ap, cond, arith}
 use Rattle.words.specs.Store.{writes_key}
-use Rattle.plans.specs.Shards.{weigh}
+use Rattle.shards.specs.Shards.{weigh}
 use Rattle.plans.proofs.Rooms.{first_light}
 use Rattle.plans.proofs.room.weigh_before.Goals as goal
 

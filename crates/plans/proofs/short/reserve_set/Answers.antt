@@ -1,5 +1,5 @@
 use Rattle.std.proofs.Common.{arith}
-use Rattle.plans.specs.Shards.{logs_of}
+use Rattle.shards.specs.Shards.{logs_of}
 use Rattle.plans.proofs.Few.{lacks_as, left_as}
 use Rattle.plans.proofs.short.reserve_set.Goals as goal
 

@@ -1,6 +1,6 @@
 use Rattle.std.proofs.Common.{ℕ, [], refl}
 use Rattle.words.specs.Session.{value_reply}
-use Rattle.plans.specs.Shards.{shard_meaning}
+use Rattle.shards.specs.Shards.{shard_meaning}
 use Rattle.plans.proofs.Plans.{plan_of_get}
 use Rattle.plans.proofs.Stores.{ok_then_all}
 use Rattle.plans.proofs.short.value_of.Goals as goal

@@ -1,8 +1,8 @@
 use Rattle.std.proofs.Common.{◌≡◌, ◌∙◌, ℕ, length, sym, subst, arith}
 use Rattle.std.specs.Prelude.{IfOk}
 use Rattle.transact.specs.Calls.{call_keys}
-use Rattle.plans.specs.Rooms.{AreRoomy}
-use Rattle.plans.specs.Shards.{logs_of}
+use Rattle.shards.specs.Rooms.{AreRoomy}
+use Rattle.shards.specs.Shards.{logs_of}
 use Rattle.plans_tests.specs.Held.{part_at}
 use Rattle.plans_tests.proofs.There.{all_there}
 use Rattle.plans_tests.proofs.calls.plan_call.Goals as goal

@@ -2,8 +2,8 @@ use Rattle.std.proofs.Common.{◌∙◌, ◌<◌, ap, sym, subst}
 use Rattle.hybrid.specs.HybridLog.{HybridLog, IsHybridLog}
 use Rattle.hybrid.specs.Reading.{unread}
 use Rattle.hybrid.specs.Staging.{IsMissing}
-use Rattle.plans.specs.Counted as counting
-use Rattle.plans.specs.Counted.{Counted}
+use Rattle.shards.specs.Counted as counting
+use Rattle.shards.specs.Counted.{Counted}
 use Rattle.world_log.specs.Cleaning.{AreServed}
 use Rattle.world_log.proofs.AllGiven.{clean_given}
 use Rattle.world_log.proofs.CleanSteps.{agrees_unlinked, fetched_less, has_unlinked, served_places}

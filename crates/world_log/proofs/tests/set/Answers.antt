@@ -1,6 +1,6 @@
 use Rattle.std.proofs.Common.{◌∙◌, length, refl, arith}
 use Rattle.std.proofs.lemmas.Option.{slice_get_read}
-use Rattle.plans.specs.Shards.{shard_log}
+use Rattle.shards.specs.Shards.{shard_log}
 use Rattle.world_log.proofs.Setting.{set_right}
 use Rattle.world_log.proofs.tests.set.Goals as goal
 

@@ -1,7 +1,7 @@
 use Rattle.std.proofs.Common.{◌∙◌, ap, sym, subst, Option, ℕ}
 use Rattle.hybrid.specs.HybridLog.{IsHybridLog}
 use Rattle.hybrid.specs.Reserving.{IsFull}
-use Rattle.plans.specs.Counted.{Counted}
+use Rattle.shards.specs.Counted.{Counted}
 use Rattle.world_model.specs.Logs.{copied_page}
 use Rattle.world_log.specs.Beside.{beside_of, log_state}
 use Rattle.world_log.specs.declared.queues.Flushing.TheVariants as has

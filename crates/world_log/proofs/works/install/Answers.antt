@@ -1,6 +1,6 @@
 use Rattle.std.proofs.Common.{◌≡◌, ◌∙◌, List, ℕ, ap, sym, subst}
 use Rattle.hybrid.specs.HybridLog.{IsHybridLog}
-use Rattle.plans.specs.Counted.{HasLanded}
+use Rattle.shards.specs.Counted.{HasLanded}
 use Rattle.world_log.specs.Places.{view}
 use Rattle.world_log.specs.Beside.{Agrees, IsFaithful, beside_of, has_receipt, log_state}
 use Rattle.world_log.specs.Given.{KeepsGiven}

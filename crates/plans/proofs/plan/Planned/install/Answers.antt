@@ -1,8 +1,8 @@
 use Rattle.std.proofs.Common.{List, subst}
 use Rattle.words.specs.Store.{Write}
 use Rattle.transact.specs.Tables.{Became, touches}
-use Rattle.plans.specs.Rooms.{HaveGrown}
-use Rattle.plans.specs.Shards.{logs_of, shard_meaning}
+use Rattle.shards.specs.Rooms.{HaveGrown}
+use Rattle.shards.specs.Shards.{logs_of, shard_meaning}
 use Rattle.transact.specs.Plans.{keys_ended}
 use Rattle.plans.proofs.Become.{there_after}
 use Rattle.plans.proofs.Begun.{touched_cleared}

@@ -1,6 +1,6 @@
 use Rattle.std.proofs.Common.{rules, ℕ, List, [], subst}
 use Rattle.words.specs.Store.{Bytes}
-use Rattle.plans.specs.Shards.{shard_meaning}
+use Rattle.shards.specs.Shards.{shard_meaning}
 use Rattle.transact.specs.Tables.{Became, clears}
 use Rattle.plans.proofs.Begun.{taken_back}
 use Rattle.plans.proofs.plan.Planned.undo.Goals as goal

@@ -1,5 +1,5 @@
 use Rattle.std.proofs.Common.{sym, subst}
-use Rattle.plans.specs.Counted.{Counted}
+use Rattle.shards.specs.Counted.{Counted}
 use Rattle.world_log.specs.Beside.{beside_of}
 use Rattle.world_log.specs.Given.{AreAllGiven}
 use Rattle.world_log.proofs.lanes.Lane+Shard+WorldReceipt.evict.Goals as goal

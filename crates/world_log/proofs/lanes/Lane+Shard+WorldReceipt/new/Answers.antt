@@ -1,6 +1,6 @@
 use Rattle.std.proofs.Common.{◌∙◌, ap, refl, subst, arith}
 use Rattle.hybrid.specs.HybridLog.{IsHybridLog}
-use Rattle.plans.specs.Counted.{Counted}
+use Rattle.shards.specs.Counted.{Counted}
 use Rattle.world_log.proofs.Beginning.{new_lane}
 use Rattle.world_log.proofs.lanes.Lane+Shard+WorldReceipt.new.Goals as goal
 

@@ -2,7 +2,7 @@ use Rattle.std.proofs.Common.{◌≡◌, ◌∙◌, ◌<◌, length, nat_lt, tru
 use Rattle.std.proofs.lemmas.Bool.{ltb-true}
 use Rattle.std.proofs.lemmas.Option.{slice_get_read}
 use Rattle.hybrid.specs.HybridLog.{HybridLog}
-use Rattle.plans.specs.Counted.{Counted}
+use Rattle.shards.specs.Counted.{Counted}
 use Rattle.world_model.specs.Logs.{LogState}
 use Rattle.world_log.specs.Stripes.{lane_log}
 use Rattle.world_log.specs.WorldLogs.{with_values}

@@ -1,5 +1,0 @@
-use Rattle.plans.proofs.Counts.{claimed_step}
-use Rattle.plans.proofs.shard.Shard.end_flush.Goals as goal
-
-pub returns-clause-done : goal.returns-clause-done
-returns-clause-done g c = claimed_step c.args.self.now.log c.claim.new.self.log c.land.new.self.log c.if-not-claim.ensures.claimed c.land.ensures.done

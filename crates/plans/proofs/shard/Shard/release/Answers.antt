@@ -1,5 +1,0 @@
-use Rattle.plans.proofs.Counts.{released_step}
-use Rattle.plans.proofs.shard.Shard.release.Goals as goal
-
-pub returns-clause-done : goal.returns-clause-done
-returns-clause-done g c = λ refused. released_step _ _ _ _ _ _ _ _ _ _ c.stripe-counted.ensures.counted c.release.ensures.released

@@ -1,0 +1,6 @@
+pub mod Short
+pub mod Counts
+pub mod Raised
+pub mod Freed
+pub mod Refreed
+pub mod Cleaned

@@ -1,0 +1,5 @@
+use Rattle.shards.proofs.Counts.{claimed_step}
+use Rattle.shards.proofs.shard.Shard.end_flush.Goals as goal
+
+pub returns-clause-done : goal.returns-clause-done
+returns-clause-done g c = claimed_step c.args.self.now.log c.claim.new.self.log c.land.new.self.log c.if-not-claim.ensures.claimed c.land.ensures.done

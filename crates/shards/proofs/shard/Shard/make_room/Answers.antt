@@ -1,0 +1,56 @@
+use Rattle.epoch.specs.Seats.{known}
+use Rattle.hybrid.specs.declared.stripe.room.Purpose.TheVariants as purpose
+use Rattle.shards.specs.Shards.{shard_counted}
+use Rattle.shards.proofs.Refreed.{full_pages, made_both, made_freed, made_shed, spent_now, spent_still, spent_since, tried_all}
+use Rattle.shards.proofs.shard.Shard.make_room.Goals as goal
+
+pub returns-in-Ok-clause-made : goal.returns-in-Ok-clause-made
+returns-in-Ok-clause-made g c = made_shed c.args.weight purpose.Clean (shard_counted c.args.self.now) (shard_counted c.reserve.new.self) c.reserve.ensures.few c.reserve.ensures.waits
+
+pub returns-in-Err-DeviceFault-clause-made : goal.returns-in-Err-DeviceFault-clause-made
+returns-in-Err-DeviceFault-clause-made g c = made_shed c.args.weight purpose.Clean (shard_counted c.args.self.now) (shard_counted c.reserve.new.self) c.reserve.ensures.few c.reserve.ensures.waits
+
+pub returns-in-Ok-reserve-clause-room : goal.returns-in-Ok-reserve-clause-room
+returns-in-Ok-reserve-clause-room g c = c.in-Ok-reserve.ensures.room
+
+pub returns-in-Ok-reserve-clause-made : goal.returns-in-Ok-reserve-clause-made
+returns-in-Ok-reserve-clause-made g c =
+    made_both (shard_counted c.args.self.now) (shard_counted c.reserve.new.self) (shard_counted c.reserve-2.new.self)
+    (made_shed c.args.weight purpose.Clean (shard_counted c.args.self.now) (shard_counted c.reserve.new.self) c.reserve.ensures.few c.reserve.ensures.waits)
+    (made_both (shard_counted c.reserve.new.self) (shard_counted c.free_places-freed.new.self) (shard_counted c.reserve-2.new.self)
+    (made_freed (shard_counted c.reserve.new.self) (shard_counted c.free_places-freed.new.self) c.free_places-freed.result c.free_places-freed.ensures.freed)
+    (made_shed c.args.weight purpose.Clean (shard_counted c.free_places-freed.new.self) (shard_counted c.reserve-2.new.self) c.reserve-2.ensures.few c.reserve-2.ensures.waits))
+
+pub returns-in-Err-DeviceFault-reserve-clause-made : goal.returns-in-Err-DeviceFault-reserve-clause-made
+returns-in-Err-DeviceFault-reserve-clause-made g c =
+    made_both (shard_counted c.args.self.now) (shard_counted c.reserve.new.self) (shard_counted c.reserve-2.new.self)
+    (made_shed c.args.weight purpose.Clean (shard_counted c.args.self.now) (shard_counted c.reserve.new.self) c.reserve.ensures.few c.reserve.ensures.waits)
+    (made_both (shard_counted c.reserve.new.self) (shard_counted c.free_places-freed.new.self) (shard_counted c.reserve-2.new.self)
+    (made_freed (shard_counted c.reserve.new.self) (shard_counted c.free_places-freed.new.self) c.free_places-freed.result c.free_places-freed.ensures.freed)
+    (made_shed c.args.weight purpose.Clean (shard_counted c.free_places-freed.new.self) (shard_counted c.reserve-2.new.self) c.reserve-2.ensures.few c.reserve-2.ensures.waits))
+
+pub returns-in-Err-StoreFull-reserve-clause-made : goal.returns-in-Err-StoreFull-reserve-clause-made
+returns-in-Err-StoreFull-reserve-clause-made g c =
+    made_both (shard_counted c.args.self.now) (shard_counted c.reserve.new.self) (shard_counted c.reserve-2.new.self)
+    (made_shed c.args.weight purpose.Clean (shard_counted c.args.self.now) (shard_counted c.reserve.new.self) c.reserve.ensures.few c.reserve.ensures.waits)
+    (made_both (shard_counted c.reserve.new.self) (shard_counted c.free_places-freed.new.self) (shard_counted c.reserve-2.new.self)
+    (made_freed (shard_counted c.reserve.new.self) (shard_counted c.free_places-freed.new.self) c.free_places-freed.result c.free_places-freed.ensures.freed)
+    (made_shed c.args.weight purpose.Clean (shard_counted c.free_places-freed.new.self) (shard_counted c.reserve-2.new.self) c.reserve-2.ensures.few c.reserve-2.ensures.waits))
+
+pub returns-in-Ok-reserve-clause-tried : goal.returns-in-Ok-reserve-clause-tried
+returns-in-Ok-reserve-clause-tried g c = tried_all c.free_places-freed.result.refused.retire (known c.args.seat.now) (known c.free_places-freed.new.own) c.free_places-freed.ensures.told
+
+pub returns-in-Err-DeviceFault-reserve-clause-tried : goal.returns-in-Err-DeviceFault-reserve-clause-tried
+returns-in-Err-DeviceFault-reserve-clause-tried g c = tried_all c.free_places-freed.result.refused.retire (known c.args.seat.now) (known c.free_places-freed.new.own) c.free_places-freed.ensures.told
+
+pub returns-in-Err-StoreFull-reserve-clause-tried : goal.returns-in-Err-StoreFull-reserve-clause-tried
+returns-in-Err-StoreFull-reserve-clause-tried g c = tried_all c.free_places-freed.result.refused.retire (known c.args.seat.now) (known c.free_places-freed.new.own) c.free_places-freed.ensures.told
+
+pub returns-in-Err-StoreFull-reserve-clause-room : goal.returns-in-Err-StoreFull-reserve-clause-room
+returns-in-Err-StoreFull-reserve-clause-room g c =
+    let full = rw c.in-Err-StoreFull-reserve.field-0-is at c.in-Err-StoreFull-reserve.ensures.fault in
+    let freed = c.free_places-freed in (
+      full_pages c.reserve-2.new.self full.0,
+      spent_since freed.result.refused c.args.self.now c.reserve.new.self c.reserve-2.new.self (made_shed c.args.weight purpose.Clean (shard_counted c.args.self.now) (shard_counted c.reserve.new.self) c.reserve.ensures.few c.reserve.ensures.waits).counts
+          (spent_still freed.result.refused c.reserve.new.self freed.new.self c.reserve-2.new.self c.reserve-2.ensures.waits (spent_now c.reserve.new.self freed.new.self freed.result freed.ensures.freed)),
+    )

@@ -1,0 +1,9 @@
+pub mod Counted
+pub mod Cleaning
+pub mod Freeing
+pub mod Flushing
+pub mod Heard
+pub mod Receipts
+pub mod Shards
+pub mod Rooms
+pub mod Devices

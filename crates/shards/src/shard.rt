@@ -1,0 +1,364 @@
+//! What one stripe has: the log of its keys with its places on the device, and the marks of the keys that are watched.
+
+ghost use Rattle.std.specs.Prelude.{◌≡◌, ◌+◌, ◌-◌, ◌<◌, ◌≤◌, ⊤, ℕ, List, None, Some, IfOk, IfErr, OnOk, OnErr, IsSome, option_map, is_none, length, ◌↔◌, [], IsTrue};
+ghost use Rattle.std.specs.Bool.{OnTrue, OnFalse};
+ghost use Rattle.std.specs.Borrow.{sem, Lends};
+ghost use Rattle.std.specs.Map.{update};
+ghost use Rattle.shards.specs.contracts.counted.CountedLog.{the_row as log_row};
+ghost use Rattle.shards.specs.contracts.shard.Shard.{the_row};
+ghost use Rattle.std.specs.Str.{bytes_eq};
+ghost use Rattle.words.specs.Watches.{touched};
+ghost use Rattle.words.specs.declared.limits.TheConstants.{VALUE_BYTES_MAX, WEIGHT_MAX};
+ghost use Rattle.gates.specs.Background.{IsIdle, IsStep};
+ghost use Rattle.gates.specs.Pages as pages;
+ghost use Rattle.gates.specs.Pages.{total};
+ghost use Rattle.gates.specs.declared.view.Work.TheVariants.{Clean, Evict, Flush};
+ghost use Rattle.gates.specs.declared.view.Refused.{Refused};
+ghost use Rattle.watch.specs.Marked.{are_these, begun_if, cleared};
+ghost use Rattle.hybrid.specs.HybridLog.{HasRoom, IsGrown, empty_log, receipt_at, IsSealed, receipt_of, with_dropped};
+ghost use Rattle.hybrid.specs.Lookups.{Leads, MatchLookup};
+ghost use Rattle.hybrid.specs.Reserving.{IsFull, MatchFault};
+ghost use Rattle.hybrid.specs.Shedding.{HasShed};
+ghost use Rattle.hybrid.specs.Staging.{AreRight, IsMissing};
+ghost use Rattle.hybrid.specs.Log.{Fits};
+ghost use Rattle.shards.specs.Devices.{StillServes};
+ghost use Rattle.shards.specs.Counted.{HasDrained, HasFlushed, HasLanded, HasReleased, HasRetired, IsFirstSealed, MatchBegun, MatchMoved, WasRefused, claimed, with_flight, without_flight};
+ghost use Rattle.epoch.specs.Seats.{AdvancedPast, IsOutside, WasWorn, known};
+ghost use Rattle.shards.specs.Receipts.{kept_by};
+ghost use Rattle.shards.specs.Rooms.{LacksRoom, LeavesFrames, ShedsFew};
+ghost use Rattle.shards.specs.Shards.{shard_log, shard_marks, shard_store, weigh, shard_counted, shard_pages, shard_waiting, with_counted};
+
+use crate::counted::{Begun, CountedLog, Moved};
+use device::{Device, Shows};
+use epoch::{EpochSeat, Epochs};
+use gates::Part;
+use hybrid::{Fault, Lookup, Purpose, Staged};
+use records::Page;
+use std::alloc::Global;
+use strings::writes::Write;
+use watch::Marks;
+use words::limits::{Limits, VALUE_BYTES_MAX};
+use words::word::{OutOfMemory, Word};
+
+/// What one stripe has: the log of its keys with its places on the device, and the marks of the keys that are watched.
+#[derive(Drop)]
+pub struct Shard<R: Shows> {
+    pub(crate) log: CountedLog<R>,
+    marks: Marks,
+}
+
+/// A write, as a log takes it.
+#[derive(Drop)]
+struct Put<'a> {
+    key: &'a Word,
+    value: Option<&'a Word>,
+}
+
+impl hybrid::Write for Put<'_> {
+    ghost use Rattle.std.specs.Option.{option_copied};
+
+    ghost key = { λ put. put.key.now };
+
+    ghost value = { λ put. option_copied put.value };
+
+    fn key(&self) -> &[u8] {
+        self.key.as_slice()
+    }
+
+    fn value(&self) -> Option<&[u8]> {
+        match self.value {
+            Some(value) => Some(value.as_slice()),
+            None => None,
+        }
+    }
+}
+
+impl<R: Shows> Part for Shard<R> {
+    ghost use Rattle.shards.specs.Shards.{shard_meaning};
+
+    ghost meaning = { shard_meaning R.is_steady };
+}
+
+impl<R: Shows> Shard<R> {
+    /// A shard with no key and no mark.
+    ///
+    /// # Errors
+    ///
+    /// [`OutOfMemory`] where there is no memory for its frames, its buckets or the lists of its places.
+    pub fn new(alloc: Global, limits: &Limits) -> Result<Shard<R>, OutOfMemory>
+        ensures log { IfOk result (λ made. shard_log made ≡ empty_log limits.now.stripes limits.now.buckets limits.now.frames limits.now.places) }
+        ensures empty { IfOk result (λ made. (key : List ℕ) → shard_store made key ≡ None) }
+        ensures counted { IfOk result (λ made. shard_counted made ≡ record { log = shard_log made; in_flight = 0; unlinked = []; retired = []; drained = []; refused = [] }) }
+        ensures unmarked { IfOk result (λ made. (key : List ℕ) (number : ℕ) → shard_marks made key number ≡ None) }
+    {
+        let log = CountedLog::new(alloc, limits)?;
+        Ok(Shard {
+            log,
+            marks: Marks::new(alloc),
+        })
+    }
+
+    /// What a key has. The answer is right over an honest device, where each staged page is the one that its
+    /// receipt shows. A device that is not honest may show a value that is too long: the key then has none. Where
+    /// receipts lend their pages, no lookup is cold.
+    pub fn find<'a>(&'a self, key: &Word, staged: &'a Staged<R>) -> Lookup<'a>
+        ensures contents { R.is_honest → AreRight staged.now → MatchLookup result (λ value. shard_store self.now key.now ≡ Some value) (shard_store self.now key.now ≡ None) (λ number. Leads (shard_log self.now) key.now number) }
+        ensures short { MatchLookup result (λ value. length value ≤ VALUE_BYTES_MAX) ⊤ (λ number. ⊤) }
+        ensures cold { MatchLookup result (λ value. ⊤) ⊤ (λ number. IsMissing (shard_log self.now) staged.now number) }
+        ensures left { MatchLookup result (λ value. ⊤) ⊤ (λ number. number < (shard_log self.now).resident.oldest) }
+        ensures lent { R.lends → MatchLookup result (λ value. ⊤) ⊤ (λ number. ⊥) }
+    {
+        // By the log's invariant no record has a longer value.
+        let log = self.log.stripe();
+        let _ = log.oldest();
+        match log.find(key.as_slice(), staged) {
+            Lookup::Found(value) => {
+                if value.len() <= VALUE_BYTES_MAX {
+                    Lookup::Found(value)
+                } else {
+                    Lookup::Absent
+                }
+            }
+            Lookup::Absent => Lookup::Absent,
+            Lookup::Cold(number) => Lookup::Cold(number),
+        }
+    }
+
+    /// Its log, with what becomes of its places.
+    pub fn counted(&self) -> &CountedLog<R>
+        ensures { result.now ≡ shard_counted self.now }
+    {
+        &self.log
+    }
+
+    /// The same, to write to. Its marks stay as they are.
+    pub fn counted_mut(&mut self) -> &mut CountedLog<R>
+        ensures* writes_back { sem 𝓛 (Lends (the_row R.row R.Shows) (log_row R.row R.Shows) self.entry result (with_counted self.old)) }
+        ensures log { result.now ≡ shard_counted self.old }
+    {
+        &mut self.log
+    }
+
+    /// The receipt that is kept of a page.
+    pub fn receipt(&self, number: u64) -> Option<&R>
+        ensures { option_map (λ receipt. kept_by R.identity R.shown receipt.now) result ≡ receipt_at (shard_log self.now) number }
+    {
+        self.log.stripe().receipt(number)
+    }
+
+    /// Makes room for writes of this weight: flushes and drops pages. What keys have and marks stay.
+    ///
+    /// # Errors
+    ///
+    /// [`Fault::DeviceFault`] where a write of the device failed; [`Fault::StoreFull`] where a page has to be
+    /// written, or opened, for which no place is left, or none for the frames that these writes leave.
+    pub fn reserve<D: Device<Receipt = R>>(
+        &mut self,
+        weight: usize,
+        purpose: Purpose,
+        device: &mut D,
+    ) -> Result<(), Fault>
+        requires light { weight ≤ WEIGHT_MAX }
+        ensures store { shard_store self.new ≡ shard_store self.old }
+        ensures marks { shard_marks self.new ≡ shard_marks self.old }
+        ensures waits { shard_waiting self.new ≡ shard_waiting self.old }
+        ensures room { OnOk result (HasRoom (shard_log self.new) weight) }
+        ensures shed { D.failures device.new ≡ D.failures device.old → HasShed D.wrote (kept_by R.identity R.shown) (shard_log self.old) device.old (shard_log self.new) device.new }
+        ensures fault { IfErr result (λ fault. MatchFault fault (D.failures device.new ≡ D.failures device.old + 1) (IsFull (shard_log self.new) × (D.failures device.new ≡ D.failures device.old))) }
+        ensures few { ShedsFew weight purpose (shard_log self.old) (shard_log self.new) }
+        ensures lacks { OnErr result (LacksRoom weight purpose (shard_log self.old) (shard_log self.new)) }
+        ensures kept { OnOk result (LeavesFrames weight purpose (shard_log self.old) (shard_log self.new)) }
+        ensures device { StillServes D.serves D.releases device.old device.new }
+        ensures no_fault { OnOk result (D.failures device.new ≡ D.failures device.old) }
+    {
+        self.log.reserve(weight, purpose, device)
+    }
+
+    /// Writes a key, for which there is room: its value is this, or none, and its marks are touched. It takes no
+    /// memory.
+    pub fn write(&mut self, write: &Write)
+        requires room { HasRoom (shard_log self.old) (weigh write.now) }
+        requires fits { Fits write.now.0 write.now.1 }
+        ensures waits { shard_waiting self.new ≡ shard_waiting self.old }
+        ensures value { (k : List ℕ) → shard_store self.new k ≡ update bytes_eq (shard_store self.old) write.now.0 write.now.1 k }
+        ensures marks { (k : List ℕ) (number : ℕ) → shard_marks self.new k number ≡ touched (bytes_eq write.now.0 k) (shard_marks self.old k number) }
+        ensures room { (weight : ℕ) → weigh write.now ≤ weight → HasRoom (shard_log self.old) weight → HasRoom (shard_log self.new) (weight - weigh write.now) }
+        ensures grown { IsGrown (shard_log self.old) (shard_log self.new) (weigh write.now) }
+    {
+        let key = write.key();
+        self.log.install_one(&Put {
+            key,
+            value: write.value(),
+        });
+        self.marks.touch(key);
+    }
+
+    /// Gives a key, for which there is room, a value, and touches its marks. It takes no memory.
+    pub fn set(&mut self, key: &Word, value: &Word)
+        requires room { HasRoom (shard_log self.old) (weigh (key.now, Some value.now)) }
+        requires fits { Fits key.now (Some value.now) }
+        ensures waits { shard_waiting self.new ≡ shard_waiting self.old }
+        ensures value { (k : List ℕ) → shard_store self.new k ≡ update bytes_eq (shard_store self.old) key.now (Some value.now) k }
+        ensures marks { (k : List ℕ) (number : ℕ) → shard_marks self.new k number ≡ touched (bytes_eq key.now k) (shard_marks self.old k number) }
+        ensures grown { IsGrown (shard_log self.old) (shard_log self.new) (weigh (key.now, Some value.now)) }
+    {
+        self.log.install_one(&Put {
+            key,
+            value: Some(value),
+        });
+        self.marks.touch(key);
+    }
+
+    /// The mark that a session has of a key, if it watches the key: whether the key was written since.
+    pub fn mark(&self, key: &Word, seat: u64) -> Option<bool>
+        ensures { result ≡ shard_marks self.now key.now seat }
+    {
+        self.marks.mark(key, seat)
+    }
+
+    /// A session watches a key from here on; a mark that is there stays as it is. It answers whether there was none.
+    ///
+    /// # Errors
+    ///
+    /// [`OutOfMemory`] where there is no memory for the mark. All marks are then as they were.
+    pub fn begin(&mut self, key: &Word, seat: u64) -> Result<bool, OutOfMemory>
+        ensures waits { shard_waiting self.new ≡ shard_waiting self.old }
+        ensures log { shard_log self.new ≡ shard_log self.old }
+        ensures ok { OnOk result ((k : List ℕ) (s : ℕ) → shard_marks self.new k s ≡ begun_if (are_these key.now seat k s) (shard_marks self.old k s)) }
+        ensures begun { IfOk result (λ begun. begun ≡ is_none (shard_marks self.old key.now seat)) }
+        ensures err { OnErr result ((k : List ℕ) (s : ℕ) → shard_marks self.new k s ≡ shard_marks self.old k s) }
+    {
+        self.marks.add(key, seat)
+    }
+
+    /// A session does not watch a key any more. It takes no memory.
+    pub fn clear(&mut self, key: &Word, seat: u64)
+        ensures waits { shard_waiting self.new ≡ shard_waiting self.old }
+        ensures log { shard_log self.new ≡ shard_log self.old }
+        ensures marks { (k : List ℕ) (s : ℕ) → shard_marks self.new k s ≡ cleared (are_these key.now seat k s) (shard_marks self.old k s) }
+    {
+        self.marks.clear_key(key, seat)
+    }
+
+    /// Drops the oldest resident page from its frame, where its receipt is kept, and says whether it did. What keys have
+    /// and marks stay.
+    pub fn drop_oldest(&mut self) -> bool
+        ensures store { shard_store self.new ≡ shard_store self.old }
+        ensures marks { shard_marks self.new ≡ shard_marks self.old }
+        ensures exact { IsTrue result ↔ IsSome (receipt_of (shard_log self.old) (shard_log self.old).resident.oldest) }
+        ensures dropped { OnTrue result (shard_counted self.new ≡ record (shard_counted self.old) { log = with_dropped (shard_log self.old) }) }
+        ensures same { OnFalse result (self.new ≡ self.old) }
+        ensures done { OnTrue result (IsStep Evict (shard_pages self.old) (shard_pages self.new)) }
+        ensures idle { OnFalse result (IsIdle Evict (shard_pages self.new)) }
+    {
+        self.log.drop_oldest()
+    }
+
+    /// Copies the oldest page that waits to be written, and counts a place for it. What keys have and marks stay.
+    pub fn begin_flush(&mut self, page: &mut Page) -> Begun
+        ensures store { shard_store self.new ≡ shard_store self.old }
+        ensures marks { shard_marks self.new ≡ shard_marks self.old }
+        ensures begun { MatchBegun result ((number : ℕ) → IsSealed (shard_log self.old) number → ⊥) (IsFull (shard_log self.old)) (λ number. IsFirstSealed (shard_log self.old) number page.new) }
+        ensures counted { MatchBegun result (self.new ≡ self.old) (self.new ≡ self.old) (λ number. shard_counted self.new ≡ with_flight (shard_counted self.old)) }
+        ensures told { MatchBegun result (IsIdle Flush (shard_pages self.new)) (pages.IsFull (shard_pages self.new)) (λ number. ⊤) }
+    {
+        let _oldest = self.log.stripe().oldest();
+        self.log.begin_flush(page)
+    }
+
+    /// Keeps the receipt of a page that was written, where the page is still as it was written; else the receipt came too
+    /// late and counts as unlinked. The place was counted before the write; false where it was not, and none may be
+    /// taken now. What keys have and marks stay.
+    pub fn end_flush(&mut self, number: u64, page: &Page, receipt: R) -> bool
+        requires shown { R.shown receipt ≡ page.now }
+        ensures store { shard_store self.new ≡ shard_store self.old }
+        ensures marks { shard_marks self.new ≡ shard_marks self.old }
+        ensures landed { OnTrue result (HasLanded (claimed (shard_counted self.old)) number page.now (kept_by R.identity R.shown receipt) (shard_counted self.new)) }
+        ensures same { OnFalse result (self.new ≡ self.old) }
+        ensures none { OnFalse result ((shard_counted self.old).in_flight ≡ 0) }
+        ensures done { OnTrue result (IsStep Flush (shard_pages self.old) (shard_pages self.new)) }
+        ensures full { OnFalse result (pages.IsFull (shard_pages self.new)) }
+    {
+        if !self.claim() {
+            return false;
+        }
+        self.land(number, page, receipt);
+        true
+    }
+
+    /// Sees to it that a place is counted for a page that was written, as [`CountedLog::claim`] does. What keys have and marks
+    /// stay.
+    pub(crate) fn claim(&mut self) -> bool
+        ensures store { shard_store self.new ≡ shard_store self.old }
+        ensures marks { shard_marks self.new ≡ shard_marks self.old }
+        ensures claimed { OnTrue result (shard_counted self.new ≡ claimed (shard_counted self.old)) }
+        ensures some { OnTrue result (0 < (shard_counted self.new).in_flight) }
+        ensures full { OnFalse result (IsFull (shard_log self.old)) }
+        ensures paged { OnFalse result (pages.IsFull (shard_pages self.new)) }
+        ensures none { OnFalse result ((shard_counted self.old).in_flight ≡ 0) }
+        ensures same { OnFalse result (self.new ≡ self.old) }
+    {
+        let _oldest = self.log.stripe().oldest();
+        self.log.claim()
+    }
+
+    /// Keeps the receipt of a page that was written, as [`CountedLog::land`] does. What keys have and marks stay.
+    pub(crate) fn land(&mut self, number: u64, page: &Page, receipt: R)
+        requires shown { R.shown receipt ≡ page.now }
+        requires some { 0 < (shard_counted self.old).in_flight }
+        ensures store { shard_store self.new ≡ shard_store self.old }
+        ensures marks { shard_marks self.new ≡ shard_marks self.old }
+        ensures landed { HasLanded (shard_counted self.old) number page.now (kept_by R.identity R.shown receipt) (shard_counted self.new) }
+        ensures done { IsStep Flush (shard_pages self.old) (shard_pages self.new) }
+    {
+        let _oldest = self.log.stripe().oldest();
+        self.log.land(number, page, receipt);
+    }
+
+    /// Counts a place off whose page could not be written. What keys have and marks stay.
+    pub fn fail_flush(&mut self)
+        ensures store { shard_store self.new ≡ shard_store self.old }
+        ensures marks { shard_marks self.new ≡ shard_marks self.old }
+        ensures freed { shard_counted self.new ≡ without_flight (shard_counted self.old) }
+    {
+        self.log.free_place();
+    }
+
+    /// Gives the oldest drained receipt back to the device, and says whether there was one. What keys have and marks stay.
+    pub fn release<D: Device<Receipt = R>>(&mut self, device: &mut D) -> bool
+        ensures store { shard_store self.new ≡ shard_store self.old }
+        ensures marks { shard_marks self.new ≡ shard_marks self.old }
+        ensures released { OnTrue result (HasReleased D.serves R.identity (shard_counted self.old) device.old (shard_counted self.new) device.new) }
+        ensures counted { OnTrue result (D.releases device.new ≡ D.releases device.old + 1) }
+        ensures none { OnFalse result (((shard_counted self.old).drained ≡ []) × (self.new ≡ self.old) × (device.new ≡ device.old)) }
+        ensures done { (refused : Refused) → OnTrue result (IsStep (Clean refused) (shard_pages self.old) (shard_pages self.new)) }
+        ensures no_fault { D.failures device.new ≡ D.failures device.old }
+    {
+        let _counted = self.log.stripe();
+        self.log.release(device)
+    }
+
+    /// Retires the oldest unlinked receipt. What keys have and marks stay.
+    pub fn retire(&mut self, epochs: &Epochs, seat: &mut EpochSeat) -> Moved
+        requires outside { IsOutside epochs.now seat.old }
+        ensures outside { IsOutside epochs.now seat.new }
+        ensures store { shard_store self.new ≡ shard_store self.old }
+        ensures marks { shard_marks self.new ≡ shard_marks self.old }
+        ensures retired { MatchMoved result (HasRetired (shard_counted self.old) (shard_counted self.new)) (((shard_counted self.old).unlinked ≡ []) × (self.new ≡ self.old)) (self.new ≡ self.old) }
+        ensures told { MatchMoved result ((e : ℕ) × AdvancedPast e (known seat.old) (known seat.new)) (seat.new ≡ seat.old) (WasWorn (known seat.old) (known seat.new)) }
+        ensures done { (refused : Refused) → MatchMoved result (IsStep (Clean refused) (shard_pages self.old) (shard_pages self.new)) ⊤ ⊤ }
+    {
+        self.log.retire(epochs, seat)
+    }
+
+    /// Drains the oldest retired receipt. What keys have and marks stay.
+    pub fn drain(&mut self) -> Moved
+        ensures store { shard_store self.new ≡ shard_store self.old }
+        ensures marks { shard_marks self.new ≡ shard_marks self.old }
+        ensures drained { MatchMoved result (HasDrained (shard_counted self.old) (shard_counted self.new)) (((shard_counted self.old).retired ≡ []) × (self.new ≡ self.old)) (WasRefused (shard_counted self.old) (shard_counted self.new)) }
+        ensures more { MatchMoved result ⊤ ⊤ (total (shard_counted self.old).refused < total (shard_counted self.new).refused) }
+        ensures done { (refused : Refused) → MatchMoved result (IsStep (Clean refused) (shard_pages self.old) (shard_pages self.new)) ⊤ ⊤ }
+    {
+        self.log.drain()
+    }
+}
