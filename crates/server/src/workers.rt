@@ -65,7 +65,7 @@ where
     serve_all(rt, listener, options, latch, endings, &engine, passes)
 }
 
-/// Starts the threads, and accepts connections for them. It returns when all have ended.
+/// Serves by an engine and its passes. It returns when all threads have ended.
 fn serve_all<R, L, D>(
     rt: &R,
     listener: TcpListener,
@@ -86,15 +86,35 @@ where
     ensures opened { IfErr result (λ fault. fault ≢ ServerFault.CannotOpenDevice) }
 {
     let (to_workers, for_workers) = bounded(rt.alloc(), 0)?;
-    let serving = Serving::new(processors(rt));
     let shared = Shared {
         latch,
         endings,
-        serving: &serving,
         engine,
-        handed: &for_workers,
+        serving: Serving::new(processors(rt)),
+        handed: for_workers,
     };
-    let shared = &shared;
+    run_threads(rt, &shared, listener, options, passes, to_workers)
+}
+
+/// Starts the threads, and accepts connections for them. It returns when all have ended.
+fn run_threads<R, L, D>(
+    rt: &R,
+    shared: &Shared<L, D>,
+    listener: TcpListener,
+    options: &Options,
+    passes: Vec<Pass<D>>,
+    to_workers: Sender<TcpStream>,
+) -> Result<(), ServerFault>
+where
+    R: AllocGlobal + Clock + Threads + Wait + Sync,
+    L: Latch + Sync,
+    D: Device + Send + Sync,
+    D::Receipt: Send + Sync,
+    requires rest { All (Rests D.Receipt.is_steady shared.now.engine.now) passes.items }
+    requires watch { All (λ pass. (knows D.failures pass).watched ≡ []) passes.items }
+    ensures listens { IfErr result (λ fault. fault ≢ ServerFault.CannotListen) }
+    ensures opened { IfErr result (λ fault. fault ≢ ServerFault.CannotOpenDevice) }
+{
     thread::scope(
         thread::scope_env(),
         rt,
@@ -112,10 +132,10 @@ where
 }
 
 /// Starts the other threads, and accepts connections for the workers.
-fn start_and_accept<'s, 'e, R, L, D>(
+fn start_and_accept<'s, 'e, 'a, R, L, D>(
     rt: &'s R,
     scope: &Scope<'s, &'e ()>,
-    shared: &'s Shared<'s, L, D>,
+    shared: &'s Shared<'a, L, D>,
     listener: TcpListener,
     options: &Options,
     passes: Vec<Pass<D>>,
@@ -132,7 +152,7 @@ where
     ensures opened { IfErr result (λ fault. fault ≢ ServerFault.CannotOpenDevice) }
 {
     let to_closer = start_closer(rt, scope)?;
-    let passes = start_background(rt, scope, options, shared.engine, passes, shared.serving)?;
+    let passes = start_background(rt, scope, options, shared.engine, passes, &shared.serving)?;
     start_workers(rt, scope, shared, passes, options.workers, &to_closer)?;
     accept_all(rt, listener, options.accept, to_workers, to_closer)
 }
@@ -240,10 +260,10 @@ where
 }
 
 /// Starts so many workers, each with a pass of its own. Further passes are dropped.
-fn start_workers<'s, 'e, R, L, D>(
+fn start_workers<'s, 'e, 'a, R, L, D>(
     rt: &'s R,
     scope: &Scope<'s, &'e ()>,
-    shared: &'s Shared<'s, L, D>,
+    shared: &'s Shared<'a, L, D>,
     mut passes: Vec<Pass<D>>,
     count: usize,
     closer: &Sender<Leaving>,
@@ -265,10 +285,10 @@ where
 }
 
 /// Starts one worker.
-fn start_worker<'s, 'e, R, L, D>(
+fn start_worker<'s, 'e, 'a, R, L, D>(
     rt: &'s R,
     scope: &Scope<'s, &'e ()>,
-    shared: &'s Shared<'s, L, D>,
+    shared: &'s Shared<'a, L, D>,
     pass: Pass<D>,
     closer: &Sender<Leaving>,
 ) -> Result<(), ServerFault>

@@ -21,10 +21,10 @@ pub(crate) struct Shared<'a, L: Latch, D: Device> {
     /// What is told where each call is.
     pub(crate) latch: &'a L,
     pub(crate) endings: &'a Endings,
-    pub(crate) serving: &'a Serving,
     pub(crate) engine: &'a Engine<D>,
+    pub(crate) serving: Serving,
     /// By what connections are handed over.
-    pub(crate) handed: &'a Receiver<TcpStream>,
+    pub(crate) handed: Receiver<TcpStream>,
 }
 
 /// Serves connections as they are handed over, one after the other, until nobody can hand over another.
@@ -71,7 +71,7 @@ fn serve_stream<R: AllocGlobal + Clock + Wait, L: Latch, D: Device>(
     // Without this a short reply may wait for the client's acknowledgement of the one before.
     let _ = stream.set_nodelay(true);
     let socket = Socket::new(stream);
-    let mut reader = Noted::new(SocketReader::new(rt, &socket, shared.serving));
+    let mut reader = Noted::new(SocketReader::new(rt, &socket, &shared.serving));
     let mut writer = Noted::new(SocketWriter::new(&socket));
     serve(
         rt,
