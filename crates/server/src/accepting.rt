@@ -2,10 +2,10 @@
 
 ghost use Rattle.std.specs.Prelude.{◌≡◌, ◌≢◌, IfErr};
 
-use crate::closing::{Leaving, close_later};
 use crate::fault::ServerFault;
 use crossbeam_channel::Sender;
 use options::Options;
+use sockets::{Leaving, close_later};
 use std::io;
 use std::io::{ErrorKind, Write};
 use std::net::{Ipv4Addr, Net, SocketAddrV4, TcpListener, TcpStream};

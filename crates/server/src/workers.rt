@@ -5,17 +5,16 @@ ghost use Rattle.engine.specs.Passes.{knows, Rests};
 ghost use Rattle.engine.specs.declared.TheConstants.{BACKGROUND_PASSES};
 
 use crate::accepting::accept_all;
-use crate::closing::{LEAVING_MAX, Leaving, close_all};
-use crate::duties::{Chores, Duty, work_in_background};
 use crate::ending_list::Endings;
 use crate::fault::ServerFault;
-use crate::serving::Serving;
-use crate::working::work;
-use crossbeam_channel::{Receiver, Sender, bounded};
+use crate::working::{Shared, work};
+use crossbeam_channel::{Sender, bounded};
 use device::Device;
+use duties::{Chores, Duty, work_in_background};
 use engine::{BACKGROUND_PASSES, Engine, Pass};
 use gates::Latch;
 use options::Options;
+use sockets::{LEAVING_MAX, Leaving, Serving, close_all};
 use std::net::{TcpListener, TcpStream};
 use std::rt::Clock;
 use std::sync::Wait;
@@ -66,7 +65,7 @@ where
     serve_all(rt, listener, options, latch, endings, &engine, passes)
 }
 
-/// Starts the threads, and accepts connections for them. It returns when all have ended.
+/// Serves by an engine and its passes. It returns when all threads have ended.
 fn serve_all<R, L, D>(
     rt: &R,
     listener: TcpListener,
@@ -87,75 +86,74 @@ where
     ensures opened { IfErr result (λ fault. fault ≢ ServerFault.CannotOpenDevice) }
 {
     let (to_workers, for_workers) = bounded(rt.alloc(), 0)?;
-    let for_workers = &for_workers;
-    let serving = Serving::new(processors(rt));
-    let serving = &serving;
+    let shared = Shared {
+        latch,
+        endings,
+        engine,
+        serving: Serving::new(processors(rt)),
+        handed: for_workers,
+    };
+    run_threads(rt, &shared, listener, options, passes, to_workers)
+}
+
+/// Starts the threads, and accepts connections for them. It returns when all have ended.
+fn run_threads<R, L, D>(
+    rt: &R,
+    shared: &Shared<L, D>,
+    listener: TcpListener,
+    options: &Options,
+    passes: Vec<Pass<D>>,
+    to_workers: Sender<TcpStream>,
+) -> Result<(), ServerFault>
+where
+    R: AllocGlobal + Clock + Threads + Wait + Sync,
+    L: Latch + Sync,
+    D: Device + Send + Sync,
+    D::Receipt: Send + Sync,
+    requires rest { All (Rests D.Receipt.is_steady shared.now.engine.now) passes.items }
+    requires watch { All (λ pass. (knows D.failures pass).watched ≡ []) passes.items }
+    ensures listens { IfErr result (λ fault. fault ≢ ServerFault.CannotListen) }
+    ensures opened { IfErr result (λ fault. fault ≢ ServerFault.CannotOpenDevice) }
+{
     thread::scope(
         thread::scope_env(),
         rt,
         move |scope| -> Result<(), ServerFault>
-            requires rest { All (Rests D.Receipt.is_steady engine.now) passes.items }
+            requires rest { All (Rests D.Receipt.is_steady shared.now.engine.now) passes.items }
             requires watch { All (λ pass. (knows D.failures pass).watched ≡ []) passes.items }
             ensures listens { IfErr result (λ fault. fault ≢ ServerFault.CannotListen) }
             ensures opened { IfErr result (λ fault. fault ≢ ServerFault.CannotOpenDevice) }
         {
-            let came = start_and_accept(
-                rt,
-                scope,
-                listener,
-                options,
-                latch,
-                endings,
-                serving,
-                engine,
-                passes,
-                to_workers,
-                for_workers,
-            );
-            serving.close();
+            let came = start_and_accept(rt, scope, shared, listener, options, passes, to_workers);
+            shared.serving.close();
             came
         },
     )
 }
 
 /// Starts the other threads, and accepts connections for the workers.
-fn start_and_accept<'s, 'e, R, L, D>(
+fn start_and_accept<'s, 'e, 'a, R, L, D>(
     rt: &'s R,
     scope: &Scope<'s, &'e ()>,
+    shared: &'s Shared<'a, L, D>,
     listener: TcpListener,
     options: &Options,
-    latch: &'s L,
-    endings: &'s Endings,
-    serving: &'s Serving,
-    engine: &'s Engine<D>,
     passes: Vec<Pass<D>>,
     to_workers: Sender<TcpStream>,
-    for_workers: &'s Receiver<TcpStream>,
 ) -> Result<(), ServerFault>
 where
     R: AllocGlobal + Clock + Wait + Sync,
     L: Latch + Sync,
     D: Device + Send + Sync,
     D::Receipt: Send + Sync,
-    requires rest { All (Rests D.Receipt.is_steady engine.now) passes.items }
+    requires rest { All (Rests D.Receipt.is_steady shared.now.engine.now) passes.items }
     requires watch { All (λ pass. (knows D.failures pass).watched ≡ []) passes.items }
     ensures listens { IfErr result (λ fault. fault ≢ ServerFault.CannotListen) }
     ensures opened { IfErr result (λ fault. fault ≢ ServerFault.CannotOpenDevice) }
 {
     let to_closer = start_closer(rt, scope)?;
-    let passes = start_background(rt, scope, options, engine, passes, serving)?;
-    start_workers(
-        rt,
-        scope,
-        latch,
-        endings,
-        serving,
-        engine,
-        passes,
-        options.workers,
-        for_workers,
-        &to_closer,
-    )?;
+    let passes = start_background(rt, scope, options, shared.engine, passes, &shared.serving)?;
+    start_workers(rt, scope, shared, passes, options.workers, &to_closer)?;
     accept_all(rt, listener, options.accept, to_workers, to_closer)
 }
 
@@ -262,16 +260,12 @@ where
 }
 
 /// Starts so many workers, each with a pass of its own. Further passes are dropped.
-fn start_workers<'s, 'e, R, L, D>(
+fn start_workers<'s, 'e, 'a, R, L, D>(
     rt: &'s R,
     scope: &Scope<'s, &'e ()>,
-    latch: &'s L,
-    endings: &'s Endings,
-    serving: &'s Serving,
-    engine: &'s Engine<D>,
+    shared: &'s Shared<'a, L, D>,
     mut passes: Vec<Pass<D>>,
     count: usize,
-    handed: &'s Receiver<TcpStream>,
     closer: &Sender<Leaving>,
 ) -> Result<(), ServerFault>
 where
@@ -279,55 +273,42 @@ where
     L: Latch + Sync,
     D: Device + Send + Sync,
     D::Receipt: Send + Sync,
-    requires rest { All (Rests D.Receipt.is_steady engine.now) passes.items }
+    requires rest { All (Rests D.Receipt.is_steady shared.now.engine.now) passes.items }
     requires watch { All (λ pass. (knows D.failures pass).watched ≡ []) passes.items }
     ensures { IfErr result (λ fault. fault ≡ ServerFault.OutOfMemory) }
 {
     passes.truncate(count);
     while let Some(pass) = passes.pop() {
-        start_worker(
-            rt,
-            scope,
-            latch,
-            endings,
-            serving,
-            engine,
-            pass,
-            handed,
-            closer.clone()?,
-        )?;
+        start_worker(rt, scope, shared, pass, closer)?;
     }
     Ok(())
 }
 
 /// Starts one worker.
-fn start_worker<'s, 'e, R, L, D>(
+fn start_worker<'s, 'e, 'a, R, L, D>(
     rt: &'s R,
     scope: &Scope<'s, &'e ()>,
-    latch: &'s L,
-    endings: &'s Endings,
-    serving: &'s Serving,
-    engine: &'s Engine<D>,
+    shared: &'s Shared<'a, L, D>,
     pass: Pass<D>,
-    handed: &'s Receiver<TcpStream>,
-    closer: Sender<Leaving>,
+    closer: &Sender<Leaving>,
 ) -> Result<(), ServerFault>
 where
     R: AllocGlobal + Clock + Wait + Sync,
     L: Latch + Sync,
     D: Device + Send + Sync,
     D::Receipt: Send + Sync,
-    requires rests { Rests D.Receipt.is_steady engine.now pass }
+    requires rests { Rests D.Receipt.is_steady shared.now.engine.now pass }
     requires watches { (knows D.failures pass).watched ≡ [] }
     ensures { IfErr result (λ fault. fault ≡ ServerFault.OutOfMemory) }
 {
+    let closer = closer.clone()?;
     scope.spawn(
         move ||
-            requires rests { Rests D.Receipt.is_steady engine.now pass }
+            requires rests { Rests D.Receipt.is_steady shared.now.engine.now pass }
             requires watches { (knows D.failures pass).watched ≡ [] }
         {
             // It gives its pass back, which nobody wants any more.
-            let _ = work(rt, latch, endings, serving, engine, pass, handed, &closer);
+            let _ = work(rt, shared, pass, &closer);
         },
     )?;
     Ok(())

@@ -3,48 +3,54 @@
 ghost use Rattle.std.specs.Prelude.{◌≡◌, []};
 ghost use Rattle.engine.specs.Passes.{knows, Rests};
 
-use crate::closing::{Leaving, close_later};
 use crate::ending_list::Endings;
-use crate::serving::Serving;
-use crate::socket::{Socket, SocketReader, SocketWriter};
 use connection::{Ended, serve};
 use crossbeam_channel::{Receiver, Sender};
 use device::Device;
 use engine::{Engine, Pass};
 use gates::Latch;
+use sockets::{Leaving, Serving, Socket, SocketReader, SocketWriter, close_later};
 use std::net::TcpStream;
 use std::rt::Clock;
 use std::sync::Wait;
 use streams::Noted;
 
+/// What all workers share.
+#[derive(Drop)]
+pub(crate) struct Shared<'a, L: Latch, D: Device> {
+    /// What is told where each call is.
+    pub(crate) latch: &'a L,
+    pub(crate) endings: &'a Endings,
+    pub(crate) engine: &'a Engine<D>,
+    pub(crate) serving: Serving,
+    /// By what connections are handed over.
+    pub(crate) handed: Receiver<TcpStream>,
+}
+
 /// Serves connections as they are handed over, one after the other, until nobody can hand over another.
 /// The pass is kept from one to the next.
 pub(crate) fn work<R: AllocGlobal + Clock + Wait, L: Latch, D: Device>(
     rt: &R,
-    latch: &L,
-    endings: &Endings,
-    serving: &Serving,
-    engine: &Engine<D>,
+    shared: &Shared<L, D>,
     pass: Pass<D>,
-    handed: &Receiver<TcpStream>,
     closer: &Sender<Leaving>,
 ) -> Pass<D>
-    requires rests { Rests D.Receipt.is_steady engine.now pass }
+    requires rests { Rests D.Receipt.is_steady shared.now.engine.now pass }
     requires watches { (knows D.failures pass).watched ≡ [] }
-    ensures rests { Rests D.Receipt.is_steady engine.now result }
+    ensures rests { Rests D.Receipt.is_steady shared.now.engine.now result }
     ensures watches { (knows D.failures result).watched ≡ [] }
 {
     let mut pass = pass;
     for _ in rt.forever() {
-        let Ok(stream) = handed.recv(rt) else {
+        let Ok(stream) = shared.handed.recv(rt) else {
             return pass;
         };
-        serving.begin();
-        let (back, ended) = serve_stream(rt, latch, &stream, serving, engine, pass);
-        serving.end();
+        shared.serving.begin();
+        let (back, ended) = serve_stream(rt, shared, &stream, pass);
+        shared.serving.end();
         pass = back;
         // Without memory for it, the ending is not listed.
-        let _ = endings.push(rt, ended);
+        let _ = shared.endings.push(rt, ended);
         close(rt, stream, ended, closer);
     }
     unreachable!()
@@ -53,30 +59,28 @@ pub(crate) fn work<R: AllocGlobal + Clock + Wait, L: Latch, D: Device>(
 /// Serves one connection until it ends.
 fn serve_stream<R: AllocGlobal + Clock + Wait, L: Latch, D: Device>(
     rt: &R,
-    latch: &L,
+    shared: &Shared<L, D>,
     stream: &TcpStream,
-    serving: &Serving,
-    engine: &Engine<D>,
     pass: Pass<D>,
 ) -> (Pass<D>, Ended)
-    requires rests { Rests D.Receipt.is_steady engine.now pass }
+    requires rests { Rests D.Receipt.is_steady shared.now.engine.now pass }
     requires watches { (knows D.failures pass).watched ≡ [] }
-    ensures rests { Rests D.Receipt.is_steady engine.now result.0 }
+    ensures rests { Rests D.Receipt.is_steady shared.now.engine.now result.0 }
     ensures watches { (knows D.failures result.0).watched ≡ [] }
 {
     // Without this a short reply may wait for the client's acknowledgement of the one before.
     let _ = stream.set_nodelay(true);
     let socket = Socket::new(stream);
-    let mut reader = Noted::new(SocketReader::new(rt, &socket, serving));
+    let mut reader = Noted::new(SocketReader::new(rt, &socket, &shared.serving));
     let mut writer = Noted::new(SocketWriter::new(&socket));
     serve(
         rt,
         rt.alloc(),
         &mut reader,
         &mut writer,
-        engine,
+        shared.engine,
         pass,
-        latch,
+        shared.latch,
     )
 }
 

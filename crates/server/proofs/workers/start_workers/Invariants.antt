@@ -5,7 +5,7 @@ use Rattle.server.proofs.workers.start_workers.Given as goal
 
 abbrev pub invariant-loop-pass : goal.invariant-loop-pass
 invariant-loop-pass g l = record {
-  rest : All (Rests g.D.Receipt.Shows.is_steady l.fn.engine) l.passes.items;
+  rest : All (Rests g.D.Receipt.Shows.is_steady l.fn.shared.engine.now) l.passes.items;
   watch : All (λ pass. (knows g.D.Device.failures pass).watched ≡ []) l.passes.items;
 }
 

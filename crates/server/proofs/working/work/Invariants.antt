@@ -4,6 +4,6 @@ use Rattle.server.proofs.working.work.Given as goal
 
 abbrev pub invariant-loop : goal.invariant-loop
 invariant-loop g l = record {
-  rests : Rests g.D.Receipt.Shows.is_steady l.fn.engine l.pass;
+  rests : Rests g.D.Receipt.Shows.is_steady l.fn.shared.engine.now l.pass;
   watches : (knows g.D.Device.failures l.pass).watched ≡ [];
 }

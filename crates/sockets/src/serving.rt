@@ -2,9 +2,10 @@
 
 use std::sync::atomic::{AtomicBool, AtomicUsize, Ordering};
 
-/// How many connections are served right now, and on how many processors.
+/// How many connections are served right now and on how many processors, whether more may come, and whether the cleaner keeps
+/// up with them. Threads share it; none waits for another.
 #[derive(Drop)]
-pub(crate) struct Serving {
+pub struct Serving {
     count: AtomicUsize,
     processors: usize,
     closed: AtomicBool,
@@ -13,7 +14,7 @@ pub(crate) struct Serving {
 
 impl Serving {
     /// No connection is served. There are so many processors.
-    pub(crate) fn new(processors: usize) -> Serving {
+    pub fn new(processors: usize) -> Serving {
         Serving {
             count: AtomicUsize::new(0),
             processors,
@@ -23,42 +24,42 @@ impl Serving {
     }
 
     /// A worker begins to serve a connection.
-    pub(crate) fn begin(&self) {
+    pub fn begin(&self) {
         self.count.fetch_add(1, Ordering::SeqCst);
     }
 
     /// A worker has served a connection that it began to serve.
-    pub(crate) fn end(&self) {
+    pub fn end(&self) {
         self.count.fetch_sub(1, Ordering::SeqCst);
     }
 
     /// No connection is accepted any more.
-    pub(crate) fn close(&self) {
+    pub fn close(&self) {
         self.closed.store(true, Ordering::SeqCst);
     }
 
     /// Whether no connection is accepted any more, and none is served.
-    pub(crate) fn is_over(&self) -> bool {
+    pub fn is_over(&self) -> bool {
         self.closed.load(Ordering::SeqCst) && self.is_idle()
     }
 
     /// Whether no connection is served.
-    pub(crate) fn is_idle(&self) -> bool {
+    pub fn is_idle(&self) -> bool {
         self.count.load(Ordering::SeqCst) == 0
     }
 
     /// Whether there is a processor for each connection.
-    pub(crate) fn is_few(&self) -> bool {
+    pub fn is_few(&self) -> bool {
         self.count.load(Ordering::SeqCst) <= self.processors
     }
 
     /// The cleaner is behind those who write, or is not any more.
-    pub(crate) fn set_behind(&self, behind: bool) {
+    pub fn set_behind(&self, behind: bool) {
         self.behind.store(behind, Ordering::SeqCst);
     }
 
     /// Whether the cleaner is behind those who write.
-    pub(crate) fn is_behind(&self) -> bool {
+    pub fn is_behind(&self) -> bool {
         self.behind.load(Ordering::SeqCst)
     }
 }

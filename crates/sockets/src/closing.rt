@@ -20,15 +20,16 @@ const DROPPED_BYTES_MAX: usize = 1_048_576;
 /// How many milliseconds a client that does not close is waited for.
 const LEAVING_MILLISECONDS_MAX: u64 = 1_000;
 /// How many clients are waited for at one time. A further one takes the place of the one that came first.
-pub(crate) const LEAVING_MAX: usize = 64;
+pub const LEAVING_MAX: usize = 64;
 /// How many milliseconds pass between two looks at the clients that are waited for.
 const LOOK_MILLISECONDS: u64 = 5;
 /// How many bytes are read at once.
 const PIECE: usize = 16_384;
 
-/// A connection whose client was sent the last byte, and has not closed it yet.
+/// A connection whose client was sent the last byte, and has not closed it yet. [`close_later`] makes it and hands it over,
+/// [`close_all`] closes it.
 #[derive(Drop)]
-pub(crate) struct Leaving {
+pub struct Leaving {
     stream: TcpStream,
     since: Instant,
     /// How many bytes may still be read and dropped.
@@ -70,21 +71,21 @@ impl Leaving {
     }
 }
 
-/// Closes a connection once its client has done so, and does not wait for that here. The last byte was
-/// sent.
-pub(crate) fn close_later<R: Clock + Wait>(rt: &R, stream: TcpStream, closer: &Sender<Leaving>) {
+/// Has a connection closed once its client has closed it, by whoever is at the other end of this channel ([`close_all`]), and
+/// does not wait for that here. The last byte was sent. Where the connection cannot be handed over, or has failed, it is
+/// closed at once.
+pub fn close_later<R: Clock + Wait>(rt: &R, stream: TcpStream, closer: &Sender<Leaving>) {
     if let Ok(leaving) = Leaving::new(rt, stream) {
-        // Where it cannot be handed over, it is closed at once.
+        // Where it cannot be handed over, it is dropped, which closes it.
         let _ = closer.send(rt, leaving);
     }
 }
 
-/// Closes connections as they are handed over, until nobody can hand over another and the last is closed.
-pub(crate) fn close_all<R: Clock + Wait>(
-    rt: &R,
-    handed: &Receiver<Leaving>,
-    mut all: Vec<Leaving>,
-) {
+/// Closes connections as they are handed over by [`close_later`], until nobody can hand over another and the last is closed. A
+/// client that stays is waited for 1,000 milliseconds and 1,048,576 bytes at most, and only while no more than [`LEAVING_MAX`]
+/// are waited for. These are kept in `all`, which has none at first and is to have room for so many: a connection for which
+/// there is no room and no memory is closed at once.
+pub fn close_all<R: Clock + Wait>(rt: &R, handed: &Receiver<Leaving>, mut all: Vec<Leaving>) {
     for _ in rt.forever() {
         match next(rt, handed, all.is_empty()) {
             Ok(leaving) => add(&mut all, leaving),

@@ -40,16 +40,16 @@ const CROWDED_RESTS: u32 = 255;
 /// For how many milliseconds a read waits at most for the cleaner, one at a time.
 const PAUSES_MAX: u32 = 20;
 
-/// A socket, and whether its calls wait. They do at first.
+/// A socket, and whether its calls wait. They do at first. Its reader and its writer have it in common.
 #[derive(Drop)]
-pub(crate) struct Socket<'a> {
+pub struct Socket<'a> {
     stream: &'a TcpStream,
     waits: Cell<bool>,
 }
 
 impl<'a> Socket<'a> {
-    /// This socket, whose calls wait.
-    pub(crate) fn new(stream: &'a TcpStream) -> Socket<'a> {
+    /// This socket, whose calls are to wait, as those of a new connection do.
+    pub fn new(stream: &'a TcpStream) -> Socket<'a> {
         Socket {
             stream,
             waits: Cell::new(true),
@@ -71,8 +71,12 @@ impl<'a> Socket<'a> {
 }
 
 /// Reads from a socket, and can be asked for what is there already.
+///
+/// A read waits for input: where few connections are served it may ask for it again and again for 50 µs, and then it sleeps.
+/// Before, it waits for the cleaner where that is behind, some 20 milliseconds at most. It fails as the socket does. Asked for
+/// what is there, it waits for nothing; the end and a failure are told by the next read.
 #[derive(Drop)]
-pub(crate) struct SocketReader<'a, C> {
+pub struct SocketReader<'a, C> {
     clock: &'a C,
     socket: &'a Socket<'a>,
     serving: &'a Serving,
@@ -86,11 +90,7 @@ pub(crate) struct SocketReader<'a, C> {
 
 impl<'a, C: Clock> SocketReader<'a, C> {
     /// Reads from this socket, whose connection is one of those that are served.
-    pub(crate) fn new(
-        clock: &'a C,
-        socket: &'a Socket<'a>,
-        serving: &'a Serving,
-    ) -> SocketReader<'a, C> {
+    pub fn new(clock: &'a C, socket: &'a Socket<'a>, serving: &'a Serving) -> SocketReader<'a, C> {
         SocketReader {
             clock,
             socket,
@@ -208,15 +208,15 @@ impl<C: Clock> ReadReady for SocketReader<'_, C> {
     }
 }
 
-/// Writes to a socket.
+/// Writes to a socket. A write waits only where the socket has no room, and fails as the socket does.
 #[derive(Drop)]
-pub(crate) struct SocketWriter<'a> {
+pub struct SocketWriter<'a> {
     socket: &'a Socket<'a>,
 }
 
 impl<'a> SocketWriter<'a> {
     /// Writes to this socket.
-    pub(crate) fn new(socket: &'a Socket<'a>) -> SocketWriter<'a> {
+    pub fn new(socket: &'a Socket<'a>) -> SocketWriter<'a> {
         SocketWriter { socket }
     }
 }

@@ -8,9 +8,9 @@ ghost use Rattle.std.specs.Prelude.{◌<◌};
 ghost use Rattle.engine.specs.Passes.{Rests, stripe_count};
 
 use crate::laps::Laps;
-use crate::serving::Serving;
 use device::Device;
 use engine::{Engine, Pass};
+use sockets::Serving;
 use std::alloc::{AllocError, Global};
 use std::rt::Clock;
 use std::sync::Wait;
@@ -24,9 +24,9 @@ const IDLE_MILLISECONDS: u64 = 50;
 /// How many steps a thread does at a stripe before it goes on to the next.
 const STEPS: usize = 16;
 
-/// What a thread does at a stripe.
+/// What a thread of the background does at a stripe.
 #[derive(Clone, Copy, Debug, PartialEq, Eq)]
-pub(crate) enum Duty {
+pub enum Duty {
     /// It writes pages that wait for that to the device.
     Flush,
     /// It drops pages that were written from their frames, where frames are short.
@@ -35,9 +35,9 @@ pub(crate) enum Duty {
     Clean,
 }
 
-/// What a thread does, and what it knows of the stripes.
+/// What a thread of the background does, and what it knows of the stripes.
 #[derive(Drop)]
-pub(crate) struct Chores {
+pub struct Chores {
     duty: Duty,
     /// The cleaner's laps, of each stripe. Others have none.
     laps: Vec<Laps>,
@@ -46,8 +46,9 @@ pub(crate) struct Chores {
 }
 
 impl Chores {
-    /// The chores of a thread that writes pages, or drops them.
-    pub(crate) fn of(alloc: Global, duty: Duty) -> Chores {
+    /// The chores of a thread that writes pages, or drops them. A cleaner works by laps, which these have not:
+    /// [`Chores::of_cleaner`] makes its chores.
+    pub fn of(alloc: Global, duty: Duty) -> Chores {
         Chores {
             duty,
             laps: Vec::new(alloc),
@@ -60,11 +61,7 @@ impl Chores {
     /// # Errors
     ///
     /// [`AllocError`] where there is no memory for what it knows of the stripes.
-    pub(crate) fn of_cleaner(
-        alloc: Global,
-        stripes: usize,
-        places: usize,
-    ) -> Result<Chores, AllocError> {
+    pub fn of_cleaner(alloc: Global, stripes: usize, places: usize) -> Result<Chores, AllocError> {
         Ok(Chores {
             duty: Duty::Clean,
             laps: vec![in alloc; Laps::new(); stripes]?,
@@ -73,8 +70,11 @@ impl Chores {
     }
 }
 
-/// Works at all stripes until serving is over.
-pub(crate) fn work_in_background<R: Clock + Wait, D: Device>(
+/// Works at all stripes of the engine by this pass, until serving is over: no connection is accepted any more, and none is
+/// served. It does up to 16 steps at a stripe before it goes on to the next. Where no step was done at any stripe it rests, for
+/// 10 milliseconds, or 50 while no connection is served. A step that meets a fault is tried again later, and nobody is told.
+/// The cleaner says where it is behind, so that those who read from clients wait for it.
+pub fn work_in_background<R: Clock + Wait, D: Device>(
     rt: &R,
     engine: &Engine<D>,
     pass: Pass<D>,

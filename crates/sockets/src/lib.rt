@@ -1,0 +1,15 @@
+//! The sockets of clients: how they are read, written and closed, and what all who serve share about them.
+//!
+//! A [`Socket`] is read by a [`SocketReader`] and written to by a [`SocketWriter`]. A reader asks for input for a moment
+//! before it sleeps, where few connections are served, and waits where the cleaner of the store is behind: [`Serving`] says
+//! so to all of them. What has ended is closed by one thread, which runs [`close_all`], so that each client can read its last
+//! reply; others hand it over by [`close_later`].
+#![tactic(auto)]
+
+mod closing;
+mod serving;
+mod socket;
+
+pub use closing::{LEAVING_MAX, Leaving, close_all, close_later};
+pub use serving::Serving;
+pub use socket::{Socket, SocketReader, SocketWriter};
