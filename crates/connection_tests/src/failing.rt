@@ -119,9 +119,7 @@ fn failed_at(
     limits: &Limits,
     input: &[u8],
     call: u64,
-) -> io::Result<Option<Failed>>
-    requires { limits.now.clients ≡ 2 }
-{
+) -> io::Result<Option<Failed>> {
     let openings = failing(alloc, limits, call)?;
     let (engine, pass, _other) = engine_over(alloc, limits, openings)?;
     let (pass, outcome) = talk(rt, alloc, Source::new(input), &engine, pass);

@@ -141,7 +141,6 @@ pub(crate) fn engine_over<D: Device>(
     limits: &Limits,
     openings: Vec<D>,
 ) -> Result<(Engine<D>, Pass<D>, Pass<D>), AllocError>
-    requires clients { limits.now.clients ≡ 2 }
     requires openings { vec_len openings ≡ limits.now.clients + BACKGROUND_PASSES }
     ensures first { IfOk result (λ made. Rests D.Receipt.is_steady made.0 made.1) }
     ensures second { IfOk result (λ made. Rests D.Receipt.is_steady made.0 made.2) }

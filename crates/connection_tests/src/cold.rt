@@ -1,91 +1,27 @@
 //! Connections over a store whose oldest pages have left their frames, and lie on a device that fails calls or does
 //! not.
 
-ghost use Rattle.std.specs.Prelude.{◌≡◌, ◌+◌, [], IfOk, vec_len};
+ghost use Rattle.std.specs.Prelude.{◌≡◌, ◌+◌, IfOk, vec_len};
 ghost use Rattle.engine.specs.declared.TheConstants.{BACKGROUND_PASSES};
 
-use super::*;
-use device::Faulty;
+use crate::keys::{gets, repeated, sets, value, values};
+use crate::pieces::{Outcome, check_outcome, cut_streams, talk};
+use crate::talks::{engine_over, memory, narrow, wide};
+use connection::Ended;
+use device::{Device, Faulty, MemoryDevice};
+use engine::BACKGROUND_PASSES;
+use std::alloc::{AllocError, Global};
+use std::io;
+use std::process::Abort;
+use std::sync::Wait;
+use std::test::Fail;
+use words::limits::Limits;
 
-const GET_FIRST: &[u8] = b"*2\r\n$3\r\nGET\r\n$4\r\n0000\r\n";
+const GET_FIRST: &[u8] = b"*2\r\n$3\r\nGET\r\n$4\r\n1000\r\n";
 
 const DEVICE_FAULT: &[u8] = b"-IOERR device fault\r\n";
 
 const STORE_FULL: &[u8] = b"-FULL store is full\r\n";
-
-/// A store of one stripe with 12 frames, and places for 256 pages more.
-fn wide() -> Limits
-    ensures { result.clients ≡ 2 }
-{
-    Limits {
-        stripes: 1,
-        buckets: 256,
-        frames: FRAMES_MIN,
-        places: 256,
-        clients: 2,
-    }
-}
-
-/// A store of one stripe with 12 frames, and places for 64 pages more.
-fn narrow() -> Limits
-    ensures { result.clients ≡ 2 }
-{
-    Limits {
-        stripes: 1,
-        buckets: 256,
-        frames: FRAMES_MIN,
-        places: PLACES_MIN,
-        clients: 2,
-    }
-}
-
-/// A key of four digits.
-fn add_key(all: &mut Vec<u8>, number: u32) -> Result<(), AllocError> {
-    for power in [1_000, 100, 10, 1] {
-        all.push(b"0123456789"[(number / power % 10) as usize])?;
-    }
-    Ok(())
-}
-
-/// A value of 1,000 bytes, which begins with its key.
-fn add_value(all: &mut Vec<u8>, number: u32) -> Result<(), AllocError> {
-    all.extend_from_slice(b"$1000\r\n")?;
-    add_key(all, number)?;
-    all.extend_from_slice(&[b'v'; 996])?;
-    all.extend_from_slice(b"\r\n")
-}
-
-/// So many SETs, each of another key.
-fn sets(alloc: Global, count: u32) -> Result<Vec<u8>, AllocError> {
-    let mut all = Vec::new(alloc);
-    for number in 0..count {
-        all.extend_from_slice(b"*3\r\n$3\r\nSET\r\n$4\r\n")?;
-        add_key(&mut all, number)?;
-        all.extend_from_slice(b"\r\n")?;
-        add_value(&mut all, number)?;
-    }
-    Ok(all)
-}
-
-/// GETs of so many keys.
-fn gets(alloc: Global, count: u32) -> Result<Vec<u8>, AllocError> {
-    let mut all = Vec::new(alloc);
-    for number in 0..count {
-        all.extend_from_slice(b"*2\r\n$3\r\nGET\r\n$4\r\n")?;
-        add_key(&mut all, number)?;
-        all.extend_from_slice(b"\r\n")?;
-    }
-    Ok(all)
-}
-
-/// Their values.
-fn values(alloc: Global, count: u32) -> Result<Vec<u8>, AllocError> {
-    let mut all = Vec::new(alloc);
-    for number in 0..count {
-        add_value(&mut all, number)?;
-    }
-    Ok(all)
-}
 
 /// Openings of a device over memory. All but the second fail their first call.
 fn failing(alloc: Global, limits: &Limits) -> Result<Vec<Faulty<MemoryDevice>>, AllocError>
@@ -110,13 +46,13 @@ fn run_cold<D: Device>(
     store: (&Limits, Vec<D>),
     count: u32,
     input: &[u8],
-) -> Result<(Outcome, Outcome), AllocError>
+) -> io::Result<(Outcome, Outcome)>
     requires openings { vec_len store.1 ≡ store.0.now.clients + BACKGROUND_PASSES }
 {
     let stored = sets(alloc, count)?;
     let streams = (
-        streams(alloc, &stored, 16_384, false)?,
-        streams(alloc, input, 16_384, false)?,
+        cut_streams(alloc, &stored, 16_384, false)?,
+        cut_streams(alloc, input, 16_384, false)?,
     );
     let (engine, first, second) = engine_over(alloc, store.0, store.1)?;
     let (_second, before) = talk(rt, alloc, streams.0, &engine, second);
@@ -124,26 +60,33 @@ fn run_cold<D: Device>(
     Ok((before, after))
 }
 
+/// What is said to a connection that stores so many keys in a new engine over memory, and to one that reads so many of them.
+fn store_and_read(
+    rt: &impl Wait,
+    alloc: Global,
+    limits: &Limits,
+    stored: u32,
+    read: u32,
+) -> io::Result<(Outcome, Outcome)> {
+    let input = gets(alloc, read)?;
+    let openings = memory(alloc, limits)?;
+    run_cold(rt, alloc, (limits, openings), stored, &input)
+}
+
 /// 3,000 keys of 1,000 bytes take 48 pages, of which 12 have frames. Each key is read, whether its page is lent by its
 /// receipt or not.
 #[test]
 fn all_keys_of_pages_without_frames_are_read(rt: HostRuntime) -> Result<(), Fail> {
     let alloc = rt.alloc();
-    let input = gets(alloc, 3_000)?;
-    let store = (&wide(), memory(alloc, &wide())?);
-    let (before, after) = run_cold(&rt, alloc, store, 3_000, &input)?;
-    check_outcome(
-        &rt,
-        &before,
-        &repeated(alloc, b"+OK\r\n", 3_000, b"")?,
-        Ended::EndOfInput,
-    );
+    let (before, after) = store_and_read(&rt, alloc, &wide(), 3_000, 3_000)?;
+    let stored = repeated(alloc, b"+OK\r\n", 3_000, b"")?;
+    check_outcome(&rt, &before, &stored, Ended::EndOfInput);
     check_outcome(&rt, &after, &values(alloc, 3_000)?, Ended::EndOfInput);
     Ok(())
 }
 
 /// What is said to a connection over a store of 3,000 keys whose first call of the device fails.
-fn run_failing(rt: &impl Wait, alloc: Global, input: &[u8]) -> Result<Outcome, AllocError> {
+fn run_failing(rt: &impl Wait, alloc: Global, input: &[u8]) -> io::Result<Outcome> {
     let limits = wide();
     let openings = failing(alloc, &limits)?;
     let (before, after) = run_cold(rt, alloc, (&limits, openings), 3_000, input)?;
@@ -171,45 +114,52 @@ fn check_failing<R: Abort + Wait>(
 #[test]
 fn a_get_whose_read_fails(rt: HostRuntime) -> Result<(), Fail> {
     let alloc = rt.alloc();
-    let value = values(alloc, 1)?;
-    check_failing(&rt, alloc, GET_FIRST, DEVICE_FAULT, &value)
+    check_failing(&rt, alloc, GET_FIRST, DEVICE_FAULT, &value(alloc, 0)?)
 }
 
 /// A SET with an option, which has to know whether its key is there.
 #[test]
 fn a_set_whose_read_fails(rt: HostRuntime) -> Result<(), Fail> {
-    let set = b"*4\r\n$3\r\nSET\r\n$4\r\n0000\r\n$1\r\nv\r\n$2\r\nXX\r\n";
+    let set = b"*4\r\n$3\r\nSET\r\n$4\r\n1000\r\n$1\r\nv\r\n$2\r\nXX\r\n";
     check_failing(&rt, rt.alloc(), set, DEVICE_FAULT, b"+OK\r\n")
+}
+
+/// RENAME of the first key to the name of another, twice, and a GET of each.
+fn renames(alloc: Global) -> io::Result<Vec<u8>> {
+    let rename = b"*3\r\n$6\r\nRENAME\r\n$4\r\n1000\r\n$4\r\n1700\r\n";
+    let mut input = repeated(alloc, rename, 2, b"*2\r\n$3\r\nGET\r\n$4\r\n1700\r\n")?;
+    input.extend_from_slice(GET_FIRST)?;
+    Ok(input)
+}
+
+/// What is said to that where the first read fails.
+fn renames_answered(alloc: Global) -> io::Result<Vec<u8>> {
+    let mut text = repeated(alloc, DEVICE_FAULT, 1, b"+OK\r\n")?;
+    text.extend_from_slice(&value(alloc, 0)?)?;
+    text.extend_from_slice(b"$-1\r\n")?;
+    Ok(text)
 }
 
 /// RENAME of a key whose read fails, and once more over another cold key: the value is found at the new name alone.
 #[test]
 fn a_rename_whose_read_fails(rt: HostRuntime) -> Result<(), Fail> {
     let alloc = rt.alloc();
-    let rename = b"*3\r\n$6\r\nRENAME\r\n$4\r\n0000\r\n$4\r\n0700\r\n";
-    let get = b"*2\r\n$3\r\nGET\r\n$4\r\n0700\r\n";
-    let mut input = repeated(alloc, rename, 2, get)?;
-    input.extend_from_slice(GET_FIRST)?;
-    let outcome = run_failing(&rt, alloc, &input)?;
-    let mut text = repeated(alloc, DEVICE_FAULT, 1, b"+OK\r\n")?;
-    text.extend_from_slice(&values(alloc, 1)?)?;
-    text.extend_from_slice(b"$-1\r\n")?;
-    check_outcome(&rt, &outcome, &text, Ended::EndOfInput);
+    let outcome = run_failing(&rt, alloc, &renames(alloc)?)?;
+    check_outcome(&rt, &outcome, &renames_answered(alloc)?, Ended::EndOfInput);
     Ok(())
 }
+
+/// A transaction that gets the first key.
+const TRANSACTION: &[u8] =
+    b"*1\r\n$5\r\nMULTI\r\n*2\r\n$3\r\nGET\r\n$4\r\n1000\r\n*1\r\n$4\r\nEXEC\r\n";
 
 /// A transaction that is not run, and leaves its session in none.
 #[test]
 fn a_transaction_whose_read_fails(rt: HostRuntime) -> Result<(), Fail> {
     let alloc = rt.alloc();
-    let mut exec = Vec::new(alloc);
-    exec.extend_from_slice(b"*1\r\n$5\r\nMULTI\r\n")?;
-    exec.extend_from_slice(GET_FIRST)?;
-    exec.extend_from_slice(b"*1\r\n$4\r\nEXEC\r\n")?;
-    let value = values(alloc, 1)?;
-    let second = repeated(alloc, b"+OK\r\n+QUEUED\r\n*1\r\n", 1, &value)?;
+    let second = repeated(alloc, b"+OK\r\n+QUEUED\r\n*1\r\n", 1, &value(alloc, 0)?)?;
     let first = b"+OK\r\n+QUEUED\r\n-IOERR device fault\r\n";
-    check_failing(&rt, alloc, &exec, first, &second)
+    check_failing(&rt, alloc, TRANSACTION, first, &second)
 }
 
 /// How many lines come before another text, and after that.
@@ -250,19 +200,26 @@ fn a_set_whose_write_fails(rt: HostRuntime) -> Result<(), Fail> {
     Ok(())
 }
 
+/// What is said to SETs of 4,500 keys where 4,410 have room.
+fn stored_answered(alloc: Global) -> io::Result<Vec<u8>> {
+    let refused = repeated(alloc, STORE_FULL, 90, b"")?;
+    repeated(alloc, b"+OK\r\n", 4_410, &refused)
+}
+
+/// What is said to GETs of these, and of one more key.
+fn read_answered(alloc: Global) -> io::Result<Vec<u8>> {
+    let mut found = values(alloc, 4_410)?;
+    found.extend_from_slice(b"$-1\r\n")?;
+    Ok(found)
+}
+
 /// 76 pages have frames or places. Six of them are left to deletions and to the cleaner, and the others hold 4,410 keys of
 /// 1,000 bytes. Each further SET is told that no place is left, and what is stored is read.
 #[test]
 fn a_full_store_tells_so_and_is_read(rt: HostRuntime) -> Result<(), Fail> {
     let alloc = rt.alloc();
-    let input = gets(alloc, 4_411)?;
-    let store = (&narrow(), memory(alloc, &narrow())?);
-    let (before, after) = run_cold(&rt, alloc, store, 4_500, &input)?;
-    let refused = repeated(alloc, STORE_FULL, 90, b"")?;
-    let stored = repeated(alloc, b"+OK\r\n", 4_410, &refused)?;
-    check_outcome(&rt, &before, &stored, Ended::EndOfInput);
-    let mut found = values(alloc, 4_410)?;
-    found.extend_from_slice(b"$-1\r\n")?;
-    check_outcome(&rt, &after, &found, Ended::EndOfInput);
+    let (before, after) = store_and_read(&rt, alloc, &narrow(), 4_500, 4_411)?;
+    check_outcome(&rt, &before, &stored_answered(alloc)?, Ended::EndOfInput);
+    check_outcome(&rt, &after, &read_answered(alloc)?, Ended::EndOfInput);
     Ok(())
 }

@@ -1,6 +1,16 @@
 //! Connections whose next input is there already when the one before is answered.
 
-use super::*;
+use crate::edges::{filled, long_replies, long_words};
+use crate::keys::repeated;
+use crate::pieces::{Outcome, Sink, Source, check_outcome, run};
+use crate::rows::{PING, after_reply};
+use connection::Ended;
+use std::alloc::{AllocError, Global};
+use std::io;
+use std::process::Abort;
+use std::sync::Wait;
+use std::test::Fail;
+use streams::Told;
 
 /// SET of 8,000 bytes.
 const LONG_SET: &[(&[u8], usize)] = &[
@@ -9,7 +19,7 @@ const LONG_SET: &[(&[u8], usize)] = &[
 ];
 
 /// Ten requests of 8,000 bytes, and a part of another: more than four pieces.
-fn ten_sets(alloc: Global) -> Result<Vec<u8>, AllocError> {
+fn ten_sets(alloc: Global) -> io::Result<Vec<u8>> {
     let set = filled(alloc, LONG_SET)?;
     repeated(alloc, &set, 10, b"*1\r\n$4\r\nPI")
 }
@@ -112,7 +122,7 @@ const LAST_OF_PIECE: &[(&[u8], usize)] = &[(b"*2\r\n$4\r\nPING\r\n$2361\r\n", 2_
 const LAST_REPLY: &[(&[u8], usize)] = &[(b"$2361\r\n", 2_361), (b"\r\n", 0)];
 
 /// A thousand times the one, and then the other.
-fn thousand(alloc: Global, each: &[u8], last: &[(&[u8], usize)]) -> Result<Vec<u8>, AllocError> {
+fn thousand(alloc: Global, each: &[u8], last: &[(&[u8], usize)]) -> io::Result<Vec<u8>> {
     let last = filled(alloc, last)?;
     repeated(alloc, each, 1_000, &last)
 }
@@ -155,9 +165,9 @@ fn ended_rightly(outcome: &Outcome) -> bool {
 }
 
 /// What a connection comes to that sends ten requests, where there is memory for them.
-fn ten_answered(rt: &impl Wait, alloc: Global) -> Result<Outcome, AllocError> {
+fn ten_answered(rt: &impl Wait, alloc: Global) -> io::Result<Outcome> {
     let input = ten_sets(alloc)?;
-    run_ready(rt, alloc, &input, (true, None), None)
+    Ok(run_ready(rt, alloc, &input, (true, None), None)?)
 }
 
 /// With each allocation refused in turn (`rt try --test --fail-alloc`), the requests before the one that found

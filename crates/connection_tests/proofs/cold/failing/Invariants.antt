@@ -1,5 +1,5 @@
 use Rattle.std.proofs.Common.{◌≡◌, ◌+◌, vec_len}
-use Rattle.connection.proofs.tests.cold.failing.Given as goal
+use Rattle.connection_tests.proofs.cold.failing.Given as goal
 
 abbrev pub invariant-loop-opening : goal.invariant-loop-opening
 invariant-loop-opening l = vec_len l.openings + vec_len l.below ≡ l.limits.clients + 3

@@ -1,0 +1,135 @@
+//! Words, requests, transactions and watches at their limits.
+
+use crate::keys::repeated;
+use crate::pieces::{Sink, Source, check_run};
+use crate::rows::PING;
+use connection::Ended;
+use std::alloc::{AllocError, Global};
+use std::io;
+use std::test::Fail;
+
+/// Texts, each with so many bytes after it.
+pub(crate) fn filled(alloc: Global, parts: &[(&[u8], usize)]) -> Result<Vec<u8>, AllocError> {
+    let mut all = Vec::new(alloc);
+    for &(text, count) in parts {
+        all.extend_from_slice(text)?;
+        for _ in 0..count {
+            all.push(b'x')?;
+        }
+    }
+    Ok(all)
+}
+
+/// GET of a key that is too long, and SET of the longest key and value.
+const LONG_WORDS: &[(&[u8], usize)] = &[
+    (b"*2\r\n$3\r\nGET\r\n$513\r\n", 513),
+    (b"\r\n*3\r\n$3\r\nSET\r\n$512\r\n", 512),
+    (b"\r\n$32768\r\n", 32_768),
+    (b"\r\n", 0),
+];
+
+/// GET of the longest key.
+const LONG_GET: &[(&[u8], usize)] = &[(b"*2\r\n$3\r\nGET\r\n$512\r\n", 512), (b"\r\n", 0)];
+
+/// A key that is too long, then the longest key with the longest value, read five times.
+pub(crate) fn long_words(alloc: Global) -> io::Result<Vec<u8>> {
+    let get = filled(alloc, LONG_GET)?;
+    let gets = repeated(alloc, &get, 5, b"")?;
+    drop(get);
+    let first = filled(alloc, LONG_WORDS)?;
+    repeated(alloc, &first, 1, &gets)
+}
+
+/// So many replies of the longest value, after the replies before them.
+pub(crate) fn long_replies(alloc: Global, before: &[u8], count: u32) -> io::Result<Vec<u8>> {
+    let reply = filled(alloc, &[(b"$32768\r\n", 32_768), (b"\r\n", 0)])?;
+    let replies = repeated(alloc, &reply, count, b"")?;
+    repeated(alloc, before, 1, &replies)
+}
+
+#[test]
+fn words_at_the_limits(rt: HostRuntime) -> Result<(), Fail> {
+    let alloc = rt.alloc();
+    let input = long_words(alloc)?;
+    let text = long_replies(alloc, b"-ERR key is too long\r\n+OK\r\n", 5)?;
+    let streams = (Source::new(&input, 16_384), Sink::new(alloc, 100_000)?);
+    check_run(&rt, alloc, streams, &text, Ended::EndOfInput)
+}
+
+/// Four words of 32,768 bytes and one byte more. The spelling of a word is that of a reply.
+#[test]
+fn a_request_that_is_too_large(rt: HostRuntime) -> Result<(), Fail> {
+    let alloc = rt.alloc();
+    let mut input = long_replies(alloc, b"*5\r\n", 4)?;
+    input.extend_from_slice(b"$1")?;
+    let streams = (Source::new(&input, 16_384), Sink::new(alloc, 16_384)?);
+    let text = b"-ERR Protocol error: request too large\r\n";
+    check_run(&rt, alloc, streams, text, Ended::ProtocolFault)
+}
+
+/// GET of a key that is too long, at once and in a transaction.
+const LONG_KEYS: &[(&[u8], usize)] = &[
+    (b"*2\r\n$3\r\nGET\r\n$513\r\n", 513),
+    (b"\r\n*1\r\n$5\r\nMULTI\r\n*2\r\n$3\r\nGET\r\n$513\r\n", 513),
+    (b"\r\n*1\r\n$4\r\nEXEC\r\n", 0),
+];
+
+/// A key that is too long does not spoil a transaction: its line stands in the array.
+#[test]
+fn a_long_key_in_a_transaction(rt: HostRuntime) -> Result<(), Fail> {
+    let alloc = rt.alloc();
+    let input = filled(alloc, LONG_KEYS)?;
+    let streams = (Source::new(&input, 16_384), Sink::new(alloc, 16_384)?);
+    let text = b"-ERR key is too long\r\n+OK\r\n+QUEUED\r\n*1\r\n-ERR key is too long\r\n";
+    check_run(&rt, alloc, streams, text, Ended::EndOfInput)
+}
+
+/// A transaction of so many PINGs, and what is said to it.
+fn pings(alloc: Global, count: u32) -> io::Result<Vec<u8>> {
+    let mut input = Vec::new(alloc);
+    input.extend_from_slice(b"*1\r\n$5\r\nMULTI\r\n")?;
+    let pings = repeated(alloc, PING, count, b"*1\r\n$4\r\nEXEC\r\n")?;
+    input.extend_from_slice(&pings)?;
+    Ok(input)
+}
+
+/// The 129th command of a transaction is not queued, and spoils it.
+#[test]
+fn a_transaction_of_129_pings(rt: HostRuntime) -> Result<(), Fail> {
+    let alloc = rt.alloc();
+    let input = pings(alloc, 129)?;
+    let end: &[u8] =
+        b"-ERR transaction is too large\r\n-EXECABORT transaction discarded because of earlier errors\r\n";
+    let queued = repeated(alloc, b"+QUEUED\r\n", 128, end)?;
+    let text = repeated(alloc, b"+OK\r\n", 1, &queued)?;
+    let streams = (Source::new(&input, 16_384), Sink::new(alloc, 16_384)?);
+    check_run(&rt, alloc, streams, &text, Ended::EndOfInput)
+}
+
+/// WATCH of 127 keys of two bytes.
+fn watch_of_127(alloc: Global) -> Result<Vec<u8>, AllocError> {
+    let mut request = Vec::new(alloc);
+    request.extend_from_slice(b"*128\r\n$5\r\nWATCH\r\n")?;
+    for key in 0..127 {
+        request.extend_from_slice(&[b'$', b'2', b'\r', b'\n', b'k', 128 | key, b'\r', b'\n'])?;
+    }
+    Ok(request)
+}
+
+/// A session that watches 127 keys may watch one more, and not two. What it watched it watches still: its
+/// transaction is null once one of these is written.
+#[test]
+fn a_watch_of_127_and_2_more_keys(rt: HostRuntime) -> Result<(), Fail> {
+    let alloc = rt.alloc();
+    let watches =
+        b"*3\r\n$5\r\nWATCH\r\n$1\r\na\r\n$1\r\nb\r\n*2\r\n$5\r\nWATCH\r\n$1\r\na\r\n*2\r\n$5\r\nWATCH\r\n$1\r\nb\r\n";
+    let writes =
+        b"*3\r\n$3\r\nSET\r\n$2\r\nk\x80\r\n$1\r\n1\r\n*1\r\n$5\r\nMULTI\r\n*1\r\n$4\r\nEXEC\r\n";
+    let rest = repeated(alloc, watches, 1, writes)?;
+    let input = repeated(alloc, &watch_of_127(alloc)?, 1, &rest)?;
+    let text =
+        b"+OK\r\n-ERR too many watched keys\r\n+OK\r\n-ERR too many watched keys\r\n+OK\r\n+OK\r\n*-1\r\n";
+    let streams = (Source::new(&input, 16_384), Sink::new(alloc, 16_384)?);
+    check_run(&rt, alloc, streams, text, Ended::EndOfInput)
+}
+
