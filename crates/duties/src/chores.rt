@@ -85,8 +85,21 @@ pub fn work_in_background<R: Clock + Wait, D: Device>(
 {
     let mut pass = pass;
     let mut chores = chores;
+    sweep_until_over(rt, engine, &mut pass, &mut chores, serving);
+}
+
+/// Some steps at each stripe, again and again, until serving is over.
+fn sweep_until_over<R: Clock + Wait, D: Device>(
+    rt: &R,
+    engine: &Engine<D>,
+    pass: &mut Pass<D>,
+    chores: &mut Chores,
+    serving: &Serving,
+)
+    requires rests { Rests D.Receipt.is_steady engine.now pass.old }
+{
     for _ in rt.forever() {
-        let done = sweep(rt, engine, &mut pass, &mut chores, serving);
+        let done = sweep(rt, engine, pass, chores, serving);
         if has_ended(rt, serving, done) {
             return;
         }

@@ -151,10 +151,31 @@ where
     ensures listens { IfErr result (λ fault. fault ≢ ServerFault.CannotListen) }
     ensures opened { IfErr result (λ fault. fault ≢ ServerFault.CannotOpenDevice) }
 {
+    let to_closer = start_threads(rt, scope, shared, options, passes)?;
+    accept_all(rt, listener, options.accept, to_workers, to_closer)
+}
+
+/// Starts the threads beside the one that accepts, and gives what the closer is handed connections over by.
+fn start_threads<'s, 'e, 'a, R, L, D>(
+    rt: &'s R,
+    scope: &Scope<'s, &'e ()>,
+    shared: &'s Shared<'a, L, D>,
+    options: &Options,
+    passes: Vec<Pass<D>>,
+) -> Result<Sender<Leaving>, ServerFault>
+where
+    R: AllocGlobal + Clock + Wait + Sync,
+    L: Latch + Sync,
+    D: Device + Send + Sync,
+    D::Receipt: Send + Sync,
+    requires rest { All (Rests D.Receipt.is_steady shared.now.engine.now) passes.items }
+    requires watch { All (λ pass. (knows D.failures pass).watched ≡ []) passes.items }
+    ensures { IfErr result (λ fault. fault ≡ ServerFault.OutOfMemory) }
+{
     let to_closer = start_closer(rt, scope)?;
     let passes = start_background(rt, scope, options, shared.engine, passes, &shared.serving)?;
     start_workers(rt, scope, shared, passes, options.workers, &to_closer)?;
-    accept_all(rt, listener, options.accept, to_workers, to_closer)
+    Ok(to_closer)
 }
 
 /// How many processors there are; 1 where the system does not tell.
@@ -284,7 +305,7 @@ where
     Ok(())
 }
 
-/// Starts one worker.
+/// Starts one worker, with a way of its own to hand over to the closer.
 fn start_worker<'s, 'e, 'a, R, L, D>(
     rt: &'s R,
     scope: &Scope<'s, &'e ()>,
@@ -301,7 +322,29 @@ where
     requires watches { (knows D.failures pass).watched ≡ [] }
     ensures { IfErr result (λ fault. fault ≡ ServerFault.OutOfMemory) }
 {
-    let closer = closer.clone()?;
+    match closer.clone() {
+        Ok(closer) => spawn_worker(rt, scope, shared, pass, closer),
+        Err(error) => Err(error.into()),
+    }
+}
+
+/// Starts the thread of one worker.
+fn spawn_worker<'s, 'e, 'a, R, L, D>(
+    rt: &'s R,
+    scope: &Scope<'s, &'e ()>,
+    shared: &'s Shared<'a, L, D>,
+    pass: Pass<D>,
+    closer: Sender<Leaving>,
+) -> Result<(), ServerFault>
+where
+    R: AllocGlobal + Clock + Wait + Sync,
+    L: Latch + Sync,
+    D: Device + Send + Sync,
+    D::Receipt: Send + Sync,
+    requires rests { Rests D.Receipt.is_steady shared.now.engine.now pass }
+    requires watches { (knows D.failures pass).watched ≡ [] }
+    ensures { IfErr result (λ fault. fault ≡ ServerFault.OutOfMemory) }
+{
     scope.spawn(
         move ||
             requires rests { Rests D.Receipt.is_steady shared.now.engine.now pass }
