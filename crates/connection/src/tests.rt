@@ -65,14 +65,9 @@ fn answered_over<R: Wait, D: Device>(
         Vec::with_capacity(alloc, 16_384)?,
     );
     let (engine, first, second) = engine_over(alloc, limits, openings)?;
-    let store = Store {
-        rt,
-        latch: &Open,
-        engine: &engine,
-    };
     let watcher = begin(alloc, writers.0, first);
     let deleter = begin(alloc, writers.1, second);
-    Ok(both_are_answered(&store, watcher, deleter))
+    Ok(both_are_answered(rt, &engine, watcher, deleter))
 }
 
 /// A client that was told nothing yet, by a pass that watches nothing.
@@ -91,18 +86,28 @@ fn begin<D: Device>(alloc: Global, writer: Vec<u8>, pass: Pass<D>) -> Side<D>
 
 /// Whether each of the two is answered as it may be, of an engine of theirs.
 fn both_are_answered<R: Wait, D: Device>(
-    store: &Store<R, Open, D>,
+    rt: &R,
+    engine: &Engine<D>,
     mut watcher: Side<D>,
     mut deleter: Side<D>,
 ) -> bool
-    requires rests { Rests D.Receipt.is_steady store.now.engine.now watcher.pass × Rests D.Receipt.is_steady store.now.engine.now deleter.pass }
+    requires rests { Rests D.Receipt.is_steady engine.now watcher.pass × Rests D.Receipt.is_steady engine.now deleter.pass }
     requires attends { Attends (knows D.failures watcher.pass) watcher.talk.client × Attends (knows D.failures deleter.pass) deleter.talk.client }
 {
-    say(store, &mut watcher, b"*2\r\n$5\r\nWATCH\r\n$1\r\nk\r\n");
-    say(store, &mut deleter, b"*2\r\n$3\r\nDEL\r\n$1\r\nk\r\n");
-    say(store, &mut watcher, b"*1\r\n$5\r\nMULTI\r\n*1\r\n$4\r\nEXEC\r\n");
-    let watcher = is_answered(store, watcher, WATCHER);
-    let deleter = is_answered(store, deleter, DELETER);
+    let store = Store {
+        rt,
+        latch: &Open,
+        engine,
+    };
+    say(&store, &mut watcher, b"*2\r\n$5\r\nWATCH\r\n$1\r\nk\r\n");
+    say(&store, &mut deleter, b"*2\r\n$3\r\nDEL\r\n$1\r\nk\r\n");
+    say(
+        &store,
+        &mut watcher,
+        b"*1\r\n$5\r\nMULTI\r\n*1\r\n$4\r\nEXEC\r\n",
+    );
+    let watcher = is_answered(&store, watcher, WATCHER);
+    let deleter = is_answered(&store, deleter, DELETER);
     watcher && deleter
 }
 

@@ -132,4 +132,3 @@ fn a_watch_of_127_and_2_more_keys(rt: HostRuntime) -> Result<(), Fail> {
     let streams = (Source::new(&input, 16_384), Sink::new(alloc, 16_384)?);
     check_run(&rt, alloc, streams, text, Ended::EndOfInput)
 }
-

@@ -102,4 +102,3 @@ fn watches_end_with_the_connection(rt: HostRuntime) -> Result<(), Fail> {
     }
     Ok(())
 }
-
