@@ -1,5 +1,5 @@
 -- What becomes of a pass that visits one stripe, and of the stripe's part.
-use Rattle.std.specs.Prelude.{ℕ, ◌≡◌, ◌≢◌, ◌+◌, Bool, true, false, Option, Some, Result, Ok, Err, List, [], ◌∷◌, ◌++◌}
+use Rattle.std.specs.Prelude.{ℕ, ◌≡◌, ◌≢◌, ◌⊎◌, ◌+◌, Bool, true, false, Option, Some, Result, Ok, Err, List, [], ◌∷◌, ◌++◌}
 use Rattle.epoch.specs.declared.view.View.{View}
 use Rattle.words.specs.Store.{Bytes}
 use Rattle.words.specs.History.{History}
@@ -18,13 +18,13 @@ use Rattle.gates.specs.Pages.{IsFull, Pages}
 use Rattle.gates.specs.Passes.{AreBusy}
 use Rattle.gates.specs.Rule.{Meaning}
 use Rattle.hybrid.specs.HybridLog.{Kept, receipt_at}
-use Rattle.shards.specs.declared.flushing.Ending.{Ending}
-use Rattle.shards.specs.declared.flushing.Ending.TheVariants as ending
 use Rattle.shards.specs.declared.cleaning.Stepped.{Stepped}
 use Rattle.shards.specs.declared.cleaning.Stepped.TheVariants as stepped
 use Rattle.background.specs.declared.cells.Began.{Began}
 use Rattle.background.specs.declared.cells.Began.TheVariants as began
 use Rattle.background.specs.declared.cells.Flight.{Flight}
+use Rattle.background.specs.declared.cells.Landing.{Landing}
+use Rattle.background.specs.declared.cells.Landing.TheVariants as landing
 use Rattle.shards.specs.declared.shard.Shard.{Shard}
 use Rattle.shards.specs.Shards.{shard_log}
 use Rattle.background.specs.declared.clean.Round.{Round}
@@ -61,6 +61,12 @@ MatchBegan began.Idle idle full sealed = idle
 MatchBegan (began.Full refused) idle full sealed = full refused
 MatchBegan (began.Sealed flight) idle full sealed = sealed flight
 
+-- by how a flight ended
+abbrev pub MatchLanding : {R : Type 0} → Landing R → (landed : Type 0) → (again : Flight → R → Type 0) → (full : Refused → Type 0) → Type 0
+MatchLanding landing.Landed landed again full = landed
+MatchLanding (landing.Again flight receipt) landed again full = again flight receipt
+MatchLanding (landing.Full refused) landed again full = full refused
+
 -- The pass was told last that the stripe is full, and none of its places could be released but for what the epochs refused. A retirement was
 -- refused only where the seat was told that the epoch word is worn out.
 pub record WasFull (stripes : List ℕ) (stripe : ℕ) (was now : Knowledge) (heard hears : View) : Type 0 where
@@ -76,10 +82,10 @@ HasBegun stripes stripe (began.Full refused) was now heard hears = WasFull strip
 HasBegun stripes stripe (began.Sealed flight) was now heard hears = Visited stripes [] was now
 
 -- what is told where a flush ends
-abbrev pub told_at_end : {R : Type 0} → (stripe : ℕ) → Ending R → List Note
-told_at_end stripe ending.Landed = note.Done stripe Flush ∷ []
-told_at_end stripe (ending.Again receipt) = []
-told_at_end stripe (ending.Full refused) = note.Full stripe refused ∷ []
+abbrev pub told_at_end : {R : Type 0} → (stripe : ℕ) → Landing R → List Note
+told_at_end stripe landing.Landed = note.Done stripe Flush ∷ []
+told_at_end stripe (landing.Again flight receipt) = []
+told_at_end stripe (landing.Full refused) = note.Full stripe refused ∷ []
 
 -- What the end of a flush came to: it was done, which was told last, or the store is full.
 abbrev pub HasEnded : (stripes : List ℕ) (stripe : ℕ) → (done : Bool) → (was now : Knowledge) → (heard hears : View) → Type 0
@@ -94,6 +100,16 @@ HasFlushed stripes stripe (Err fault.StoreFull) failed_before failed was now hea
 HasFlushed stripes stripe (Err fault.DeviceFault) failed_before failed was now heard hears = (failed ≡ failed_before + 1) × Visited stripes [] was now
 HasFlushed stripes stripe (Err fault.OutOfMemory) failed_before failed was now heard hears = ⊥
 HasFlushed stripes stripe (Err fault.CommitsWornOut) failed_before failed was now heard hears = ⊥
+
+-- How often the device was asked to write in the flusher's step: once for a page that waits, and else not. The store may be full before the write,
+-- or after it.
+abbrev pub HasWritten : Result Bool Fault → (before writes : ℕ) → Type 0
+HasWritten (Ok true) before writes = writes ≡ before + 1
+HasWritten (Ok false) before writes = writes ≡ before
+HasWritten (Err fault.DeviceFault) before writes = writes ≡ before + 1
+HasWritten (Err fault.StoreFull) before writes = (writes ≡ before) ⊎ (writes ≡ before + 1)
+HasWritten (Err fault.OutOfMemory) before writes = ⊥
+HasWritten (Err fault.CommitsWornOut) before writes = ⊥
 
 -- What the cleaner's step came to: it was done, there was nothing to do, or the store is full, each of which was told last; or a call of
 -- the device failed, or there was no memory for a page, which receipts did not lend. Only where a call of the device failed has one been

@@ -8,14 +8,17 @@ ghost use Rattle.gates.specs.Pages.{IsFull};
 ghost use Rattle.gates.specs.declared.view.Work.TheVariants.{Evict, Flush};
 ghost use Rattle.hybrid.specs.HybridLog.{Kept, receipt_at, with_dropped};
 ghost use Rattle.hybrid.specs.Staging.{AreRight, IsMissing};
+ghost use Rattle.hybrid.specs.Weighing.{oldest_weight};
 ghost use Rattle.shards.specs.Cleaning.{MatchStepped};
 ghost use Rattle.shards.specs.Cleaning as cleaned;
 ghost use Rattle.shards.specs.Counted.{Counted, HasFlushed, HasLanded, IsFirstSealed, claimed, with_flight, without_flight};
-ghost use Rattle.shards.specs.Flushing.{HasFreedFirst, HasRefreed, MatchEnding, MatchUnflushed};
+ghost use Rattle.shards.specs.Flushing.{HasFreedFirst, HasRefreed, MatchUnflushed};
+ghost use Rattle.shards.specs.Flushing as flushed;
 ghost use Rattle.shards.specs.Heard.{HasHeardWorn, HasTried};
 ghost use Rattle.shards.specs.Receipts.{kept_by};
+ghost use Rattle.shards.specs.Rooms.{HasNoRoom};
 ghost use Rattle.shards.specs.Shards.{shard_counted, shard_log, shard_meaning, shard_pages};
-ghost use Rattle.background.specs.Visits.{HasStepped, Keeps, MatchBegan, MayTell};
+ghost use Rattle.background.specs.Visits.{HasStepped, Keeps, MatchBegan, MatchLanding, MayTell};
 
 use device::{Device, Shows};
 use epoch::{EpochSeat, Epochs};
@@ -29,9 +32,10 @@ use std::alloc::AllocError;
 use words::reply;
 
 /// A page that is on its way to the device, with a place counted for it; contracts see the page's number. It is no value
-/// that can be dropped: it ends where the page's receipt comes back, or where its write failed.
+/// that can be dropped, and nobody else can take it apart: it ends where the page's receipt lands ([`end_at`]), or where its
+/// place is counted off since its write failed ([`fail_at`]).
 pub(crate) struct Flight {
-    pub(crate) number: u64,
+    number: u64,
 }
 
 /// What begins at the oldest page that waits to be written.
@@ -42,6 +46,16 @@ pub(crate) enum Began {
     Full(Refused),
     /// It was copied, and a place is counted for it.
     Sealed(Flight),
+}
+
+/// How a flight ends that released what it could.
+pub(crate) enum Landing<R: Shows> {
+    /// The receipt is kept, or its place is unlinked.
+    Landed,
+    /// Places were released first, and one is counted for the page now. This is its receipt, which is to land in another hold.
+    Again(Flight, R),
+    /// No place may be taken for the page, and none can be released, but for what the epochs refused.
+    Full(Refused),
 }
 
 /// Drops the oldest resident page of a stripe, where it has a receipt.
@@ -73,6 +87,7 @@ pub(crate) fn begin_at<R: Shows, D: Device<Receipt = R>, P: Parts<Shard<R>>>(
     ensures worn { MatchBegan result ⊤ (λ refused. refused.retire ≡ true → HasHeardWorn (known seat.old) (known seat.new)) (λ flight. ⊤) }
     ensures tried { HasTried (known seat.old) (known seat.new) }
     ensures no_fault { D.failures device.new ≡ D.failures device.old }
+    ensures no_write { D.writes device.new ≡ D.writes device.old }
     ensures open { P.is_open parts.new }
     ensures keeps { P.keeps parts.old parts.new }
 {
@@ -88,29 +103,36 @@ pub(crate) fn begin_at<R: Shows, D: Device<Receipt = R>, P: Parts<Shard<R>>>(
 pub(crate) fn end_at<R: Shows, D: Device<Receipt = R>, P: Parts<Shard<R>>>(
     parts: &mut P,
     stripe: usize,
-    number: u64,
+    flight: Flight,
     page: &Page,
     receipt: R,
     epochs: &Epochs,
     seat: &mut EpochSeat,
     device: &mut D,
-) -> Ending<R>
+) -> Landing<R>
     requires open { P.is_open parts.old }
     requires there { IsSome (P.part_of parts.old stripe) }
     requires shown { R.shown receipt ≡ page.now }
     requires outside { IsOutside epochs.now seat.old }
-    ensures stepped { HasStepped (shard_meaning R.is_steady) stripe (P.part_of parts.old) (P.part_of parts.new) (λ was now. MatchEnding result (IsStep Flush (shard_pages was) (shard_pages now)) (λ again. ⊤) (λ refused. IsFull (shard_pages now) × IsSpent refused (shard_pages was) (shard_pages now)) × MatchEnding result (HasLanded (claimed (shard_counted was)) number page.now (kept_by R.identity R.shown receipt) (shard_counted now)) (λ again. (again ≡ receipt) × ((mid : Counted) × HasRefreed (shard_counted was) mid × (shard_counted now ≡ claimed mid))) (λ refused. HasRefreed (shard_counted was) (shard_counted now))) }
-    ensures again { MatchEnding result ⊤ (λ again. again ≡ receipt) (λ refused. ⊤) }
+    ensures stepped { HasStepped (shard_meaning R.is_steady) stripe (P.part_of parts.old) (P.part_of parts.new) (λ was now. MatchLanding result (IsStep Flush (shard_pages was) (shard_pages now)) (λ again back. ⊤) (λ refused. IsFull (shard_pages now) × IsSpent refused (shard_pages was) (shard_pages now)) × MatchLanding result (HasLanded (claimed (shard_counted was)) flight.number page.now (kept_by R.identity R.shown receipt) (shard_counted now)) (λ again back. ((mid : Counted) × HasRefreed (shard_counted was) mid × (shard_counted now ≡ claimed mid))) (λ refused. HasRefreed (shard_counted was) (shard_counted now))) }
+    ensures again { MatchLanding result ⊤ (λ again back. (again ≡ flight) × (back ≡ receipt)) (λ refused. ⊤) }
     ensures outside { IsOutside epochs.now seat.new }
-    ensures worn { MatchEnding result ⊤ (λ again. ⊤) (λ refused. refused.retire ≡ true → HasHeardWorn (known seat.old) (known seat.new)) }
+    ensures worn { MatchLanding result ⊤ (λ again back. ⊤) (λ refused. refused.retire ≡ true → HasHeardWorn (known seat.old) (known seat.new)) }
     ensures tried { HasTried (known seat.old) (known seat.new) }
     ensures no_fault { D.failures device.new ≡ D.failures device.old }
+    ensures no_write { D.writes device.new ≡ D.writes device.old }
     ensures open { P.is_open parts.new }
     ensures keeps { P.keeps parts.old parts.new }
 {
-    parts
+    let Flight { number } = flight;
+    match parts
         .part(stripe)
         .end_freeing(number, page, receipt, epochs, seat, device)
+    {
+        Ending::Landed => Landing::Landed,
+        Ending::Again(receipt) => Landing::Again(Flight { number }, receipt),
+        Ending::Full(refused) => Landing::Full(refused),
+    }
 }
 
 /// Counts a place off whose page could not be written.
@@ -143,6 +165,7 @@ pub(crate) fn flush_at<R: Shows, D: Device<Receipt = R>, P: Parts<Shard<R>>>(
     ensures fault { IfErr result (λ fault. MatchUnflushed fault (D.failures device.new ≡ D.failures device.old + 1) (λ refused. (refused.retire ≡ true → HasHeardWorn (known seat.old) (known seat.new)) × (D.failures device.new ≡ D.failures device.old))) }
     ensures tried { HasTried (known seat.old) (known seat.new) }
     ensures no_fault { OnOk result (D.failures device.new ≡ D.failures device.old) }
+    ensures writes { flushed.HasWritten result (D.writes device.old) (D.writes device.new) }
     ensures open { P.is_open parts.new }
     ensures keeps { P.keeps parts.old parts.new }
 {
@@ -163,7 +186,7 @@ pub(crate) fn clean_at<R: Shows, D: Device<Receipt = R>, P: Parts<Shard<R>>>(
     requires there { IsSome (P.part_of parts.old stripe) }
     requires outside { IsOutside epochs.now seat.old }
     requires right { R.is_steady → AreRight staged.old }
-    ensures stepped { HasStepped (shard_meaning R.is_steady) stripe (P.part_of parts.old) (P.part_of parts.new) (λ was now. MayTell result (shard_pages was) (shard_pages now) × IfOk result (λ step. MatchStepped step ⊤ (λ refused. ⊤) (λ refused. ⊤) (λ number. IsMissing (shard_log now) staged.new number))) }
+    ensures stepped { HasStepped (shard_meaning R.is_steady) stripe (P.part_of parts.old) (P.part_of parts.new) (λ was now. MayTell result (shard_pages was) (shard_pages now) × IfOk result (λ step. MatchStepped step ⊤ (λ refused. ⊤) (λ refused. ⊤) (λ number. IsMissing (shard_log now) staged.new number)) × (R.is_steady → IfOk result (λ step. MatchStepped step ⊤ (λ refused. ⊤) (λ refused. HasNoRoom (shard_log now) (oldest_weight (shard_log was))) (λ number. ⊤)))) }
     ensures outside { IsOutside epochs.now seat.new }
     ensures right { R.is_steady → AreRight staged.new }
     ensures worn { IfOk result (λ step. MatchStepped step ⊤ (λ refused. refused.retire ≡ true → WasWorn (known seat.old) (known seat.new)) (λ refused. refused.retire ≡ true → HasHeardWorn (known seat.old) (known seat.new)) (λ number. ⊤)) }

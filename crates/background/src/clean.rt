@@ -2,7 +2,7 @@
 
 ghost use Rattle.std.specs.Prelude.{◌≡◌, ◌+◌, ◌<◌, [], ◌∷◌, false, IfOk, IfErr, OnOk};
 ghost use Rattle.gates.specs.Passes.{IsResting, WasBusy, known, stripes_of};
-ghost use Rattle.epoch.specs.Seats.{IsOutside};
+ghost use Rattle.epoch.specs.Seats.{IsInside, IsOutside};
 ghost use Rattle.epoch.specs.Seats as seats;
 ghost use Rattle.hybrid.specs.Staging.{AreRight};
 ghost use Rattle.shards.specs.Cleaning.{MatchFault};
@@ -11,7 +11,7 @@ ghost use Rattle.background.specs.Visits.{HasCleaned, HasLooked, MatchRound, rep
 
 use crate::cells::{clean_at, copy_at};
 use device::{Device, Shows};
-use epoch::{EpochSeat, Epochs};
+use epoch::{EpochSeat, Epochs, Inside};
 use gates::{Gates, Pass, Refused, Report, Sorted, Work};
 use hybrid::{ReadFault, Staged};
 use shards::cleaning::Stepped;
@@ -161,24 +161,29 @@ fn clean_round<R: Shows, D: Device<Receipt = R>, W: Wait>(
         let inside = epochs.enter(rt, seat);
         let copy = copy_at(&mut held, stripe, number);
         held.give(&Report::Nothing);
-        let read = fetch(copy, staged, device);
+        let read = fetch(epochs, &inside, copy, staged, device);
         return (read, epochs.leave(inside));
     }
     held.give(&report_of(stripe, &came));
     (round_of(came), seat)
 }
 
-/// Reads the page of a receipt, and stages it.
+/// Reads the page of a receipt, and stages it, inside a stay.
 fn fetch<R: Shows, D: Device<Receipt = R>>(
+    epochs: &Epochs,
+    inside: &Inside,
     copy: Result<R, AllocError>,
     staged: &mut Staged<R>,
     device: &mut D,
 ) -> Result<Round, Fault>
+    requires stay { IsInside epochs.now inside.now }
     ensures right { R.is_steady → AreRight staged.old → AreRight staged.new }
     ensures again { IfOk result (λ came. came ≡ round.Again) }
     ensures fault { IfErr result (λ fault. MatchFault fault (D.failures device.new ≡ D.failures device.old) (D.failures device.new ≡ D.failures device.old + 1) ⊥) }
     ensures no_fault { OnOk result (D.failures device.new ≡ D.failures device.old) }
 {
+    // The stay is at hand: clauses alone name it.
+    let (_epochs, _stay) = (epochs, inside);
     let Ok(receipt) = copy else {
         return Err(Fault::OutOfMemory);
     };

@@ -4,16 +4,15 @@ ghost use Rattle.std.specs.Prelude.{◌≡◌, ◌+◌, ◌<◌, ⊤, [], ◌∷
 ghost use Rattle.epoch.specs.Seats.{IsOutside};
 ghost use Rattle.epoch.specs.Seats as seats;
 ghost use Rattle.gates.specs.Passes.{IsResting, WasBusy, known, stripes_of};
-ghost use Rattle.shards.specs.Flushing.{MatchEnding};
 ghost use Rattle.shards.specs.Heard.{HasHeard, HasHeardWorn};
-ghost use Rattle.background.specs.Visits.{HasBegun, HasEnded, HasFlushed, Visited, told_at_end};
+ghost use Rattle.background.specs.Visits.{HasBegun, HasEnded, HasFlushed, HasWritten, MatchLanding, Visited, told_at_end};
 
-use crate::cells::{Began, Flight, begin_at, end_at, fail_at, flush_at};
+use crate::cells::{Began, Flight, Landing, begin_at, end_at, fail_at, flush_at};
 use device::{Device, Shows};
 use epoch::{EpochSeat, Epochs};
 use gates::{Gates, Pass, Report, Sorted, Work};
 use records::Page;
-use shards::flushing::{Ending, Unflushed};
+use shards::flushing::Unflushed;
 use shards::shard::Shard;
 use std::sync::Wait;
 use transact::call::Busy;
@@ -45,6 +44,7 @@ pub fn flush_one<R: Shows, D: Device<Receipt = R>, W: Wait>(
     ensures own { IsResting R.is_steady gates.now pass.new }
     ensures outside { IsOutside epochs.now seat.new }
     ensures flushed { HasFlushed (stripe ∷ []) stripe result (D.failures device.old) (D.failures device.new) (known pass.old) (known pass.new) (seats.known seat.old) (seats.known seat.new) }
+    ensures writes { HasWritten result (D.writes device.old) (D.writes device.new) }
 {
     let flight = match begin(rt, gates, pass, device, epochs, seat, stripe, page) {
         Began::Idle => return Ok(false),
@@ -86,6 +86,7 @@ pub fn try_flush_one<R: Shows, D: Device<Receipt = R>>(
     ensures own { IsResting R.is_steady gates.now pass.new }
     ensures outside { IsOutside epochs.now seat.new }
     ensures flushed { IfOk result (λ done. HasFlushed [] stripe done (D.failures device.old) (D.failures device.new) (known pass.old) (known pass.new) (seats.known seat.old) (seats.known seat.new)) }
+    ensures writes { IfOk result (λ done. HasWritten done (D.writes device.old) (D.writes device.new)) }
     ensures stripe { IfErr result (λ busy. busy.stripe ≡ stripe) }
     ensures busy { IfErr result (λ busy. WasBusy busy.stripe (known pass.old) (known pass.new)) }
     ensures not_asked { IfErr result (λ busy. device.new ≡ device.old) }
@@ -139,6 +140,7 @@ fn begin<R: Shows, D: Device<Receipt = R>, W: Wait>(
     ensures begun { HasBegun (stripe ∷ []) stripe result (known pass.old) (known pass.new) (seats.known seat.old) (seats.known seat.new) }
     ensures heard { HasHeard (seats.known seat.old) (seats.known seat.new) }
     ensures no_fault { D.failures device.new ≡ D.failures device.old }
+    ensures no_write { D.writes device.new ≡ D.writes device.old }
 {
     let _stripes = gates.stripes();
     let wanted = Sorted::none().with(stripe);
@@ -180,16 +182,20 @@ fn end<R: Shows, D: Device<Receipt = R>, W: Wait>(
     ensures outside { IsOutside epochs.now seat.new }
     ensures ended { HasEnded (stripe ∷ []) stripe result (known pass.old) (known pass.new) (seats.known seat.old) (seats.known seat.new) }
     ensures no_fault { D.failures device.new ≡ D.failures device.old }
+    ensures no_write { D.writes device.new ≡ D.writes device.old }
 {
-    let Flight { number } = flight;
+    let mut flight = flight;
     let mut receipt = receipt;
     for _ in rt.forever() {
         match end_once(
-            rt, gates, pass, device, epochs, seat, stripe, number, page, receipt,
+            rt, gates, pass, device, epochs, seat, stripe, flight, page, receipt,
         ) {
-            Ending::Landed => return true,
-            Ending::Again(back) => receipt = back,
-            Ending::Full(_refused) => return false,
+            Landing::Landed => return true,
+            Landing::Again(again, back) => {
+                flight = again;
+                receipt = back;
+            }
+            Landing::Full(_refused) => return false,
         }
     }
     unreachable!()
@@ -205,39 +211,40 @@ fn end_once<R: Shows, D: Device<Receipt = R>, W: Wait>(
     epochs: &Epochs,
     seat: &mut EpochSeat,
     stripe: usize,
-    number: u64,
+    flight: Flight,
     page: &Page,
     receipt: R,
-) -> Ending<R>
+) -> Landing<R>
     requires own { IsResting R.is_steady gates.now pass.old }
     requires below { stripe < stripes_of gates.now }
     requires outside { IsOutside epochs.now seat.old }
     requires shown { R.shown receipt ≡ page.now }
     ensures own { IsResting R.is_steady gates.now pass.new }
     ensures outside { IsOutside epochs.now seat.new }
-    ensures again { MatchEnding result ⊤ (λ again. again ≡ receipt) (λ refused. ⊤) }
+    ensures again { MatchLanding result ⊤ (λ again back. (again ≡ flight) × (back ≡ receipt)) (λ refused. ⊤) }
     ensures told { Visited (stripe ∷ []) (told_at_end stripe result) (known pass.old) (known pass.new) }
-    ensures worn { MatchEnding result ⊤ (λ again. ⊤) (λ refused. refused.retire ≡ true → HasHeardWorn (seats.known seat.old) (seats.known seat.new)) }
+    ensures worn { MatchLanding result ⊤ (λ again back. ⊤) (λ refused. refused.retire ≡ true → HasHeardWorn (seats.known seat.old) (seats.known seat.new)) }
     ensures heard { HasHeard (seats.known seat.old) (seats.known seat.new) }
     ensures no_fault { D.failures device.new ≡ D.failures device.old }
+    ensures no_write { D.writes device.new ≡ D.writes device.old }
 {
     let _stripes = gates.stripes();
     let wanted = Sorted::none().with(stripe);
     let mut held = gates.take(rt, pass, &wanted);
     match end_at(
-        &mut held, stripe, number, page, receipt, epochs, seat, device,
+        &mut held, stripe, flight, page, receipt, epochs, seat, device,
     ) {
-        Ending::Landed => {
+        Landing::Landed => {
             held.give(&Report::Done(stripe as u64, Work::Flush));
-            Ending::Landed
+            Landing::Landed
         }
-        Ending::Again(receipt) => {
+        Landing::Again(flight, receipt) => {
             held.give(&Report::Nothing);
-            Ending::Again(receipt)
+            Landing::Again(flight, receipt)
         }
-        Ending::Full(refused) => {
+        Landing::Full(refused) => {
             held.give(&Report::Full(stripe as u64, refused));
-            Ending::Full(refused)
+            Landing::Full(refused)
         }
     }
 }

@@ -23,6 +23,9 @@ use words::limits::{
     FRAMES_MIN, PLACES_DEFAULT, PLACES_MAX, PLACES_MIN, STRIPES_DEFAULT, STRIPES_MAX,
 };
 
+/// The version that `garnetd --version` tells. `tools/package` and `CHANGELOG.md` have the same.
+const VERSION: &str = "0.4.0";
+
 /// What the words of a command line ask for, the program's name first.
 ///
 /// # Errors
@@ -149,7 +152,7 @@ fn command<'a>(alloc: Global, texts: &'a HelpTexts) -> Result<Command<'a>, Alloc
     ensures { IfOk result (λ command. app_of command ≡ garnetd) }
 {
     Command::new(alloc, "garnetd")
-        .version("0.1.0")
+        .version(VERSION)
         .about(
             "Serves the string commands and transactions of Redis in RESP2 to many clients at one time, and ends when all have",
         )
@@ -245,7 +248,7 @@ fn device<'a>(alloc: Global) -> Arg<'a>
         .value_name("DEVICE")
         .value_parser(ValueParser::string())
         .help(
-            "What keeps the pages that have left their frames: memory, or the file at this path, created or emptied; default memory",
+            "What keeps the pages that have left their frames: memory, or the file at this path, made anew; default memory",
         )
 }
 
@@ -450,7 +453,7 @@ mod tests {
         "--workers <W>",
         "1 to 64; default 4",
         "--device <DEVICE>",
-        "memory, or the file at this path, created or emptied; default memory",
+        "memory, or the file at this path, made anew; default memory",
     ];
 
     #[test]
@@ -463,6 +466,17 @@ mod tests {
         for part in HELP {
             assert!(rt; text.contains(part), "{part}");
         }
+        Ok(())
+    }
+
+    #[test]
+    fn the_version_is_told(rt: HostRuntime) -> Result<(), Fail> {
+        let shown = options_of(rt.alloc(), ["garnetd", "--version"].as_slice())
+            .err()
+            .ok_or("taken")?;
+        assert_eq!(rt; shown.exit_code(), 0);
+        let text = format!(in rt.alloc(); "{shown}")?;
+        assert!(rt; text.contains(VERSION));
         Ok(())
     }
 }

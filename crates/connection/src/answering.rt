@@ -4,7 +4,7 @@
 ghost use Rattle.std.specs.Prelude.{◌≡◌, ◌≤◌, ◌+◌, ℕ, [], ◌++◌, List, IfNone};
 ghost use Rattle.streams.specs.Streams.{stream_of, told_of, reads_of};
 ghost use Rattle.streams.specs.declared.observed.Told.{Told as HasTold};
-ghost use Rattle.engine.specs.Passes.{Known, knows, Rests};
+ghost use Rattle.engine.specs.Passes.{Known, knows, Rests, stripe_count};
 ghost use Rattle.engine.specs.Calls.{promises_of};
 ghost use Rattle.words.specs.Session.{line_reply};
 ghost use Rattle.words.specs.Spelling.{IsRequest};
@@ -76,10 +76,10 @@ pub(crate) fn answer_all<T: Wait, L: Latch, W: Write, D: Device>(
     requires rests { Rests D.Receipt.is_steady store.now.engine.now pass.old }
     requires attends { Attends (knows D.failures pass.old) talk.old.client }
     ensures paused { (was : Known) (fed before : List ℕ)
-        → Conversing (promises_of D.Receipt.is_steady D.Receipt.lends) was (knows D.failures pass.old) fed talk.old.client (before ++ talk.old.out.items)
+        → Conversing (promises_of D.Receipt.is_steady D.Receipt.lends (stripe_count store.now.engine.now)) was (knows D.failures pass.old) fed talk.old.client (before ++ talk.old.out.items)
         → (sent : List ℕ)
         × Appends (W.contents (stream_of writer.old)) (W.contents (stream_of writer.new)) sent
-        × HasPaused (promises_of D.Receipt.is_steady D.Receipt.lends) was (knows D.failures pass.new) fed result talk.new.client (before ++ sent) talk.new.out.items }
+        × HasPaused (promises_of D.Receipt.is_steady D.Receipt.lends (stripe_count store.now.engine.now)) was (knows D.failures pass.new) fed result talk.new.client (before ++ sent) talk.new.out.items }
     ensures room { talk.new.room ≡ talk.old.room }
     ensures fed { IsFed result }
     ensures stands { StandsAt result talk.new.client }
@@ -122,11 +122,11 @@ pub(crate) fn conclude<W: Write, D: Device>(
     out: &mut Vec<u8>,
     writer: &mut Noted<W>,
 ) -> Option<Ended>
-    ensures answered { (was now : Known) (fed before : List ℕ) (standing : Progress)
-        → HasPaused (promises_of D.Receipt.is_steady D.Receipt.lends) was now fed paused standing before out.old.items
+    ensures answered { (stripes : ℕ) (was now : Known) (fed before : List ℕ) (standing : Progress)
+        → HasPaused (promises_of D.Receipt.is_steady D.Receipt.lends stripes) was now fed paused standing before out.old.items
         → (sent : List ℕ)
         × Appends (W.contents (stream_of writer.old)) (W.contents (stream_of writer.new)) sent
-        × HasAnswered (promises_of D.Receipt.is_steady D.Receipt.lends) was now fed result standing (before ++ sent) }
+        × HasAnswered (promises_of D.Receipt.is_steady D.Receipt.lends stripes) was now fed result standing (before ++ sent) }
     ensures goes_on { IfNone result ((paused ≡ Paused.Input) × (out.new.items ≡ [])) }
     ensures ends { EndsAnswering result }
     ensures told { (told : HasTold)
@@ -186,11 +186,11 @@ pub(crate) fn answer_piece<T: Wait, L: Latch, R: ReadReady, W: Write, D: Device>
     requires few { talk.old.room.more ≤ MORE_PIECES }
     requires empty { talk.old.out.items ≡ [] }
     ensures answered { (was : Known) (fed before : List ℕ)
-        → Conversing (promises_of D.Receipt.is_steady D.Receipt.lends) was (knows D.failures pass.old) fed talk.old.client before
+        → Conversing (promises_of D.Receipt.is_steady D.Receipt.lends (stripe_count store.now.engine.now)) was (knows D.failures pass.old) fed talk.old.client before
         → (bytes sent : List ℕ)
         × Consumes (R.remaining (stream_of reader.old)) (R.remaining (stream_of reader.new)) bytes
         × Appends (W.contents (stream_of writer.old)) (W.contents (stream_of writer.new)) sent
-        × HasAnswered (promises_of D.Receipt.is_steady D.Receipt.lends) was (knows D.failures pass.new) (fed ++ bytes) result talk.new.client (before ++ sent) }
+        × HasAnswered (promises_of D.Receipt.is_steady D.Receipt.lends (stripe_count store.now.engine.now)) was (knows D.failures pass.new) (fed ++ bytes) result talk.new.client (before ++ sent) }
     ensures goes_on { GoesOn result talk.new.client talk.new.out.items }
     ensures ends { EndsAnswering result }
     ensures told { told_of writer.new ≡ answered_told result (told_of writer.old) }
@@ -216,7 +216,7 @@ fn answer_next<T: Wait, L: Latch, D: Device>(
     requires rests { Rests D.Receipt.is_steady store.now.engine.now pass.old }
     requires attends { Attends (knows D.failures pass.old) client.old }
     ensures turned { HasTurned client.old result client.new }
-    ensures due { IsDue (promises_of D.Receipt.is_steady D.Receipt.lends) (knows D.failures pass.old) (knows D.failures pass.new) client.old result client.new }
+    ensures due { IsDue (promises_of D.Receipt.is_steady D.Receipt.lends (stripe_count store.now.engine.now)) (knows D.failures pass.old) (knows D.failures pass.new) client.old result client.new }
     ensures rests { Rests D.Receipt.is_steady store.now.engine.now pass.new }
     ensures attends { Attends (knows D.failures pass.new) client.new }
 {
@@ -250,7 +250,7 @@ fn answer_idle<T: Wait, L: Latch, D: Device>(
     requires idle { IsIdle client.old.stage }
     requires request { IsRequest words.now }
     ensures turned { HasTurned (before words.now client.old) result client.new }
-    ensures due { IsDue (promises_of D.Receipt.is_steady D.Receipt.lends) (knows D.failures pass.old) (knows D.failures pass.new) (before words.now client.old) result client.new }
+    ensures due { IsDue (promises_of D.Receipt.is_steady D.Receipt.lends (stripe_count store.now.engine.now)) (knows D.failures pass.old) (knows D.failures pass.new) (before words.now client.old) result client.new }
     ensures rests { Rests D.Receipt.is_steady store.now.engine.now pass.new }
     ensures attends { Attends (knows D.failures pass.new) client.new }
 {
@@ -299,7 +299,7 @@ fn answer_obeyed<T: Wait, L: Latch, D: Device>(
     requires is_open { IsOpen (mode_of client.old.stage) }
     requires request { IsRequest words.now }
     ensures turned { HasTurned (before words.now client.old) result client.new }
-    ensures due { IsDue (promises_of D.Receipt.is_steady D.Receipt.lends) (knows D.failures pass.old) (knows D.failures pass.new) (before words.now client.old) result client.new }
+    ensures due { IsDue (promises_of D.Receipt.is_steady D.Receipt.lends (stripe_count store.now.engine.now)) (knows D.failures pass.old) (knows D.failures pass.new) (before words.now client.old) result client.new }
     ensures rests { Rests D.Receipt.is_steady store.now.engine.now pass.new }
     ensures attends { Attends (knows D.failures pass.new) client.new }
 {
@@ -333,11 +333,11 @@ fn answer_waiting<T: Wait, L: Latch, R: ReadReady, W: Write, D: Device>(
     requires room { talk.old.room.items ≡ [] }
     requires few { talk.old.room.more ≤ MORE_PIECES }
     ensures paused { (was : Known) (fed before : List ℕ)
-        → Conversing (promises_of D.Receipt.is_steady D.Receipt.lends) was (knows D.failures pass.old) fed talk.old.client (before ++ talk.old.out.items)
+        → Conversing (promises_of D.Receipt.is_steady D.Receipt.lends (stripe_count store.now.engine.now)) was (knows D.failures pass.old) fed talk.old.client (before ++ talk.old.out.items)
         → (bytes sent : List ℕ)
         × Consumes (R.remaining (stream_of reader.old)) (R.remaining (stream_of reader.new)) bytes
         × Appends (W.contents (stream_of writer.old)) (W.contents (stream_of writer.new)) sent
-        × HasPaused (promises_of D.Receipt.is_steady D.Receipt.lends) was (knows D.failures pass.new) (fed ++ bytes) result talk.new.client (before ++ sent)
+        × HasPaused (promises_of D.Receipt.is_steady D.Receipt.lends (stripe_count store.now.engine.now)) was (knows D.failures pass.new) (fed ++ bytes) result talk.new.client (before ++ sent)
         talk.new.out.items }
     ensures stands { StandsAt result talk.new.client }
     ensures told { told_of writer.new ≡ paused_told result (told_of writer.old) }

@@ -1,6 +1,6 @@
 //! The core of a connection, without input or output: it is fed bytes, and says what comes next.
 
-ghost use Rattle.std.specs.Prelude.{◌≡◌, ◌<◌, ◌⊎◌, [], ◌++◌, length, OnOk, OnErr, IsOk, true, false};
+ghost use Rattle.std.specs.Prelude.{◌≡◌, ◌<◌, ◌⊎◌, ◌↔◌, [], ◌++◌, length, OnOk, OnErr, IsOk, IsTrue, true, false};
 
 use crate::state::State;
 use bytes::Bytes;
@@ -168,7 +168,7 @@ impl Client {
     /// Whether the session is in no transaction, and waits for a request: a command that reads or writes keys
     /// is then a call of its own, and its answer is said as it comes.
     pub(crate) fn is_idle(&self) -> bool
-        ensures { result ≡ true → IsIdle self.now.stage }
+        ensures { IsTrue result ↔ IsIdle self.now.stage }
     {
         matches!(&self.state, State::Ready(AnySession::Idle(_)))
     }

@@ -3,7 +3,7 @@
 
 ghost use Rattle.std.specs.Prelude.{◌≡◌, ◌≤◌, ℕ, [], List};
 ghost use Rattle.streams.specs.Streams.{stream_of, told_of, HasFailed};
-ghost use Rattle.engine.specs.Passes.{knows, Rests};
+ghost use Rattle.engine.specs.Passes.{knows, Rests, stripe_count};
 ghost use Rattle.engine.specs.Calls.{promises_of};
 ghost use Rattle.connection.specs.Clients.{beginning};
 ghost use Rattle.connection.specs.Conversations.{Went};
@@ -130,7 +130,7 @@ fn converse<T: Wait, L: Latch, R: ReadReady, W: Write, D: Device>(
     ensures served { (bytes text : List ℕ)
         × Consumes (R.remaining (stream_of reader.old)) (R.remaining (stream_of reader.new)) bytes
         × Appends (W.contents (stream_of writer.old)) (W.contents (stream_of writer.new)) text
-        × Served (promises_of D.Receipt.is_steady D.Receipt.lends) (knows D.failures pass.old) (knows D.failures pass.new) result bytes text }
+        × Served (promises_of D.Receipt.is_steady D.Receipt.lends (stripe_count store.now.engine.now)) (knows D.failures pass.old) (knows D.failures pass.new) result bytes text }
     ensures end { result ≡ Ended.EndOfInput → IsAtEnd (R.remaining (stream_of reader.new)) }
     ensures reader_told { told_of reader.new ≡ reader_told result (told_of reader.old) }
     ensures writer_told { told_of writer.new ≡ writer_told result (told_of writer.old) }
@@ -176,7 +176,8 @@ pub(crate) fn forget<T: Wait, L: Latch, D: Device>(
 /// - `-OOM out of memory`: it may want memory.
 /// - `-IOERR device fault`: a call of the pass's opening of the device failed in that very request. No call fails
 ///   without this line.
-/// - `-FULL store is full`: the pass was told that a stripe has no place left on the device, and the request writes.
+/// - `-FULL store is full`: the pass was told that a stripe has no place left on the device, and the request
+///   writes that stripe.
 /// - `-WORN commit numbers are used up`: the pass read the commit word at 2^62 or more.
 ///
 /// It reads pieces of at most 16,384 bytes. Where a piece has that many, and all of its complete requests are
@@ -216,7 +217,7 @@ pub fn serve<T: Wait, L: Latch, R: ReadReady, W: Write, D: Device>(
     ensures served { (bytes text : List ℕ)
         × Consumes (R.remaining (stream_of reader.old)) (R.remaining (stream_of reader.new)) bytes
         × Appends (W.contents (stream_of writer.old)) (W.contents (stream_of writer.new)) text
-        × Served (promises_of D.Receipt.is_steady D.Receipt.lends) (knows D.failures pass) (knows D.failures result.0) result.1 bytes text }
+        × Served (promises_of D.Receipt.is_steady D.Receipt.lends (stripe_count engine.now)) (knows D.failures pass) (knows D.failures result.0) result.1 bytes text }
 
     // An ending comes only where its cause came, and such a cause brings that ending.
     ensures end { result.1 ≡ Ended.EndOfInput → IsAtEnd (R.remaining (stream_of reader.new)) }

@@ -8,6 +8,8 @@ mod cold;
 #[cfg(test)]
 mod edges;
 #[cfg(test)]
+mod examples;
+#[cfg(test)]
 mod failing;
 #[cfg(test)]
 mod followed;
@@ -15,6 +17,8 @@ mod followed;
 mod hostile;
 #[cfg(test)]
 mod keys;
+#[cfg(test)]
+mod many_keys;
 #[cfg(test)]
 mod pieces;
 #[cfg(test)]

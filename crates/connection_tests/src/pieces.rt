@@ -26,6 +26,8 @@ pub(crate) struct Source<'a> {
     most: usize,
     /// How many bytes are given before reads fail, if they do.
     pub(crate) fails_after: Option<usize>,
+    /// How many bytes are given before the place where a read ends. Behind it there is none.
+    pub(crate) cut_after: usize,
     /// Whether each other read is interrupted.
     interrupts: bool,
     interrupted: bool,
@@ -40,6 +42,7 @@ impl Source<'_> {
             bytes,
             most,
             fails_after: None,
+            cut_after: 0,
             interrupts: false,
             interrupted: false,
             tells_ready: false,
@@ -60,6 +63,10 @@ impl Read for Source<'_> {
             }
             count = count.min(left);
             self.fails_after = Some(left - count);
+        }
+        if self.cut_after > 0 {
+            count = count.min(self.cut_after);
+            self.cut_after -= count;
         }
         let bytes = self.bytes;
         let (front, back) = bytes.split_at(count);

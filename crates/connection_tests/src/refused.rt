@@ -1,6 +1,6 @@
 //! Requests where an allocation is refused.
 //!
-//! Each of these is meant for runs with each allocation refused in turn (`bench/refused/tests`). Then each request has its
+//! Each of these is meant for runs with each allocation refused in turn (`tools/refused/tests`). Then each request has its
 //! reply or the out-of-memory line, and what follows goes by that.
 
 ghost use Rattle.std.specs.Prelude.{◌≡◌, []};
@@ -9,7 +9,7 @@ ghost use Rattle.engine.specs.Passes.{knows, Rests};
 use crate::failing::failing;
 use crate::hostile::STREAMS;
 use crate::keys::repeated;
-use crate::requests::{add_reply, add_request};
+use crate::requests::{add_reply, add_request, add_word};
 use crate::talks::{Outcome, Source, engine_over, memory, narrow, talk_to, wide};
 use connection::Ended;
 use device::Device;
@@ -110,6 +110,27 @@ const LARGEST_ANSWERS: &[&[u8]] = &[
 #[test]
 fn the_largest_request_with_each_allocation_refused(rt: HostRuntime) {
     let Ok(input) = largest(rt.alloc()) else {
+        return;
+    };
+    check(&rt, rt.alloc(), &input, LARGEST_ANSWERS, Ended::EndOfInput);
+}
+
+/// MSET of five values of 8,192 bytes and one of 7,898. Then EXISTS of two of its keys.
+fn six(alloc: Global) -> io::Result<Vec<u8>> {
+    let mut input = repeated(alloc, b"*13\r\n$4\r\nMSET\r\n", 1, b"")?;
+    for key in ["a", "b", "c", "d", "e"] {
+        add_word(alloc, &mut input, key, 0)?;
+        add_word(alloc, &mut input, "#", 8_192)?;
+    }
+    add_word(alloc, &mut input, "f", 0)?;
+    add_word(alloc, &mut input, "#", 7_898)?;
+    add_request(alloc, &mut input, "EXISTS a f", 0)?;
+    Ok(input)
+}
+
+#[test]
+fn six_values_with_each_allocation_refused(rt: HostRuntime) {
+    let Ok(input) = six(rt.alloc()) else {
         return;
     };
     check(&rt, rt.alloc(), &input, LARGEST_ANSWERS, Ended::EndOfInput);

@@ -219,6 +219,21 @@ fn ample_memory_answers(rt: HostRuntime) -> Result<(), Fail> {
     Ok(())
 }
 
+/// The rows answer so where the first read gives any beginning of the input.
+#[test]
+fn rows_that_are_cut_in_two(rt: HostRuntime) -> Result<(), Fail> {
+    let alloc = rt.alloc();
+    for &(input, text, ended) in ROWS {
+        for at in 0..input.len() {
+            let mut source = Source::new(input, 16_384);
+            source.cut_after = at;
+            let sink = Sink::new(alloc, 16_384)?;
+            check_run(&rt, alloc, (source, sink), text, ended)?;
+        }
+    }
+    Ok(())
+}
+
 /// How many writes the replies to 64 requests take where a read gives at most so many bytes.
 fn writes_of(rt: &impl Wait, alloc: Global, most: usize) -> io::Result<u64> {
     let input = repeated(alloc, PING, 64, b"")?;

@@ -1,9 +1,13 @@
 -- Files of pages, as contracts name them.
-use Rattle.std.specs.Prelude.{ℕ, List}
+use Rattle.std.specs.Prelude.{◌≡◌, ◌≢◌, ℕ, ◌*◌, ◌⊎◌, List, ◌∷◌, true, false}
+use Rattle.records.specs.declared.pages.TheConstants.{PAGE_SIZE}
+use Rattle.records.specs.Page.{number_of}
 use Rattle.device.specs.declared.file.FileReceipt.{FileReceipt}
 use Rattle.device.specs.declared.file.FileDevice.{FileDevice}
 use Rattle.device.specs.declared.places.PlaceNote.{PlaceNote}
+use Rattle.device.specs.declared.places.PlaceNote.TheVariants.{Took, GaveBack, FoundNone}
 use Rattle.device.specs.Written.{page_of}
+use Rattle.device.specs.SystemCalls.{SystemCall, Write, Read}
 
 -- the page for which a receipt was given
 abbrev pub page_shown : FileReceipt → List ℕ
@@ -41,3 +45,20 @@ module _ {R : Type 0} where
   -- what it did with the list of places, the newest first
   abbrev pub notes_of : FileDevice R → List PlaceNote
   notes_of device = device.notes
+
+  -- what the system was asked of the file through it, the newest first
+  abbrev pub asked_of : FileDevice R → List SystemCall
+  asked_of device = device.file
+
+  -- this page was not written, and no place stays taken: none was found, and the system was not asked; or the system did not take the page at the place
+  -- that was taken, which was given back
+  abbrev pub WroteNone : (page : List ℕ) (before later : FileDevice R) → Type 0
+  WroteNone page before later =
+      ((notes_of later ≡ FoundNone ∷ notes_of before) × (asked_of later ≡ asked_of before))
+      ⊎ ((place : ℕ) × (notes_of later ≡ GaveBack place ∷ Took place ∷ notes_of before) × (asked_of later ≡ Write (place * PAGE_SIZE) page false ∷ asked_of before))
+
+  -- no page was given for this receipt: the system did not read one at its place, or it read this one, which has another number
+  abbrev pub GaveNone : (receipt : FileReceipt) (page : List ℕ) (before later : FileDevice R) → Type 0
+  GaveNone receipt page before later =
+      (asked_of later ≡ Read (place_of receipt * PAGE_SIZE) page false ∷ asked_of before)
+      ⊎ ((asked_of later ≡ Read (place_of receipt * PAGE_SIZE) page true ∷ asked_of before) × (number_of page ≢ receipt_number receipt))

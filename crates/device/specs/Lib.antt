@@ -3,6 +3,7 @@ pub mod Free
 pub mod Places
 pub mod PlaceNotes
 pub mod Written
+pub mod SystemCalls
 pub mod Files
 pub mod OpenFaults
 pub mod Faults

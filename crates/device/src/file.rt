@@ -1,27 +1,32 @@
 // A device that keeps its pages in a file.
 
-ghost use Rattle.std.specs.Prelude.{◌≡◌, ◌<◌, ◌+◌, ◌*◌, ◌∷◌, ℕ, IfOk, IfSome, IfNone, IsNone, OnOk, OnErr, All, vec_len, Some};
+ghost use Rattle.std.specs.Prelude.{◌≡◌, ◌<◌, ◌+◌, ◌*◌, ◌∷◌, ℕ, true, IfOk, IfSome, IfNone, IsNone, OnOk, OnErr, All, vec_len, Some};
 ghost use Rattle.records.specs.Page.{number_of};
 ghost use Rattle.device.specs.Written.{page_of};
 ghost use Rattle.device.specs.declared.places.TheConstants.{MAX_PLACES};
 
 use crate::counts::CallCount;
 use crate::places::{MAX_PLACES, PlaceNotes, Places};
+use crate::system::PageFile;
 use crate::{Device, DeviceFault, Shows};
 use epoch::{Drained, Retired};
 use records::{PAGE_SIZE, Page};
 use std::alloc::{AllocError, Global};
 use std::error::Error;
-use std::fmt;
 use std::fs::{File, Files, OpenOptions};
-use std::os::unix::fs::FileExt;
+use std::io::ErrorKind;
+use std::os::unix::fs::OpenOptionsExt;
 use std::snapshot::Snapshot;
 use std::sync::{Arc, Mutex, Wait};
+use std::{fmt, fs};
+
+/// The permissions of a file of pages: its owner reads and writes it.
+const OWNER_ALONE: u32 = 0o600;
 
 /// Why there are no openings of a file.
 #[derive(Clone, Copy, Debug, PartialEq, Eq)]
 pub enum OpenFault {
-    /// The file could not be made or emptied, or has no further handle.
+    /// The file could not be made anew, or has no further handle.
     CannotOpen,
     /// No memory.
     OutOfMemory,
@@ -70,9 +75,9 @@ pub(crate) enum Written {
 }
 
 impl Shows for FileReceipt {
-    ghost use Rattle.std.specs.Prelude.{drop, ◌↔◌, IsTrue};
+    ghost use Rattle.std.specs.Prelude.{drop, ◌↔◌, IsOk, IsTrue};
     ghost use Rattle.std.proofs.Common.{ap};
-    ghost use Rattle.device.specs.Files.{place_of, receipt_number};
+    ghost use Rattle.device.specs.Files.{page_shown, place_of, receipt_number};
 
     ghost shown = { λ r. page_of r.written };
 
@@ -88,7 +93,13 @@ impl Shows for FileReceipt {
 
     ghost steady_is_honest = { λ s. s };
 
-    fn again(&self) -> Result<FileReceipt, AllocError> {
+    /// Takes no memory.
+    fn again(&self) -> Result<FileReceipt, AllocError>
+        ensures never_refused { IsOk result }
+        ensures shown { IfOk result (λ r. page_shown r ≡ page_shown self.now) }
+        ensures place { IfOk result (λ r. place_of r ≡ place_of self.now) }
+        ensures number { IfOk result (λ r. receipt_number r ≡ receipt_number self.now) }
+    {
         Ok(FileReceipt {
             place: self.place,
             number: self.number,
@@ -122,7 +133,7 @@ impl Shows for FileReceipt {
 #[derive(Drop)]
 pub struct FileDevice<'a, R: Wait> {
     rt: &'a R,
-    file: File,
+    file: PageFile,
     places: Arc<Mutex<Places>>,
     failures: CallCount,
     writes: CallCount,
@@ -133,15 +144,17 @@ pub struct FileDevice<'a, R: Wait> {
 
 impl<'a, R: Wait> FileDevice<'a, R> {
     ghost use Rattle.device.specs.declared.places.PlaceNote.TheVariants.{Took};
-    ghost use Rattle.device.specs.PlaceNotes.{TookNone};
-    ghost use Rattle.device.specs.Files.{failures_of, writes_of, reads_of, releases_of, notes_of};
+    ghost use Rattle.device.specs.SystemCalls.{Write};
+    ghost use Rattle.device.specs.Files.{WroteNone, failures_of, writes_of, reads_of, releases_of, notes_of, asked_of};
 
-    /// Creates the file at a path, or empties it, and gives `n` openings of it, which have not failed.
+    /// Makes the file at a path anew, and gives `n` openings of it, which have not failed. What stands there is taken away
+    /// first, a file or a link: a link is not followed, and whoever has the old file open keeps it. The new one is for its
+    /// owner alone to read and write.
     ///
     /// # Errors
     ///
-    /// [`OpenFault::CannotOpen`] where the system refuses the file or a handle of it, and
-    /// [`OpenFault::OutOfMemory`].
+    /// [`OpenFault::CannotOpen`] where something else stands there, as a folder or a device of the system, or where the system
+    /// refuses the file or a handle of it, and [`OpenFault::OutOfMemory`].
     pub fn openings(
         rt: &'a R,
         alloc: Global,
@@ -188,7 +201,7 @@ impl<'a, R: Wait> FileDevice<'a, R> {
         match file.try_clone() {
             Ok(file) => Ok(FileDevice {
                 rt,
-                file,
+                file: PageFile::new(file),
                 places,
                 failures: CallCount::new(),
                 writes: CallCount::new(),
@@ -207,6 +220,7 @@ impl<'a, R: Wait> FileDevice<'a, R> {
         ensures no_read { reads_of self.new ≡ reads_of self.old }
         ensures no_release { releases_of self.new ≡ releases_of self.old }
         ensures no_note { notes_of self.new ≡ notes_of self.old }
+        ensures not_asked { asked_of self.new ≡ asked_of self.old }
     {
         self.failures.note();
         DeviceFault
@@ -216,14 +230,15 @@ impl<'a, R: Wait> FileDevice<'a, R> {
     fn put(&mut self, page: &Page) -> Option<u32>
         ensures number { IfSome result (λ place. place < MAX_PLACES) }
         ensures taken { IfSome result (λ place. notes_of self.new ≡ Took place ∷ notes_of self.old) }
-        ensures none { IfNone result (TookNone (notes_of self.old) (notes_of self.new)) }
+        ensures written { IfSome result (λ place. asked_of self.new ≡ Write (place * PAGE_SIZE) page.now true ∷ asked_of self.old) }
+        ensures none { IfNone result (WroteNone page.now self.old self.new) }
         ensures no_failure { failures_of self.new ≡ failures_of self.old }
         ensures no_write { writes_of self.new ≡ writes_of self.old }
         ensures no_read { reads_of self.new ≡ reads_of self.old }
         ensures no_release { releases_of self.new ≡ releases_of self.old }
     {
         let place = self.places.lock(self.rt).take(&mut self.notes)?;
-        if self.file.write_all_at(page.bytes(), offset(place)).is_ok() {
+        if self.file.write(page, offset(place)) {
             return Some(place);
         }
         self.places.lock(self.rt).give_back(place, &mut self.notes);
@@ -231,12 +246,30 @@ impl<'a, R: Wait> FileDevice<'a, R> {
     }
 }
 
-// Creates a file, or empties it.
+// Makes a file anew. It is made only where nothing stands, so a link that is put there meanwhile is not followed either.
 fn make_file<R: Files<File = File>>(rt: &R, path: &str) -> Result<File, OpenFault> {
+    take_away(rt, path)?;
     let mut options = OpenOptions::new();
-    options.read(true).write(true).create(true).truncate(true);
+    options
+        .read(true)
+        .write(true)
+        .create_new(true)
+        .mode(OWNER_ALONE);
     match options.open(rt, path) {
         Ok(file) => Ok(file),
+        Err(_) => Err(OpenFault::CannotOpen),
+    }
+}
+
+// Takes away the file or the link that stands at a path, if one does. Nothing else is taken away.
+fn take_away<R: Files>(rt: &R, path: &str) -> Result<(), OpenFault> {
+    match fs::symlink_metadata(rt, path) {
+        Ok(found) if found.is_file() || found.is_symlink() => match fs::remove_file(rt, path) {
+            Ok(()) => Ok(()),
+            Err(_) => Err(OpenFault::CannotOpen),
+        },
+        Ok(_) => Err(OpenFault::CannotOpen),
+        Err(fault) if fault.kind() == ErrorKind::NotFound => Ok(()),
         Err(_) => Err(OpenFault::CannotOpen),
     }
 }
@@ -250,8 +283,8 @@ fn offset(place: u32) -> u64
 
 impl<'a, R: Wait> Device for FileDevice<'a, R> {
     ghost use Rattle.device.specs.declared.places.PlaceNote.TheVariants.{Took, GaveBack};
-    ghost use Rattle.device.specs.PlaceNotes.{TookNone};
-    ghost use Rattle.device.specs.Files.{IsServed, failures_of, writes_of, reads_of, releases_of, notes_of, page_shown, place_of, receipt_number};
+    ghost use Rattle.device.specs.SystemCalls.{Write, Read};
+    ghost use Rattle.device.specs.Files.{IsServed, WroteNone, GaveNone, failures_of, writes_of, reads_of, releases_of, notes_of, asked_of, page_shown, place_of, receipt_number};
     ghost use Rattle.epoch.specs.Seats.{drained_epoch, drained_of, retired_epoch, retired_of, retired_value};
 
     type Receipt = FileReceipt;
@@ -276,7 +309,8 @@ impl<'a, R: Wait> Device for FileDevice<'a, R> {
     fn write(&mut self, page: &Page) -> Result<FileReceipt, DeviceFault>
         ensures shown { IfOk result (λ r. page_shown r ≡ page.now) }
         ensures taken { IfOk result (λ r. notes_of self.new ≡ Took (place_of r) ∷ notes_of self.old) }
-        ensures none_kept { OnErr result (TookNone (notes_of self.old) (notes_of self.new)) }
+        ensures written { IfOk result (λ r. asked_of self.new ≡ Write (place_of r * PAGE_SIZE) page.now true ∷ asked_of self.old) }
+        ensures none_kept { OnErr result (WroteNone page.now self.old self.new) }
         ensures failure { OnErr result (failures_of self.new ≡ failures_of self.old + 1) }
         ensures no_failure { OnOk result (failures_of self.new ≡ failures_of self.old) }
         ensures counted { writes_of self.new ≡ writes_of self.old + 1 }
@@ -294,10 +328,12 @@ impl<'a, R: Wait> Device for FileDevice<'a, R> {
         }
     }
 
-    /// Gives a page only where it has the number of the page that was written.
+    /// Gives a page only where it has the number of the page that was written: what the system had at the place of the receipt.
     fn read(&mut self, receipt: &FileReceipt, page: &mut Page) -> Result<(), DeviceFault>
         ensures number { OnOk result (number_of page.new ≡ receipt_number receipt.now) }
         ensures page { IsServed → OnOk result (page.new ≡ page_shown receipt.now) }
+        ensures given { OnOk result (asked_of self.new ≡ Read (place_of receipt.now * PAGE_SIZE) page.new true ∷ asked_of self.old) }
+        ensures none_given { OnErr result (GaveNone receipt.now page.new self.old self.new) }
         ensures failure { OnErr result (failures_of self.new ≡ failures_of self.old + 1) }
         ensures no_failure { OnOk result (failures_of self.new ≡ failures_of self.old) }
         ensures counted { reads_of self.new ≡ reads_of self.old + 1 }
@@ -306,10 +342,8 @@ impl<'a, R: Wait> Device for FileDevice<'a, R> {
         ensures no_note { notes_of self.new ≡ notes_of self.old }
     {
         self.reads.note();
-        let read = self
-            .file
-            .read_exact_at(page.bytes_mut(), offset(receipt.place));
-        if read.is_ok() && page.number() == receipt.number {
+        let is_read = self.file.read(page, offset(receipt.place));
+        if is_read && page.number() == receipt.number {
             return Ok(());
         }
         Err(self.fault())
@@ -324,6 +358,7 @@ impl<'a, R: Wait> Device for FileDevice<'a, R> {
         ensures no_read { reads_of self.new ≡ reads_of self.old }
         ensures counted { releases_of self.new ≡ releases_of self.old + 1 }
         ensures given_back { notes_of self.new ≡ GaveBack (place_of (retired_value retired)) ∷ notes_of self.old }
+        ensures not_asked { asked_of self.new ≡ asked_of self.old }
     {
         self.releases.note();
         let receipt = retired.into_value(drained);

@@ -27,12 +27,14 @@ use std::alloc::AllocError;
 use std::error::Error;
 use std::fmt;
 
+mod copies;
 mod counts;
 mod faulty;
 mod file;
 mod memory;
 mod places;
 mod releasable;
+mod system;
 
 pub use counts::CallCount;
 pub use faulty::{Faulty, FaultyReceipt};

@@ -1,8 +1,8 @@
 // A device that keeps its pages in memory.
 
-ghost use Rattle.std.specs.Prelude.{◌≡◌, ℕ, IfOk, IsOk, IsSome, IfSome, replicate};
-ghost use Rattle.std.specs.Arc.{arc_value};
+ghost use Rattle.std.specs.Prelude.{◌≡◌, ℕ, IfOk, IsOk, IsSome, IfSome, OnOk, OnErr, replicate};
 
+use crate::copies::Copies;
 use crate::counts::CallCount;
 use crate::{Device, DeviceFault, Shows};
 use epoch::{Drained, Retired};
@@ -65,10 +65,10 @@ impl Shows for MemoryReceipt {
 /// receipt, without a lock: a receipt holds its page, which is freed with its last copy. To a contract
 /// an opening is the numbers of its calls.
 ///
-/// A write takes memory for one page, and fails where it finds none.
+/// A write takes memory for one page, and fails only where the allocator has none.
 #[derive(Drop)]
 pub struct MemoryDevice {
-    alloc: Global,
+    copies: Copies,
     failures: CallCount,
     writes: CallCount,
     reads: CallCount,
@@ -80,7 +80,7 @@ impl Model for MemoryDevice {
 
     ghost Value = { Calls };
 
-    ghost view = { λ d. record { failures = d.failures; writes = d.writes; reads = d.reads; releases = d.releases } };
+    ghost view = { λ d. record { failures = d.failures; writes = d.writes; reads = d.reads; releases = d.releases; refusals = d.copies } };
 }
 
 impl MemoryDevice {
@@ -93,7 +93,7 @@ impl MemoryDevice {
         let mut openings = Vec::with_capacity(alloc, n)?;
         for _ in 0..n {
             openings.push(MemoryDevice {
-                alloc,
+                copies: Copies::new(alloc),
                 failures: CallCount::new(),
                 writes: CallCount::new(),
                 reads: CallCount::new(),
@@ -105,7 +105,7 @@ impl MemoryDevice {
 }
 
 impl Device for MemoryDevice {
-    ghost use Rattle.device.specs.Counts.{after_read, after_release};
+    ghost use Rattle.device.specs.Counts.{after_write, after_refusal, after_read, after_release};
     ghost use Rattle.epoch.specs.Seats.{drained_epoch, drained_of, retired_epoch, retired_of};
 
     type Receipt = MemoryReceipt;
@@ -126,11 +126,16 @@ impl Device for MemoryDevice {
 
     ghost steady = { λ s d r. tt };
 
-    fn write(&mut self, page: &Page) -> Result<MemoryReceipt, DeviceFault> {
+    /// Fails only where the allocator has no memory for the page.
+    fn write(&mut self, page: &Page) -> Result<MemoryReceipt, DeviceFault>
+        ensures shown { IfOk result (λ r. r ≡ page.now) }
+        ensures written { OnOk result (self.new ≡ after_write self.old) }
+        ensures refused { OnErr result (self.new ≡ after_refusal self.old) }
+    {
         self.writes.note();
-        match shared(self.alloc, page) {
-            Ok(page) => Ok(MemoryReceipt { page }),
-            Err(_) => {
+        match self.copies.share(page) {
+            Some(page) => Ok(MemoryReceipt { page }),
+            None => {
                 self.failures.note();
                 Err(DeviceFault)
             }
@@ -156,16 +161,5 @@ impl Device for MemoryDevice {
     {
         self.releases.note();
         drop(retired.into_value(drained));
-    }
-}
-
-/// A copy of a page that can be shared.
-fn shared(alloc: Global, page: &Page) -> Result<Arc<Page>, AllocError>
-    ensures { IfOk result (λ shared. arc_value shared ≡ page.now) }
-{
-    let copy = page.try_clone(alloc)?;
-    match Arc::new(alloc, copy) {
-        Ok(shared) => Ok(shared),
-        Err(_) => Err(AllocError),
     }
 }

@@ -1,11 +1,13 @@
-//! The threads that work in the background of a server: what each does at the stripes of its engine, when, and how long it
-//! rests.
+//! The threads that work in the background of a server: the stripes of an engine, by a pass, and what such a thread hears and
+//! says beside.
 //!
-//! A thread has [`Chores`] of one [`Duty`], and a pass of the engine. It runs [`work_in_background`], which ends once serving
-//! is over. When the cleaner works at a stripe is told by its laps.
+//! What each does at which stripe, when, and how long it rests is decided in `upkeep`. A thread has [`Chores`] of one
+//! [`Duty`] and a pass of the engine, and runs [`work_in_background`], which ends once serving is over.
 #![tactic(auto)]
 
-mod chores;
-mod laps;
+mod site;
+mod thread;
 
-pub use chores::{Chores, Duty, work_in_background};
+pub use site::Site;
+pub use thread::work_in_background;
+pub use upkeep::{Background, Chores, Duty};

@@ -1,5 +1,5 @@
 -- What calls come to, from where their stripes are taken and from before that.
-use Rattle.std.proofs.Common.{◌≡◌, ◌≢◌, subst, ◌∙◌, ℕ, List, [], ◌∷◌, ◌++◌, length, append_assoc, Option, Some, None, sym, ap, arith}
+use Rattle.std.proofs.Common.{◌≡◌, ◌<◌, subst, ◌∙◌, ℕ, List, [], ◌∷◌, ◌++◌, length, append_assoc, Option, Some, None, sym, ap, arith}
 use Rattle.words.specs.declared.history.Entry.{Entry}
 use Rattle.words.specs.declared.reply.Reply.{Reply}
 use Rattle.words.specs.declared.reply.Fault.{Fault}
@@ -7,6 +7,7 @@ use Rattle.words.specs.declared.reply.Fault.TheVariants as fault
 use Rattle.words.specs.History.{History, Pair}
 use Rattle.words.specs.Watches.{watched_after}
 use Rattle.transact.specs.Plans.{made}
+use Rattle.shards.specs.Rooms.{share}
 use Rattle.words.specs.Session.{Asked, operation_of, watched_at_fault}
 use Rattle.gates.specs.declared.view.Knowledge.{Knowledge}
 use Rattle.gates.specs.declared.view.Note.{Note}
@@ -14,8 +15,11 @@ use Rattle.gates.specs.declared.view.Note.TheVariants.{Busy, Worn, Full, Idle, D
 use Rattle.gates.specs.Passes.{AreBusy, Learned, ToldBusy}
 use Rattle.transact.specs.declared.call.Answer.{Answer}
 use Rattle.transact.specs.declared.call.Answer.TheVariants as answer
+use Rattle.transact.specs.declared.call.Call.{Call}
+use Rattle.transact.specs.Calls.{asked_of}
 use Rattle.transact.specs.Submits.{IfReply, IfFault}
-use Rattle.engine.specs.Calls.{IsCause, IsDone, IsUndone, Did, DidNot, Forgot, Promises, entry_of}
+use Rattle.engine.specs.Answers.{IsAnswered}
+use Rattle.engine.specs.Calls.{IsCause, IsDone, IsUndone, Did, DidNot, Forgot, Promises, entry_of, promises_of}
 use Rattle.engine.specs.Passes.{Known, know}
 
 -- notes of busy stripes among none are among any
@@ -37,6 +41,18 @@ busy_both stripes (Full stripe refused ∷ one) two first second = absurd first
 busy_both stripes (Idle stripe work ∷ one) two first second = absurd first
 busy_both stripes (Done stripe work ∷ one) two first second = absurd first
 busy_both stripes (Seen stripe look ∷ one) two first second = absurd first
+
+-- what a call came to of so many stripes, where that is how many there are
+pub fault_counted : (steady lends : Type 0) (n count : ℕ) → n ≡ count → (a : Answer) (asked : Option Asked) (was now : Known)
+    → IfFault a (λ fault. IsUndone (promises_of steady lends n) [] asked fault was now) → IfFault a (λ fault. IsUndone (promises_of steady lends count) [] asked fault was now)
+fault_counted steady lends n count same a asked was now undone =
+    subst (λ (m : ℕ). IfFault a (λ fault. IsUndone (promises_of steady lends m) [] asked fault was now)) same undone
+
+-- the same, whichever way it is answered
+pub answered_counted : (steady lends : Type 0) (n count : ℕ) → n ≡ count → (a : Answer) (call : Call) (was now : Known)
+    → IsAnswered (promises_of steady lends n) [] call a was now → IsAnswered (promises_of steady lends count) [] call a was now
+answered_counted steady lends n count same a call was now answered =
+    subst (λ (m : ℕ). IsAnswered (promises_of steady lends m) [] call a was now) same answered
 
 -- what a call came to that was told of no stripe that it was busy
 module _ (stripes : List ℕ) where
@@ -104,7 +120,7 @@ module _ (stripes : List ℕ) (was mid : Knowledge) (f : ℕ) (now : Known) (lea
     earlier = cause.earlier ++ heard.0;
     full = ap (λ (l : List Note). l ++ heard.0) cause.full;
     busy = busy_both stripes cause.earlier heard.0 cause.busy heard.2;
-    writes = subst (λ (w : List Pair). promises.steady → made now.seen (operation_of w asked) ≢ []) learned.watched cause.writes;
+    writes = subst (λ (w : List Pair). promises.steady → 0 < share promises.stripes cause.stripe (made now.seen (operation_of w asked))) learned.watched cause.writes;
     failures = cause.failures;
   }
   cause_behind promises fault.CommitsWornOut asked told cause =
@@ -151,3 +167,10 @@ module _ (stripes : List ℕ) (was mid : Knowledge) (f : ℕ) (now : Known) (lea
   pub fault_later : (promises : Promises) (a : Answer) (asked : Option Asked) → IfFault a (λ fault. IsUndone promises stripes asked fault (know mid f) now) → IfFault a (λ fault. IsUndone promises stripes asked fault (know was f) now)
   fault_later promises (answer.Reply reply) asked undone = tt
   fault_later promises (answer.Fault fault) asked undone = undone_later promises asked fault undone
+
+  -- The same of both ways in which a call is answered.
+  pub answered_behind : (promises : Promises) (a : Answer) (call : Call) → IsAnswered promises [] call a (know mid f) now → IsAnswered promises stripes call a (know was f) now
+  answered_behind promises a call answered = record { done = answer_behind a (asked_of call) answered.done; undone = fault_behind promises a (asked_of call) answered.undone }
+
+  pub answered_later : (promises : Promises) (a : Answer) (call : Call) → IsAnswered promises stripes call a (know mid f) now → IsAnswered promises stripes call a (know was f) now
+  answered_later promises a call answered = record { done = answer_later a (asked_of call) answered.done; undone = fault_later promises a (asked_of call) answered.undone }

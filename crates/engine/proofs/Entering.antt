@@ -1,5 +1,5 @@
 -- What is held before, between and after the steps of a call.
-use Rattle.std.proofs.Common.{◌≡◌, ◌≢◌, ◌+◌, ◌≤◌, ◌∙◌, ⊎_elim, inl, inr, arith, option_map, map, ◌-◌, None, ℕ, List, [], ◌∷◌, ◌++◌, length, Bool, true, false, Option, Some, IsSome, refl, sym, ap, subst}
+use Rattle.std.proofs.Common.{◌≡◌, ◌+◌, ◌<◌, ◌≤◌, ◌∙◌, ⊎_elim, inl, inr, arith, option_map, map, ◌-◌, None, ℕ, List, [], ◌∷◌, ◌++◌, length, Bool, true, false, Option, Some, IsSome, refl, sym, ap, subst}
 use Rattle.std.specs.Borrow.{Bor, MutBor}
 use Rattle.words.specs.declared.reply.Reply.{Reply}
 use Rattle.words.specs.declared.reply.Fault.{Fault}
@@ -37,9 +37,9 @@ use Rattle.transact.specs.declared.call.Call.TheVariants.{One, Watch, Exec, Forg
 use Rattle.shards.specs.declared.shard.Shard.{Shard}
 use Rattle.transact.specs.Calls.{asked_of, call_keys}
 use Rattle.transact.specs.Plans.{EndsAll, IsEntry, IsInstalled, IsPlan, made}
-use Rattle.shards.specs.Counted.{Waiting}
+use Rattle.shards.specs.Counted.{Waiting, places_of}
 use Rattle.shards.specs.Freeing.{IsSpentAt}
-use Rattle.shards.specs.Rooms.{IsFullAt}
+use Rattle.shards.specs.Rooms.{IsFullAt, share}
 use Rattle.shards.specs.Shards.{SameLogs, SameWaits, logs_of, shard_log, shard_meaning, shard_pages, shard_waiting}
 use Rattle.plans.specs.declared.stop.Stop.{Stop}
 use Rattle.plans.specs.declared.stop.Stop.TheVariants as stop
@@ -89,7 +89,9 @@ pages_by log w = record {
   unlinked = length w.unlinked;
   retired = length w.retired;
   drained = length w.drained;
+  waits = places_of w.unlinked;
   refused = w.refused;
+  worn = w.worn;
   unreleased = log.unreleased;
   places = log.places;
 }
@@ -370,7 +372,7 @@ cause_same promises fault.StoreFull stripes asked was now other told seen failur
   earlier = cause.earlier;
   full = cause.full;
   busy = cause.busy;
-  writes = subst (λ (h : History). promises.steady → made h (operation_of was.watched asked) ≢ []) (sym seen) cause.writes;
+  writes = subst (λ (h : History). promises.steady → 0 < share promises.stripes cause.stripe (made h (operation_of was.watched asked))) (sym seen) cause.writes;
   failures = failures ∙ cause.failures;
 }
 cause_same promises fault.CommitsWornOut stripes asked was now other told seen failures cause = (cause.0, cause.1, failures ∙ cause.2, cause.3)
@@ -404,7 +406,7 @@ unended (Forget watching) watched entry never = absurd entry
 pub stopped_by : {R : Type 0} (promises : Promises) (call : Call) (stop : Stop R) (refused : Refused) (start mid last : Knowledge) (f0 f1 : ℕ) → IsEntry call
     → last ≡ at_fault (asked_for call) (record mid { notes = notes_of (report_of stop refused) ++ mid.notes }) → mid ≡ start → IfCold stop (λ receipts. ⊥) → f1 ≡ f0 + faults stop
     → IfNoMemory stop (¬ AsksNoMemory (promises.steady × promises.lends) (after start.seen) (asked_for call))
-    → IfFull stop (λ stripe. promises.steady → made start.seen (operation_of start.watched (asked_for call)) ≢ [])
+    → IfFull stop (λ stripe. promises.steady → 0 < share promises.stripes stripe (made start.seen (operation_of start.watched (asked_for call))))
     → IsUndone promises [] (asked_of call) (fault_of stop) (know start f0) (know last f1)
 stopped_by promises call stop.OutOfMemory refused start mid last f0 f1 entry is same cold failures memory full =
     let none : f1 ≡ f0 = omega (arith, failures) in

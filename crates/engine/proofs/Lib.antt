@@ -7,6 +7,6 @@ pub mod Entering
 pub mod Values
 pub mod Stopped
 pub mod Memory
-pub mod Rounds
+pub mod Later
 pub mod MemoryRows
 pub mod SizeRows

@@ -1,10 +1,11 @@
 -- Plans that were not made, and what they are answered.
-use Rattle.std.proofs.Common.{◌≡◌, ◌≢◌, ◌∙◌, ◌+◌, ℕ, List, [], ◌∷◌, Some, false, refl, sym, ap}
+use Rattle.std.proofs.Common.{◌≡◌, ◌∙◌, ◌+◌, ◌<◌, ℕ, List, [], ◌∷◌, Some, false, cond, eq-eqb, refl, sym, ap, subst, arith}
 use Rattle.words.specs.declared.command.Command.TheVariants.{Set}
 use Rattle.words.specs.declared.command.When.TheVariants.{Always}
 use Rattle.words.specs.History.{Pair, after}
 use Rattle.words.specs.Session.{Asked, line_reply, operation_of, watched_at_fault}
 use Rattle.words.specs.Store.{Bytes, Store, Write}
+use Rattle.words.specs.Stripes.{stripe_of}
 use Rattle.words.specs.declared.history.Operation.TheVariants.{Run}
 use Rattle.words.specs.declared.reply.Line.TheVariants.{Done}
 use Rattle.gates.specs.declared.view.Knowledge.{Knowledge}
@@ -13,6 +14,8 @@ use Rattle.transact.specs.declared.call.Call.TheVariants.{One, Watch, Exec, Forg
 use Rattle.transact.specs.Calls.{asked_of}
 use Rattle.transact.specs.Plans.{IsEntry, IsPlan, made}
 use Rattle.transact.specs.Submits.{asked_for}
+use Rattle.shards.specs.Rooms.{share}
+use Rattle.shards.specs.Shards.{weigh}
 use Rattle.plans.specs.declared.stop.Stop.{Stop}
 use Rattle.plans.specs.declared.stop.Stop.TheVariants as stop
 use Rattle.plans.specs.Sizes.{IsPlaced}
@@ -32,18 +35,22 @@ is_placed (Watch keys) watched place = tt
 is_placed (Exec commands watching) watched place = place
 is_placed (Forget watching) watched place = tt
 
-some_writes : (write : Write) (writes : List Write) → write ∷ writes ≡ [] → ⊥
-some_writes write writes e = absurd (cc e)
+-- a key that is given a value is written in its stripe
+written_there : (n : ℕ) (key value : Bytes) → 0 < share n (stripe_of n key) ((key, Some value) ∷ [])
+written_there n key value =
+    let here : share n (stripe_of n key) ((key, Some value) ∷ []) ≡ weigh (key, Some value) + 0 =
+    ap (λ b. cond b (weigh (key, Some value)) 0 + 0) (eq-eqb (stripe_of n key) (stripe_of n key) refl) in
+    omega (arith, here)
 
 module _ {R : Type 0} where
   -- what would be written where a stripe is full
-  pub full_writes : (steady : Type 0) {W : ℕ → Type 0} (s : Stop R) (asked : Asked) (start : Knowledge)
-      → (steady → (i : ℕ) → W i → made start.seen (operation_of start.watched asked) ≢ []) → (steady → IfFull s W)
-      → IfFull s (λ stripe. steady → made start.seen (operation_of start.watched asked) ≢ [])
-  full_writes steady stop.OutOfMemory asked start more full = tt
-  full_writes steady stop.DeviceFault asked start more full = tt
-  full_writes steady (stop.StoreFull stripe) asked start more full = λ t. more t stripe (full t)
-  full_writes steady (stop.Cold receipts) asked start more full = tt
+  pub full_writes : (steady : Type 0) (n : ℕ) {W : ℕ → Type 0} (s : Stop R) (asked : Asked) (start : Knowledge)
+      → (steady → (i : ℕ) → W i → 0 < share n i (made start.seen (operation_of start.watched asked))) → (steady → IfFull s W)
+      → IfFull s (λ stripe. steady → 0 < share n stripe (made start.seen (operation_of start.watched asked)))
+  full_writes steady n stop.OutOfMemory asked start more full = tt
+  full_writes steady n stop.DeviceFault asked start more full = tt
+  full_writes steady n (stop.StoreFull stripe) asked start more full = λ t. more t stripe (full t)
+  full_writes steady n (stop.Cold receipts) asked start more full = tt
 
   -- a call that needs no memory is not stopped by want of it
   pub not_wanted : (promises : Promises) (call : Call) (s : Stop R) (store : Store) → (AsksNoMemory (promises.steady × promises.lends) store (asked_for call) → IfNoMemory s ⊥)
@@ -66,12 +73,13 @@ module _ {R : Type 0} where
 
   -- there was no room for what a SET without an option writes
   pub set_stopped : (promises : Promises) (key value : Bytes) (s : Stop R) (refused : Refused) (start mid : Knowledge) (f0 f1 : ℕ) → mid ≡ start → IfCold s (λ receipts. ⊥) → IfNoMemory s ⊥ → f1 ≡ f0 + faults s
-      → IsPlan start.seen (Run (Set key value Always)) (line_reply Done) ((key, Some value) ∷ [])
+      → IfFull s (λ stripe. stripe ≡ stripe_of promises.stripes key) → IsPlan start.seen (Run (Set key value Always)) (line_reply Done) ((key, Some value) ∷ [])
       → IsUndone promises [] (asked_of (set_call key value)) (fault_of s) (know start f0) (know (given false (report_of s refused) mid) f1)
-  set_stopped promises key value stop.OutOfMemory refused start mid f0 f1 same cold memory failures plan = absurd memory
-  set_stopped promises key value stop.DeviceFault refused start mid f0 f1 same cold memory failures plan =
+  set_stopped promises key value stop.OutOfMemory refused start mid f0 f1 same cold memory failures own plan = absurd memory
+  set_stopped promises key value stop.DeviceFault refused start mid f0 f1 same cold memory failures own plan =
       stopped_by {R = R} promises (set_call key value) stop.DeviceFault refused start mid mid f0 f1 refl refl same cold failures tt tt
-  set_stopped promises key value (stop.StoreFull stripe) refused start mid f0 f1 same cold memory failures plan =
+  set_stopped promises key value (stop.StoreFull stripe) refused start mid f0 f1 same cold memory failures own plan =
       stopped_by {R = R} promises (set_call key value) (stop.StoreFull stripe) refused start mid (given false (report_of {R = R} (stop.StoreFull stripe) refused) mid) f0 f1 refl refl same cold failures tt
-      (λ t none. absurd (some_writes (key, Some value) [] (plan.writes_due ∙ none)))
-  set_stopped promises key value (stop.Cold receipts) refused start mid f0 f1 same cold memory failures plan = absurd cold
+      (λ t. subst (λ (i : ℕ). 0 < share promises.stripes i (made start.seen (Run (Set key value Always)))) (sym own)
+      (subst (λ (l : List Write). 0 < share promises.stripes (stripe_of promises.stripes key) l) plan.writes_due (written_there promises.stripes key value)))
+  set_stopped promises key value (stop.Cold receipts) refused start mid f0 f1 same cold memory failures own plan = absurd cold

@@ -1,5 +1,5 @@
 -- What calls of a pass to an engine come to.
-use Rattle.std.specs.Prelude.{ℕ, ◌≡◌, ◌≢◌, ◌+◌, List, [], ◌∷◌, ◌++◌, length, Option, Some, None}
+use Rattle.std.specs.Prelude.{ℕ, ◌≡◌, ◌+◌, ◌<◌, List, [], ◌∷◌, ◌++◌, length, Option, Some, None}
 use Rattle.words.specs.declared.reply.Reply.{Reply}
 use Rattle.words.specs.declared.reply.Fault.{Fault}
 use Rattle.words.specs.declared.reply.Fault.TheVariants as fault
@@ -12,18 +12,20 @@ use Rattle.gates.specs.declared.view.Refused.{Refused}
 use Rattle.gates.specs.declared.view.Note.TheVariants.{Full, Worn}
 use Rattle.gates.specs.Passes.{AreBusy}
 use Rattle.transact.specs.Plans.{made}
+use Rattle.shards.specs.Rooms.{share}
 use Rattle.engine.specs.Memory.{AsksNoMemory}
 use Rattle.engine.specs.Passes.{Known}
 
--- What the receipts of an engine's device promise: that what was written is read, for good; and that a receipt holds its page, so that no
--- page has to be read.
+-- What an engine promises by its device and its size. The receipts of its device promise that what was written is read, for good; and that
+-- a receipt holds its page, so that no page has to be read. The keys are shared out to so many stripes.
 pub record Promises : Type 1 where
   pub steady : Type 0
   pub lends : Type 0
+  pub stripes : ℕ
 
--- the same, of receipts
-abbrev pub promises_of : (steady lends : Type 0) → Promises
-promises_of steady lends = record { steady = steady; lends = lends }
+-- the same, of receipts and of a number of stripes
+abbrev pub promises_of : (steady lends : Type 0) (stripes : ℕ) → Promises
+promises_of steady lends stripes = record { steady = steady; lends = lends; stripes = stripes }
 
 -- what is asked by a session that watches these has its place in the history
 abbrev pub HasItsPlace : List Pair → Option Asked → Type 0
@@ -47,15 +49,15 @@ pub record Did (stripes : List ℕ) (asked : Asked) (reply : Reply) (was now : K
   pub busy : AreBusy stripes told
   pub failures : now.failures ≡ was.failures
 
--- The pass was told that a stripe is full, and that none of its places could be released but for what the epochs refused; this was told last. And
--- what was asked would write where the history stood that it has seen.
-pub record MetFull (steady : Type 0) (stripes : List ℕ) (asked : Asked) (was now : Known) (told : List Note) : Type 0 where
+-- The pass was told that a stripe is full, and that none of its places could be released but for what the epochs refused; this was told last.
+-- Of so many stripes it is one that what was asked would write, where the history stood that it has seen.
+pub record MetFull (steady : Type 0) (count : ℕ) (stripes : List ℕ) (asked : Asked) (was now : Known) (told : List Note) : Type 0 where
   pub stripe : ℕ
   pub earlier : List Note
   pub refused : Refused
   pub full : told ≡ Full stripe refused ∷ earlier
   pub busy : AreBusy stripes earlier
-  pub writes : steady → made now.seen (operation_of was.watched asked) ≢ []
+  pub writes : steady → 0 < share count stripe (made now.seen (operation_of was.watched asked))
   pub failures : now.failures ≡ was.failures
 
 -- Why what was asked is answered by a fault, by a pass that knew the one, then knows the other and was told this meanwhile: there was no
@@ -65,7 +67,7 @@ abbrev pub IsCause : Promises → Fault → List ℕ → Asked → (was now : Kn
 IsCause promises fault.OutOfMemory stripes asked was now told =
     (¬ AsksNoMemory (promises.steady × promises.lends) (after now.seen) asked) × (now.failures ≡ was.failures) × AreBusy stripes told
 IsCause promises fault.DeviceFault stripes asked was now told = (now.failures ≡ was.failures + 1) × AreBusy stripes told
-IsCause promises fault.StoreFull stripes asked was now told = MetFull promises.steady stripes asked was now told
+IsCause promises fault.StoreFull stripes asked was now told = MetFull promises.steady promises.stripes stripes asked was now told
 IsCause promises fault.CommitsWornOut stripes asked was now told =
     (earlier : List Note) × (told ≡ Worn ∷ earlier) × (now.failures ≡ was.failures) × AreBusy stripes earlier
 

@@ -20,10 +20,10 @@ use Rattle.transact.specs.Plans.{IsEntry}
 use Rattle.transact.specs.Tables.{AreThere}
 use Rattle.shards.specs.declared.shard.Shard.{Shard}
 use Rattle.shards.specs.Shards.{shard_meaning}
-use Rattle.engine.specs.Memory.{set_call}
-use Rattle.engine.specs.declared.short.Found.{Found}
-use Rattle.engine.specs.declared.short.Getting.{Getting}
-use Rattle.engine.specs.declared.short.Setting.{Setting}
+use Rattle.engine.specs.Memory.{get_call, set_call}
+use Rattle.engine.specs.declared.get.Found.{Found}
+use Rattle.engine.specs.declared.get.Getting.{Getting}
+use Rattle.engine.specs.declared.set.Setting.{Setting}
 
 -- what a SET without an option asks
 abbrev pub setting_asked : Setting → Asked
@@ -32,6 +32,10 @@ setting_asked setting = Run (Set setting.key.now setting.value.now Always)
 -- what a GET asks
 abbrev pub getting_asked : Getting → Asked
 getting_asked getting = Run (Get getting.key.now)
+
+-- the call that a GET stands for
+abbrev pub getting_call : Getting → Call
+getting_call getting = get_call getting.key.now
 
 -- what is said to a GET that found this
 abbrev pub found_reply : Found → Reply

@@ -3,3 +3,5 @@ pub mod Entering
 pub mod Passes
 pub mod Calls
 pub mod Stops
+pub mod Stays
+pub mod Answers

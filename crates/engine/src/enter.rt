@@ -19,7 +19,7 @@ ghost use Rattle.shards.specs.Heard.{HasHeard, HasHeardWorn};
 ghost use Rattle.shards.specs.Shards.{shard_meaning};
 ghost use Rattle.plans.specs.Stops.{IfCold};
 
-use crate::short::enter_set;
+use crate::set::enter_set;
 use crate::site::Site;
 use device::{Device, Shows};
 use gates::{Held, Latch, Point, Refused, Report};
@@ -42,9 +42,9 @@ pub(crate) const NOTHING: Refused = Refused {
 };
 
 /// What a call came to whose stripes are still held.
-pub(crate) struct Entered {
+pub(crate) struct Entered<A> {
     /// What it is answered.
-    pub(crate) answer: Answer,
+    pub(crate) answer: A,
     /// Whether the watches of its pass end where the stripes are given back.
     pub(crate) ends: bool,
     /// What is told where the stripes are given back.
@@ -67,7 +67,7 @@ pub(crate) fn enter_call<L: Latch, R: Shows, D: Device<Receipt = R>, S: Retires>
     own: &mut S,
     call: &Call,
     reads: bool,
-) -> Result<Entered, Receipts<R>>
+) -> Result<Entered<Answer>, Receipts<R>>
     requires may { MayEnter R.is_steady stripes call.now held.old }
     requires lent { AreAsTaken (held_taken held.old) (held_parts held.old) }
     requires is { S.is_of site.now.epochs.now own.old }
@@ -80,7 +80,7 @@ pub(crate) fn enter_call<L: Latch, R: Shows, D: Device<Receipt = R>, S: Retires>
     ensures right { R.is_steady → AreRight staged.new }
     ensures back { IfOk result (λ entered. MayBeGiven R.is_steady entered.ends entered.report stripes held.old held.new) }
     ensures done { IfOk result (λ entered. IfReply entered.answer (λ reply. IsDone [] (asked_of call.now) reply (know (known_to held.old) (D.failures device.old)) (know (given entered.ends entered.report (known_to held.new)) (D.failures device.new)))) }
-    ensures undone { IfOk result (λ entered. IfFault entered.answer (λ fault. IsUndone (promises_of R.is_steady R.lends) [] (asked_of call.now) fault (know (known_to held.old) (D.failures device.old)) (know (given entered.ends entered.report (known_to held.new)) (D.failures device.new)))) }
+    ensures undone { IfOk result (λ entered. IfFault entered.answer (λ fault. IsUndone (promises_of R.is_steady R.lends stripes) [] (asked_of call.now) fault (know (known_to held.old) (D.failures device.old)) (know (given entered.ends entered.report (known_to held.new)) (D.failures device.new)))) }
     ensures cold { OnErr result (WasCold R.is_steady R.lends reads stripes call.now held.old held.new) }
     ensures no_fault { OnErr result (D.failures device.new ≡ D.failures device.old) }
 {
@@ -95,7 +95,6 @@ pub(crate) fn enter_call<L: Latch, R: Shows, D: Device<Receipt = R>, S: Retires>
             })
         }
         Call::One(Command::Set(key, value, When::Always)) => {
-            site.latch.at(held.number(), Point::Holding);
             let (line, report) = enter_set(site, held, stripes, device, own, key, value);
             Ok(Entered {
                 answer: Answer::of_line(line),
@@ -116,7 +115,7 @@ pub(crate) fn enter_at_once<L: Latch, R: Shows, D: Device<Receipt = R>, S: Retir
     staged: &mut Staged<R>,
     own: &mut S,
     call: &Call,
-) -> Entered
+) -> Entered<Answer>
     requires may { MayEnter R.is_steady stripes call.now held.old }
     requires lent { AreAsTaken (held_taken held.old) (held_parts held.old) }
     requires is { S.is_of site.now.epochs.now own.old }
@@ -128,7 +127,7 @@ pub(crate) fn enter_at_once<L: Latch, R: Shows, D: Device<Receipt = R>, S: Retir
     ensures worn { IfSpent result.report (λ refused. refused.retire ≡ true → HasHeardWorn (S.knows own.old) (S.knows own.new)) }
     ensures back { MayBeGiven R.is_steady result.ends result.report stripes held.old held.new }
     ensures done { IfReply result.answer (λ reply. IsDone [] (asked_of call.now) reply (know (known_to held.old) (D.failures device.old)) (know (given result.ends result.report (known_to held.new)) (D.failures device.new))) }
-    ensures undone { IfFault result.answer (λ fault. IsUndone (promises_of R.is_steady R.lends) [] (asked_of call.now) fault (know (known_to held.old) (D.failures device.old)) (know (given result.ends result.report (known_to held.new)) (D.failures device.new))) }
+    ensures undone { IfFault result.answer (λ fault. IsUndone (promises_of R.is_steady R.lends stripes) [] (asked_of call.now) fault (know (known_to held.old) (D.failures device.old)) (know (given result.ends result.report (known_to held.new)) (D.failures device.new))) }
 {
     match enter_call(site, held, stripes, device, staged, own, call, true) {
         Ok(entered) => entered,
@@ -160,7 +159,7 @@ fn enter<L: Latch, R: Shows, D: Device<Receipt = R>, S: Retires>(
     own: &mut S,
     call: &Call,
     reads: bool,
-) -> Result<Entered, Receipts<R>>
+) -> Result<Entered<Answer>, Receipts<R>>
     requires may { MayEnter R.is_steady stripes call.now held.old }
     requires lent { AreAsTaken (held_taken held.old) (held_parts held.old) }
     requires is { S.is_of site.now.epochs.now own.old }
@@ -175,7 +174,7 @@ fn enter<L: Latch, R: Shows, D: Device<Receipt = R>, S: Retires>(
     ensures right { R.is_steady → AreRight staged.new }
     ensures back { IfOk result (λ entered. MayBeGiven R.is_steady entered.ends entered.report stripes held.old held.new) }
     ensures done { IfOk result (λ entered. IfReply entered.answer (λ reply. IsDone [] (asked_of call.now) reply (know (known_to held.old) (D.failures device.old)) (know (given entered.ends entered.report (known_to held.new)) (D.failures device.new)))) }
-    ensures undone { IfOk result (λ entered. IfFault entered.answer (λ fault. IsUndone (promises_of R.is_steady R.lends) [] (asked_of call.now) fault (know (known_to held.old) (D.failures device.old)) (know (given entered.ends entered.report (known_to held.new)) (D.failures device.new)))) }
+    ensures undone { IfOk result (λ entered. IfFault entered.answer (λ fault. IsUndone (promises_of R.is_steady R.lends stripes) [] (asked_of call.now) fault (know (known_to held.old) (D.failures device.old)) (know (given entered.ends entered.report (known_to held.new)) (D.failures device.new)))) }
     ensures cold { OnErr result (WasCold R.is_steady R.lends reads stripes call.now held.old held.new) }
     ensures no_fault { OnErr result (D.failures device.new ≡ D.failures device.old) }
 {
@@ -252,7 +251,7 @@ pub(crate) fn refuse<R: Shows>(
     call: &Call,
     fault: Fault,
     report: Report,
-) -> Entered
+) -> Entered<Answer>
     requires may { MayEnter R.is_steady stripes call.now held.old }
     requires entry { IsEntry call.now }
     requires ends { EndsAll call.now (known_to held.old).watched }

@@ -25,9 +25,10 @@ ghost use Rattle.engine.specs.Memory.{get_call, set_call};
 ghost use Rattle.engine.specs.Passes.{AreOf, knows, Rests, stripe_count};
 ghost use Rattle.engine.specs.Calls.{FoundBusy, HasItsPlace, HasLearned, IsDone, IsUndone, promises_of};
 
-use crate::calls::{submit, try_submit};
+use crate::call::{submit, try_submit};
 use crate::deal::deal;
-use crate::short::{submit_get, submit_set};
+use crate::get::submit_get;
+use crate::set::submit_set;
 use crate::site::Site;
 use device::{Device, Shows};
 use epoch::Epochs;
@@ -41,12 +42,14 @@ use words::limits::Limits;
 use words::reply::{Fault, Line};
 use words::word::{OutOfMemory, Word};
 
-mod calls;
+mod call;
 mod deal;
 mod enter;
+mod get;
 mod outside;
 mod pass;
-mod short;
+mod rounds;
+mod set;
 mod site;
 mod steps;
 
@@ -122,7 +125,7 @@ impl<D: Device> Engine<D> {
         requires watching { EndsAll call (knows D.failures pass.old).watched }
         ensures rests { Rests D.Receipt.is_steady self.now pass.new }
         ensures done { IfReply result (λ reply. IsDone (stripes_asked (stripe_count self.now) call) (asked_of call) reply (knows D.failures pass.old) (knows D.failures pass.new)) }
-        ensures undone { IfFault result (λ fault. IsUndone (promises_of D.Receipt.is_steady D.Receipt.lends) (stripes_asked (stripe_count self.now) call) (asked_of call) fault (knows D.failures pass.old) (knows D.failures pass.new)) }
+        ensures undone { IfFault result (λ fault. IsUndone (promises_of D.Receipt.is_steady D.Receipt.lends (stripe_count self.now)) (stripes_asked (stripe_count self.now) call) (asked_of call) fault (knows D.failures pass.old) (knows D.failures pass.new)) }
     {
         self.submit_with(rt, pass, call, &Open)
     }
@@ -141,7 +144,7 @@ impl<D: Device> Engine<D> {
         requires watching { EndsAll call (knows D.failures pass.old).watched }
         ensures rests { Rests D.Receipt.is_steady self.now pass.new }
         ensures done { IfReply result (λ reply. IsDone (stripes_asked (stripe_count self.now) call) (asked_of call) reply (knows D.failures pass.old) (knows D.failures pass.new)) }
-        ensures undone { IfFault result (λ fault. IsUndone (promises_of D.Receipt.is_steady D.Receipt.lends) (stripes_asked (stripe_count self.now) call) (asked_of call) fault (knows D.failures pass.old) (knows D.failures pass.new)) }
+        ensures undone { IfFault result (λ fault. IsUndone (promises_of D.Receipt.is_steady D.Receipt.lends (stripe_count self.now)) (stripes_asked (stripe_count self.now) call) (asked_of call) fault (knows D.failures pass.old) (knows D.failures pass.new)) }
     {
         let number = pass.gates.number();
         latch.at(number, Point::Before);
@@ -181,7 +184,7 @@ impl<D: Device> Engine<D> {
         requires place { IsBounded (command.Get key.now) }
         ensures rests { Rests D.Receipt.is_steady self.now pass.new }
         ensures done { IfReply (answer_with result) (λ reply. IsDone (stripes_asked (stripe_count self.now) (get_call key.now)) (asked_of (get_call key.now)) reply (knows D.failures pass.old) (knows D.failures pass.new)) }
-        ensures undone { IfFault (answer_with result) (λ fault. IsUndone (promises_of D.Receipt.is_steady D.Receipt.lends) (stripes_asked (stripe_count self.now) (get_call key.now)) (asked_of (get_call key.now)) fault (knows D.failures pass.old) (knows D.failures pass.new)) }
+        ensures undone { IfFault (answer_with result) (λ fault. IsUndone (promises_of D.Receipt.is_steady D.Receipt.lends (stripe_count self.now)) (stripes_asked (stripe_count self.now) (get_call key.now)) (asked_of (get_call key.now)) fault (knows D.failures pass.old) (knows D.failures pass.new)) }
     {
         let number = pass.gates.number();
         latch.at(number, Point::Before);
@@ -222,7 +225,7 @@ impl<D: Device> Engine<D> {
         requires place { IsBounded (command.Set key.now value.now Always) }
         ensures rests { Rests D.Receipt.is_steady self.now pass.new }
         ensures done { IfReply (answer_of result) (λ reply. IsDone (stripes_asked (stripe_count self.now) (set_call key.now value.now)) (asked_of (set_call key.now value.now)) reply (knows D.failures pass.old) (knows D.failures pass.new)) }
-        ensures undone { IfFault (answer_of result) (λ fault. IsUndone (promises_of D.Receipt.is_steady D.Receipt.lends) (stripes_asked (stripe_count self.now) (set_call key.now value.now)) (asked_of (set_call key.now value.now)) fault (knows D.failures pass.old) (knows D.failures pass.new)) }
+        ensures undone { IfFault (answer_of result) (λ fault. IsUndone (promises_of D.Receipt.is_steady D.Receipt.lends (stripe_count self.now)) (stripes_asked (stripe_count self.now) (set_call key.now value.now)) (asked_of (set_call key.now value.now)) fault (knows D.failures pass.old) (knows D.failures pass.new)) }
     {
         let number = pass.gates.number();
         latch.at(number, Point::Before);
@@ -258,7 +261,7 @@ impl<D: Device> Engine<D> {
         requires watching { EndsAll call (knows D.failures pass.old).watched }
         ensures rests { Rests D.Receipt.is_steady self.now pass.new }
         ensures done { IfOk result (λ answer. IfReply answer (λ reply. IsDone [] (asked_of call) reply (knows D.failures pass.old) (knows D.failures pass.new))) }
-        ensures undone { IfOk result (λ answer. IfFault answer (λ fault. IsUndone (promises_of D.Receipt.is_steady D.Receipt.lends) [] (asked_of call) fault (knows D.failures pass.old) (knows D.failures pass.new))) }
+        ensures undone { IfOk result (λ answer. IfFault answer (λ fault. IsUndone (promises_of D.Receipt.is_steady D.Receipt.lends (stripe_count self.now)) [] (asked_of call) fault (knows D.failures pass.old) (knows D.failures pass.new))) }
         ensures stripe { IfErr result (λ refusal. 0 < times refusal.0.stripe (stripes_asked (stripe_count self.now) call)) }
         ensures busy { IfErr result (λ refusal. FoundBusy refusal.0.stripe (knows D.failures pass.old) (knows D.failures pass.new)) }
         ensures back { IfErr result (λ refusal. refusal.1 ≡ call) }
@@ -278,6 +281,10 @@ impl<D: Device> Engine<D> {
             call,
         )
     }
+
+    /// Lets the store go. Call it last: what an engine is made of is then dropped here, and not once more in each crate that
+    /// owns one.
+    pub fn end(self) {}
 
     /// Both passes have then seen one legal history, which begins with what each had seen and has the
     /// entries of each.

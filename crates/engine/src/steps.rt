@@ -9,7 +9,7 @@ ghost use Rattle.gates.specs.declared.view.Look.TheVariants.{FewerExpected, Fewe
 ghost use Rattle.gates.specs.declared.view.Note.TheVariants as note;
 ghost use Rattle.gates.specs.declared.view.Work.TheVariants.{Evict};
 ghost use Rattle.hybrid.specs.declared.stripe.TheConstants.{CALL_PAGES, CLEAN_PAGES};
-ghost use Rattle.background.specs.Visits.{HasCleaned, HasFlushed, Visited, told};
+ghost use Rattle.background.specs.Visits.{HasCleaned, HasFlushed, HasWritten, Visited, told};
 ghost use Rattle.engine.specs.Passes.{Rests, stripe_count};
 
 use crate::{Engine, Pass};
@@ -48,6 +48,7 @@ impl<D: Device> Engine<D> {
         requires below { stripe < stripe_count self.now }
         ensures rests { Rests D.Receipt.is_steady self.now pass.new }
         ensures flushed { (was now : EpochSeat) → pass.old.seat ≡ Some was → pass.new.seat ≡ Some now → HasFlushed (stripe ∷ []) stripe result (D.failures pass.old.device) (D.failures pass.new.device) (known pass.old.gates) (known pass.new.gates) (seats.known was) (seats.known now) }
+        ensures writes { HasWritten result (D.writes pass.old.device) (D.writes pass.new.device) }
     {
         let Some(mut seat) = pass.seat.take() else {
             unreachable!()
@@ -80,6 +81,7 @@ impl<D: Device> Engine<D> {
         requires below { stripe < stripe_count self.now }
         ensures rests { Rests D.Receipt.is_steady self.now pass.new }
         ensures flushed { (was now : EpochSeat) → pass.old.seat ≡ Some was → pass.new.seat ≡ Some now → IfOk result (λ done. HasFlushed [] stripe done (D.failures pass.old.device) (D.failures pass.new.device) (known pass.old.gates) (known pass.new.gates) (seats.known was) (seats.known now)) }
+        ensures writes { IfOk result (λ done. HasWritten done (D.writes pass.old.device) (D.writes pass.new.device)) }
         ensures busy { IfErr result (λ busy. (busy.stripe ≡ stripe) × WasBusy stripe (known pass.old.gates) (known pass.new.gates)) }
         ensures not_asked { IfErr result (λ busy. pass.new.device ≡ pass.old.device) }
     {

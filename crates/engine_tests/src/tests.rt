@@ -29,6 +29,7 @@ mod cleaning;
 mod cold;
 mod failing;
 mod held;
+mod limits;
 mod moving;
 mod refused;
 mod releasing;

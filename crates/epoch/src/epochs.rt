@@ -104,7 +104,7 @@ impl EpochWords {
 
 impl Epochs {
     ghost use Rattle.epoch.specs.Plays.{unmet};
-    ghost use Rattle.epoch.specs.Seats.{id_of, named_by, seats_of, CountsAdvances, known, seat_in, stay_epoch, IsSeatOf, IsOutside, IsInside, KnowsNothing, KnowsTheSame, AdvancedPast, WasWorn, WasBlocked, KeepsStay, drained_of, drained_epoch, retired_of, retired_epoch, retired_value, StaysIn, StaysClear, StaysOver, HasScanned};
+    ghost use Rattle.epoch.specs.Seats.{id_of, named_by, seats_of, CountsAdvances, known, seat_in, stay_epoch, IsSeatOf, IsOutside, IsInside, KnowsNothing, KnowsTheSame, AdvancedPast, WasWorn, WasBlocked, KeepsStay, drained_of, drained_epoch, refusals, retired_of, retired_epoch, retired_value, StaysIn, StaysClear, StaysOver, HasScanned};
 
     /// Epochs with so many seats, and the seats. The present epoch is 1, and each advance adds 1 to it.
     ///
@@ -279,6 +279,7 @@ impl Epochs {
         ensures of { IfOk result (λ retired. retired_of retired ≡ id_of self.now) }
         ensures value { IfOk result (λ retired. retired_value retired ≡ value) }
         ensures over { IfOk result (λ retired. StaysOver self.now retired) }
+        ensures fresh { IfOk result (λ retired. refusals retired ≡ 0) }
         ensures past { IfOk result (λ retired. AdvancedPast (retired_epoch retired) (known seat.old) (known seat.new)) }
         ensures back { IfErr result (λ same. same ≡ value) }
         ensures worn { OnErr result (WasWorn (known seat.old) (known seat.new)) }
@@ -309,6 +310,7 @@ impl Epochs {
         ensures of { IfOk result (λ retired. retired_of retired ≡ id_of self.now) }
         ensures value { IfOk result (λ retired. retired_value retired ≡ value) }
         ensures over { IfOk result (λ retired. StaysOver self.now retired) }
+        ensures fresh { IfOk result (λ retired. refusals retired ≡ 0) }
         ensures past { IfOk result (λ retired. AdvancedPast (retired_epoch retired) (known seat.old) (known seat.new)) }
         ensures back { IfErr result (λ same. same ≡ value) }
         ensures worn { OnErr result (WasWorn (known seat.old) (known seat.new)) }
@@ -358,6 +360,7 @@ impl Epochs {
         ensures of { IfOk result (λ retired. retired_of retired ≡ id_of self.now) }
         ensures value { IfOk result (λ retired. retired_value retired ≡ value) }
         ensures over { IfOk result (λ retired. StaysOver self.now retired) }
+        ensures fresh { IfOk result (λ retired. refusals retired ≡ 0) }
         ensures past { IfOk result (λ retired. AdvancedPast (retired_epoch retired) (known (seat_in inside.old)) (known (seat_in inside.new))) }
         ensures back { IfErr result (λ same. same ≡ value) }
         ensures worn { OnErr result (WasWorn (known (seat_in inside.old)) (known (seat_in inside.new))) }

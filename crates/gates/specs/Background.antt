@@ -1,6 +1,7 @@
 -- What a pass reports of a stripe that it gives back, and when that is true of the stripe's part.
-use Rattle.std.specs.Prelude.{◌≡◌, ◌⊎◌, ◌↔◌, IsTrue, ℕ, ◌+◌, ◌<◌, ◌≤◌, true, false, List, [], ◌∷◌, ◌++◌, Some}
-use Rattle.gates.specs.Pages.{Pages, IsFull, IsSealed, count_true, has_receipt, total}
+use Rattle.std.specs.Prelude.{◌≡◌, ◌⊎◌, ◌↔◌, IsTrue, ℕ, ◌+◌, ◌<◌, ◌≤◌, true, false, List, [], ◌∷◌, Some}
+use Rattle.std.specs.List.{Contains}
+use Rattle.gates.specs.Pages.{Pages, Place, IsFull, IsSealed, count_true, has_receipt, total}
 use Rattle.gates.specs.Sets.{part_at}
 use Rattle.gates.specs.Rule.{Meaning}
 use Rattle.gates.specs.declared.view.Refused.{Refused}
@@ -27,12 +28,42 @@ abbrev pub IsIdle : Work → Pages → Type 0
 IsIdle Flush p = (number : ℕ) → IsSealed p number → ⊥
 IsIdle Evict p = has_receipt p p.first ≡ false
 IsIdle (Clean refused) p =
-    (p.first ≡ p.oldest) × (p.drained ≡ 0) × ((p.unlinked ≡ 0) ⊎ (refused.retire ≡ true)) × ((p.retired ≡ 0) ⊎ (refused.drain ≡ true))
+    (p.first ≡ p.oldest) × (p.drained ≡ 0) × ((p.unlinked ≡ 0) ⊎ ((refused.retire ≡ true) × (p.worn ≡ true))) × ((p.retired ≡ 0) ⊎ (refused.drain ≡ true))
 
--- A step was done: one page more has a receipt, or one place more is unlinked; the first resident page is one later; the oldest page is a
--- later one, one place more is retired, or drained, or one less is drained and unreleased.
+-- how many places wait for their release
+abbrev pub waiting : Pages → ℕ
+waiting p = p.unlinked + p.retired + p.drained
+
+-- The same pages are in the log, and in the same frames. One place more is taken at most.
+pub record HasSamePages (was now : Pages) : Type 0 where
+  pub oldest : now.oldest ≡ was.oldest
+  pub first : now.first ≡ was.first
+  pub tail : now.tail ≡ was.tail
+  pub frames : now.frames ≡ was.frames
+  pub places : now.places ≡ was.places
+  pub taken : now.unreleased ≤ was.unreleased + 1
+
+-- The receipt of a page that was written is kept: one page more has one. No place more waits for its release; some of those that did may have
+-- been released before.
+pub record HasKept (was now : Pages) : Type 0 where
+  pub same : HasSamePages was now
+  pub receipts : count_true now.receipts ≡ count_true was.receipts + 1
+  pub waits : waiting now ≤ waiting was
+
+-- The receipt of a page that was written came too late: one place more is unlinked, and each page has a receipt that had one, and no other.
+pub record CameLate (was now : Pages) : Type 0 where
+  pub same : HasSamePages was now
+  pub receipts : now.receipts ≡ was.receipts
+  pub unlinked : now.unlinked ≡ was.unlinked + 1
+  pub retired : now.retired ≡ was.retired
+  pub drained : now.drained ≡ was.drained
+  pub refused : now.refused ≡ was.refused
+  pub worn : now.worn ≡ was.worn
+
+-- A step was done: a page was written, and its receipt is kept or came too late, and not both; the first resident page is one later; the oldest
+-- page is a later one, one place more is retired, or drained, or one less is drained and unreleased.
 abbrev pub IsStep : Work → (was now : Pages) → Type 0
-IsStep Flush was now = (count_true now.receipts ≡ count_true was.receipts + 1) ⊎ (now.unlinked ≡ was.unlinked + 1)
+IsStep Flush was now = HasKept was now ⊎ CameLate was now
 IsStep Evict was now = now.first ≡ was.first + 1
 IsStep (Clean refused) was now =
     (was.oldest < now.oldest) ⊎ (now.retired ≡ was.retired + 1) ⊎ (now.drained ≡ was.drained + 1)
@@ -44,24 +75,24 @@ AreRefused Flush was now = Unit {0}
 AreRefused Evict was now = Unit {0}
 AreRefused (Clean refused) was now = refused.drain ≡ true → total was.refused < total now.refused
 
--- Counts, some of which have gone: each that is left is greater by so much, or by more.
-abbrev pub AreRaised : (by : ℕ) → (was now : List ℕ) → Type 0
-AreRaised by [] [] = Unit {0}
-AreRaised by [] (n ∷ now) = ⊥
-AreRaised by (w ∷ was) [] = Unit {0}
-AreRaised by (w ∷ was) (n ∷ now) = ((w + by ≤ n) × AreRaised by was now) ⊎ AreRaised by was (n ∷ now)
+-- Of each place that is retired now: it was retired before, and its count is greater by so much or by more; or it was unlinked then, and has
+-- such a count.
+abbrev pub AreRaised : (by : ℕ) (unlinked : List Place) (was now : List (Place × ℕ)) → Type 0
+AreRaised by unlinked was now =
+    (place : Place) (count : ℕ) → Contains now (place, count)
+    → ((before : ℕ) × Contains was (place, before) × (before + by ≤ count)) ⊎ (Contains unlinked place × (by ≤ count))
 
--- For each place that is retired, a word that was read has blocked its drain since. `more` are the counts of those that were retired meanwhile.
-abbrev pub IsEachRefused : (was now : List ℕ) → Type 0
-IsEachRefused was now = (more : List ℕ) × AreRaised 1 (was ++ more) now
+-- For each place that is retired, a word that was read has blocked its drain since.
+abbrev pub IsEachRefused : (unlinked : List Place) (was now : List (Place × ℕ)) → Type 0
+IsEachRefused unlinked was now = AreRaised 1 unlinked was now
 
 -- No place that waits for its release can be released: none is drained; none is unlinked, but where a retirement was refused; and the drain of
 -- each that is retired was refused since.
 pub record IsSpent (refused : Refused) (was now : Pages) : Type 0 where
   pub drained : now.drained ≡ 0
-  pub unlinked : (now.unlinked ≡ 0) ⊎ (refused.retire ≡ true)
+  pub unlinked : (now.unlinked ≡ 0) ⊎ ((refused.retire ≡ true) × (now.worn ≡ true))
   pub retired : (now.retired ≡ 0) ⊎ (refused.drain ≡ true)
-  pub each : IsEachRefused was.refused now.refused
+  pub each : IsEachRefused was.waits was.refused now.refused
 
 -- What is seen is so: places are used as long as they are taken and not released, and a frame is free that has no page from the first resident one to
 -- the tail page. A frame may be had for a place that has no receipt which the log keeps.

@@ -1,6 +1,10 @@
 -- The pages of a stripe, as notes speak of them: numbers alone.
 use Rattle.std.specs.Prelude.{◌≡◌, ◌⊎◌, ℕ, ◌+◌, ◌-◌, ◌/◌, ◌^◌, ◌<◌, ◌≤◌, Bool, true, false, List, [], ◌∷◌, slice_index_or}
 
+-- a place on the device that was taken, by what its receipt has in common with its copies
+abbrev pub Place : Type 0
+Place = List ℕ
+
 pub record Pages : Type 0 where
   -- the oldest page, the first resident page, the tail page
   pub oldest : ℕ
@@ -13,8 +17,12 @@ pub record Pages : Type 0 where
   pub unlinked : ℕ
   pub retired : ℕ
   pub drained : ℕ
-  -- of each place that is retired, the oldest first, how often a word that was read blocked its drain
-  pub refused : List ℕ
+  -- which places are unlinked, the oldest first
+  pub waits : List Place
+  -- which places are retired, the oldest first, each with how often a word that was read blocked its drain
+  pub refused : List (Place × ℕ)
+  -- whether a retirement was refused: the epoch word was read as worn out, which it stays
+  pub worn : Bool
   -- places that were taken and not released, and the most of them
   pub unreleased : ℕ
   pub places : ℕ
@@ -33,9 +41,10 @@ pub record IsSealed (p : Pages) (number : ℕ) : Type 0 where
 abbrev pub IsFull : Pages → Type 0
 IsFull p = (p.unreleased ≡ p.places) ⊎ (2 ^ 46 ≤ p.tail)
 
-abbrev pub total : List ℕ → ℕ
+-- how often words that were read blocked the drains of these, all together
+abbrev pub total : List (Place × ℕ) → ℕ
 total [] = 0
-total (n ∷ rest) = n + total rest
+total (one ∷ rest) = one.1 + total rest
 
 abbrev pub count_true : List Bool → ℕ
 count_true [] = 0

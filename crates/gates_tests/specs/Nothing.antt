@@ -1,5 +1,5 @@
 -- What a part stands for that has no key.
-use Rattle.std.specs.Prelude.{None, []}
+use Rattle.std.specs.Prelude.{None, [], false}
 use Rattle.gates.specs.Rule.{Meaning}
 use Rattle.gates.specs.Pages.{Pages}
 use Rattle.gates.specs.declared.gates.Gates.{Gates}
@@ -18,7 +18,9 @@ no_pages =
       unlinked = 0;
       retired = 0;
       drained = 0;
+      waits = [];
       refused = [];
+      worn = false;
       unreleased = 0;
       places = 1;
     }

@@ -9,6 +9,12 @@ use Rattle.hybrid.specs.Staging.{StagedPage, AreRight, IsStaged}
 use Rattle.hybrid.specs.Reading.{staged_of}
 use Rattle.hybrid.proofs.Reading.{page-beyond, page-read, pages-beyond, staged-at, staged-size}
 
+-- there is a page for each that is staged
+pub staged-few : (kept : List Kept) (pages : List (List ℕ)) → length (staged_of kept pages) ≤ length pages
+staged-few [] pages = omega arith
+staged-few (k ∷ more) [] = omega arith
+staged-few (k ∷ more) (page ∷ pages) = omega (arith, staged-few more pages)
+
 -- ---- a page is looked for
 
 module _ {X : Type 0} (f : X → Kept) (items : List X) (pages : List (List ℕ)) (staged : List StagedPage) (is : staged_of (map f items) pages ≡ staged) (fits : length items ≤ length pages) where

@@ -1,6 +1,6 @@
 // Pages that were read outside.
 
-ghost use Rattle.std.specs.Prelude.{◌≡◌, ◌+◌, ◌<◌, ◌≤◌, ◌++◌, ℕ, List, IsSome, IfSome, IfNone, [], OnOk, OnErr, IfErr, vec_len};
+ghost use Rattle.std.specs.Prelude.{◌≡◌, ◌+◌, ◌<◌, ◌≤◌, ◌++◌, ℕ, List, IsSome, IfSome, IfNone, [], OnOk, OnErr, IfErr, length, vec_len};
 ghost use Rattle.hybrid.specs.Staging.{AreRight, IsStaged};
 ghost use Rattle.hybrid.specs.Reading.{HasStaged, MatchReadFault};
 ghost use Rattle.hybrid.specs.Ways.{IsAtHand};
@@ -65,7 +65,14 @@ impl<R: Shows> Staged<R> {
         self.receipts.clear();
     }
 
-    /// Reads the page of a receipt from the device, to where it is kept.
+    /// For how many pages there is memory: for those that are staged, and those that are free for the next reads.
+    pub fn rooms(&self) -> usize
+        ensures { length self.now ≤ result }
+    {
+        self.pages.len()
+    }
+
+    /// Reads the page of a receipt from the device, once, to where it is kept.
     ///
     /// # Errors
     ///
@@ -82,6 +89,7 @@ impl<R: Shows> Staged<R> {
         ensures no_fault { OnOk result (D.failures device.new ≡ D.failures device.old) }
         ensures still_served { (r : R) → D.serves device.old r → D.serves device.new r }
         ensures no_write { D.writes device.new ≡ D.writes device.old }
+        ensures once { D.reads device.new ≤ D.reads device.old + 1 }
         ensures no_release { D.releases device.new ≡ D.releases device.old }
     {
         let place = self.receipts.len();

@@ -1,16 +1,16 @@
 -- Places that were released, stripe by stripe.
 use Rattle.std.proofs.Common.{◌≡◌, ◌≢◌, ◌∙◌, ◌<◌, ◌≤◌, inl, inr, ⊎_elim, ℕ, zero, suc, Bool, true, false, List, [], ◌∷◌, ◌++◌, length, append_assoc, append-nil, Option, Some, None, IsSome, option_map, unwrap_or, refl, sym, ap, subst, arith}
+use Rattle.std.specs.Prelude.{if◌then◌else◌}
 use Rattle.std.proofs.lemmas.Bool.{cases_eq}
 use Rattle.epoch.specs.declared.view.View.{View}
 use Rattle.epoch.specs.declared.view.Note.{Note}
 use Rattle.epoch.specs.declared.view.Note.TheVariants.{Worn}
-use Rattle.gates.specs.Background.{AreRaised, IsEachRefused}
 use Rattle.hybrid.specs.HybridLog.{HybridLog, Kept}
 use Rattle.hybrid.specs.Reserving.{IsFull}
 use Rattle.shards.specs.Counted.{Counted, Waiting}
 use Rattle.shards.specs.declared.freeing.Freed.{Freed}
 use Rattle.shards.specs.declared.shard.Shard.{Shard}
-use Rattle.shards.specs.Freeing.{FreesAt, HasFreed, HasTriedAll, IsSpentAt, all_waiting, waiting_at}
+use Rattle.shards.specs.Freeing.{FreesAt, HasFreed, HasTriedAll, HasWaited, IsSpentAt, all_waiting, waiting_at}
 use Rattle.shards.specs.Heard.{HasHeard, HasHeardWorn}
 use Rattle.shards.specs.Rooms.{IsFullAt}
 use Rattle.shards.specs.Shards.{SameWaits, logs_of, shard_counted, shard_log, shard_waiting, waits_of}
@@ -28,11 +28,7 @@ use Rattle.plans.specs.Memory.{IsBrief, IsPlannedInPlace, NeedsNoMemoryOn}
 use Rattle.plans.specs.Sizes.{AllShort, IsShort}
 use Rattle.plans.proofs.Become.{became_both, became_read}
 use Rattle.plans.proofs.Rooms.{stripe_below}
-use Rattle.plans.proofs.Raised.{each_later, raised_same, weaker}
-
--- counts that were raised before, and since
-counts_later : (was mid new : List ℕ) (more : List ℕ) → AreRaised 0 (was ++ more) mid → IsEachRefused mid new → (others : List ℕ) × AreRaised 0 (was ++ others) new
-counts_later was mid new more one two = let each = each_later was mid new more one two in (each.0, weaker (was ++ each.0) new each.1)
+use Rattle.plans.proofs.Raised.{each_since, waited_freed, waited_none}
 
 none_of : (l : List Kept) → l ≡ [] → length l ≡ 0
 none_of l e = ap length e
@@ -44,14 +40,12 @@ same_log old new freed none has = has.log ∙ ap (λ (n : ℕ). record old.log {
 -- STRIPE BY STRIPE
 
 module _ {R : Type 0} where
-  -- of each part, what has become of the counts of its retired places
+  -- of each part, what has become of the places that wait for their release
   abbrev pub Lasts : (before later : ℕ → Option (Shard R)) → Type 0
-  Lasts before later = (i : ℕ) (part : Shard R) → later i ≡ Some part
-      → (was : Shard R) × (before i ≡ Some was) × (more : List ℕ) × AreRaised 0 ((shard_counted was).refused ++ more) (shard_counted part).refused
+  Lasts before later = (i : ℕ) (part : Shard R) → later i ≡ Some part → (was : Shard R) × (before i ≡ Some was) × HasWaited (shard_waiting was) (shard_waiting part)
 
   pub lasts_none : (parts : ℕ → Option (Shard R)) → Lasts parts parts
-  lasts_none parts i part is =
-      (part, is, [], subst (λ (l : List ℕ). AreRaised 0 l (shard_counted part).refused) (sym (append-nil (shard_counted part).refused)) (raised_same (shard_counted part).refused))
+  lasts_none parts i part is = (part, is, waited_none (shard_waiting part))
 
   some_part : (o : Option (Shard R)) (w : Waiting) → option_map shard_waiting o ≡ Some w → (part : Shard R) × (o ≡ Some part) × (shard_waiting part ≡ w)
   some_part None w is = absurd (cc is)
@@ -62,7 +56,7 @@ module _ {R : Type 0} where
   lasts_still a b c lasts same i part is =
       let mid = some_part (b i) (shard_waiting part) (sym (same i) ∙ ap (option_map shard_waiting) is) in
       let was = lasts i mid.0 mid.1 in
-      (was.0, was.1, was.2, subst (λ (l : List ℕ). AreRaised 0 ((shard_counted was.0).refused ++ was.2) l) (ap (λ (w : Waiting). w.refused) mid.2) was.3)
+      (was.0, was.1, subst (λ (w : Waiting). HasWaited (shard_waiting was.0) w) mid.2 was.2)
 
   some_same : (x y : Shard R) (o : Option (Shard R)) → o ≡ Some x → o ≡ Some y → x ≡ y
   some_same x y o one two = ap (λ (z : Option (Shard R)). unwrap_or z x) (sym one ∙ two)
@@ -73,11 +67,10 @@ module _ {R : Type 0} where
       (λ at.
       let same : frees.new ≡ part = some_same frees.new part (c stripe) frees.is (ap c (sym at) ∙ is) in
       let was = lasts stripe frees.old frees.was in
-      let counts = counts_later (shard_counted was.0).refused (shard_counted frees.old).refused (shard_counted frees.new).refused was.2 was.3 frees.how.each in (
+      let waited = waited_freed (shard_waiting was.0) (shard_counted frees.old) (shard_counted frees.new) freed was.2 frees.how in (
         was.0,
         ap a at ∙ was.1,
-        counts.0,
-        subst (λ (p : Shard R). AreRaised 0 ((shard_counted was.0).refused ++ counts.0) (shard_counted p).refused) same counts.1,
+        subst (λ (p : Shard R). HasWaited (shard_waiting was.0) (shard_waiting p)) same waited,
       ))
       (λ ne. lasts i part (sym (frees.others i ne) ∙ is))
       (cases_eq i stripe)
@@ -93,9 +86,9 @@ module _ {R : Type 0} where
         is = frees.is;
         spent = record {
           drained = none_of (shard_counted frees.new).drained frees.how.drained;
-          unlinked = ⊎_elim (λ e. inl (none_of (shard_counted frees.new).unlinked e)) (λ w. inr w) frees.how.unlinked;
+          unlinked = ⊎_elim (λ e. inl (none_of (shard_counted frees.new).unlinked e)) (λ w. inr (w, frees.how.worn ∙ ap (λ (b : Bool). if b then true else (shard_counted frees.old).worn) w)) frees.how.unlinked;
           retired = ⊎_elim (λ e. inl (none_of (shard_counted frees.new).retired e)) (λ w. inr w) frees.how.retired;
-          each = each_later (shard_counted was.0).refused (shard_counted frees.old).refused (shard_counted frees.new).refused was.2 was.3 frees.how.each;
+          each = each_since (shard_waiting was.0) (shard_waiting frees.old) (shard_counted frees.new).refused was.2 frees.how.each;
         };
       }
 

@@ -1,5 +1,5 @@
 -- Plans over a steady device.
-use Rattle.std.proofs.Common.{◌≡◌, ◌≢◌, ◌<◌, ℕ, List, [], Result, Ok, Err, IfErr, subst, arith}
+use Rattle.std.proofs.Common.{◌≡◌, ◌<◌, ℕ, List, [], Result, Ok, Err, IfErr, subst, arith}
 use Rattle.words.specs.Store.{Write}
 use Rattle.hybrid.specs.Staging.{AreRight}
 use Rattle.plans.specs.declared.stop.Stop.{Stop}
@@ -22,8 +22,6 @@ pub full_then : {A R : Type 0} {P Q : ℕ → Type 0} (r : Result A (Stop R)) �
 full_then (Ok a) more holds = tt
 full_then (Err s) more holds = full_then_of s more holds
 
--- writes of which a stripe has a share are some
-pub share_some : (n i : ℕ) (writes due : List Write) → 0 < share n i writes → writes ≡ due → due ≢ []
-share_some n i writes due some is none =
-    let no : 0 < share n i [] = subst (λ (l : List Write). 0 < share n i l) none (subst (λ (l : List Write). 0 < share n i l) is some) in
-    absurd (omega (arith, no))
+-- a stripe has a share of the writes that are due, where it has one of those that are planned
+pub share_due : (n i : ℕ) (writes due : List Write) → 0 < share n i writes → writes ≡ due → 0 < share n i due
+share_due n i writes due some is = subst (λ (l : List Write). 0 < share n i l) is some

@@ -1,50 +1,37 @@
--- Counts that were raised, some of which have gone.
-use Rattle.std.proofs.Common.{◌+◌, inl, inr, ⊎_elim, ℕ, List, [], ◌∷◌, ◌++◌, append_assoc, subst, arith}
+-- Places that wait for their release, and how often words that were read blocked their drains.
+use Rattle.std.proofs.Common.{◌+◌, ◌≤◌, inl, inr, ⊎_elim, ℕ, List, arith}
+use Rattle.std.specs.List.{Contains}
 use Rattle.gates.specs.Background.{AreRaised, IsEachRefused}
+use Rattle.gates.specs.Pages.{Place}
+use Rattle.shards.specs.Counted.{Counted, Waiting, places_of, waiting_of}
+use Rattle.shards.specs.Freeing.{HasFreed, HasWaited}
+use Rattle.shards.specs.declared.freeing.Freed.{Freed}
 
-all_gone : (by : ℕ) (was : List ℕ) → AreRaised by was []
-all_gone by [] = tt
-all_gone by (w ∷ was) = tt
+-- counts that were raised before, and since
+raised_later : (by : ℕ) (u v : List Place) (a b c : List (Place × ℕ)) → ((place : Place) → Contains v place → Contains u place) → AreRaised 0 u a b → AreRaised by v b c → AreRaised by u a c
+raised_later by u v a b c left one two place count has = ⊎_elim
+    (λ mid. ⊎_elim (λ was. inl (was.0, was.1, omega (arith, was.2, mid.2))) (λ fresh. inr (fresh.0, omega (arith, mid.2))) (one place mid.0 mid.1))
+    (λ fresh. inr (left place fresh.0, fresh.1))
+    (two place count has)
 
-gone : (by w : ℕ) (was now : List ℕ) → AreRaised by was now → AreRaised by (w ∷ was) now
-gone by w was [] is = tt
-gone by w was (n ∷ now) is = inr is
+weaker : (u : List Place) (a b : List (Place × ℕ)) → AreRaised 1 u a b → AreRaised 0 u a b
+weaker u a b is place count has =
+    ⊎_elim (λ was. inl (was.0, was.1, omega (arith, was.2))) (λ fresh. inr (fresh.0, omega (arith, fresh.1))) (is place count has)
 
--- counts and others
-pub raised_both : (by : ℕ) (a b c d : List ℕ) → AreRaised by a b → AreRaised by c d → AreRaised by (a ++ c) (b ++ d)
-raised_both by [] [] c d one two = two
-raised_both by [] (n ∷ b) c d one two = absurd one
-raised_both by (w ∷ a) [] c d one two = gone by w (a ++ c) d (raised_both by a [] c d (all_gone by a) two)
-raised_both by (w ∷ a) (n ∷ b) c d one two =
-    ⊎_elim (λ x. inl (x.0, raised_both by a b c d x.1 two)) (λ y. inr (raised_both by a (n ∷ b) c d y two)) one
+pub waited_none : (w : Waiting) → HasWaited w w
+waited_none w = record { unlinked = λ place has. has; retired = λ place count has. inl (count, has, omega arith) }
 
--- counts that are the same
-pub raised_same : (a : List ℕ) → AreRaised 0 a a
-raised_same [] = tt
-raised_same (n ∷ a) = inl (omega arith, raised_same a)
+waited_both : (a b c : Waiting) → HasWaited a b → HasWaited b c → HasWaited a c
+waited_both a b c one two = record {
+  unlinked = λ place has. one.unlinked place (two.unlinked place has);
+  retired = raised_later 0 (places_of a.unlinked) (places_of b.unlinked) a.refused b.refused c.refused one.unlinked one.retired two.retired;
+}
 
--- counts that were raised twice
-pub raised_twice : (one two : ℕ) (a b c : List ℕ) → AreRaised one a b → AreRaised two b c → AreRaised (one + two) a c
-raised_twice one two [] [] [] first second = tt
-raised_twice one two [] [] (z ∷ c) first second = absurd second
-raised_twice one two [] (n ∷ b) c first second = absurd first
-raised_twice one two (w ∷ a) b [] first second = tt
-raised_twice one two (w ∷ a) [] (z ∷ c) first second = absurd second
-raised_twice one two (w ∷ a) (n ∷ b) (z ∷ c) first second =
-    ⊎_elim
-    (λ left. ⊎_elim (λ x. inl (omega (arith, left.0, x.0), raised_twice one two a b c left.1 x.1)) (λ y. inr (raised_twice one two a b (z ∷ c) left.1 y)) second)
-    (λ gone. inr (raised_twice one two a (n ∷ b) (z ∷ c) gone second)) first
+-- places were released that could be
+pub waited_freed : (a : Waiting) (old new : Counted) (freed : Freed) → HasWaited a (waiting_of old) → HasFreed old freed new → HasWaited a (waiting_of new)
+waited_freed a old new freed waited has =
+    waited_both a (waiting_of old) (waiting_of new) waited (record { unlinked = has.left; retired = weaker (places_of old.unlinked) old.refused new.refused has.each })
 
--- counts to which some came may be raised again
-pub each_later : (a b c : List ℕ) → (more : List ℕ) → AreRaised 0 (a ++ more) b → IsEachRefused b c → IsEachRefused a c
-each_later a b c more one two = (
-  more ++ two.0,
-  subst (λ (l : List ℕ). AreRaised 1 l c) (append_assoc a more two.0)
-      (raised_twice 0 1 ((a ++ more) ++ two.0) (b ++ two.0) c (raised_both 0 (a ++ more) b two.0 two.0 one (raised_same two.0)) two.1),
-)
-
-pub weaker : (a b : List ℕ) → AreRaised 1 a b → AreRaised 0 a b
-weaker [] [] is = tt
-weaker [] (n ∷ b) is = absurd is
-weaker (w ∷ a) [] is = tt
-weaker (w ∷ a) (n ∷ b) is = ⊎_elim (λ x. inl (omega (arith, x.0), weaker a b x.1)) (λ y. inr (weaker a (n ∷ b) y)) is
+-- and each that is left was tried since
+pub each_since : (a b : Waiting) (c : List (Place × ℕ)) → HasWaited a b → IsEachRefused (places_of b.unlinked) b.refused c → IsEachRefused (places_of a.unlinked) a.refused c
+each_since a b c waited each = raised_later 1 (places_of a.unlinked) (places_of b.unlinked) a.refused b.refused c waited.unlinked waited.retired each

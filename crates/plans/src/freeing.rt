@@ -1,6 +1,6 @@
 //! What a call releases itself, before it is answered that a stripe is full.
 
-ghost use Rattle.std.specs.Prelude.{◌≡◌, ◌≢◌, ◌+◌, ◌<◌, ◌≤◌, ◌∷◌, List, Some, IsSome, IfErr, IfOk, OnErr, OnOk, [], true, false};
+ghost use Rattle.std.specs.Prelude.{◌≡◌, ◌+◌, ◌<◌, ◌≤◌, ◌∷◌, List, Some, IsSome, IfErr, IfOk, OnErr, OnOk, [], true, false};
 ghost use Rattle.words.specs.declared.limits.TheConstants.{WEIGHT_MAX};
 ghost use Rattle.words.specs.History.{History, Pair};
 ghost use Rattle.words.specs.Session.{Asked, operation_of};
@@ -14,7 +14,7 @@ ghost use Rattle.transact.specs.Tables.{AreThere, Became, HasBegun, Stand, begin
 ghost use Rattle.shards.specs.Freeing.{FreesAt, HasTriedAll, IsSpentAt};
 ghost use Rattle.shards.specs.Heard.{HasHeard, HasHeardWorn};
 ghost use Rattle.plans.specs.Memory.{NeedsNoMemoryOn};
-ghost use Rattle.shards.specs.Rooms.{AreRoomy, IsFullAt, IsRoomyAt};
+ghost use Rattle.shards.specs.Rooms.{AreRoomy, IsFullAt, IsRoomyAt, share};
 ghost use Rattle.shards.specs.Shards.{logs_of, shard_meaning, weigh};
 ghost use Rattle.plans.specs.Sizes.{AllShort, IsPlaced};
 ghost use Rattle.plans.specs.Stops.{IfCold, IfFull, IfNoMemory, faults};
@@ -87,7 +87,7 @@ pub fn plan_freeing<R: Shows, D: Device<Receipt = R>, P: Parts<Shard<R>>, S: Ret
     ensures full { IfErr result (λ halt. IfFull halt.stop (λ stripe. IsFullAt (logs_of (P.part_of parts.new)) stripe × IsSpentAt halt.refused stripe (P.part_of parts.old) (P.part_of parts.new))) }
     ensures worn { IfErr result (λ halt. IfFull halt.stop (λ stripe. halt.refused.retire ≡ true → HasHeardWorn (S.knows own.old) (S.knows own.new))) }
     ensures heard { HasHeard (S.knows own.old) (S.knows own.new) }
-    ensures written { R.is_steady → AllShort (joined (shard_meaning R.is_steady) stripes (P.part_of parts.old)) → IfErr result (λ halt. IfFull halt.stop (λ stripe. (asked : Asked) (seen : History) (watched : List Pair) → asked_of call.now ≡ Some asked → Stand (shard_meaning R.is_steady) stripes (P.part_of parts.old) seen seat watched → EndsAll call.now watched → AreWatched watched watched → made seen (operation_of watched asked) ≢ [])) }
+    ensures written { R.is_steady → AllShort (joined (shard_meaning R.is_steady) stripes (P.part_of parts.old)) → IfErr result (λ halt. IfFull halt.stop (λ stripe. (asked : Asked) (seen : History) (watched : List Pair) → asked_of call.now ≡ Some asked → Stand (shard_meaning R.is_steady) stripes (P.part_of parts.old) seen seat watched → EndsAll call.now watched → AreWatched watched watched → 0 < share stripes stripe (made seen (operation_of watched asked)))) }
     ensures memory { R.is_steady → R.lends → NeedsNoMemoryOn (joined (shard_meaning R.is_steady) stripes (P.part_of parts.old)) call.now → IfErr result (λ halt. IfNoMemory halt.stop ⊥) }
     ensures faults { IfErr result (λ halt. D.failures device.new ≡ D.failures device.old + faults halt.stop) }
     ensures no_fault { OnOk result (D.failures device.new ≡ D.failures device.old) }
@@ -140,6 +140,7 @@ pub fn reserve_freeing<R: Shows, D: Device<Receipt = R>, P: Parts<Shard<R>>, S: 
     ensures became { Became (shard_meaning R.is_steady) stripes [] stays (P.part_of parts.old) (P.part_of parts.new) }
     ensures room { OnOk result (IsRoomyAt (logs_of (P.part_of parts.new)) (striping.stripe_of stripes key.now) (weigh (key.now, Some value.now))) }
     ensures full { IfErr result (λ halt. IfFull halt.stop (λ stripe. IsFullAt (logs_of (P.part_of parts.new)) stripe × IsSpentAt halt.refused stripe (P.part_of parts.old) (P.part_of parts.new))) }
+    ensures stripe { IfErr result (λ halt. IfFull halt.stop (λ stripe. stripe ≡ striping.stripe_of stripes key.now)) }
     ensures worn { IfErr result (λ halt. IfFull halt.stop (λ stripe. halt.refused.retire ≡ true → HasHeardWorn (S.knows own.old) (S.knows own.new))) }
     ensures heard { HasHeard (S.knows own.old) (S.knows own.new) }
     ensures never_cold { IfErr result (λ halt. IfCold halt.stop (λ receipts. ⊥)) }

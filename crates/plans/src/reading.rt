@@ -1,6 +1,6 @@
 //! Pages that a plan wants are read while the stripes are held.
 
-ghost use Rattle.std.specs.Prelude.{◌≡◌, ◌≢◌, ◌+◌, ◌<◌, ◌≤◌, ◌++◌, ⊤, [], ◌∷◌, ℕ, List, Some, Option, IfOk, IfErr, OnOk, OnErr, length, true, false, unwrap_or};
+ghost use Rattle.std.specs.Prelude.{◌≡◌, ◌+◌, ◌<◌, ◌≤◌, ◌++◌, ⊤, [], ◌∷◌, ℕ, List, Some, Option, IfOk, IfErr, OnOk, OnErr, length, true, false, unwrap_or};
 ghost use Rattle.words.specs.History.{History, Pair, after};
 ghost use Rattle.words.specs.Store.{Write};
 ghost use Rattle.words.specs.Session.{Asked, operation_of, value_reply};
@@ -18,7 +18,7 @@ ghost use Rattle.shards.specs.Devices.{IsReadAlone, StillServes};
 ghost use Rattle.plans.specs.Memory.{AreAtHand, NeedsNoMemoryOn};
 ghost use Rattle.plans.specs.Reading.{AreRead, HasMore, AreServed, IsServed, ServesEach};
 ghost use Rattle.shards.specs.Receipts.{kept_by};
-ghost use Rattle.shards.specs.Rooms.{AreRoomy, IsFullAt, LeaveFrames, MakesRoom, MeetsFull, ShedFew};
+ghost use Rattle.shards.specs.Rooms.{AreRoomy, IsFullAt, LeaveFrames, MakesRoom, MeetsFull, ShedFew, share};
 ghost use Rattle.shards.specs.Shards.{SameLogs, SameWaits, logs_of, shard_meaning};
 ghost use Rattle.plans.specs.Sizes.{AllShort, IsPlaced};
 ghost use Rattle.plans.specs.Stops.{IfCold, IfFull, IfNoMemory, faults, keys_looked_up};
@@ -53,6 +53,7 @@ fn read_one<R: Shows, D: Device<Receipt = R>>(
     ensures never_full { IfErr result (λ stop. IfFull stop (λ stripe. ⊥)) }
     ensures faults { IfErr result (λ stop. D.failures device.new ≡ D.failures device.old + faults stop) }
     ensures no_fault { OnOk result (D.failures device.new ≡ D.failures device.old) }
+    ensures once { D.reads device.new ≤ D.reads device.old + 1 }
 {
     match staged.read(receipt, device) {
         Ok(()) => Ok(()),
@@ -61,7 +62,7 @@ fn read_one<R: Shows, D: Device<Receipt = R>>(
     }
 }
 
-/// Reads the pages of receipts, and stages them. Where the device serves the receipts, what is staged stays right.
+/// Reads the pages of receipts, each once, and stages them. Where the device serves the receipts, what is staged stays right.
 ///
 /// # Errors
 ///
@@ -80,6 +81,7 @@ pub fn read_all<R: Shows, D: Device<Receipt = R>>(
     ensures never_full { IfErr result (λ stop. IfFull stop (λ stripe. ⊥)) }
     ensures faults { IfErr result (λ stop. D.failures device.new ≡ D.failures device.old + faults stop) }
     ensures no_fault { OnOk result (D.failures device.new ≡ D.failures device.old) }
+    ensures once { D.reads device.new ≤ D.reads device.old + length receipts }
 {
     let mut receipts = receipts;
     while let Some(receipt) = receipts.pop() {
@@ -214,7 +216,7 @@ pub fn plan_staged<R: Shows, D: Device<Receipt = R>, P: Parts<Shard<R>>>(
     ensures full { IfErr result (λ stop. IfFull stop (IsFullAt (logs_of (P.part_of parts.new)))) }
     ensures below { IfErr result (λ stop. IfFull stop (λ stripe. stripe < stripes)) }
     ensures waits { SameWaits (P.part_of parts.old) (P.part_of parts.new) }
-    ensures written { R.is_steady → AllShort (joined (shard_meaning R.is_steady) stripes (P.part_of parts.old)) → IfErr result (λ stop. IfFull stop (λ stripe. (asked : Asked) (seen : History) (watched : List Pair) → asked_of call.now ≡ Some asked → Stand (shard_meaning R.is_steady) stripes (P.part_of parts.old) seen seat watched → EndsAll call.now watched → AreWatched watched watched → made seen (operation_of watched asked) ≢ [])) }
+    ensures written { R.is_steady → AllShort (joined (shard_meaning R.is_steady) stripes (P.part_of parts.old)) → IfErr result (λ stop. IfFull stop (λ stripe. (asked : Asked) (seen : History) (watched : List Pair) → asked_of call.now ≡ Some asked → Stand (shard_meaning R.is_steady) stripes (P.part_of parts.old) seen seat watched → EndsAll call.now watched → AreWatched watched watched → 0 < share stripes stripe (made seen (operation_of watched asked)))) }
     ensures memory { R.is_steady → R.lends → NeedsNoMemoryOn (joined (shard_meaning R.is_steady) stripes (P.part_of parts.old)) call.now → IfErr result (λ stop. IfNoMemory stop ⊥) }
     ensures faults { IfErr result (λ stop. D.failures device.new ≡ D.failures device.old + faults stop) }
     ensures no_fault { OnOk result (D.failures device.new ≡ D.failures device.old) }

@@ -3,18 +3,19 @@
 #![tactic(auto)]
 
 use anyhow::Result;
-use schedules::{Shown, run_schedule};
+use schedules::{Shown, Until, run_schedule};
 use std::alloc::{AllocError, Global};
 use std::io;
 use streams::Noted;
 
-/// A schedule that runs, two with a bad line, one that is not there, and an option that there is not.
-const WORDS: [&str; 5] = [
+/// A schedule that runs, two with a bad line, one that is not there, an option that there is not, and the help.
+const WORDS: [&str; 6] = [
     "watched.schedule",
     "bad.schedule",
     "empty.schedule",
     "absent.schedule",
     "--colour",
+    "--help",
 ];
 
 fn main(rt: HostRuntime) -> Result<()> {
@@ -27,7 +28,13 @@ fn main(rt: HostRuntime) -> Result<()> {
     let schedule = long(rt.alloc(), 20_000)?;
     let mut reader = Noted::new(schedule.as_slice());
     let mut writer = Noted::new(io::writer(&rt));
-    let ran = run_schedule(rt.alloc(), Shown::Report, &mut reader, &mut writer);
+    let ran = run_schedule(
+        rt.alloc(),
+        Shown::Report,
+        Until::Done,
+        &mut reader,
+        &mut writer,
+    );
     println!(rt; "20,000 events: {ran:?}")?;
     Ok(())
 }

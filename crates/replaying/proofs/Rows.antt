@@ -4,7 +4,8 @@ use Rattle.clap.specs.Words.{Text, fault_of, takes}
 use Rattle.clap.specs.declared.error.kind.ErrorKind.TheVariants.{ArgumentConflict, DisplayHelp, UnknownArgument}
 use Rattle.clap.proofs.OnLiterals.{clap_on_literals}
 use Rattle.schedules.specs.declared.run.Shown.TheVariants.{Report, Trace}
-use Rattle.replaying.specs.CommandLine.{file_named, replay, shown_for}
+use Rattle.schedules.specs.declared.until.Until.TheVariants.{Done, Rest}
+use Rattle.replaying.specs.CommandLine.{file_named, replay, shown_for, until_for}
 
 -- the words after the program's name
 abbrev line : List Text → List Text
@@ -49,3 +50,14 @@ a_trace_of_a_file_is_asked_for_behind_it = (refl, refl)
 two_flags_are_too_many : fault_of replay (line (codes "--trace" ∷ codes "--trace" ∷ [])) ≡ ArgumentConflict ∷ []
 unfolding replay clap_on_literals
 two_flags_are_too_many = refl
+
+no_finish_is_asked_for : (until_for (line []) ≡ Done) × (until_for (line (codes "--trace" ∷ [])) ≡ Done)
+unfolding replay clap_on_literals
+no_finish_is_asked_for = (refl, refl)
+
+a_finish_is_asked_for :
+    (until_for (line (codes "--finish" ∷ codes "--trace" ∷ codes "a.schedule" ∷ [])) ≡ Rest)
+    × (shown_for (line (codes "--finish" ∷ codes "--trace" ∷ codes "a.schedule" ∷ [])) ≡ Trace)
+    × (file_named (line (codes "--finish" ∷ codes "--trace" ∷ codes "a.schedule" ∷ [])) ≡ Some (codes "a.schedule"))
+unfolding replay clap_on_literals
+a_finish_is_asked_for = (refl, refl, refl)

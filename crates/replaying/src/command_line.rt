@@ -1,12 +1,12 @@
 //! The command line of `replay`.
 
-ghost use Rattle.std.specs.Prelude.{◌≡◌, IfErr, IfOk, map, option_map, true};
-ghost use Rattle.clap.specs.Words.{FailsBy, app_of, fault_of, kind_of, takes};
+ghost use Rattle.std.specs.Prelude.{◌≡◌, IfErr, IfOk, false, map, option_map, true};
+ghost use Rattle.clap.specs.Words.{FailsBy, app_of, fault_of, kind_of, rule_of, takes};
 ghost use Rattle.clap.specs.declared.error.kind.ErrorKind.TheVariants.{OutOfMemory};
-ghost use Rattle.replaying.specs.CommandLine.{file_named, replay, shown_by, shown_for};
+ghost use Rattle.replaying.specs.CommandLine.{file_argument, file_named, finish_flag, replay, shown_by, shown_for, trace_flag, until_by, until_for};
 
 use clap::{Arg, ArgAction, Command, Error};
-use schedules::Shown;
+use schedules::{Shown, Until};
 use std::alloc::{AllocError, Global};
 use std::convert::AsStr;
 
@@ -17,6 +17,8 @@ pub struct Asked<'a> {
     pub file: Option<&'a str>,
     /// What is to be written of its run.
     pub shown: Shown,
+    /// When its run ends.
+    pub until: Until,
 }
 
 /// What a command line asks for, the program's name its first word.
@@ -28,6 +30,7 @@ pub struct Asked<'a> {
 pub fn asked_by<'a, S: AsStr>(alloc: Global, words: &'a [S]) -> Result<Asked<'a>, Error>
     ensures file { IfOk result (λ asked. option_map (λ name. name.now) asked.file ≡ file_named (map S.text words.entry.now)) }
     ensures shown { IfOk result (λ asked. asked.shown ≡ shown_for (map S.text words.entry.now)) }
+    ensures until { IfOk result (λ asked. asked.until ≡ until_for (map S.text words.entry.now)) }
     // Where the command takes the words, an error is for want of memory.
     ensures taken { IfErr result (λ e. takes replay (map S.text words.entry.now) ≡ true → kind_of e ≡ OutOfMemory) }
     // An answer comes only where no step of the parse fails, and else the kind of error of the first that does, or that of
@@ -39,6 +42,7 @@ pub fn asked_by<'a, S: AsStr>(alloc: Global, words: &'a [S]) -> Result<Asked<'a>
     Ok(Asked {
         file: matches.get_str("file"),
         shown: shown_by(matches.get_str("trace")),
+        until: until_by(matches.get_str("finish")),
     })
 }
 
@@ -52,22 +56,58 @@ fn shown_by(flag: Option<&str>) -> Shown
     }
 }
 
+/// When a run ends where the flag for its finish has this value, if one.
+fn until_by(flag: Option<&str>) -> Until
+    ensures { result ≡ until_by (option_map (λ value. value.now) flag.entry) }
+{
+    match flag {
+        Some(value) if value == "true" => Until::Rest,
+        _ => Until::Done,
+    }
+}
+
+/// The flag for a trace.
+fn trace<'a>(alloc: Global) -> Arg<'a>
+    ensures rule { rule_of result ≡ trace_flag }
+    ensures own { result.global ≡ false }
+{
+    Arg::new(alloc, "trace")
+        .long("trace")
+        .action(ArgAction::SetTrue)
+        .help("Print each event with what it did, and then the report")
+}
+
+/// The flag for a finish.
+fn finish<'a>(alloc: Global) -> Arg<'a>
+    ensures rule { rule_of result ≡ finish_flag }
+    ensures own { result.global ≡ false }
+{
+    Arg::new(alloc, "finish")
+        .long("finish")
+        .action(ArgAction::SetTrue)
+        .help("After the schedule, go on until each client has all its replies")
+}
+
+/// The file of the schedule.
+fn file<'a>(alloc: Global) -> Arg<'a>
+    ensures rule { rule_of result ≡ file_argument }
+    ensures own { result.global ≡ false }
+{
+    Arg::new(alloc, "file")
+        .value_name("FILE")
+        .help("File of the schedule; standard input where none is named")
+}
+
 /// The command line that is parsed.
 fn command<'a>(alloc: Global) -> Result<Command<'a>, AllocError>
     ensures { IfOk result (λ command. app_of command ≡ replay) }
 {
-    let trace = Arg::new(alloc, "trace")
-        .long("trace")
-        .action(ArgAction::SetTrue)
-        .help("Print each event with what it did, and then the report");
-    let file = Arg::new(alloc, "file")
-        .value_name("FILE")
-        .help("File of the schedule; standard input where none is named");
     Command::new(alloc, "replay")
-        .version("0.1.0")
+        .version("0.4.0")
         .about("Runs a schedule of the simulated world, and prints what each client was told")
-        .arg(trace)?
-        .arg(file)
+        .arg(trace(alloc))?
+        .arg(finish(alloc))?
+        .arg(file(alloc))
 }
 
 #[cfg(test)]
@@ -103,6 +143,22 @@ mod tests {
     }
 
     #[test]
+    fn a_finish_is_asked_for(rt: HostRuntime) -> Result<(), Fail> {
+        let none = asked_by(rt.alloc(), ["replay", "--trace"].as_slice())?;
+        assert_eq!(rt; none.until, Until::Done);
+        for words in [
+            ["replay", "--finish", "--trace"],
+            ["replay", "--trace", "--finish"],
+        ] {
+            let one = asked_by(rt.alloc(), words.as_slice())?;
+            assert_eq!(rt; one.file, None, "at {words:?}");
+            assert_eq!(rt; one.shown, Shown::Trace, "at {words:?}");
+            assert_eq!(rt; one.until, Until::Rest, "at {words:?}");
+        }
+        Ok(())
+    }
+
+    #[test]
     fn other_command_lines_are_refused(rt: HostRuntime) -> Result<(), Fail> {
         for words in [
             ["replay", "--colour", "red"],
@@ -117,7 +173,7 @@ mod tests {
     }
 
     #[test]
-    fn help_names_the_file_and_the_trace(rt: HostRuntime) -> Result<(), Fail> {
+    fn help_names_the_file_and_the_flags(rt: HostRuntime) -> Result<(), Fail> {
         let shown = asked_by(rt.alloc(), ["replay", "--help"].as_slice())
             .err()
             .ok_or("taken")?;
@@ -125,6 +181,7 @@ mod tests {
         let text = format!(in rt.alloc(); "{shown}")?;
         assert!(rt; text.contains("[FILE]"), "{text}");
         assert!(rt; text.contains("--trace"), "{text}");
+        assert!(rt; text.contains("--finish"), "{text}");
         Ok(())
     }
 }

@@ -10,6 +10,9 @@ use clap::error::ErrorKind;
 use schedules::ReplayFault;
 use std::process::ExitCode;
 
+/// The exit status where the command line is refused.
+const REFUSED: u8 = 2;
+
 /// Ends a run of a schedule.
 pub(crate) fn ended<E: Eprint>(errors: &E, outcome: Result<(), ReplayFault>) -> ExitCode
     ensures { exit_status result ≡ status_after outcome }
@@ -29,6 +32,14 @@ pub(crate) fn stopped<E: Eprint>(errors: &E, fault: ReplayFault) -> ExitCode
         let _ = eprintln!(errors; "replay: {fault}");
     }
     ExitCode::from(fault.status())
+}
+
+/// Tells on standard error that a word of the command line is no text, in UTF-8, which is a wrong command line.
+pub(crate) fn no_text<E: Eprint>(errors: &E) -> ExitCode
+    ensures { exit_status result ≡ 2 }
+{
+    let _ = eprintln!(errors; "replay: an argument is no UTF-8 text");
+    ExitCode::from(REFUSED)
 }
 
 /// Prints what the parser says of a command line that it does not take, or that asks for help.

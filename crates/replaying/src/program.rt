@@ -1,10 +1,10 @@
 //! The program, from its command line to its exit status.
 
 use crate::command_line::{Asked, asked_by};
-use crate::ending::{ended, refused, stopped};
-use schedules::{ReplayFault, Shown, run_schedule};
+use crate::ending::{ended, no_text, refused, stopped};
+use schedules::{ReplayFault, run_schedule};
 use std::convert::AsStr;
-use std::io::Read;
+use std::io::{ErrorKind, Read};
 use std::process::ExitCode;
 use std::rt::{Env, Files};
 use std::{env, fs, io};
@@ -16,14 +16,15 @@ where
     R: Env + AllocGlobal + Files + Input + Print + Eprint,
 {
     match words_of(rt) {
-        Some(words) => answer(rt, words.as_slice()),
-        None => stopped(rt, ReplayFault::OutOfMemory),
+        Ok(words) => answer(rt, words.as_slice()),
+        Err(error) if error.kind() == ErrorKind::InvalidData => no_text(rt),
+        Err(_) => stopped(rt, ReplayFault::OutOfMemory),
     }
 }
 
-/// The words of the command line, or `None` where there is no memory for them.
-fn words_of<R: Env + AllocGlobal>(rt: &R) -> Option<Vec<String>> {
-    env::args(rt).ok()?.collect(rt.alloc()).ok()
+/// The words of the command line. One that is no text is invalid data; else an error says that there is no memory for them.
+fn words_of<R: Env + AllocGlobal>(rt: &R) -> io::Result<Vec<String>> {
+    Ok(env::args(rt)?.collect(rt.alloc())?)
 }
 
 /// Does what the words of a command line ask for, the program's name the first, and gives the exit
@@ -45,20 +46,26 @@ where
 {
     match asked.file {
         Some(path) => match fs::open(rt, path) {
-            Ok(file) => print(rt, asked.shown, file),
+            Ok(file) => print(rt, asked, file),
             Err(_) => Err(ReplayFault::CannotRead),
         },
-        None => print(rt, asked.shown, rt.reader()),
+        None => print(rt, asked, rt.reader()),
     }
 }
 
-/// Runs the schedule that a reader has, and prints what is to be shown of it.
+/// Runs the schedule that a reader has, and prints what was asked for of it.
 fn print<R: AllocGlobal + Print, I: Read + Drop>(
     rt: &R,
-    shown: Shown,
+    asked: Asked<'_>,
     input: I,
 ) -> Result<(), ReplayFault> {
     let mut reader = Noted::new(input);
     let mut writer = Noted::new(io::writer(rt));
-    run_schedule(rt.alloc(), shown, &mut reader, &mut writer)
+    run_schedule(
+        rt.alloc(),
+        asked.shown,
+        asked.until,
+        &mut reader,
+        &mut writer,
+    )
 }

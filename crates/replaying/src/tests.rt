@@ -1,9 +1,9 @@
 //! How the program ends, and what it says on standard error.
 
 use crate::command_line::Asked;
-use crate::ending::ended;
+use crate::ending::{ended, no_text};
 use crate::program::replayed;
-use schedules::{ReplayFault, Shown};
+use schedules::{ReplayFault, Shown, Until};
 use std::alloc::Global;
 use std::cell::RefCell;
 use std::fmt::Display;
@@ -39,19 +39,29 @@ impl Eprint for Kept {
     }
 }
 
-/// Whether a run that came to this ends with this status, and this is said on standard error.
-fn ends(alloc: Global, outcome: Result<(), ReplayFault>, status: u8, text: &str) -> bool {
-    let errors = Kept {
+/// A standard error that was told nothing.
+fn nothing(alloc: Global) -> Kept {
+    Kept {
         alloc,
         text: RefCell::new(String::new(alloc)),
-    };
+    }
+}
+
+/// Whether a run that came to this ends with this status, and this is said on standard error.
+fn ends(alloc: Global, outcome: Result<(), ReplayFault>, status: u8, text: &str) -> bool {
+    let errors = nothing(alloc);
     let code = ended(&errors, outcome);
+    is_said(errors, text) && code == ExitCode::from(status)
+}
+
+/// Whether this, and nothing more, was said on standard error.
+fn is_said(errors: Kept, text: &str) -> bool {
     let Kept {
         alloc: _,
         text: kept,
     } = errors;
     let said = kept.into_inner();
-    said.as_str() == text && code == ExitCode::from(status)
+    said.as_str() == text
 }
 
 #[test]
@@ -80,11 +90,20 @@ fn each_fault_has_its_status_and_text(rt: HostRuntime) {
 }
 
 #[test]
+fn an_argument_that_is_no_text_is_refused(rt: HostRuntime) {
+    let errors = nothing(rt.alloc());
+    let code = no_text(&errors);
+    assert!(rt; code == ExitCode::from(2));
+    assert!(rt; is_said(errors, "replay: an argument is no UTF-8 text\n"));
+}
+
+#[test]
 fn a_file_that_is_not_there_cannot_be_read(rt: HostRuntime) {
     for path in ["no/such/file", "."] {
         let asked = Asked {
             file: Some(path),
             shown: Shown::Report,
+            until: Until::Done,
         };
         assert_eq!(rt;
             replayed(&rt, asked),

@@ -11,3 +11,4 @@ pub mod Spellings
 pub mod Texts
 pub mod Tracing
 mod SizeRows
+pub mod Ending

@@ -1,18 +1,21 @@
 -- What running a schedule comes to.
-use Rattle.std.specs.Prelude.{ℕ, ◌≡◌, ◌⊎◌, ⊤, List, [], ◌++◌, Result, Ok, Err}
+use Rattle.std.specs.Prelude.{ℕ, ◌≡◌, ◌⊎◌, ◌<◌, ⊤, List, [], ◌++◌, length, Result, Ok, Err}
 use Rattle.words.specs.declared.limits.Limits.{Limits}
 use Rattle.words.specs.Store.{Bytes}
 use Rattle.streams.specs.declared.observed.Told.{Told}
 use Rattle.streams.specs.declared.observed.Told.TheVariants as told
 use Rattle.world_events.specs.declared.event.Event.{Event}
 use Rattle.world_model.specs.States.{State, start}
+use Rattle.world_model.specs.Resting.{AreOfCalls, Finishes, IsAtRest}
 use Rattle.world_model.specs.Turns.{Turns}
 use Rattle.world_model.specs.Told.{Headline}
 use Rattle.schedules.specs.declared.fault.ReplayFault.{ReplayFault}
 use Rattle.schedules.specs.declared.fault.ReplayFault.TheVariants.{CannotRead, BadLine, OutOfMemory, CannotWrite}
 use Rattle.schedules.specs.Schedules.{IsSchedule, IsBadLine}
 use Rattle.schedules.specs.Reports.{report_of}
-use Rattle.schedules.specs.Traces.{IsTraced}
+use Rattle.schedules.specs.Traces.{IsTraced, RestsBy}
+use Rattle.schedules.specs.declared.until.Until.{Until}
+use Rattle.schedules.specs.declared.until.Until.TheVariants.{Done, Rest}
 use Rattle.schedules.specs.declared.run.Shown.{Shown}
 use Rattle.schedules.specs.declared.run.Shown.TheVariants.{Report, Trace}
 
@@ -23,29 +26,53 @@ pub record IsOutcome (limits : Limits) (events : List Event) (report : Bytes) : 
   pub headline : Headline state
   pub told : report ≡ report_of state
 
+-- What is done behind a schedule's events: nothing; or events of calls, until each client rests.
+abbrev pub HasEnded : Until → (before after : State) → Type 0
+HasEnded Done before after = after ≡ before
+HasEnded Rest before after = (events : List Event) × Finishes before events after
+
+-- the same, and these lines are added to a text, the first of which has this number
+abbrev pub HasGoneOn : Until → (number : ℕ) → (before after : State) → (old new : Bytes) → Type 0
+HasGoneOn Done number before after old new = (after ≡ before) × (new ≡ old)
+HasGoneOn Rest number before after old new = RestsBy number before after old new
+
+-- All events that were done in a run that came to this state: the schedule's; or behind them events of calls, and each client rests.
+abbrev pub AreAll : Until → (own all : List Event) → State → Type 0
+AreAll Done own all state = all ≡ own
+AreAll Rest own all state =
+    (more : List Event) × (all ≡ own ++ more) × AreOfCalls more × ((c : ℕ) → c < length state.clients → IsAtRest state c)
+
+-- this is the report of a run of these events, until then
+abbrev pub IsReported : Until → Limits → List Event → (report : Bytes) → Type 0
+IsReported until limits events report = (all : List Event) × (outcome : IsOutcome limits all report) × AreAll until events all outcome.state
+
+-- the same of its trace
+abbrev pub AreTraced : Until → Limits → List Event → (lines : Bytes) → Type 0
+AreTraced until limits events lines = (all : List Event) × (traced : IsTraced limits all lines) × AreAll until events all traced.state
+
 -- the text is a schedule, and this is the report of its run
-pub record IsReport (text report : Bytes) : Type 0 where
+pub record IsReport (until : Until) (text report : Bytes) : Type 0 where
   pub limits : Limits
   pub events : List Event
   pub schedule : IsSchedule text limits events
-  pub outcome : IsOutcome limits events report
+  pub reported : IsReported until limits events report
 
 -- the text is a schedule, and this is the trace of its run
-pub record IsTraceOf (text trace : Bytes) : Type 0 where
+pub record IsTraceOf (until : Until) (text trace : Bytes) : Type 0 where
   pub limits : Limits
   pub events : List Event
   pub schedule : IsSchedule text limits events
-  pub traced : IsTraced limits events trace
+  pub traced : AreTraced until limits events trace
 
 -- what is to be shown of a run of these events
-abbrev pub AreLinesOf : Shown → Limits → List Event → (lines : Bytes) → Type 0
-AreLinesOf Report limits events lines = IsOutcome limits events lines
-AreLinesOf Trace limits events lines = IsTraced limits events lines
+abbrev pub AreLinesOf : Shown → Until → Limits → List Event → (lines : Bytes) → Type 0
+AreLinesOf Report until limits events lines = IsReported until limits events lines
+AreLinesOf Trace until limits events lines = AreTraced until limits events lines
 
 -- the text is a schedule, and this is what is to be shown of its run
-abbrev pub IsShown : Shown → (text lines : Bytes) → Type 0
-IsShown Report text lines = IsReport text lines
-IsShown Trace text lines = IsTraceOf text lines
+abbrev pub IsShown : Shown → Until → (text lines : Bytes) → Type 0
+IsShown Report until text lines = IsReport until text lines
+IsShown Trace until text lines = IsTraceOf until text lines
 
 -- why a text has no report: its first bad line, or want of memory
 abbrev pub IsFault : Bytes → ReplayFault → Type 0
@@ -56,12 +83,12 @@ IsFault text CannotWrite = ⊥
 
 -- What was written of a text that was read: what is to be shown of its run; at a failed write a beginning of that; at any other fault
 -- nothing.
-abbrev pub IsRun : Shown → Bytes → (written : Bytes) → Result ⊤ ReplayFault → Type 0
-IsRun shown text written (Ok done) = IsShown shown text written
-IsRun shown text written (Err (BadLine number)) = IsBadLine text number × (written ≡ [])
-IsRun shown text written (Err OutOfMemory) = written ≡ []
-IsRun shown text written (Err CannotRead) = written ≡ []
-IsRun shown text written (Err CannotWrite) = (more : Bytes) × IsShown shown text (written ++ more)
+abbrev pub IsRun : Shown → Until → Bytes → (written : Bytes) → Result ⊤ ReplayFault → Type 0
+IsRun shown until text written (Ok done) = IsShown shown until text written
+IsRun shown until text written (Err (BadLine number)) = IsBadLine text number × (written ≡ [])
+IsRun shown until text written (Err OutOfMemory) = written ≡ []
+IsRun shown until text written (Err CannotRead) = written ≡ []
+IsRun shown until text written (Err CannotWrite) = (more : Bytes) × IsShown shown until text (written ++ more)
 
 -- All that the reader had left was read, but where it failed or memory was wanted.
 abbrev pub IsWhole : Result ⊤ ReplayFault → (at_end : Type 0) → Type 0

@@ -1,5 +1,5 @@
 -- What a run of a schedule is traced as: a line for each event, which says what it did.
-use Rattle.std.specs.Prelude.{ℕ, ◌≡◌, ◌+◌, Bool, true, false, List, [], ◌∷◌, ◌++◌, length, drop, Option, Some, None, codes, nat_lt, if◌then◌else◌}
+use Rattle.std.specs.Prelude.{ℕ, ◌≡◌, ◌+◌, ◌<◌, Bool, true, false, List, [], ◌∷◌, ◌++◌, length, drop, Option, Some, None, codes, nat_lt, if◌then◌else◌}
 use Rattle.std.specs.Fmt.{decimal}
 use Rattle.hex.specs.Hex.{encode_lower}
 use Rattle.words.specs.declared.limits.Limits.{Limits}
@@ -8,6 +8,7 @@ use Rattle.world_events.specs.Actors.{actor}
 use Rattle.world_events.specs.declared.event.Event.{Event}
 use Rattle.world_model.specs.Enabled.{is_enabled}
 use Rattle.world_model.specs.States.{State, client, start}
+use Rattle.world_model.specs.Resting.{AreOfCalls, IsAtRest}
 use Rattle.world_model.specs.Told.{Headline}
 use Rattle.world_model.specs.Turns.{Turn}
 use Rattle.schedules.specs.Reports.{report_of}
@@ -64,6 +65,16 @@ IsTrace number before [] after text = (after ≡ before) × (text ≡ [])
 IsTrace number before (e ∷ events) after text =
     (next : State) × (rest : Bytes) × Turn before e next × IsTrace (number + 1) next events after rest
     × (text ≡ trace_line number e before next ++ rest)
+
+-- Events of calls lead from one state to another, where each client rests, and lines are added to a text that say so. The first of them is on
+-- this line.
+pub record RestsBy (number : ℕ) (before after : State) (old new : Bytes) : Type 0 where
+  pub events : List Event
+  pub lines : Bytes
+  pub of_calls : AreOfCalls events
+  pub trace : IsTrace number before events after lines
+  pub added : new ≡ old ++ lines
+  pub rest : (c : ℕ) → c < length after.clients → IsAtRest after c
 
 -- The events, in order, lead a world of these limits from its beginning to a state of which the headline holds; this is a line for each of
 -- them, and then the report of that state. (The first event is on line 2.)

@@ -6,6 +6,7 @@ ghost use Rattle.schedules.specs.Lines.{IsReading, IsLine, IsFirstReading, IsFir
 use crate::cutting::cut;
 use crate::hexadecimal::{byte_of, bytes_of};
 use crate::numbers::number;
+use crate::pages::Pages;
 use crate::verbs::{ClientVerb, HoldVerb, StripeVerb};
 use bytes::Bytes;
 use std::alloc::Global;
@@ -13,7 +14,7 @@ use words::limits::{
     BUCKETS_DEFAULT, CLIENTS_MAX, FRAMES_MAX, Limits, PLACES_DEFAULT, STRIPES_MAX,
 };
 use words::word::OutOfMemory;
-use world_events::{Event, ShownPage};
+use world_events::Event;
 
 /// The most bytes that one event feeds to a client.
 pub const PIECE_BYTES_MAX: usize = 65_536;
@@ -75,8 +76,8 @@ fn piece(
 
 /// The event of a stripe whose place is released, and shows a page of this byte.
 fn release(
-    alloc: Global,
     limits: &Limits,
+    pages: &mut Pages,
     stripe: &[u8],
     text: &[u8],
 ) -> Result<Option<Event>, OutOfMemory>
@@ -88,7 +89,7 @@ fn release(
     let Some(byte) = byte_of(text) else {
         return Ok(None);
     };
-    let page = ShownPage::filled(alloc, byte)?;
+    let page = pages.of(byte)?;
     Ok(Some(Event::Release(stripe, page)))
 }
 
@@ -108,6 +109,7 @@ fn hold(limits: &Limits, name: &[u8], client: &[u8], stripe: &[u8]) -> Option<Ev
 fn event_of_two(
     alloc: Global,
     limits: &Limits,
+    pages: &mut Pages,
     name: &[u8],
     first: &[u8],
     second: &[u8],
@@ -118,7 +120,7 @@ fn event_of_two(
         return piece(alloc, limits, first, second);
     }
     if name == b"release".as_slice() {
-        return release(alloc, limits, first, second);
+        return release(limits, pages, first, second);
     }
     Ok(hold(limits, name, first, second))
 }
@@ -127,6 +129,7 @@ fn event_of_two(
 pub(crate) fn event_of(
     alloc: Global,
     limits: &Limits,
+    pages: &mut Pages,
     line: &[u8],
 ) -> Result<Option<Event>, OutOfMemory>
     ensures { IfOk result (IsLine limits.now line.now) }
@@ -136,6 +139,6 @@ pub(crate) fn event_of(
     };
     match cut(b' ', words) {
         None => Ok(event_of_number(limits, name, words)),
-        Some((first, second)) => event_of_two(alloc, limits, name, first, second),
+        Some((first, second)) => event_of_two(alloc, limits, pages, name, first, second),
     }
 }

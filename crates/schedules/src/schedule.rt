@@ -6,6 +6,7 @@ ghost use Rattle.schedules.specs.Schedules.{IsSchedule, IsBadLine};
 
 use crate::cutting::cut;
 use crate::lines::{event_of, first_line};
+use crate::pages::Pages;
 use std::alloc::Global;
 use words::limits::Limits;
 use words::word::OutOfMemory;
@@ -35,6 +36,7 @@ pub enum ParseFault {
 fn next_event<'a>(
     alloc: Global,
     limits: &Limits,
+    pages: &mut Pages,
     text: &'a [u8],
 ) -> Result<Option<(Event, &'a [u8])>, OutOfMemory>
     ensures { IfOk result (IsNext limits.now text.now) }
@@ -42,7 +44,7 @@ fn next_event<'a>(
     let Some((line, rest)) = cut(b'\n', text) else {
         return Ok(None);
     };
-    match event_of(alloc, limits, line)? {
+    match event_of(alloc, limits, pages, line)? {
         Some(event) => Ok(Some((event, rest))),
         None => Ok(None),
     }
@@ -54,9 +56,12 @@ fn events_of(alloc: Global, limits: &Limits, text: &[u8]) -> Result<Vec<Event>, 
     ensures bad { IfErr result (λ fault. (number : ℕ) → fault ≡ ParseFault.BadLine number → HasBadEvent limits.now text.now number) }
 {
     let mut events = Vec::new(alloc);
+    let mut pages = Pages::new(alloc);
     let mut rest = text;
     while !rest.is_empty() {
-        let next = next_event(alloc, limits, rest).map_err(|_| ParseFault::OutOfMemory)?;
+        let next = next_event(alloc, limits, &mut pages, rest).map_err(
+            |_| ParseFault::OutOfMemory,
+        )?;
         let Some((event, more)) = next else {
             return Err(ParseFault::BadLine(events.len() + 2));
         };

@@ -1,18 +1,22 @@
 //! Tracing a run: a line for each event, which says what it did.
 
-ghost use Rattle.std.specs.Prelude.{◌≡◌, ◌++◌, IfOk, OnOk, drop};
+ghost use Rattle.std.specs.Prelude.{◌≡◌, ◌+◌, ◌<◌, ◌≤◌, ◌++◌, IfOk, OnOk, drop, length, true};
+ghost use Rattle.world_model.specs.Enabled.{is_enabled};
+ghost use Rattle.world_model.specs.Resting.{IsOfCall, events_left};
 ghost use Rattle.world_model.specs.Turns.{Turn};
 ghost use Rattle.world.specs.Tables.{IsWorld, state_of};
-ghost use Rattle.schedules.specs.Traces.{IsTrace, IsTraced, effect_part, entry_added, enabled_part, entry_part, event_part, output_of, said, told_part, trace_line};
+ghost use Rattle.schedules.specs.Runs.{AreTraced, HasGoneOn};
+ghost use Rattle.schedules.specs.Traces.{IsTrace, RestsBy, effect_part, entry_added, enabled_part, entry_part, event_part, output_of, said, told_part, trace_line};
 
 use crate::report::report_of;
 use crate::schedule::Schedule;
 use crate::spelling::{add_bytes, add_event, add_number};
+use crate::until::Until;
 use std::alloc::{AllocError, Global};
 use words::word::OutOfMemory;
 use world::World;
 use world_events::Event;
-use world_model::theorems::sound_worlds_tell_the_truth;
+use world_model::theorems::{calls_come_to_an_end, sound_worlds_tell_the_truth};
 
 /// What an event did.
 #[derive(Clone, Copy)]
@@ -25,12 +29,18 @@ struct Effect<'a> {
 }
 
 /// Runs a schedule, and traces it: a line for each event, and then the report.
-pub(crate) fn traced(alloc: Global, schedule: &Schedule) -> Result<Vec<u8>, OutOfMemory>
-    ensures { IfOk result (λ text. IsTraced schedule.now.limits schedule.now.events.items text.items) }
+pub(crate) fn traced(
+    alloc: Global,
+    until: Until,
+    schedule: &Schedule,
+) -> Result<Vec<u8>, OutOfMemory>
+    ensures { IfOk result (λ text. AreTraced until schedule.now.limits schedule.now.events.items text.items) }
 {
     sound_worlds_tell_the_truth();
     let world = World::new(alloc, &schedule.limits)?;
     let (world, mut text) = follow(alloc, world, schedule.events.as_slice())?;
+    let first = schedule.events.len() + 2;
+    let world = follow_until(alloc, until, world, first, &mut text)?;
     let report = report_of(alloc, &world);
     world.end();
     text.extend_from_slice(report?.as_slice())?;
@@ -52,6 +62,66 @@ fn follow(alloc: Global, world: World, events: &[Event]) -> Result<(World, Vec<u
         left = others;
     }
     Ok((world, lines))
+}
+
+/// Does what is done behind a schedule's events, and adds its lines, the first of which has this number.
+fn follow_until(
+    alloc: Global,
+    until: Until,
+    world: World,
+    first: usize,
+    lines: &mut Vec<u8>,
+) -> Result<World, OutOfMemory>
+    requires world { IsWorld world }
+    requires few { first ≤ length lines.old.items + 2 }
+    ensures lines { IfOk result (λ next. HasGoneOn until first (state_of world) (state_of next) lines.old.items lines.new.items) }
+    ensures world { IfOk result IsWorld }
+{
+    match until {
+        Until::Done => Ok(world),
+        Until::Rest => follow_to_rest(alloc, world, first, lines),
+    }
+}
+
+/// Does events of calls until each client rests, and adds their lines, the first of which has this number.
+fn follow_to_rest(
+    alloc: Global,
+    world: World,
+    first: usize,
+    lines: &mut Vec<u8>,
+) -> Result<World, OutOfMemory>
+    requires world { IsWorld world }
+    requires few { first ≤ length lines.old.items + 2 }
+    ensures rest { IfOk result (λ next. RestsBy first (state_of world) (state_of next) lines.old.items lines.new.items) }
+    ensures world { IfOk result IsWorld }
+{
+    let mut world = world;
+    let mut number = first;
+    while let Some(event) = world.next_event() {
+        world = step_on(alloc, world, number, &event, lines)?;
+        number += 1;
+    }
+    Ok(world)
+}
+
+/// Does an event of a call, which is enabled, and adds its line. Fewer are left then.
+fn step_on(
+    alloc: Global,
+    world: World,
+    number: usize,
+    event: &Event,
+    lines: &mut Vec<u8>,
+) -> Result<World, OutOfMemory>
+    requires world { IsWorld world }
+    requires of_call { IsOfCall event.now }
+    requires enabled { is_enabled (state_of world) event.now ≡ true }
+    ensures turn { IfOk result (λ next. Turn (state_of world) event.now (state_of next)) }
+    ensures line { IfOk result (λ next. lines.new.items ≡ lines.old.items ++ trace_line number event.now (state_of world) (state_of next)) }
+    ensures fewer { IfOk result (λ next. events_left (state_of next) < events_left (state_of world)) }
+    ensures world { IfOk result IsWorld }
+{
+    calls_come_to_an_end();
+    step(alloc, world, number, event, lines)
 }
 
 /// Does an event, and adds its line. Where there is no memory, the world is given up.

@@ -1,7 +1,7 @@
 //! Reading and running schedules, over streams in memory.
 
 use schedules::{
-    PIECE_BYTES_MAX, ParseFault, ReplayFault, Shown, parse, replay, run_schedule, trace,
+    PIECE_BYTES_MAX, ParseFault, ReplayFault, Shown, Until, parse, replay, run_schedule, trace,
 };
 use std::alloc::{AllocError, Global};
 use std::io;
@@ -51,6 +51,28 @@ commit 1
 release 12 ff
 give 1 12
 fetch 1
+";
+
+/// Lines of releases, some of which show the same byte. None is enabled.
+const RELEASES: &[u8] = b"world 1 2 12
+release 0 ff
+release 1 00
+release 1 ff
+release 0 01
+release 0 00
+release 0 ff
+";
+
+/// Their trace, as it is written by hand.
+const RELEASES_TRACE: &[u8] = b"\
+2 release 0 ff | not enabled
+3 release 1 00 | not enabled
+4 release 1 ff | not enabled
+5 release 0 01 | not enabled
+6 release 0 00 | not enabled
+7 release 0 ff | not enabled
+0:
+entries 0
 ";
 
 /// `WATCH a` of the one client, `SET a 1` of the other, then `MULTI` and `EXEC` in one piece.
@@ -224,7 +246,7 @@ impl Outcome {
     fn showing(alloc: Global, shown: Shown, source: Source<'_>, takes: usize) -> Outcome {
         let mut reader = Noted::new(source);
         let mut writer = Noted::new(Sink::new(alloc, takes));
-        let result = run_schedule(alloc, shown, &mut reader, &mut writer);
+        let result = run_schedule(alloc, shown, Until::Done, &mut reader, &mut writer);
         let writer_told = writer.told();
         Outcome {
             result,
@@ -314,11 +336,17 @@ fn later_events_are_traced_as_not_enabled(rt: HostRuntime) {
     assert!(rt; is_traced(rt.alloc(), WITH_LATER_EVENTS, WITH_LATER_EVENTS_TRACE));
 }
 
+/// Lines of the same byte share a page, and each line shows its own byte.
+#[test]
+fn each_release_shows_its_byte(rt: HostRuntime) {
+    assert!(rt; is_traced(rt.alloc(), RELEASES, RELEASES_TRACE));
+}
+
 /// A trace without events is the report, and a bad line is told in place of a trace.
 #[test]
 fn a_trace_without_events(rt: HostRuntime) {
     assert!(rt; is_traced(rt.alloc(), b"world 2 1 12\n", b"0:\n1:\nentries 0\n"));
-    let bad = trace(rt.alloc(), b"world 2 1 12\nclose 0\nclose 2\n");
+    let bad = trace(rt.alloc(), Until::Done, b"world 2 1 12\nclose 0\nclose 2\n");
     assert_eq!(rt; bad.err(), Some(ReplayFault::BadLine(3)));
 }
 
@@ -454,14 +482,14 @@ fn is_report_or_out_of_memory(replayed: &Result<Vec<u8>, ReplayFault>, lines: &[
 /// Where an allocation is refused (`rt try --test --fail-alloc`), a schedule is reported or memory was wanted.
 #[test]
 fn a_refused_allocation(rt: HostRuntime) {
-    let replayed = replay(rt.alloc(), SET_AND_GET);
+    let replayed = replay(rt.alloc(), Until::Done, SET_AND_GET);
     assert!(rt; is_report_or_out_of_memory(&replayed, SET_AND_GET_REPORT));
 }
 
 /// Where an allocation is refused, a schedule is traced or memory was wanted.
 #[test]
 fn a_refused_allocation_of_a_trace(rt: HostRuntime) {
-    let traced = trace(rt.alloc(), SET_AND_GET);
+    let traced = trace(rt.alloc(), Until::Done, SET_AND_GET);
     assert!(rt; is_report_or_out_of_memory(&traced, SET_AND_GET_TRACE));
 }
 

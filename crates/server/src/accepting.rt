@@ -1,6 +1,7 @@
 //! Listening, and handing each connection to a worker.
 
-ghost use Rattle.std.specs.Prelude.{◌≡◌, ◌≢◌, IfErr};
+ghost use Rattle.std.specs.Duration.{as_nanos};
+ghost use Rattle.std.specs.Prelude.{◌≡◌, ◌≢◌, ◌*◌, IfErr};
 
 use crate::fault::ServerFault;
 use crossbeam_channel::Sender;
@@ -43,12 +44,18 @@ pub(crate) fn accept_all<R: Clock + Wait>(
 {
     for _ in 0..count {
         let stream = accept(rt, &listener)?;
-        let patience = Duration::from_millis(PATIENCE_MILLISECONDS);
-        if let Err(refused) = workers.send_timeout(rt, stream, patience) {
+        if let Err(refused) = workers.send_timeout(rt, stream, patience()) {
             turn_away(rt, refused.into_inner(), &closer);
         }
     }
     Ok(())
+}
+
+/// How long a connection waits for a worker to come free: 100 milliseconds.
+fn patience() -> Duration
+    ensures { as_nanos result ≡ 100 * 1_000_000 }
+{
+    Duration::from_millis(PATIENCE_MILLISECONDS)
 }
 
 /// The next connection. One that its client gave up before it was accepted is passed over.

@@ -1,7 +1,8 @@
 //! A server: the thread that accepts, one for each worker, one that closes, and three that work in the background.
 
-ghost use Rattle.std.specs.Prelude.{◌≡◌, ◌≢◌, ◌+◌, [], IfErr, IfOk, All, vec_len};
-ghost use Rattle.engine.specs.Passes.{knows, Rests};
+ghost use Rattle.std.specs.Prelude.{◌≡◌, ◌≢◌, ◌+◌, [], IfErr, IfOk, All, length, vec_len};
+ghost use Rattle.engine.specs.Passes.{knows, Rests, stripe_count};
+ghost use Rattle.upkeep.specs.Rounds.{laps_of};
 ghost use Rattle.engine.specs.declared.TheConstants.{BACKGROUND_PASSES};
 
 use crate::accepting::accept_all;
@@ -10,7 +11,7 @@ use crate::fault::ServerFault;
 use crate::working::{Shared, work};
 use crossbeam_channel::{Sender, bounded};
 use device::Device;
-use duties::{Chores, Duty, work_in_background};
+use duties::{Background, Chores, work_in_background};
 use engine::{BACKGROUND_PASSES, Engine, Pass};
 use gates::Latch;
 use options::Options;
@@ -62,7 +63,9 @@ where
     ensures opened { IfErr result (λ fault. fault ≢ ServerFault.CannotOpenDevice) }
 {
     let (engine, passes) = Engine::new(rt.alloc(), &options.limits(), openings)?;
-    serve_all(rt, listener, options, latch, endings, &engine, passes)
+    let served = serve_all(rt, listener, options, latch, endings, &engine, passes);
+    engine.end();
+    served
 }
 
 /// Serves by an engine and its passes. It returns when all threads have ended.
@@ -219,13 +222,10 @@ where
     ensures watch { IfOk result (λ others. All (λ pass. (knows D.failures pass).watched ≡ []) others.items) }
     ensures fault { IfErr result (λ fault. fault ≡ ServerFault.OutOfMemory) }
 {
-    let alloc = rt.alloc();
-    let cleaner = Chores::of_cleaner(alloc, options.stripes, options.places)?;
-    let evictor = Chores::of(alloc, Duty::Evict);
-    let flusher = Chores::of(alloc, Duty::Flush);
-    let passes = start_chores(rt, scope, engine, passes, cleaner, serving)?;
-    let passes = start_chores(rt, scope, engine, passes, evictor, serving)?;
-    start_chores(rt, scope, engine, passes, flusher, serving)
+    let all = Background::new(rt.alloc(), engine.stripes(), options.places)?;
+    let passes = start_chores(rt, scope, engine, passes, all.cleaner, serving)?;
+    let passes = start_chores(rt, scope, engine, passes, all.evictor, serving)?;
+    start_chores(rt, scope, engine, passes, all.flusher, serving)
 }
 
 /// Starts a thread for these chores, with the last pass, and gives the others back.
@@ -243,6 +243,7 @@ where
     D::Receipt: Send + Sync,
     requires rest { All (Rests D.Receipt.is_steady engine.now) passes.items }
     requires watch { All (λ pass. (knows D.failures pass).watched ≡ []) passes.items }
+    requires laps { length (laps_of chores) ≡ stripe_count engine.now }
     ensures rest { IfOk result (λ others. All (Rests D.Receipt.is_steady engine.now) others.items) }
     ensures watch { IfOk result (λ others. All (λ pass. (knows D.failures pass).watched ≡ []) others.items) }
     ensures fault { IfErr result (λ fault. fault ≡ ServerFault.OutOfMemory) }
@@ -268,11 +269,13 @@ where
     D: Device + Send + Sync,
     D::Receipt: Send + Sync,
     requires rests { Rests D.Receipt.is_steady engine.now pass }
+    requires laps { length (laps_of chores) ≡ stripe_count engine.now }
     ensures { IfErr result (λ fault. fault ≡ ServerFault.OutOfMemory) }
 {
     scope.spawn(
         move ||
             requires rests { Rests D.Receipt.is_steady engine.now pass }
+            requires laps { length (laps_of chores) ≡ stripe_count engine.now }
         {
             work_in_background(rt, engine, pass, chores, serving);
         },

@@ -2,6 +2,7 @@
 
 ghost use Rattle.std.specs.Prelude.{◌≡◌, []};
 ghost use Rattle.engine.specs.Passes.{knows, Rests};
+ghost use Rattle.server.specs.Closing.{has_client_by};
 
 use crate::ending_list::Endings;
 use connection::{Ended, serve};
@@ -68,8 +69,6 @@ fn serve_stream<R: AllocGlobal + Clock + Wait, L: Latch, D: Device>(
     ensures rests { Rests D.Receipt.is_steady shared.now.engine.now result.0 }
     ensures watches { (knows D.failures result.0).watched ≡ [] }
 {
-    // Without this a short reply may wait for the client's acknowledgement of the one before.
-    let _ = stream.set_nodelay(true);
     let socket = Socket::new(stream);
     let mut reader = Noted::new(SocketReader::new(rt, &socket, &shared.serving));
     let mut writer = Noted::new(SocketWriter::new(&socket));
@@ -87,8 +86,17 @@ fn serve_stream<R: AllocGlobal + Clock + Wait, L: Latch, D: Device>(
 /// Closes a connection that ended so: at once where its client has gone, and else once the client has had
 /// time to read the last reply.
 fn close<R: Clock + Wait>(rt: &R, stream: TcpStream, ended: Ended, closer: &Sender<Leaving>) {
+    if has_client(ended) {
+        close_later(rt, stream, closer);
+    }
+}
+
+/// Whether the client of a connection that ended so may be there yet, with its last reply to read.
+fn has_client(ended: Ended) -> bool
+    ensures { result ≡ has_client_by ended }
+{
     match ended {
-        Ended::Quit | Ended::ProtocolFault | Ended::NoMemory => close_later(rt, stream, closer),
-        Ended::EndOfInput | Ended::ReadFailed | Ended::WriteFailed => {}
+        Ended::Quit | Ended::ProtocolFault | Ended::NoMemory => true,
+        Ended::EndOfInput | Ended::ReadFailed | Ended::WriteFailed => false,
     }
 }

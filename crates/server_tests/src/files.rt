@@ -1,7 +1,8 @@
 //! A store whose old pages lie in a file, over a socket: what is read where the file is whole, where it is cut short,
 //! written over or replaced meanwhile, and where its disk is full.
 
-use crate::client::{PING, PONG, answers, connect, reads, sends, with_file};
+use crate::client::{PING, PONG, answers, connect, reads, sends, with_file, with_openings};
+use crate::full::{FullDisk, openings_on};
 use crate::pages::{COUNT, FIRST, get_is_answered, has, has_all, options, stores_all, thirty_sets};
 use device::FileDevice;
 use server::ServerFault;
@@ -209,12 +210,12 @@ where
 /// The frames hold 12 pages of 63 values. No page can be written.
 #[test]
 fn a_full_disk_is_told_of_each_write_that_needs_a_page(rt: HostRuntime) -> Result<(), Fail> {
-    let outcome = with_file(
-        &rt,
-        options(PLACES_DEFAULT, 1, 1),
-        "/dev/full",
-        fills_the_frames,
-    )?;
+    let disk = FullDisk { rt: &rt };
+    let options = options(PLACES_DEFAULT, 1, 1).ok_or("no options")?;
+    let Ok(openings) = openings_on(&disk, rt.alloc(), &options) else {
+        return Err(Fail::from("no openings"));
+    };
+    let outcome = with_openings(&rt, &options, openings, fills_the_frames)?;
     assert!(rt; outcome.is_well(1));
     Ok(())
 }

@@ -3,6 +3,8 @@
 #![tactic(auto)]
 
 #[cfg(test)]
+mod buffers;
+#[cfg(test)]
 mod client;
 #[cfg(test)]
 mod conversations;
@@ -17,13 +19,23 @@ mod files;
 #[cfg(test)]
 mod filling;
 #[cfg(test)]
+mod full;
+#[cfg(test)]
 mod holding;
+#[cfg(test)]
+mod lasting;
+#[cfg(test)]
+mod leaving;
+#[cfg(test)]
+mod limits;
 #[cfg(test)]
 mod overwriting;
 #[cfg(test)]
 mod pages;
 #[cfg(test)]
 mod pipelines;
+#[cfg(test)]
+mod reading;
 #[cfg(test)]
 mod refusals;
 #[cfg(test)]

@@ -8,8 +8,8 @@ use std::net::{Net, TcpStream};
 use std::rt::Clock;
 use std::sync::Wait;
 use std::test::Fail;
-use std::thread;
 use std::time::Duration;
+use std::{fs, thread};
 
 /// How many pieces of thirty keys the store has. They take 20 pages.
 const PIECES: u32 = 42;
@@ -111,5 +111,8 @@ fn a_store_in_a_file_that_is_overwritten_for_long_stays_inside_its_places(
 ) -> Result<(), Fail> {
     let outcome = with_file(&rt, options(64, 1, 1), "overwritten.pages", overwrites)?;
     assert!(rt; outcome.is_well(1));
+    // A thread of the background may have written a page for which no place is counted yet.
+    let length = fs::metadata(&rt, "overwritten.pages").map(|file| file.len());
+    assert!(rt; matches!(length, Ok(bytes) if bytes <= (64 + 3) * 65_536));
     Ok(())
 }

@@ -122,6 +122,20 @@ pub(crate) fn get_is_answered(
     Some(sends(stream, &get) && reads(stream, reply))
 }
 
+/// Whether a GET of this key of four digits is sent.
+pub(crate) fn asks(alloc: Global, stream: &TcpStream, key: u32) -> Option<bool> {
+    let mut get = Vec::new(alloc);
+    write!(get, "*2\r\n$3\r\nGET\r\n$4\r\n{key}\r\n").ok()?;
+    Some(sends(stream, &get))
+}
+
+/// Whether the value of this key comes next.
+pub(crate) fn has_value(alloc: Global, stream: &TcpStream, key: u32) -> Option<bool> {
+    let mut value = Vec::new(alloc);
+    add_value(&mut value, key).ok()?;
+    Some(reads(stream, &value))
+}
+
 /// Whether this key has its value.
 pub(crate) fn has(alloc: Global, stream: &TcpStream, key: u32) -> Option<bool> {
     let mut value = Vec::new(alloc);

@@ -1,15 +1,16 @@
 //! Options, listening and faults.
 
-use crate::client::{memory, options_with};
+use crate::client::{PING, PONG, connect, is_at_end, memory, options_with, reads, sends};
 use gates::Open;
-use options::{DeviceKind, Options};
+use options::{ACCEPT_MAX, DeviceKind, Options};
 use server::{Endings, ServerFault, listen, run_workers};
 use std::alloc::Global;
-use std::net::{Net, TcpListener, TcpStream};
+use std::net::{Net, Shutdown, TcpListener, TcpStream};
 use std::rt::Clock;
 use std::sync::Wait;
 use std::test::Fail;
-use std::thread::Threads;
+use std::thread::{Threads, sleep};
+use std::time::Duration;
 
 /// A server's options with this port, for one connection.
 fn options(port: u16) -> Option<Options> {
@@ -80,6 +81,48 @@ fn a_listener_that_gives_no_connection_stops_the_server(rt: HostRuntime) -> Resu
     let endings = Endings::new(rt.alloc())?;
     let fault = fault_without_connections(&rt, &endings);
     assert!(rt; fault == Some(ServerFault::CannotAccept) && endings.count() == 0);
+    Ok(())
+}
+
+/// A client that came to this listener, sent a PING and sends no more. The listener gives no other.
+fn one_came<R>(rt: &R, listener: &TcpListener) -> Option<TcpStream>
+where
+    R: Clock + Net<Stream = TcpStream>,
+{
+    let client = connect(rt, listener.local_addr().ok()?.port())?;
+    let sent = sends(&client, PING) && client.shutdown(Shutdown::Write).is_ok();
+    sleep(rt, Duration::from_millis(100));
+    if !sent || listener.set_nonblocking(true).is_err() {
+        return None;
+    }
+    Some(client)
+}
+
+/// Whether a server that is to accept as many connections as any serves the one that came before it, and then stops since
+/// there is no other.
+fn serves_one_and_stops<R>(rt: &R, endings: &Endings) -> Option<bool>
+where
+    R: AllocGlobal
+        + Clock
+        + Net<Listener = TcpListener, Stream = TcpStream>
+        + Threads
+        + Wait
+        + Sync,
+{
+    let options = options_with(0, ACCEPT_MAX, 16, 4)?;
+    let openings = memory(rt.alloc(), &options).ok()?;
+    let listener = listen(rt, &options).ok()?;
+    let client = one_came(rt, &listener)?;
+    let fault = run_workers(rt, listener, &options, openings, &Open, endings).err();
+    Some(fault == Some(ServerFault::CannotAccept) && reads(&client, PONG) && is_at_end(&client))
+}
+
+/// A million connections are accepted one by one: a server of so many begins with the first.
+#[test]
+fn a_server_of_a_million_connections_begins_with_the_first(rt: HostRuntime) -> Result<(), Fail> {
+    let endings = Endings::new(rt.alloc())?;
+    let well = serves_one_and_stops(&rt, &endings);
+    assert!(rt; well == Some(true) && endings.count() == 1);
     Ok(())
 }
 

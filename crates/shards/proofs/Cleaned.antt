@@ -60,6 +60,7 @@ same_waiting one two same = record {
   retired = ap (λ (c : Counted). c.retired) same;
   drained = ap (λ (c : Counted). c.drained) same;
   refused = ap (λ (c : Counted). c.refused) same;
+  worn = ap (λ (c : Counted). c.worn) same;
 }
 
 -- what waits but for the unlinked receipts is the same, whatever the step at the oldest page came to
@@ -70,6 +71,7 @@ waiting_by cleaning.Unlinked old new weight has same = record {
   retired = ap (λ (c : Counted). c.retired) has.is;
   drained = ap (λ (c : Counted). c.drained) has.is;
   refused = ap (λ (c : Counted). c.refused) has.is;
+  worn = ap (λ (c : Counted). c.worn) has.is;
 }
 waiting_by (cleaning.Cold n) old new weight has same = same_waiting old new same
 waiting_by (cleaning.Heavy w) old new weight has same = same_waiting old new same

@@ -4,13 +4,15 @@ use Rattle.std.specs.Prelude.{OnOk, OnErr, slice_index_or}
 use Rattle.std.specs.Option.{is_some}
 use Rattle.std.specs.Bool.{OnTrue, OnFalse}
 use Rattle.std.specs.Prelude.{if◌then◌else◌}
-use Rattle.shards.specs.Counted.{Counted, HasDrained, HasLanded, HasReleased, HasRetired, HasTaken, HasTurned, HasUnlinked, IsCounted, WasRefused, claimed, with_flight}
+use Rattle.shards.specs.Counted.{Counted, HasDrained, HasLanded, HasReleased, HasRetired, HasTaken, HasTurned, HasUnlinked, IsCounted, WasRefused, claimed, places_of, with_flight}
 use Rattle.hybrid.specs.Staging.{IsUnlinked}
 use Rattle.std.specs.List.{Contains}
 use Rattle.hybrid.specs.HybridLog.{HybridLog, Kept, IsHybridLog, count_kept, receipt_of, with_dropped, with_receipt}
 use Rattle.hybrid.specs.HybridLog as hybrid
 use Rattle.frames.specs.Resident.{next_number}
-use Rattle.gates.specs.Pages.{count_true, total}
+use Rattle.gates.specs.Background.{CameLate, HasKept, HasSamePages, IsStep, waiting}
+use Rattle.gates.specs.Pages.{Pages, Place, count_true, total}
+use Rattle.gates.specs.declared.view.Work.TheVariants.{Flush}
 
 -- what is so of a log either way is so of one that is the same
 pub either_way : {X E L Q : Type 0} (P : L → Type 0) (a b : L) (r : Result X E) → a ≡ b → OnOk r (P a) → OnErr r (Q → P a) → Q → P b
@@ -62,34 +64,103 @@ pub kept_more : (p : HybridLog) (number : ℕ) (k : Kept) → IsHybridLog p → 
     → count_true (map is_some (with_receipt p number k).kept) ≡ count_true (map is_some p.kept) + 1
 kept_more p number k is sealed = count_more p.kept (number - p.oldest) k (omega (arith, is.numbered, is.live, sealed.from, sealed.below)) sealed.none
 
--- to count a place leaves the receipts that are kept and those that are unlinked
-kept_if : (b : Bool) (c : Counted) → (if b then c else with_flight c).log.kept ≡ c.log.kept
-kept_if true c = refl
-kept_if false c = refl
+-- the pages of a log, with what becomes of its places
+abbrev pub counted_pages : Counted → Pages
+counted_pages c = record {
+  oldest = c.log.oldest;
+  first = c.log.resident.oldest;
+  tail = next_number c.log.resident - 1;
+  frames = c.log.resident.frames;
+  receipts = map is_some c.log.kept;
+  unlinked = length c.unlinked;
+  retired = length c.retired;
+  drained = length c.drained;
+  waits = places_of c.unlinked;
+  refused = c.refused;
+  worn = c.worn;
+  unreleased = c.log.unreleased;
+  places = c.log.places;
+}
 
-unlinked_if : (b : Bool) (c : Counted) → (if b then c else with_flight c).unlinked ≡ c.unlinked
-unlinked_if true c = refl
-unlinked_if false c = refl
+le_same : (n : ℕ) → n ≤ n
+le_same n = omega arith
 
--- a page that was written has a receipt, or one place more is unlinked
+le_more : (n : ℕ) → n ≤ n + 1
+le_more n = omega arith
+
+-- a page that was written has a receipt, or one place more is unlinked, and not both
 pub landed : (old new : Counted) (number : ℕ) (page : List ℕ) (k : Kept) → IsHybridLog old.log → HasLanded old number page k new
-    → (count_true (map is_some new.log.kept) ≡ count_true (map is_some old.log.kept) + 1) ⊎ (length new.unlinked ≡ length old.unlinked + 1)
+    → IsStep Flush (counted_pages old) (counted_pages new)
 landed old new number page k log has = ⊎_elim
-    (λ one. inl (ap (λ (c : Counted). count_true (map is_some c.log.kept)) one.1 ∙ kept_more old.log number k log one.0.0))
-    (λ late. inr (ap (λ (c : Counted). length c.unlinked) late.1 ∙ length-append old.unlinked (k ∷ [])))
+    (λ one. inl (subst (λ (c : Counted). HasKept (counted_pages old) (counted_pages c)) (sym one.1) (record {
+      same = record { oldest = refl; first = refl; tail = refl; frames = refl; places = refl; taken = le_more old.log.unreleased };
+      receipts = kept_more old.log number k log one.0.0;
+      waits = le_same (waiting (counted_pages old));
+    })))
+    (λ late. inr (subst (λ (c : Counted). CameLate (counted_pages old) (counted_pages c)) (sym late.1) (record {
+      same = record { oldest = refl; first = refl; tail = refl; frames = refl; places = refl; taken = le_more old.log.unreleased };
+      receipts = refl;
+      unlinked = length-append old.unlinked (k ∷ []);
+      retired = refl;
+      drained = refl;
+      refused = refl;
+      worn = refl;
+    })))
     has.how
 
--- and so since before its place was counted
-pub claimed_step : (old claims new : Counted) → claims ≡ claimed old
-    → (count_true (map is_some new.log.kept) ≡ count_true (map is_some claims.log.kept) + 1) ⊎ (length new.unlinked ≡ length claims.unlinked + 1)
-    → (count_true (map is_some new.log.kept) ≡ count_true (map is_some old.log.kept) + 1) ⊎ (length new.unlinked ≡ length old.unlinked + 1)
-claimed_step old claims new is step =
-    let kept : claims.log.kept ≡ old.log.kept = ap (λ (c : Counted). c.log.kept) is ∙ kept_if (nat_lt 0 old.in_flight) old in
-    let unlinked : claims.unlinked ≡ old.unlinked = ap (λ (c : Counted). c.unlinked) is ∙ unlinked_if (nat_lt 0 old.in_flight) old in
-    ⊎_elim
-    (λ one. inl (one ∙ ap (λ (l : List (Option Kept)). count_true (map is_some l) + 1) kept))
-    (λ late. inr (late ∙ ap (λ (l : List Kept). length l + 1) unlinked))
+-- no place was taken meanwhile
+landed_places : (old new : Counted) (number : ℕ) (page : List ℕ) (k : Kept) → HasLanded old number page k new → new.log.unreleased ≡ old.log.unreleased
+landed_places old new number page k has =
+    ⊎_elim (λ one. ap (λ (c : Counted). c.log.unreleased) one.1) (λ late. ap (λ (c : Counted). c.log.unreleased) late.1) has.how
+
+-- to count a place changes how many are taken, and nothing else
+claimed_pages : (b : Bool) (c : Counted) → counted_pages (if b then c else with_flight c) ≡ record (counted_pages c) { unreleased = (if b then c else with_flight c).log.unreleased }
+claimed_pages true c = refl
+claimed_pages false c = refl
+
+claimed_more : (b : Bool) (c : Counted) → (if b then c else with_flight c).log.unreleased ≤ c.log.unreleased + 1
+claimed_more true c = le_more c.log.unreleased
+claimed_more false c = le_same (c.log.unreleased + 1)
+
+same_since : (was mid now : Pages) → mid ≡ record was { unreleased = mid.unreleased } → mid.unreleased ≤ was.unreleased + 1 → now.unreleased ≡ mid.unreleased
+    → HasSamePages mid now → HasSamePages was now
+same_since was mid now same more places one = record {
+  oldest = one.oldest ∙ ap (λ (p : Pages). p.oldest) same;
+  first = one.first ∙ ap (λ (p : Pages). p.first) same;
+  tail = one.tail ∙ ap (λ (p : Pages). p.tail) same;
+  frames = one.frames ∙ ap (λ (p : Pages). p.frames) same;
+  places = one.places ∙ ap (λ (p : Pages). p.places) same;
+  taken = subst (λ (n : ℕ). n ≤ was.unreleased + 1) (sym places) more;
+}
+
+-- a step since a place was counted
+flush_since : (was mid now : Pages) → mid ≡ record was { unreleased = mid.unreleased } → mid.unreleased ≤ was.unreleased + 1 → now.unreleased ≡ mid.unreleased
+    → IsStep Flush mid now → IsStep Flush was now
+flush_since was mid now same more places step = ⊎_elim
+    (λ one. inl (record {
+      same = same_since was mid now same more places one.same;
+      receipts = one.receipts ∙ ap (λ (p : Pages). count_true p.receipts + 1) same;
+      waits = subst (λ (p : Pages). waiting now ≤ waiting p) same one.waits;
+    }))
+    (λ late. inr (record {
+      same = same_since was mid now same more places late.same;
+      receipts = late.receipts ∙ ap (λ (p : Pages). p.receipts) same;
+      unlinked = late.unlinked ∙ ap (λ (p : Pages). p.unlinked + 1) same;
+      retired = late.retired ∙ ap (λ (p : Pages). p.retired) same;
+      drained = late.drained ∙ ap (λ (p : Pages). p.drained) same;
+      refused = late.refused ∙ ap (λ (p : Pages). p.refused) same;
+      worn = late.worn ∙ ap (λ (p : Pages). p.worn) same;
+    }))
     step
+
+-- and so since before its place was counted
+pub claimed_step : (old claims new : Counted) (number : ℕ) (page : List ℕ) (k : Kept) → claims ≡ claimed old → HasLanded claims number page k new
+    → IsStep Flush (counted_pages claims) (counted_pages new) → IsStep Flush (counted_pages old) (counted_pages new)
+claimed_step old claims new number page k is has step =
+    let same : counted_pages claims ≡ record (counted_pages old) { unreleased = claims.log.unreleased } =
+    subst (λ (c : Counted). counted_pages c ≡ record (counted_pages old) { unreleased = c.log.unreleased }) (sym is) (claimed_pages (nat_lt 0 old.in_flight) old) in
+    let more : claims.log.unreleased ≤ old.log.unreleased + 1 = subst (λ (c : Counted). c.log.unreleased ≤ old.log.unreleased + 1) (sym is) (claimed_more (nat_lt 0 old.in_flight) old) in
+    flush_since (counted_pages old) (counted_pages claims) (counted_pages new) same more (landed_places claims new number page k has) step
 
 -- a page may have left its frame: receipts, and counts of places, are the same
 pub dropped_same : (b : Bool) (old new : HybridLog) → OnTrue b (new ≡ with_dropped old) → OnFalse b (new ≡ old)
@@ -103,9 +174,9 @@ pub taken_by : (was old new : Counted) (kept : Kept) (others : List Kept) → wa
     → new ≡ record was { unlinked = others; in_flight = was.in_flight + 1 } → HasTaken old kept new
 taken_by was old new kept others same had is = subst (λ (o : Counted). HasTaken o kept new) same (record { others = others; had = had; is = is })
 
-pub retired_by_step : (was old new : Counted) (kept : Kept) (others : List Kept) (count : ℕ) → was ≡ old → was.unlinked ≡ kept ∷ others
-    → new ≡ record was { unlinked = others; retired = was.retired ++ kept ∷ []; refused = was.refused ++ count ∷ [] } → HasRetired old new
-retired_by_step was old new kept others count same had is = subst (λ (o : Counted). HasRetired o new) same (record { kept = kept; others = others; had = had; count = count; is = is })
+pub retired_by_step : (was old new : Counted) (kept : Kept) (others : List Kept) → was ≡ old → was.unlinked ≡ kept ∷ others
+    → new ≡ record was { unlinked = others; retired = was.retired ++ kept ∷ []; refused = was.refused ++ (kept.identity, 0) ∷ [] } → HasRetired old new
+retired_by_step was old new kept others same had is = subst (λ (o : Counted). HasRetired o new) same (record { kept = kept; others = others; had = had; is = is })
 
 pub unlinked_by : (was old new : Counted) (weight : ℕ) (kept : Kept) → was ≡ old → receipt_of was.log was.log.oldest ≡ Some kept → IsUnlinked was.log new.log weight
     → ((k : Kept) → Contains new.log.kept (Some k) → k.shown ≢ kept.shown) → new ≡ record was { log = new.log; unlinked = was.unlinked ++ kept ∷ [] } → HasUnlinked old new weight
@@ -131,35 +202,36 @@ pub released_step : {R D : Type 0} (P Q S : Type 0) (serves : D → R → Type 0
 released_step P Q S serves identity true old new before after counted released = inr (inr (inr (released_one serves identity old new before after counted released)))
 released_step P Q S serves identity false old new before after counted released = tt
 
-pub drained_by_step : (was old new : Counted) (kept : Kept) (others : List Kept) (count : ℕ) (counts : List ℕ) → was ≡ old → was.retired ≡ kept ∷ others → was.refused ≡ count ∷ counts
+pub drained_by_step : (was old new : Counted) (kept : Kept) (others : List Kept) (count : ℕ) (counts : List (Place × ℕ)) → was ≡ old → was.retired ≡ kept ∷ others → was.refused ≡ (kept.identity, count) ∷ counts
     → new ≡ record was { retired = others; drained = was.drained ++ kept ∷ []; refused = counts } → HasDrained old new
 drained_by_step was old new kept others count counts same had counted is =
     subst (λ (o : Counted). HasDrained o new) same (record { kept = kept; others = others; had = had; count = count; counts = counts; counted = counted; is = is })
 
-pub turned_drained : (was old new : Counted) (kept : Kept) (others : List Kept) (count : ℕ) (counts : List ℕ) → was ≡ old → was.retired ≡ kept ∷ others → was.refused ≡ count ∷ counts
+pub turned_drained : (was old new : Counted) (kept : Kept) (others : List Kept) (count : ℕ) (counts : List (Place × ℕ)) → was ≡ old → was.retired ≡ kept ∷ others → was.refused ≡ (kept.identity, count) ∷ counts
     → new ≡ record was { retired = others; drained = was.drained ++ kept ∷ []; refused = counts } → HasTurned old new
 turned_drained was old new kept others count counts same had counted is =
     subst (λ (o : Counted). HasTurned o new) same (record { kept = kept; others = others; had = had; count = count; counts = counts; counted = counted; how = inl is })
 
-pub turned_refused : (was old new : Counted) (kept : Kept) (others : List Kept) (count now : ℕ) (counts : List ℕ) → was ≡ old → was.retired ≡ kept ∷ others → was.refused ≡ count ∷ counts → count < now
-    → new ≡ record was { retired = others ++ kept ∷ []; refused = counts ++ now ∷ [] } → HasTurned old new
+pub turned_refused : (was old new : Counted) (kept : Kept) (others : List Kept) (count now : ℕ) (counts : List (Place × ℕ)) → was ≡ old → was.retired ≡ kept ∷ others → was.refused ≡ (kept.identity, count) ∷ counts → count < now
+    → new ≡ record was { retired = others ++ kept ∷ []; refused = counts ++ (kept.identity, now) ∷ [] } → HasTurned old new
 turned_refused was old new kept others count now counts same had counted more is =
     subst (λ (o : Counted). HasTurned o new) same (record { kept = kept; others = others; had = had; count = count; counts = counts; counted = counted; how = inr (now, more, is) })
 
 -- one count is greater, and so are all together
-pub more_in_all : (was new : List ℕ) (count now : ℕ) (counts : List ℕ) → was ≡ count ∷ counts → new ≡ now ∷ counts → count < now → total was < total new
-more_in_all was new count now counts one two more = omega (arith, ap total one, ap total two, more)
+pub more_in_all : (was new : List (Place × ℕ)) (p q : Place) (count now : ℕ) (counts : List (Place × ℕ)) → was ≡ (p, count) ∷ counts → new ≡ (q, now) ∷ counts → count < now → total was < total new
+more_in_all was new p q count now counts one two more = omega (arith, ap total one, ap total two, more)
 
-pub refused_by : (was old new : Counted) (count now : ℕ) (counts : List ℕ) → was ≡ old → was.refused ≡ count ∷ counts → count < now → new ≡ record was { refused = now ∷ counts } → WasRefused old new
-refused_by was old new count now counts same counted more is =
-    subst (λ (o : Counted). WasRefused o new) same (record { count = count; counts = counts; counted = counted; now = now; more = more; is = is })
+pub was_refused : (was old new : Counted) (place : Place) (count now : ℕ) (counts : List (Place × ℕ)) → was ≡ old → was.refused ≡ (place, count) ∷ counts → count < now
+    → new ≡ record was { refused = (place, now) ∷ counts } → WasRefused old new
+was_refused was old new place count now counts same counted more is =
+    subst (λ (o : Counted). WasRefused o new) same (record { place = place; count = count; counts = counts; counted = counted; now = now; more = more; is = is })
 
 -- what is counted, by what is retired and its counts
-abbrev pub counted_with : (log : HybridLog) (in_flight : ℕ) (unlinked drained retired : List Kept) (refused : List ℕ) → Counted
-counted_with log in_flight unlinked drained retired refused =
-    record { log = log; in_flight = in_flight; unlinked = unlinked; retired = retired; drained = drained; refused = refused }
+abbrev pub counted_with : (log : HybridLog) (in_flight : ℕ) (worn : Bool) (unlinked drained retired : List Kept) (refused : List (Place × ℕ)) → Counted
+counted_with log in_flight worn unlinked drained retired refused =
+    record { log = log; in_flight = in_flight; unlinked = unlinked; retired = retired; drained = drained; refused = refused; worn = worn }
 
-pub both_lists : (log : HybridLog) (in_flight : ℕ) (unlinked drained a b : List Kept) (x y : List ℕ) → a ≡ b → x ≡ y
-    → counted_with log in_flight unlinked drained a x ≡ counted_with log in_flight unlinked drained b y
-both_lists log in_flight unlinked drained a b x y one two =
-    ap (λ (l : List Kept). counted_with log in_flight unlinked drained l x) one ∙ ap (λ (l : List ℕ). counted_with log in_flight unlinked drained b l) two
+pub both_lists : (log : HybridLog) (in_flight : ℕ) (worn : Bool) (unlinked drained a b : List Kept) (x y : List (Place × ℕ)) → a ≡ b → x ≡ y
+    → counted_with log in_flight worn unlinked drained a x ≡ counted_with log in_flight worn unlinked drained b y
+both_lists log in_flight worn unlinked drained a b x y one two =
+    ap (λ (l : List Kept). counted_with log in_flight worn unlinked drained l x) one ∙ ap (λ (l : List (Place × ℕ)). counted_with log in_flight worn unlinked drained b l) two

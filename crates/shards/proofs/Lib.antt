@@ -4,3 +4,4 @@ pub mod Raised
 pub mod Freed
 pub mod Refreed
 pub mod Cleaned
+pub mod Lacking

@@ -1,5 +1,5 @@
 -- What a step of the flusher or of the cleaner came to that released places first.
-use Rattle.std.proofs.Common.{◌≡◌, ◌∙◌, ◌+◌, ◌<◌, ◌⊎◌, inl, inr, ⊎_elim, ℕ, zero, suc, Bool, true, false, List, [], ◌∷◌, ◌++◌, length, length-append, append_assoc, append-nil, map, Option, Result, Ok, Err, IfOk, nat_lt, refl, sym, ap, subst, arith}
+use Rattle.std.proofs.Common.{◌≡◌, ◌∙◌, ◌+◌, ◌-◌, ◌<◌, ◌≤◌, ◌⊎◌, inl, inr, ⊎_elim, ℕ, zero, suc, Bool, true, false, List, [], ◌∷◌, ◌++◌, length, length-append, append_assoc, append-nil, map, Option, Result, Ok, Err, IfOk, nat_lt, refl, sym, ap, subst, arith}
 use Rattle.std.specs.Prelude.{⊤, if◌then◌else◌}
 use Rattle.std.specs.Option.{is_some}
 use Rattle.std.proofs.lemmas.Bool.{lt-ltb}
@@ -8,26 +8,28 @@ use Rattle.epoch.specs.declared.view.Note.{Note}
 use Rattle.epoch.specs.declared.view.Note.TheVariants.{Worn}
 use Rattle.epoch.specs.Seats.{AdvancedPast, WasWorn}
 use Rattle.words.specs.declared.reply.Fault.{Fault}
-use Rattle.gates.specs.Background.{AreRaised, AreRefused, IsEachRefused, IsIdle, IsSpent, IsStep}
-use Rattle.gates.specs.declared.view.Work.TheVariants.{Clean}
+use Rattle.gates.specs.Background.{AreRefused, IsEachRefused, IsIdle, IsSpent, IsStep}
+use Rattle.gates.specs.declared.view.Work.TheVariants.{Clean, Flush}
 use Rattle.gates.specs.Pages as pages
-use Rattle.gates.specs.Pages.{count_true, total}
+use Rattle.gates.specs.Pages.{Place, count_true, total}
 use Rattle.hybrid.specs.Reserving.{IsFull}
 use Rattle.gates.specs.declared.view.Refused.{Refused}
 use Rattle.hybrid.specs.HybridLog.{HybridLog, IsSealed, Kept, with_receipt}
 use Rattle.hybrid.specs.declared.stripe.room.Purpose.{Purpose}
-use Rattle.shards.specs.Cleaning.{HasMadeRoom, HasUnlinkedPage, IsResidentStill, MatchStepped, WasNotDrained}
+use Rattle.shards.specs.Cleaning.{HasMadeRoom, HasUnlinkedPage, IsResidentStill, MatchStepped, WasNotDrained, WasNotRetired}
 use Rattle.shards.specs.declared.cleaning.Stepped.{Stepped}
 use Rattle.shards.specs.declared.cleaning.Stepped.TheVariants as stepped
-use Rattle.shards.specs.Counted.{Counted, HasFlushed, HasLanded, HasUnlinked, IsFirstSealed, Waiting, WasRefused, claimed, places_waiting, waiting_of, with_flight}
+use Rattle.shards.specs.Counted.{Counted, HasFlushed, HasLanded, HasUnlinked, IsFirstSealed, Waiting, WasRefused, claimed, places_of, places_waiting, waiting_of, with_flight}
 use Rattle.shards.specs.Flushing.{HasFreedFirst}
-use Rattle.shards.specs.Freeing.{HasFreed, HasTriedAll}
+use Rattle.shards.specs.Freeing.{HasFreed, HasTriedAll, HasWaited}
 use Rattle.shards.specs.Heard.{HasHeardWorn, HasTried, worn_times}
 use Rattle.shards.specs.Rooms.{ShedsFew}
 use Rattle.shards.specs.Shards.{shard_counted, shard_log, shard_pages, shard_waiting}
 use Rattle.shards.specs.declared.freeing.Freed.{Freed}
 use Rattle.shards.specs.declared.shard.Shard.{Shard}
-use Rattle.shards.proofs.Raised.{each_later, raised_both, raised_same, raised_twice, weaker}
+use Rattle.frames.specs.Resident.{next_number}
+use Rattle.shards.proofs.Counts.{counted_pages}
+use Rattle.shards.proofs.Raised.{counts_raised, each_since, raised_same, waited_both, waited_none, waited_same, waited_undrained, waited_unretired, weaker}
 
 -- WHAT THE SEAT WAS TOLD
 
@@ -78,6 +80,9 @@ heard_all false a b tried is = absurd (cc is)
 
 -- WHAT NO PLACE CAN BE RELEASED
 
+worn_if : (refused new old : Bool) → new ≡ (if refused then true else old) → refused ≡ true → new ≡ true
+worn_if refused new old is told = is ∙ ap (λ (b : Bool). if b then true else old) told
+
 none_of : (l : List Kept) → l ≡ [] → length l ≡ 0
 none_of l e = ap length e
 
@@ -85,7 +90,7 @@ module _ {R : Type 0} where
   pub spent_now : (old new : Shard R) (freed : Freed) → HasFreed (shard_counted old) freed (shard_counted new) → IsSpent freed.refused (shard_pages old) (shard_pages new)
   spent_now old new freed has = record {
     drained = none_of (shard_counted new).drained has.drained;
-    unlinked = ⊎_elim (λ e. inl (none_of (shard_counted new).unlinked e)) (λ w. inr w) has.unlinked;
+    unlinked = ⊎_elim (λ e. inl (none_of (shard_counted new).unlinked e)) (λ w. inr (w, worn_if freed.refused.retire (shard_counted new).worn (shard_counted old).worn has.worn w)) has.unlinked;
     retired = ⊎_elim (λ e. inl (none_of (shard_counted new).retired e)) (λ w. inr w) has.retired;
     each = has.each;
   }
@@ -94,41 +99,29 @@ module _ {R : Type 0} where
   pub spent_still : (refused : Refused) (a b c : Shard R) → shard_waiting c ≡ shard_waiting b → IsSpent refused (shard_pages a) (shard_pages b) → IsSpent refused (shard_pages a) (shard_pages c)
   spent_still refused a b c same spent = record {
     drained = ap (λ (w : Waiting). length w.drained) same ∙ spent.drained;
-    unlinked = ⊎_elim (λ e. inl (ap (λ (w : Waiting). length w.unlinked) same ∙ e)) (λ w. inr w) spent.unlinked;
+    unlinked = ⊎_elim (λ e. inl (ap (λ (w : Waiting). length w.unlinked) same ∙ e)) (λ w. inr (w.0, ap (λ (w : Waiting). w.worn) same ∙ w.1)) spent.unlinked;
     retired = ⊎_elim (λ e. inl (ap (λ (w : Waiting). length w.retired) same ∙ e)) (λ w. inr w) spent.retired;
-    each = subst (λ (w : Waiting). IsEachRefused (shard_pages a).refused w.refused) (sym same) spent.each;
+    each = subst (λ (w : Waiting). IsEachRefused (shard_pages a).waits (shard_pages a).refused w.refused) (sym same) spent.each;
   }
 
-  -- and what was counted before is not less
-  pub spent_since : (refused : Refused) (a b c : Shard R) → (more : List ℕ) × AreRaised 0 ((shard_counted a).refused ++ more) (shard_counted b).refused
+  -- and what waited before was not tried less
+  pub spent_since : (refused : Refused) (a b c : Shard R) → HasWaited (shard_waiting a) (shard_waiting b)
       → IsSpent refused (shard_pages b) (shard_pages c) → IsSpent refused (shard_pages a) (shard_pages c)
-  spent_since refused a b c counts spent = record {
+  spent_since refused a b c waited spent = record {
     drained = spent.drained;
     unlinked = spent.unlinked;
     retired = spent.retired;
-    each = each_later (shard_counted a).refused (shard_counted b).refused (shard_counted c).refused counts.0 counts.1 spent.each;
+    each = each_since (shard_waiting a) (shard_waiting b) (shard_counted c).refused waited spent.each;
   }
 
   -- a log that is full is so by its pages
   pub full_pages : (p : Shard R) → IsFull (shard_log p) → pages.IsFull (shard_pages p)
   full_pages p full = ⊎_elim (λ same. inl same) (λ last. inr (omega (arith, last))) full
 
--- counts that are the same
-pub counts_same : (a b : List ℕ) → b ≡ a → (more : List ℕ) × AreRaised 0 (a ++ more) b
-counts_same a b same = ([], subst (λ (l : List ℕ). AreRaised 0 l b) (same ∙ sym (append-nil a)) (raised_same b))
-
--- the first of them is greater
-pub counts_raised : (a b : Counted) → WasRefused a b → (more : List ℕ) × AreRaised 0 (a.refused ++ more) b.refused
-counts_raised a b was = (
-  [],
-  subst (λ (l : List ℕ). AreRaised 0 l b.refused) (sym (append-nil a.refused ∙ was.counted))
-      (subst (λ (l : List ℕ). AreRaised 0 (was.count ∷ was.counts) l) (sym (ap (λ (c : Counted). c.refused) was.is)) (inl (omega (arith, was.more), raised_same was.counts))),
-)
-
 -- WHAT ROOM WAS MADE
 
 pub made_none : (c : Counted) → HasMadeRoom c c
-made_none c = record { oldest = refl; first = omega arith; in_flight = refl; places = omega arith; counts = counts_same c.refused c.refused refl }
+made_none c = record { oldest = refl; first = omega arith; in_flight = refl; places = omega arith; waited = waited_none (waiting_of c) }
 
 pub made_shed : (weight : ℕ) (purpose : Purpose) (old new : Counted) → ShedsFew weight purpose old.log new.log → waiting_of new ≡ waiting_of old → HasMadeRoom old new
 made_shed weight purpose old new shed waits = record {
@@ -136,7 +129,7 @@ made_shed weight purpose old new shed waits = record {
   first = omega (arith, ap (λ r. r.oldest) shed.reserved.resident);
   in_flight = ap (λ (w : Waiting). w.in_flight) waits;
   places = omega (arith, ap places_waiting waits);
-  counts = counts_same old.refused new.refused (ap (λ (w : Waiting). w.refused) waits);
+  waited = waited_same (waiting_of old) (waiting_of new) waits;
 }
 
 pub made_freed : (old new : Counted) (freed : Freed) → HasFreed old freed new → HasMadeRoom old new
@@ -145,15 +138,8 @@ made_freed old new freed has = record {
   first = omega (arith, ap (λ (p : HybridLog). p.resident.oldest) has.log);
   in_flight = has.in_flight;
   places = omega (arith, has.places);
-  counts = (has.each.0, weaker (old.refused ++ has.each.0) new.refused has.each.1);
+  waited = record { unlinked = has.left; retired = weaker (places_of old.unlinked) old.refused new.refused has.each };
 }
-
-counts_both : (a b c : List ℕ) → (m : List ℕ) × AreRaised 0 (a ++ m) b → (m : List ℕ) × AreRaised 0 (b ++ m) c → (m : List ℕ) × AreRaised 0 (a ++ m) c
-counts_both a b c one two = (
-  one.0 ++ two.0,
-  subst (λ (l : List ℕ). AreRaised 0 l c) (append_assoc a one.0 two.0)
-      (raised_twice 0 0 ((a ++ one.0) ++ two.0) (b ++ two.0) c (raised_both 0 (a ++ one.0) b two.0 two.0 one.1 (raised_same two.0)) two.1),
-)
 
 pub made_both : (a b c : Counted) → HasMadeRoom a b → HasMadeRoom b c → HasMadeRoom a c
 made_both a b c one two = record {
@@ -161,7 +147,7 @@ made_both a b c one two = record {
   first = omega (arith, one.first, two.first);
   in_flight = two.in_flight ∙ one.in_flight;
   places = omega (arith, one.places, two.places);
-  counts = counts_both a.refused b.refused c.refused one.counts two.counts;
+  waited = waited_both (waiting_of a) (waiting_of b) (waiting_of c) one.waited two.waited;
 }
 
 -- room was made, and then the oldest page left
@@ -202,56 +188,91 @@ landed_first mid held new number page k first is shown has =
     (λ late. absurd (late.0 (sealed_with mid.log (mid.log.unreleased + 1) number first.sealed, first.copied)))
     how
 
+-- what a log is but for how many places are taken
+freed_log : {X : Type 0} (old mid : Counted) → HasFreedFirst old mid → (f : HybridLog → X) → ((p : HybridLog) (n : ℕ) → f (record p { unreleased = n }) ≡ f p) → f mid.log ≡ f old.log
+freed_log old mid freed f same = ⊎_elim (λ is. ap (λ (c : Counted). f c.log) is) (λ more. ap f more.has.log ∙ same old.log mid.log.unreleased) freed
+
+-- no place more waits for its release, and none more is taken
+freed_waits : (old mid : Counted) → HasFreedFirst old mid → places_waiting (waiting_of mid) ≤ places_waiting (waiting_of old)
+freed_waits old mid freed = ⊎_elim (λ is. omega (arith, ap (λ (c : Counted). places_waiting (waiting_of c)) is)) (λ more. omega (arith, more.has.places)) freed
+
+freed_taken : (old mid : Counted) → HasFreedFirst old mid → mid.log.unreleased ≤ old.log.unreleased
+freed_taken old mid freed = ⊎_elim (λ is. omega (arith, ap (λ (c : Counted). c.log.unreleased) is)) (λ more. omega (arith, more.has.fewer)) freed
+
 -- one page more has a receipt
-pub flushed_step : {X : Type 0} (old mid held new : Counted) → HasFreedFirst old mid → held ≡ with_flight mid → HasFlushed mid new
-    → (count_true (map is_some new.log.kept) ≡ count_true (map is_some held.log.kept) + 1) ⊎ (length new.unlinked ≡ length held.unlinked + 1)
-    → (count_true (map is_some new.log.kept) ≡ count_true (map is_some old.log.kept) + 1) ⊎ X
+pub flushed_step : (old mid held new : Counted) → HasFreedFirst old mid → held ≡ with_flight mid → HasFlushed mid new
+    → IsStep Flush (counted_pages held) (counted_pages new) → IsStep Flush (counted_pages old) (counted_pages new)
 flushed_step old mid held new freed is has step =
-    let kept : mid.log.kept ≡ old.log.kept = ⊎_elim (λ same. ap (λ (c : Counted). c.log.kept) same) (λ more. ap (λ (p : HybridLog). p.kept) more.has.log) freed in
-    let same : held.log.kept ≡ old.log.kept = ap (λ (c : Counted). c.log.kept) is ∙ kept in
+    let kept : held.log.kept ≡ old.log.kept = ap (λ (c : Counted). c.log.kept) is ∙ freed_log old mid freed (λ (p : HybridLog). p.kept) (λ p n. refl) in
     ⊎_elim
-    (λ one. inl (one ∙ ap (λ (l : List (Option Kept)). count_true (map is_some l) + 1) same))
-    (λ late. absurd (omega (arith, late, ap (λ (c : Counted). length c.unlinked) has.is, ap (λ (c : Counted). length c.unlinked) is)))
+    (λ one. inl (record {
+      same = record {
+        oldest = ap (λ (c : Counted). c.log.oldest) has.is ∙ freed_log old mid freed (λ (p : HybridLog). p.oldest) (λ p n. refl);
+        first = ap (λ (c : Counted). c.log.resident.oldest) has.is ∙ freed_log old mid freed (λ (p : HybridLog). p.resident.oldest) (λ p n. refl);
+        tail = ap (λ (c : Counted). next_number c.log.resident - 1) has.is ∙ freed_log old mid freed (λ (p : HybridLog). next_number p.resident - 1) (λ p n. refl);
+        frames = ap (λ (c : Counted). c.log.resident.frames) has.is ∙ freed_log old mid freed (λ (p : HybridLog). p.resident.frames) (λ p n. refl);
+        places = ap (λ (c : Counted). c.log.places) has.is ∙ freed_log old mid freed (λ (p : HybridLog). p.places) (λ p n. refl);
+        taken = omega (arith, ap (λ (c : Counted). c.log.unreleased) has.is, freed_taken old mid freed);
+      };
+      receipts = one.receipts ∙ ap (λ (l : List (Option Kept)). count_true (map is_some l) + 1) kept;
+      waits = omega (arith, ap (λ (c : Counted). places_waiting (waiting_of c)) has.is, freed_waits old mid freed);
+    }))
+    (λ late. absurd (omega (arith, late.unlinked, ap (λ (c : Counted). length c.unlinked) has.is, ap (λ (c : Counted). length c.unlinked) is)))
     step
 
 -- THE CLEANER'S STEP
 
 -- there was none to drain
 pub not_drained : (c d : Counted) → d ≡ c → c.retired ≡ [] → WasNotDrained false c d
-not_drained c d same none = subst (WasNotDrained false c) (sym same) (record { same = refl; retired = inl none; more = λ is. absurd (cc is); counts = counts_same c.refused c.refused refl })
+not_drained c d same none = subst (WasNotDrained false c) (sym same) (record { same = refl; retired = inl none; more = λ is. absurd (cc is); counts = raised_same [] c.refused })
 
 -- the drain of the oldest was refused
 pub drain_refused : (a b : Counted) → WasRefused a b → total a.refused < total b.refused → WasNotDrained true a b
 drain_refused a b was more = record {
-  same = was.is ∙ ap (λ (l : List ℕ). record a { refused = l }) (sym (ap (λ (c : Counted). c.refused) was.is));
+  same = was.is ∙ ap (λ (l : List (Place × ℕ)). record a { refused = l }) (sym (ap (λ (c : Counted). c.refused) was.is));
   retired = inr refl;
   more = λ is. more;
   counts = counts_raised a b was;
 }
 
+-- there was none to retire
+pub not_retired : (c d : Counted) → d ≡ c → c.unlinked ≡ [] → WasNotRetired false c d
+not_retired c d same none = subst (WasNotRetired false c) (sym same) (record { same = refl; unlinked = inl none; worn = refl })
+
+-- the retirement of the oldest was refused
+pub retire_refused : (c d : Counted) → d ≡ record c { worn = true } → WasNotRetired true c d
+retire_refused c d same = subst (WasNotRetired true c) (sym same) (record { same = refl; unlinked = inr refl; worn = refl })
+
 module _ {R : Type 0} where
   -- what a step came to that drained and retired nothing
-  pub stepped_by : (came : Result Stepped Fault) (retire drain : Bool) (old mid new : Shard R) (C : ℕ → Type 0) → (shard_counted old).drained ≡ [] → WasNotDrained drain (shard_counted old) (shard_counted mid)
-      → ((shard_counted mid).unlinked ≡ []) ⊎ (retire ≡ true)
-      → IfOk came (λ step. MatchStepped step (HasUnlinkedPage (shard_counted mid) (shard_counted new)) (λ told. (told ≡ record { retire = retire; drain = drain }) × IsResidentStill (shard_counted mid) (shard_counted new))
-      (λ told. pages.IsFull (shard_pages new) × IsSpent told (shard_pages mid) (shard_pages new)) C)
+  pub stepped_by : (came : Result Stepped Fault) (retire drain : Bool) (old mid next new : Shard R) (C : ℕ → Type 0) → (shard_counted old).drained ≡ [] → WasNotDrained drain (shard_counted old) (shard_counted mid)
+      → WasNotRetired retire (shard_counted mid) (shard_counted next)
+      → IfOk came (λ step. MatchStepped step (HasUnlinkedPage (shard_counted next) (shard_counted new)) (λ told. (told ≡ record { retire = retire; drain = drain }) × IsResidentStill (shard_counted next) (shard_counted new))
+      (λ told. pages.IsFull (shard_pages new) × IsSpent told (shard_pages next) (shard_pages new)) C)
       → IfOk came (λ step. MatchStepped step ((r : Refused) → IsStep (Clean r) (shard_pages old) (shard_pages new)) (λ told. IsIdle (Clean told) (shard_pages new) × AreRefused (Clean told) (shard_pages old) (shard_pages new))
       (λ told. pages.IsFull (shard_pages new) × IsSpent told (shard_pages old) (shard_pages new)) (λ number. ⊤))
-  stepped_by (Ok stepped.Done) retire drain old mid new C none not unlinked is = λ r. inl (omega (arith, is.left, ap (λ (c : Counted). c.log.oldest) not.same))
-  stepped_by (Ok (stepped.Idle told)) retire drain old mid new C none not unlinked is =
+  stepped_by (Ok stepped.Done) retire drain old mid next new C none not kept is =
+      λ r. inl (omega (arith, is.left, ap (λ (c : Counted). c.log.oldest) kept.same, ap (λ (c : Counted). c.log.oldest) not.same))
+  stepped_by (Ok (stepped.Idle told)) retire drain old mid next new C none not kept is =
       let still = is.1 in
-      let drained : (shard_counted new).drained ≡ [] = still.waiting.drained ∙ ap (λ (c : Counted). c.drained) not.same ∙ none in (
+      let drained : (shard_counted new).drained ≡ [] = still.waiting.drained ∙ ap (λ (c : Counted). c.drained) kept.same ∙ ap (λ (c : Counted). c.drained) not.same ∙ none in
+      let retired : (shard_counted new).retired ≡ (shard_counted mid).retired = still.waiting.retired ∙ ap (λ (c : Counted). c.retired) kept.same in
+      let refused : (shard_counted new).refused ≡ (shard_counted mid).refused = still.waiting.refused ∙ ap (λ (c : Counted). c.refused) kept.same in (
         (
           still.resident,
           none_of (shard_counted new).drained drained,
-          ⊎_elim (λ e. inl (none_of (shard_counted new).unlinked (still.unlinked ∙ e))) (λ w. inr (ap (λ (r : Refused). r.retire) is.0 ∙ w)) unlinked,
-          ⊎_elim (λ e. inl (none_of (shard_counted new).retired (still.waiting.retired ∙ e))) (λ w. inr (ap (λ (r : Refused). r.drain) is.0 ∙ w)) not.retired,
+          ⊎_elim (λ e. inl (none_of (shard_counted new).unlinked (still.unlinked ∙ e)))
+              (λ w. inr (ap (λ (r : Refused). r.retire) is.0 ∙ w, still.waiting.worn ∙ worn_if retire (shard_counted next).worn (shard_counted mid).worn kept.worn w)) kept.unlinked,
+          ⊎_elim (λ e. inl (none_of (shard_counted new).retired (retired ∙ e))) (λ w. inr (ap (λ (r : Refused). r.drain) is.0 ∙ w)) not.retired,
         ),
-        λ d. omega (arith, not.more (sym (ap (λ (r : Refused). r.drain) is.0) ∙ d), ap total still.waiting.refused),
+        λ d. omega (arith, not.more (sym (ap (λ (r : Refused). r.drain) is.0) ∙ d), ap total refused),
       )
-  stepped_by (Ok (stepped.Full told)) retire drain old mid new C none not unlinked is = (is.0, spent_since told old mid new not.counts is.1)
-  stepped_by (Ok (stepped.Cold number)) retire drain old mid new C none not unlinked is = tt
-  stepped_by (Err f) retire drain old mid new C none not unlinked is = tt
+  stepped_by (Ok (stepped.Full told)) retire drain old mid next new C none not kept is = (
+    is.0,
+    spent_since told old next new (waited_both (shard_waiting old) (shard_waiting mid) (shard_waiting next) (waited_undrained drain (shard_counted old) (shard_counted mid) not) (waited_unretired retire (shard_counted mid) (shard_counted next) kept)) is.1,
+  )
+  stepped_by (Ok (stepped.Cold number)) retire drain old mid next new C none not kept is = tt
+  stepped_by (Err f) retire drain old mid next new C none not kept is = tt
 
   -- what the seat was told of it
   pub worn_by : (came : Result Stepped Fault) (retire drain : Bool) (mid new : Shard R) (C : ℕ → Type 0) (D : Type 0) (G : Refused → Type 0) (u v w : View) (Same : Type 0) → (Same → w ≡ v) → HasTried u v → (retire ≡ true → WasWorn u v)

@@ -1,7 +1,8 @@
 -- A log, with what becomes of its places on the device.
-use Rattle.std.specs.Prelude.{ℕ, ◌≡◌, ◌≢◌, ◌⊎◌, ◌+◌, ◌-◌, ◌<◌, List, [], ◌∷◌, ◌++◌, length, if◌then◌else◌, nat_lt, Some}
+use Rattle.std.specs.Prelude.{ℕ, ◌≡◌, ◌≢◌, ◌⊎◌, ◌+◌, ◌-◌, ◌<◌, Bool, List, [], ◌∷◌, ◌++◌, length, map, if◌then◌else◌, nat_lt, Some}
 use Rattle.std.specs.List.{Contains}
 use Rattle.frames.specs.Resident.{page_of}
+use Rattle.gates.specs.Pages.{Place}
 use Rattle.hybrid.specs.HybridLog.{HybridLog, IsSealed, Kept, count_kept, receipt_of, with_receipt}
 use Rattle.hybrid.specs.Staging.{IsUnlinked}
 use Rattle.shards.specs.declared.counted.Begun.{Begun}
@@ -19,8 +20,10 @@ pub record Counted : Type 0 where
   pub unlinked : List Kept
   pub retired : List Kept
   pub drained : List Kept
-  -- of each that is retired, how often a word that was read blocked its drain
-  pub refused : List ℕ
+  -- the places of the retired ones, each with how often a word that was read blocked its drain
+  pub refused : List (Place × ℕ)
+  -- whether a retirement was refused: the epoch word was read as worn out, which it stays
+  pub worn : Bool
 
 -- Each place that was taken and not released is that of a receipt which the log keeps, of one that somebody else has, or of a page that is
 -- not in the log.
@@ -33,10 +36,15 @@ pub record Waiting : Type 0 where
   pub unlinked : List Kept
   pub retired : List Kept
   pub drained : List Kept
-  pub refused : List ℕ
+  pub refused : List (Place × ℕ)
+  pub worn : Bool
 
 abbrev pub waiting_of : Counted → Waiting
-waiting_of c = record { in_flight = c.in_flight; unlinked = c.unlinked; retired = c.retired; drained = c.drained; refused = c.refused }
+waiting_of c = record { in_flight = c.in_flight; unlinked = c.unlinked; retired = c.retired; drained = c.drained; refused = c.refused; worn = c.worn }
+
+-- the places of these receipts
+abbrev pub places_of : List Kept → List Place
+places_of receipts = map (λ (k : Kept). k.identity) receipts
 
 -- how many places wait for their release
 abbrev pub places_waiting : Waiting → ℕ
@@ -111,13 +119,12 @@ MatchMoved moved.Done done nothing refused = done
 MatchMoved moved.Nothing done nothing refused = nothing
 MatchMoved moved.Refused done nothing refused = refused
 
--- the oldest unlinked receipt is the newest of the retired ones
+-- the oldest unlinked receipt is the newest of the retired ones, and no drain of it was refused yet
 pub record HasRetired (old new : Counted) : Type 0 where
   pub kept : Kept
   pub others : List Kept
   pub had : old.unlinked ≡ kept ∷ others
-  pub count : ℕ
-  pub is : new ≡ record old { unlinked = others; retired = old.retired ++ kept ∷ []; refused = old.refused ++ count ∷ [] }
+  pub is : new ≡ record old { unlinked = others; retired = old.retired ++ kept ∷ []; refused = old.refused ++ (kept.identity, 0) ∷ [] }
 
 -- the oldest retired receipt is the newest of the drained ones
 pub record HasDrained (old new : Counted) : Type 0 where
@@ -125,8 +132,8 @@ pub record HasDrained (old new : Counted) : Type 0 where
   pub others : List Kept
   pub had : old.retired ≡ kept ∷ others
   pub count : ℕ
-  pub counts : List ℕ
-  pub counted : old.refused ≡ count ∷ counts
+  pub counts : List (Place × ℕ)
+  pub counted : old.refused ≡ (kept.identity, count) ∷ counts
   pub is : new ≡ record old { retired = others; drained = old.drained ++ kept ∷ []; refused = counts }
 
 -- The oldest retired receipt is the newest of the drained ones; or a word that was read blocked its drain, and it is the newest of the retired ones.
@@ -135,19 +142,20 @@ pub record HasTurned (old new : Counted) : Type 0 where
   pub others : List Kept
   pub had : old.retired ≡ kept ∷ others
   pub count : ℕ
-  pub counts : List ℕ
-  pub counted : old.refused ≡ count ∷ counts
+  pub counts : List (Place × ℕ)
+  pub counted : old.refused ≡ (kept.identity, count) ∷ counts
   pub how : (new ≡ record old { retired = others; drained = old.drained ++ kept ∷ []; refused = counts })
-      ⊎ ((now : ℕ) × (count < now) × (new ≡ record old { retired = others ++ kept ∷ []; refused = counts ++ now ∷ [] }))
+      ⊎ ((now : ℕ) × (count < now) × (new ≡ record old { retired = others ++ kept ∷ []; refused = counts ++ (kept.identity, now) ∷ [] }))
 
 -- a word that was read blocked its drain, and all is as it was
 pub record WasRefused (old new : Counted) : Type 0 where
+  pub place : Place
   pub count : ℕ
-  pub counts : List ℕ
-  pub counted : old.refused ≡ count ∷ counts
+  pub counts : List (Place × ℕ)
+  pub counted : old.refused ≡ (place, count) ∷ counts
   pub now : ℕ
   pub more : count < now
-  pub is : new ≡ record old { refused = now ∷ counts }
+  pub is : new ≡ record old { refused = (place, now) ∷ counts }
 
 -- The oldest drained receipt went back to its device, which serves all that it served but this one and its copies. Its place is counted off.
 pub record HasReleased {R D : Type 0} (serves : D → R → Type 0) (identity : R → List ℕ) (old : Counted) (before : D) (new : Counted) (after : D) : Type 0 where

@@ -1,5 +1,5 @@
 -- The flusher's step at a stripe, which releases places first where no place may be taken.
-use Rattle.std.specs.Prelude.{ℕ, ◌≡◌, ◌⊎◌}
+use Rattle.std.specs.Prelude.{ℕ, ◌≡◌, ◌⊎◌, ◌+◌, Bool, true, false, Result, Ok, Err}
 use Rattle.gates.specs.declared.view.Refused.{Refused}
 use Rattle.hybrid.specs.Reserving.{IsFull}
 use Rattle.shards.specs.Counted.{Counted}
@@ -38,3 +38,10 @@ MatchEnding (ending.Full refused) landed again full = full refused
 abbrev pub MatchUnflushed : Unflushed → (device : Type 0) → (full : Refused → Type 0) → Type 0
 MatchUnflushed unflushed.DeviceFault device full = device
 MatchUnflushed (unflushed.Full refused) device full = full refused
+
+-- How often the device was asked to write: once for a page, and else not.
+abbrev pub HasWritten : Result Bool Unflushed → (before writes : ℕ) → Type 0
+HasWritten (Ok true) before writes = writes ≡ before + 1
+HasWritten (Ok false) before writes = writes ≡ before
+HasWritten (Err unflushed.DeviceFault) before writes = writes ≡ before + 1
+HasWritten (Err (unflushed.Full refused)) before writes = writes ≡ before

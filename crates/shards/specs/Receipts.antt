@@ -4,6 +4,7 @@ use Rattle.epoch.specs.Seats.{refusals, retired_value}
 use Rattle.epoch.specs.declared.epochs.Retired.{Retired}
 use Rattle.device.specs.Releases.{released_value}
 use Rattle.device.specs.declared.releasable.Releasable.{Releasable}
+use Rattle.gates.specs.Pages.{Place}
 use Rattle.hybrid.specs.HybridLog.{Kept}
 
 -- a receipt, by what it has in common with its copies and the page that it shows
@@ -23,6 +24,10 @@ retired_by identity shown retired = kept_by identity shown (retired_value retire
 abbrev pub drained_by : {R : Type 0} → (identity shown : R → List ℕ) → Releasable R → Kept
 drained_by identity shown drained = kept_by identity shown (released_value drained)
 
--- of each of these, how often a word that was read blocked its drain
-abbrev pub refused_of : {R : Type 0} → List (Retired R) → List ℕ
-refused_of {R} retired = map (λ (one : Retired R). refusals one) retired
+-- a receipt that was retired, by its place and how often a word that was read blocked its drain
+abbrev pub refused_by : {R : Type 0} → (identity : R → List ℕ) → Retired R → Place × ℕ
+refused_by identity retired = (identity (retired_value retired), refusals retired)
+
+-- the same of each of these
+abbrev pub refused_of : {R : Type 0} → (identity : R → List ℕ) → List (Retired R) → List (Place × ℕ)
+refused_of identity retired = map (refused_by identity) retired

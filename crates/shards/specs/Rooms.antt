@@ -60,6 +60,12 @@ pub record LacksRoom (weight : ℕ) (purpose : Purpose) (old new : HybridLog) : 
   pub wanted : (0 < pages_for old weight) ⊎ (expected old < spare purpose)
   pub lacks : (LAST_PAGE < next_number new.resident) ⊎ ((receipt_of new new.resident.oldest ≡ None) × (free new < frames_for old weight purpose))
 
+-- There is no room for writes of this weight, though they may take all frames: they can open a page, and no page may be opened, or fewer frames are
+-- free than pages that they can open, and no page may leave its frame.
+pub record HasNoRoom (p : HybridLog) (weight : ℕ) : Type 0 where
+  pub opens : 0 < pages_for p weight
+  pub lacks : (LAST_PAGE < next_number p.resident) ⊎ ((receipt_of p p.resident.oldest ≡ None) × (free p < pages_for p weight))
+
 -- The frames of the purpose are left: beside the pages that writes of this weight can open, or where they fit into the tail page.
 pub record LeavesFrames (weight : ℕ) (purpose : Purpose) (old new : HybridLog) : Type 0 where
   pub opening : 0 < pages_for old weight → KeepsBack new (pages_for old weight) (beside purpose)

@@ -11,7 +11,7 @@ use Rattle.hybrid.specs.Log.{contents}
 use Rattle.gates.specs.Pages.{Pages}
 use Rattle.gates.specs.Rule.{Meaning}
 use Rattle.watch.specs.Marked.{marks_of}
-use Rattle.shards.specs.Counted.{Counted, Waiting, waiting_of}
+use Rattle.shards.specs.Counted.{Counted, Waiting, places_of, waiting_of}
 use Rattle.shards.specs.declared.shard.Shard.{Shard}
 
 -- what a write weighs that no later one hides
@@ -54,7 +54,9 @@ module _ {R : Type 0} where
     unlinked = length shard.log.unlinked;
     retired = length shard.log.retired;
     drained = length shard.log.drained;
+    waits = places_of shard.log.unlinked;
     refused = shard.log.refused;
+    worn = shard.log.worn;
     unreleased = shard.log.log.unreleased;
     places = shard.log.log.places;
   }

@@ -1,18 +1,19 @@
 //! The cleaner's step at a stripe.
 
-ghost use Rattle.std.specs.Prelude.{◌≡◌, ◌⊎◌, ◌+◌, ◌<◌, ◌≤◌, ⊤, ℕ, List, [], true, false, IfNone, IfOk, IfErr, IfSome, OnOk, OnErr, length};
+ghost use Rattle.std.specs.Prelude.{◌≡◌, ◌⊎◌, ◌+◌, ◌<◌, ◌≤◌, ⊤, ℕ, List, [], Some, true, false, IfNone, IfOk, IfErr, IfSome, OnOk, OnErr, length};
 ghost use Rattle.epoch.specs.Seats.{IsOutside, WasWorn, known};
 ghost use Rattle.gates.specs.Background.{AreRefused, IsIdle, IsSpent, IsStep};
 ghost use Rattle.gates.specs.Pages as pages;
 ghost use Rattle.gates.specs.declared.view.Refused.{Refused};
 ghost use Rattle.gates.specs.declared.view.Work.TheVariants.{Clean};
 ghost use Rattle.words.specs.declared.limits.TheConstants.{WEIGHT_MAX};
-ghost use Rattle.hybrid.specs.HybridLog.{HasRoom};
+ghost use Rattle.hybrid.specs.HybridLog.{HasRoom, Kept, receipt_of};
 ghost use Rattle.hybrid.specs.Staging.{AreRight, IsMissing};
-ghost use Rattle.hybrid.specs.Weighing.{MatchWeighed};
+ghost use Rattle.hybrid.specs.Weighing.{MatchWeighed, oldest_weight};
 ghost use Rattle.hybrid.specs.declared.stripe.TheConstants.{CLEAN_WEIGHT};
-ghost use Rattle.shards.specs.Cleaning.{HasMadeRoom, HasUnlinkedPage, IsFetched, IsResidentStill, MatchFault, MatchMade, MatchStepped, SameWaiting, WasNotDrained};
+ghost use Rattle.shards.specs.Cleaning.{HasMadeRoom, HasUnlinkedPage, IsFetched, IsResidentStill, KeepsRecords, MatchFault, MatchMade, MatchStepped, SameWaiting, WasNotDrained, WasNotRetired};
 ghost use Rattle.shards.specs.Heard.{HasHeardWorn, HasTried};
+ghost use Rattle.shards.specs.Rooms.{HasNoRoom};
 ghost use Rattle.shards.specs.Counted.{HasUnlinked, MatchCleaning};
 ghost use Rattle.shards.specs.Shards.{shard_counted, shard_log, shard_marks, shard_pages, shard_store};
 
@@ -75,6 +76,7 @@ impl<R: Shows> Shard<R> {
         ensures worn { IfOk result (λ step. MatchStepped step ⊤ (λ refused. refused.retire ≡ true → WasWorn (known seat.old) (known seat.new)) (λ refused. refused.retire ≡ true → HasHeardWorn (known seat.old) (known seat.new)) (λ number. ⊤)) }
         ensures tried { HasTried (known seat.old) (known seat.new) }
         ensures cold { IfOk result (λ step. MatchStepped step ⊤ (λ refused. ⊤) (λ refused. ⊤) (λ number. (reads ≡ false) × (R.lends → ⊥) × IsMissing (shard_log self.new) staged.new number)) }
+        ensures lacks { R.is_steady → AreRight staged.old → IfOk result (λ step. MatchStepped step ⊤ (λ told. ⊤) (λ told. HasNoRoom (shard_log self.new) (oldest_weight (shard_log self.old))) (λ number. ⊤)) }
         ensures given_back { length (shard_counted self.new).drained + 1 ≡ length (shard_counted self.old).drained → D.releases device.new ≡ D.releases device.old + 1 }
         ensures fault { IfErr result (λ fault. MatchFault fault ((R.lends → ⊥) × (D.failures device.new ≡ D.failures device.old)) (D.failures device.new ≡ D.failures device.old + 1) ⊥) }
         ensures no_fault { OnOk result (D.failures device.new ≡ D.failures device.old) }
@@ -114,7 +116,8 @@ impl<R: Shows> Shard<R> {
         ensures marks { shard_marks self.new ≡ shard_marks self.old }
         ensures done { IfNone result ((refused : Refused) → IsStep (Clean refused) (shard_pages self.old) (shard_pages self.new)) }
         ensures drained { (shard_counted self.new).drained ≡ (shard_counted self.old).drained }
-        ensures left { IfSome result (λ refused. (self.new ≡ self.old) × (((shard_counted self.new).unlinked ≡ []) ⊎ (refused ≡ true)) × (refused ≡ true → WasWorn (known seat.old) (known seat.new))) }
+        ensures left { IfSome result (λ refused. WasNotRetired refused (shard_counted self.old) (shard_counted self.new)) }
+        ensures worn { IfSome result (λ refused. refused ≡ true → WasWorn (known seat.old) (known seat.new)) }
         ensures tried { HasTried (known seat.old) (known seat.new) }
     {
         match self.retire(epochs, seat) {
@@ -143,6 +146,7 @@ impl<R: Shows> Shard<R> {
         ensures marks { shard_marks self.new ≡ shard_marks self.old }
         ensures cleaned { IfOk result (λ step. MatchStepped step (HasUnlinkedPage (shard_counted self.old) (shard_counted self.new)) (λ told. (told ≡ refused) × IsResidentStill (shard_counted self.old) (shard_counted self.new)) (λ told. pages.IsFull (shard_pages self.new) × IsSpent told (shard_pages self.old) (shard_pages self.new)) (λ number. (reads ≡ false) × (R.lends → ⊥) × IsMissing (shard_log self.new) staged.new number)) }
         ensures worn { IfOk result (λ step. MatchStepped step ⊤ (λ told. seat.new ≡ seat.old) (λ told. told.retire ≡ true → HasHeardWorn (known seat.old) (known seat.new)) (λ number. ⊤)) }
+        ensures lacks { R.is_steady → AreRight staged.old → IfOk result (λ step. MatchStepped step ⊤ (λ told. ⊤) (λ told. HasNoRoom (shard_log self.new) (oldest_weight (shard_log self.old))) (λ number. ⊤)) }
         ensures tried { HasTried (known seat.old) (known seat.new) }
         ensures fault { IfErr result (λ fault. MatchFault fault ((R.lends → ⊥) × (D.failures device.new ≡ D.failures device.old)) (D.failures device.new ≡ D.failures device.old + 1) ⊥) }
         ensures no_fault { OnOk result (D.failures device.new ≡ D.failures device.old) }
@@ -176,6 +180,8 @@ impl<R: Shows> Shard<R> {
     ) -> Result<Stepped, Fault>
         requires outside { IsOutside epochs.now seat.old }
         requires weighed { weight ≤ CLEAN_WEIGHT }
+        requires weighs { R.is_steady → AreRight staged.old → weight ≡ oldest_weight (shard_log self.old) }
+        requires kept { (kept : Kept) × (receipt_of (shard_log self.old) (shard_log self.old).oldest ≡ Some kept) }
         requires left { (shard_log self.old).oldest < (shard_log self.old).resident.oldest }
         ensures outside { IsOutside epochs.now seat.new }
         ensures right { R.is_steady → AreRight staged.old → AreRight staged.new }
@@ -183,6 +189,7 @@ impl<R: Shows> Shard<R> {
         ensures marks { shard_marks self.new ≡ shard_marks self.old }
         ensures cleaned { IfOk result (λ step. MatchStepped step (HasUnlinkedPage (shard_counted self.old) (shard_counted self.new)) (λ told. ⊥) (λ told. pages.IsFull (shard_pages self.new) × IsSpent told (shard_pages self.old) (shard_pages self.new)) (λ number. (reads ≡ false) × (R.lends → ⊥) × IsMissing (shard_log self.new) staged.new number)) }
         ensures worn { IfOk result (λ step. MatchStepped step ⊤ (λ told. ⊤) (λ told. told.retire ≡ true → HasHeardWorn (known seat.old) (known seat.new)) (λ number. ⊤)) }
+        ensures lacks { R.is_steady → AreRight staged.old → IfOk result (λ step. MatchStepped step ⊤ (λ told. ⊤) (λ told. HasNoRoom (shard_log self.new) (oldest_weight (shard_log self.old))) (λ number. ⊤)) }
         ensures tried { HasTried (known seat.old) (known seat.new) }
         ensures fault { IfErr result (λ fault. MatchFault fault ((R.lends → ⊥) × (D.failures device.new ≡ D.failures device.old)) (D.failures device.new ≡ D.failures device.old + 1) ⊥) }
         ensures no_fault { OnOk result (D.failures device.new ≡ D.failures device.old) }
@@ -214,6 +221,8 @@ impl<R: Shows> Shard<R> {
     ) -> Result<Weighed, Fault>
         ensures right { R.is_steady → AreRight staged.old → AreRight staged.new }
         ensures weighed { IfOk result (λ weighed. MatchWeighed weighed (λ weight. (weight ≤ CLEAN_WEIGHT) × ((shard_log self.now).oldest < (shard_log self.now).resident.oldest)) (λ number. (reads ≡ false) × (R.lends → ⊥) × IsMissing (shard_log self.now) staged.new number) ((shard_log self.now).resident.oldest ≡ (shard_log self.now).oldest)) }
+        ensures weighs { R.is_steady → AreRight staged.new → IfOk result (λ weighed. MatchWeighed weighed (λ weight. weight ≡ oldest_weight (shard_log self.now)) (λ number. ⊤) ⊤) }
+        ensures kept { IfOk result (λ weighed. MatchWeighed weighed (λ weight. (kept : Kept) × (receipt_of (shard_log self.now) (shard_log self.now).oldest ≡ Some kept)) (λ number. ⊤) ⊤) }
         ensures no_release { D.releases device.new ≡ D.releases device.old }
         ensures fault { IfErr result (λ fault. MatchFault fault ((R.lends → ⊥) × (D.failures device.new ≡ D.failures device.old)) (D.failures device.new ≡ D.failures device.old + 1) ⊥) }
         ensures no_fault { OnOk result (D.failures device.new ≡ D.failures device.old) }
@@ -251,6 +260,8 @@ impl<R: Shows> Shard<R> {
         ensures store { shard_store self.new ≡ shard_store self.old }
         ensures marks { shard_marks self.new ≡ shard_marks self.old }
         ensures made { HasMadeRoom (shard_counted self.old) (shard_counted self.new) }
+        ensures records { KeepsRecords (shard_log self.old) (shard_log self.new) }
+        ensures lacks { IfOk result (λ made. MatchMade made ⊤ (λ refused. HasNoRoom (shard_log self.new) weight)) }
         ensures tried { HasTried (known seat.old) (known seat.new) }
         ensures fault { IfErr result (λ fault. MatchFault fault ⊥ (D.failures device.new ≡ D.failures device.old + 1) ⊥) }
         ensures no_fault { OnOk result (D.failures device.new ≡ D.failures device.old) }
@@ -281,6 +292,7 @@ impl<R: Shows> Shard<R> {
         ensures store { R.is_steady → AreRight staged.old → (key : List ℕ) → shard_store self.new key ≡ shard_store self.old key }
         ensures marks { shard_marks self.new ≡ shard_marks self.old }
         ensures unlinked { IfOk result (λ cleaning. MatchCleaning cleaning (HasUnlinked (shard_counted self.old) (shard_counted self.new) weight) (λ number. (self.new ≡ self.old) × (reads ≡ false) × (R.lends → ⊥) × IsMissing (shard_log self.new) staged.new number) (λ heavy. (self.new ≡ self.old) × (weight < heavy) × (heavy ≤ CLEAN_WEIGHT)) ((self.new ≡ self.old) × ((shard_log self.new).resident.oldest ≡ (shard_log self.new).oldest))) }
+        ensures weighed { R.is_steady → AreRight staged.new → IfOk result (λ cleaning. MatchCleaning cleaning ⊤ (λ number. ⊤) (λ heavy. heavy ≡ oldest_weight (shard_log self.old)) ⊤) }
         ensures same { OnErr result (self.new ≡ self.old) }
         ensures waiting { SameWaiting (shard_counted self.old) (shard_counted self.new) }
         ensures no_release { D.releases device.new ≡ D.releases device.old }

@@ -1,6 +1,6 @@
 //! The log of a stripe, with what becomes of its places on the device.
 
-ghost use Rattle.std.specs.Prelude.{◌≡◌, ◌+◌, ◌-◌, ◌<◌, ◌≤◌, ◌⊎◌, ℕ, List, [], None, IsSome, IsTrue, ⊤, ◌↔◌, IfOk, IfErr, IfSome, IfNone, OnOk, OnErr, length};
+ghost use Rattle.std.specs.Prelude.{◌≡◌, ◌+◌, ◌-◌, ◌<◌, ◌≤◌, ◌⊎◌, ℕ, true, false, List, [], None, IsSome, IsTrue, ⊤, ◌↔◌, IfOk, IfErr, IfSome, IfNone, OnOk, OnErr, length};
 ghost use Rattle.std.specs.Map.{update};
 ghost use Rattle.std.specs.Bool.{OnTrue, OnFalse};
 ghost use Rattle.std.specs.Str.{bytes_eq};
@@ -8,7 +8,7 @@ ghost use Rattle.words.specs.declared.limits.TheConstants.{WEIGHT_MAX};
 ghost use Rattle.frames.specs.Resident.{next_number};
 ghost use Rattle.hybrid.specs.declared.stripe.TheConstants.{CLEAN_WEIGHT, LAST_PAGE};
 ghost use Rattle.hybrid.specs.Weighing.{oldest_weight};
-ghost use Rattle.hybrid.specs.HybridLog.{HasRoom, IsGrown, IsSealed, empty_log, expected, free, log_of, pages_for, receipt_of, with_dropped};
+ghost use Rattle.hybrid.specs.HybridLog.{HasRoom, IsGrown, IsSealed, empty_log, expected, free, log_of, pages_for, receipt_of, tail_bytes, with_dropped};
 ghost use Rattle.hybrid.specs.Log.{Fits, contents};
 ghost use Rattle.hybrid.specs.Reserving.{IsFull, IsReserved, KeepsBack, KeepsSpare, MatchFault, beside, frames_for, spare};
 ghost use Rattle.hybrid.specs.Shedding.{HasShed};
@@ -81,6 +81,8 @@ pub struct CountedLog<R: Shows> {
     retired: VecDeque<Retired<R>>,
     /// Those whose epoch is drained, the oldest first.
     drained: VecDeque<Releasable<R>>,
+    /// Whether a retirement was refused: the epoch word was read as worn out, which it stays.
+    worn: bool,
     /// Where the oldest page is gone over: the log changes meanwhile.
     copy: Page,
 }
@@ -93,9 +95,9 @@ impl<R: Shows> Model for CountedLog<R> {
 
     ghost Value = { Counted };
 
-    ghost view = { λ c. record { log = c.stripe; in_flight = c.in_flight; unlinked = map (kept_by R.identity R.shown) c.unlinked.items; retired = map (retired_by R.identity R.shown) c.retired.items; drained = map (drained_by R.identity R.shown) c.drained.items; refused = refused_of c.retired.items } };
+    ghost view = { λ c. record { log = c.stripe; in_flight = c.in_flight; unlinked = map (kept_by R.identity R.shown) c.unlinked.items; retired = map (retired_by R.identity R.shown) c.retired.items; drained = map (drained_by R.identity R.shown) c.drained.items; refused = refused_of R.identity c.retired.items; worn = c.worn } };
 
-    ghost invariant = { λ c. IsCounted (record { log = c.stripe; in_flight = c.in_flight; unlinked = map (kept_by R.identity R.shown) c.unlinked.items; retired = map (retired_by R.identity R.shown) c.retired.items; drained = map (drained_by R.identity R.shown) c.drained.items; refused = refused_of c.retired.items }) × (c.stripe.places ≤ deque_capacity c.unlinked) × (c.stripe.places ≤ deque_capacity c.retired) × (c.stripe.places ≤ deque_capacity c.drained) };
+    ghost invariant = { λ c. IsCounted (record { log = c.stripe; in_flight = c.in_flight; unlinked = map (kept_by R.identity R.shown) c.unlinked.items; retired = map (retired_by R.identity R.shown) c.retired.items; drained = map (drained_by R.identity R.shown) c.drained.items; refused = refused_of R.identity c.retired.items; worn = c.worn }) × (c.stripe.places ≤ deque_capacity c.unlinked) × (c.stripe.places ≤ deque_capacity c.retired) × (c.stripe.places ≤ deque_capacity c.drained) };
 }
 
 impl<R: Shows> CountedLog<R> {
@@ -105,7 +107,7 @@ impl<R: Shows> CountedLog<R> {
     ///
     /// [`OutOfMemory`] where there is no memory for its frames, its buckets, its lists or a page.
     pub fn new(alloc: Global, limits: &Limits) -> Result<CountedLog<R>, OutOfMemory>
-        ensures empty { IfOk result (λ made. made ≡ record { log = empty_log limits.now.stripes limits.now.buckets limits.now.frames limits.now.places; in_flight = 0; unlinked = []; retired = []; drained = []; refused = [] }) }
+        ensures empty { IfOk result (λ made. made ≡ record { log = empty_log limits.now.stripes limits.now.buckets limits.now.frames limits.now.places; in_flight = 0; unlinked = []; retired = []; drained = []; refused = []; worn = false }) }
         ensures contents { IfOk result (λ made. (key : List ℕ) → contents (log_of made.log) key ≡ None) }
     {
         let stripe = Stripe::new(alloc, limits)?;
@@ -119,6 +121,7 @@ impl<R: Shows> CountedLog<R> {
             unlinked,
             retired,
             drained,
+            worn: false,
             copy,
         })
     }
@@ -146,11 +149,13 @@ impl<R: Shows> CountedLog<R> {
         requires light { weight ≤ WEIGHT_MAX }
         ensures room { OnOk result (HasRoom self.new.log weight) }
         ensures log { log_of self.new.log ≡ log_of self.old.log }
+        ensures tail { tail_bytes self.new.log ≡ tail_bytes self.old.log }
         ensures in_flight { self.new.in_flight ≡ self.old.in_flight }
         ensures unlinked { self.new.unlinked ≡ self.old.unlinked }
         ensures retired { self.new.retired ≡ self.old.retired }
         ensures drained { self.new.drained ≡ self.old.drained }
         ensures refused { self.new.refused ≡ self.old.refused }
+        ensures worn { self.new.worn ≡ self.old.worn }
         ensures shed { D.failures device.new ≡ D.failures device.old → HasShed D.wrote (kept_by R.identity R.shown) self.old.log device.old self.new.log device.new }
         ensures reserved { (count : ℕ) × IsReserved self.old.log self.new.log count × (count ≤ frames_for self.old.log weight purpose - free self.old.log) }
         ensures fault { IfErr result (λ fault. MatchFault fault (D.failures device.new ≡ D.failures device.old + 1) (IsFull self.new.log × (D.failures device.new ≡ D.failures device.old))) }
@@ -180,6 +185,7 @@ impl<R: Shows> CountedLog<R> {
         ensures retired { self.new.retired ≡ self.old.retired }
         ensures drained { self.new.drained ≡ self.old.drained }
         ensures refused { self.new.refused ≡ self.old.refused }
+        ensures worn { self.new.worn ≡ self.old.worn }
     {
         self.stripe.install_one(write);
     }
@@ -307,7 +313,7 @@ impl<R: Shows> CountedLog<R> {
     pub fn retire<S: Retires>(&mut self, epochs: &Epochs, own: &mut S) -> Moved
         requires is { S.is_of epochs.now own.old }
         ensures is { S.is_of epochs.now own.new }
-        ensures retired { MatchMoved result (HasRetired self.old self.new) ((self.old.unlinked ≡ []) × (self.new ≡ self.old)) (self.new ≡ self.old) }
+        ensures retired { MatchMoved result (HasRetired self.old self.new) ((self.old.unlinked ≡ []) × (self.new ≡ self.old)) (self.new ≡ record self.old { worn = true }) }
         ensures told { MatchMoved result ((e : ℕ) × AdvancedPast e (S.knows own.old) (S.knows own.new)) (own.new ≡ own.old) (WasWorn (S.knows own.old) (S.knows own.new)) }
     {
         let _limit = self.stripe.unreleased();
@@ -321,6 +327,7 @@ impl<R: Shows> CountedLog<R> {
             }
             Err(receipt) => {
                 self.unlinked.push_front_reserved(receipt);
+                self.worn = true;
                 Moved::Refused
             }
         }
@@ -377,6 +384,7 @@ impl<R: Shows> CountedLog<R> {
         ensures counted { OnTrue result (D.releases device.new ≡ D.releases device.old + 1) }
         ensures none { OnFalse result ((self.old.drained ≡ []) × (self.new ≡ self.old) × (device.new ≡ device.old)) }
         ensures no_fault { D.failures device.new ≡ D.failures device.old }
+        ensures no_write { D.writes device.new ≡ D.writes device.old }
     {
         let _limit = self.stripe.unreleased();
         let Some(receipt) = self.drained.pop_front() else {

@@ -9,7 +9,7 @@ ghost use Rattle.gates.specs.Pages.{IsFull};
 ghost use Rattle.gates.specs.declared.view.Work.TheVariants.{Flush};
 ghost use Rattle.hybrid.specs.HybridLog.{IsSealed};
 ghost use Rattle.shards.specs.Counted.{Counted, HasFlushed, HasLanded, IsFirstSealed, claimed, with_flight};
-ghost use Rattle.shards.specs.Flushing.{HasFreedFirst, HasRefreed, MatchBeginning, MatchEnding, MatchUnflushed};
+ghost use Rattle.shards.specs.Flushing.{HasFreedFirst, HasRefreed, HasWritten, MatchBeginning, MatchEnding, MatchUnflushed};
 ghost use Rattle.shards.specs.Heard.{HasHeardWorn, HasTried};
 ghost use Rattle.shards.specs.Receipts.{kept_by};
 ghost use Rattle.shards.specs.Shards.{shard_counted, shard_log, shard_marks, shard_pages, shard_store};
@@ -71,6 +71,7 @@ impl<R: Shows> Shard<R> {
         ensures worn { MatchBeginning result ⊤ (λ refused. refused.retire ≡ true → HasHeardWorn (known seat.old) (known seat.new)) (λ number. ⊤) }
         ensures tried { HasTried (known seat.old) (known seat.new) }
         ensures no_fault { D.failures device.new ≡ D.failures device.old }
+        ensures no_write { D.writes device.new ≡ D.writes device.old }
     {
         match self.begin_flush(page) {
             Begun::Idle => return Beginning::Idle,
@@ -107,6 +108,7 @@ impl<R: Shows> Shard<R> {
         ensures worn { MatchEnding result ⊤ (λ again. ⊤) (λ refused. refused.retire ≡ true → HasHeardWorn (known seat.old) (known seat.new)) }
         ensures tried { HasTried (known seat.old) (known seat.new) }
         ensures no_fault { D.failures device.new ≡ D.failures device.old }
+        ensures no_write { D.writes device.new ≡ D.writes device.old }
     {
         if self.claim() {
             self.land(number, page, receipt);
@@ -147,6 +149,7 @@ impl<R: Shows> Shard<R> {
         ensures fault { IfErr result (λ fault. MatchUnflushed fault (D.failures device.new ≡ D.failures device.old + 1) (λ refused. IsFull (shard_pages self.new) × IsSpent refused (shard_pages self.old) (shard_pages self.new) × (refused.retire ≡ true → HasHeardWorn (known seat.old) (known seat.new)) × (D.failures device.new ≡ D.failures device.old))) }
         ensures tried { HasTried (known seat.old) (known seat.new) }
         ensures no_fault { OnOk result (D.failures device.new ≡ D.failures device.old) }
+        ensures writes { HasWritten result (D.writes device.old) (D.writes device.new) }
     {
         let number = match self.begin_freeing(page, epochs, seat, device) {
             Beginning::Idle => return Ok(false),

@@ -38,6 +38,7 @@ impl<R: Shows> Shard<R> {
         ensures told { HasTriedAll result.refused.retire (S.knows own.old) (S.knows own.new) }
         ensures counted { D.releases device.new + (shard_counted self.new).log.unreleased ≡ D.releases device.old + (shard_counted self.old).log.unreleased }
         ensures no_fault { D.failures device.new ≡ D.failures device.old }
+        ensures no_write { D.writes device.new ≡ D.writes device.old }
     {
         let retire = retire_all(&mut self.log, epochs, own);
         let drain = drain_all(&mut self.log);
@@ -53,7 +54,7 @@ impl<R: Shows> Shard<R> {
 fn retire_all<S: Retires, R: Shows>(log: &mut CountedLog<R>, epochs: &Epochs, own: &mut S) -> bool
     requires is { S.is_of epochs.now own.old }
     ensures is { S.is_of epochs.now own.new }
-    ensures retired { HasRetiredAll log.old log.new }
+    ensures retired { HasRetiredAll result log.old log.new }
     ensures all { OnFalse result (log.new.unlinked ≡ []) }
     ensures told { HasTriedAll result (S.knows own.old) (S.knows own.new) }
 {
@@ -84,6 +85,7 @@ fn release_all<R: Shows, D: Device<Receipt = R>>(log: &mut CountedLog<R>, device
     ensures released { (count : ℕ) × HasReleasedAll log.old count log.new × (result ≡ true → 0 < count) × (result ≡ false → count ≡ 0) × (D.releases device.new ≡ D.releases device.old + count) }
     ensures all { log.new.drained ≡ [] }
     ensures no_fault { D.failures device.new ≡ D.failures device.old }
+    ensures no_write { D.writes device.new ≡ D.writes device.old }
 {
     let mut any = false;
     'all: loop {

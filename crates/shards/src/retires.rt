@@ -1,7 +1,7 @@
 //! Who may retire a place: a seat of the epochs, with a stay or without one.
 
 ghost use Rattle.std.specs.Prelude.{◌≡◌, ℕ, IfOk, IfErr, OnErr};
-ghost use Rattle.epoch.specs.Seats.{AdvancedPast, WasWorn, retired_epoch, retired_of, retired_value, id_of, StaysOver};
+ghost use Rattle.epoch.specs.Seats.{AdvancedPast, WasWorn, refusals, retired_epoch, retired_of, retired_value, id_of, StaysOver};
 
 use epoch::{EpochSeat, Epochs, Inside, Retired};
 
@@ -9,7 +9,7 @@ use epoch::{EpochSeat, Epochs, Inside, Retired};
 pub trait Retires {
     ghost use Rattle.epoch.specs.declared.epochs.Epochs.{Epochs};
     ghost use Rattle.epoch.specs.declared.view.View.{View};
-    ghost use Rattle.epoch.specs.Seats.{AdvancedPast, WasWorn, retired_epoch, retired_of, retired_value, id_of, StaysOver};
+    ghost use Rattle.epoch.specs.Seats.{AdvancedPast, WasWorn, refusals, retired_epoch, retired_of, retired_value, id_of, StaysOver};
 
     // It is one of these epochs.
     ghost is_of: { Epochs → Self → Type 0 };
@@ -28,6 +28,7 @@ pub trait Retires {
         ensures of { IfOk result (λ retired. retired_of retired ≡ id_of epochs.now) }
         ensures value { IfOk result (λ retired. retired_value retired ≡ value) }
         ensures over { IfOk result (λ retired. StaysOver epochs.now retired) }
+        ensures fresh { IfOk result (λ retired. refusals retired ≡ 0) }
         ensures past { IfOk result (λ retired. AdvancedPast (retired_epoch retired) (Self.knows self.old) (Self.knows self.new)) }
         ensures back { IfErr result (λ same. same ≡ value) }
         ensures worn { OnErr result (WasWorn (Self.knows self.old) (Self.knows self.new)) };

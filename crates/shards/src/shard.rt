@@ -1,6 +1,6 @@
 //! What one stripe has: the log of its keys with its places on the device, and the marks of the keys that are watched.
 
-ghost use Rattle.std.specs.Prelude.{◌≡◌, ◌+◌, ◌-◌, ◌<◌, ◌≤◌, ⊤, ℕ, List, None, Some, IfOk, IfErr, OnOk, OnErr, IsSome, option_map, is_none, length, ◌↔◌, [], IsTrue};
+ghost use Rattle.std.specs.Prelude.{◌≡◌, ◌+◌, ◌-◌, ◌<◌, ◌≤◌, ⊤, ℕ, List, None, Some, IfOk, IfErr, OnOk, OnErr, IsSome, option_map, is_none, length, ◌↔◌, [], true, false, IsTrue};
 ghost use Rattle.std.specs.Bool.{OnTrue, OnFalse};
 ghost use Rattle.std.specs.Borrow.{sem, Lends};
 ghost use Rattle.std.specs.Map.{update};
@@ -15,7 +15,7 @@ ghost use Rattle.gates.specs.Pages.{total};
 ghost use Rattle.gates.specs.declared.view.Work.TheVariants.{Clean, Evict, Flush};
 ghost use Rattle.gates.specs.declared.view.Refused.{Refused};
 ghost use Rattle.watch.specs.Marked.{are_these, begun_if, cleared};
-ghost use Rattle.hybrid.specs.HybridLog.{HasRoom, IsGrown, empty_log, receipt_at, IsSealed, receipt_of, with_dropped};
+ghost use Rattle.hybrid.specs.HybridLog.{HasRoom, IsGrown, empty_log, log_of, receipt_at, IsSealed, receipt_of, tail_bytes, with_dropped};
 ghost use Rattle.hybrid.specs.Lookups.{Leads, MatchLookup};
 ghost use Rattle.hybrid.specs.Reserving.{IsFull, MatchFault};
 ghost use Rattle.hybrid.specs.Shedding.{HasShed};
@@ -88,7 +88,7 @@ impl<R: Shows> Shard<R> {
     pub fn new(alloc: Global, limits: &Limits) -> Result<Shard<R>, OutOfMemory>
         ensures log { IfOk result (λ made. shard_log made ≡ empty_log limits.now.stripes limits.now.buckets limits.now.frames limits.now.places) }
         ensures empty { IfOk result (λ made. (key : List ℕ) → shard_store made key ≡ None) }
-        ensures counted { IfOk result (λ made. shard_counted made ≡ record { log = shard_log made; in_flight = 0; unlinked = []; retired = []; drained = []; refused = [] }) }
+        ensures counted { IfOk result (λ made. shard_counted made ≡ record { log = shard_log made; in_flight = 0; unlinked = []; retired = []; drained = []; refused = []; worn = false }) }
         ensures unmarked { IfOk result (λ made. (key : List ℕ) (number : ℕ) → shard_marks made key number ≡ None) }
     {
         let log = CountedLog::new(alloc, limits)?;
@@ -163,6 +163,8 @@ impl<R: Shows> Shard<R> {
         ensures marks { shard_marks self.new ≡ shard_marks self.old }
         ensures waits { shard_waiting self.new ≡ shard_waiting self.old }
         ensures room { OnOk result (HasRoom (shard_log self.new) weight) }
+        ensures records { log_of (shard_log self.new) ≡ log_of (shard_log self.old) }
+        ensures tail { tail_bytes (shard_log self.new) ≡ tail_bytes (shard_log self.old) }
         ensures shed { D.failures device.new ≡ D.failures device.old → HasShed D.wrote (kept_by R.identity R.shown) (shard_log self.old) device.old (shard_log self.new) device.new }
         ensures fault { IfErr result (λ fault. MatchFault fault (D.failures device.new ≡ D.failures device.old + 1) (IsFull (shard_log self.new) × (D.failures device.new ≡ D.failures device.old))) }
         ensures few { ShedsFew weight purpose (shard_log self.old) (shard_log self.new) }
@@ -344,7 +346,7 @@ impl<R: Shows> Shard<R> {
         ensures outside { IsOutside epochs.now seat.new }
         ensures store { shard_store self.new ≡ shard_store self.old }
         ensures marks { shard_marks self.new ≡ shard_marks self.old }
-        ensures retired { MatchMoved result (HasRetired (shard_counted self.old) (shard_counted self.new)) (((shard_counted self.old).unlinked ≡ []) × (self.new ≡ self.old)) (self.new ≡ self.old) }
+        ensures retired { MatchMoved result (HasRetired (shard_counted self.old) (shard_counted self.new)) (((shard_counted self.old).unlinked ≡ []) × (self.new ≡ self.old)) (self.new ≡ with_counted self.old (record (shard_counted self.old) { worn = true })) }
         ensures told { MatchMoved result ((e : ℕ) × AdvancedPast e (known seat.old) (known seat.new)) (seat.new ≡ seat.old) (WasWorn (known seat.old) (known seat.new)) }
         ensures done { (refused : Refused) → MatchMoved result (IsStep (Clean refused) (shard_pages self.old) (shard_pages self.new)) ⊤ ⊤ }
     {

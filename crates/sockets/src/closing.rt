@@ -6,6 +6,10 @@
 //! so for all such connections, and never waits for any of them: a client that stays keeps neither a
 //! worker nor another client waiting.
 
+ghost use Rattle.std.specs.Duration.{as_nanos};
+ghost use Rattle.std.specs.Prelude.{◌≡◌, ◌≤◌, ◌<◌, ◌*◌, ◌/◌, ◌↔◌, IfOk, IsTrue, max, vec_capacity, vec_len};
+ghost use Rattle.sockets.specs.Closing.{with_last};
+
 use crossbeam_channel::{Receiver, RecvTimeoutError, Sender};
 use std::alloc::Global;
 use std::io::{ErrorKind, Read};
@@ -37,8 +41,10 @@ pub struct Leaving {
 }
 
 impl Leaving {
-    /// Says that the server sends no more.
-    fn new(clock: &impl Clock, stream: TcpStream) -> io::Result<Leaving> {
+    /// Says that the server sends no more. 1,048,576 bytes may be read and dropped from then on.
+    fn new(clock: &impl Clock, stream: TcpStream) -> io::Result<Leaving>
+        ensures { IfOk result (λ leaving. leaving.left ≡ 1_048_576) }
+    {
         stream.shutdown(Shutdown::Write)?;
         stream.set_nonblocking(true)?;
         Ok(Leaving {
@@ -49,16 +55,20 @@ impl Leaving {
     }
 
     /// Drops what the client has sent so far, and tells whether it is waited for any longer.
-    fn is_awaited(&mut self, clock: &impl Clock) -> bool {
-        let most = Duration::from_millis(LEAVING_MILLISECONDS_MAX);
+    fn is_awaited(&mut self, clock: &impl Clock) -> bool
+        ensures { self.new.left ≤ self.old.left }
+    {
         match self.since.elapsed(clock) {
-            Ok(time) if time < most => self.drop_input(),
+            Ok(time) if is_soon(time) => self.drop_input(),
             _ => false,
         }
     }
 
     /// Drops what the client has sent so far. Tells whether it may send more, which is then dropped too.
-    fn drop_input(&mut self) -> bool {
+    fn drop_input(&mut self) -> bool
+        ensures fewer { self.new.left ≤ self.old.left }
+        ensures spent { IsTrue result → 0 < self.new.left }
+    {
         let mut piece = [0; PIECE];
         while self.left > 0 {
             match (&self.stream).read(&mut piece) {
@@ -69,6 +79,13 @@ impl Leaving {
         }
         false
     }
+}
+
+/// Whether a client that was sent the last byte so long ago is waited for any longer: for less than 1,000 milliseconds.
+fn is_soon(time: Duration) -> bool
+    ensures { IsTrue result ↔ (as_nanos time / 1_000_000 < 1_000) }
+{
+    time.as_millis() < u128::from(LEAVING_MILLISECONDS_MAX)
 }
 
 /// Has a connection closed once its client has closed it, by whoever is at the other end of this channel ([`close_all`]), and
@@ -99,8 +116,11 @@ pub fn close_all<R: Clock + Wait>(rt: &R, handed: &Receiver<Leaving>, mut all: V
     }
 }
 
-/// Adds a connection, in place of the first where there are as many as may be waited for.
-fn add(all: &mut Vec<Leaving>, leaving: Leaving) {
+/// Adds a connection, in place of the first where there are as many as may be waited for: 64.
+fn add(all: &mut Vec<Leaving>, leaving: Leaving)
+    ensures most { vec_len all.new ≤ max 64 (vec_len all.old) }
+    ensures items { 64 ≤ vec_capacity all.old → all.new.items ≡ with_last 64 all.old.items leaving }
+{
     if all.len() >= LEAVING_MAX {
         drop(all.remove(0));
     }

@@ -7,6 +7,7 @@
 #![tactic(auto)]
 
 mod closing;
+mod pausing;
 mod serving;
 mod socket;
 

@@ -14,15 +14,20 @@
 //! whether its calls wait, and each call changes that only where it has to. A client that sends one request after
 //! the other, or more than is read at once, has it changed seldom.
 
-ghost use Rattle.std.specs.Prelude.{◌≤◌, ◌<◌, length, IfSome};
+ghost use Rattle.std.specs.Duration.{as_nanos};
+ghost use Rattle.std.specs.Prelude.{◌≡◌, ◌≤◌, ◌<◌, ◌/◌, ◌↔◌, None, length, IfSome, IsTrue, OnOk};
+ghost use Rattle.std.specs.Io.{ReadsAtMost, WritesAtMost};
+ghost use Rattle.std.specs.Io.KnownBytes.{ReadConsumes, WriteAppends};
+ghost use Rattle.streams.specs.Streams.{IsReadReady};
 
+use crate::pausing::{Cleaner, pause};
 use crate::serving::Serving;
 use std::cell::Cell;
 use std::io;
 use std::io::{ErrorKind, Read, Write};
 use std::net::TcpStream;
 use std::rt::Clock;
-use std::thread::{sleep, yield_now};
+use std::thread::yield_now;
 use std::time::{Duration, Instant};
 use streams::ReadReady;
 
@@ -37,9 +42,6 @@ const RESTS_MAX: u32 = 63;
 /// How many reads in a row sleep at once where other programs had the processors.
 const CROWDED_RESTS: u32 = 255;
 
-/// For how many milliseconds a read waits at most for the cleaner, one at a time.
-const PAUSES_MAX: u32 = 20;
-
 /// A socket, and whether its calls wait. They do at first. Its reader and its writer have it in common.
 #[derive(Drop)]
 pub struct Socket<'a> {
@@ -48,8 +50,10 @@ pub struct Socket<'a> {
 }
 
 impl<'a> Socket<'a> {
-    /// This socket, whose calls are to wait, as those of a new connection do.
+    /// This socket, whose calls are to wait, as those of a new connection do. What is written to it is sent at once.
     pub fn new(stream: &'a TcpStream) -> Socket<'a> {
+        // Without this a short reply may wait for the client's acknowledgement of the one before.
+        let _ = stream.set_nodelay(true);
         Socket {
             stream,
             waits: Cell::new(true),
@@ -86,6 +90,8 @@ pub struct SocketReader<'a, C> {
     rests: u32,
     /// How many do so once asking finds nothing.
     next_rests: u32,
+    /// How many bytes the system was asked for last.
+    asked: usize,
 }
 
 impl<'a, C: Clock> SocketReader<'a, C> {
@@ -98,23 +104,25 @@ impl<'a, C: Clock> SocketReader<'a, C> {
             failed: None,
             rests: 0,
             next_rests: 0,
+            asked: 0,
         }
+    }
+
+    /// Asks the system for as many bytes as the buffer has room for, in one call, and notes how many these are. That line is
+    /// what is left to trust of it.
+    fn ask(&mut self, buffer: &mut [u8]) -> io::Result<usize>
+        ensures bound { ReadsAtMost result buffer.new }
+        ensures asked { self.new.asked ≡ length buffer.new }
+    {
+        self.asked = buffer.len();
+        let mut stream = self.socket.stream;
+        stream.read(buffer)
     }
 
     /// Keeps a failure for the next read to tell.
     fn note(&mut self, kind: ErrorKind) {
         if kind != ErrorKind::WouldBlock && kind != ErrorKind::Interrupted {
             self.failed = Some(kind);
-        }
-    }
-
-    /// Waits for the cleaner where it is behind.
-    fn pause(&self) {
-        for _ in 0..PAUSES_MAX {
-            if !self.serving.is_behind() {
-                return;
-            }
-            sleep(self.clock, Duration::from_millis(1));
         }
     }
 
@@ -130,7 +138,7 @@ impl<'a, C: Clock> SocketReader<'a, C> {
     /// Whether a reader that began to ask then still asks.
     fn is_early(&self, began: &Instant) -> bool {
         match began.elapsed(self.clock) {
-            Ok(time) => time < Duration::from_micros(POLL_MICROSECONDS),
+            Ok(time) => is_brief(time),
             Err(_) => false,
         }
     }
@@ -139,7 +147,8 @@ impl<'a, C: Clock> SocketReader<'a, C> {
     /// ended or failed.
     fn look(&mut self, buffer: &mut [u8]) -> Option<usize>
         requires { 0 < length buffer.old }
-        ensures { IfSome result (λ count. count ≤ length buffer.new) }
+        ensures within { IfSome result (λ count. count ≤ length buffer.new) }
+        ensures asked { IfSome result (λ count. self.new.asked ≡ length buffer.new) }
     {
         let Ok(began) = Instant::now(self.clock) else {
             return None;
@@ -171,9 +180,21 @@ impl<'a, C: Clock> SocketReader<'a, C> {
     }
 }
 
+/// Whether a reader that began to ask so long ago still asks: for less than 50 microseconds.
+fn is_brief(time: Duration) -> bool
+    ensures { IsTrue result ↔ (as_nanos time / 1_000 < 50) }
+{
+    time.as_micros() < u128::from(POLL_MICROSECONDS)
+}
+
 impl<C: Clock> Read for SocketReader<'_, C> {
-    fn read(&mut self, buffer: &mut [u8]) -> io::Result<usize> {
-        self.pause();
+    /// What is given was asked for in one call, with room for the whole buffer.
+    fn read(&mut self, buffer: &mut [u8]) -> io::Result<usize>
+        ensures bound { ReadsAtMost result buffer.new }
+        ensures bytes { ReadConsumes None None result buffer.new }
+        ensures whole { OnOk result (self.new.asked ≡ length buffer.new) }
+    {
+        pause(&mut Cleaner::new(self.clock, self.serving));
         if self.failed.is_none() && !buffer.is_empty() && self.takes_a_look() {
             if let Some(count) = self.look(buffer) {
                 return Ok(count);
@@ -183,21 +204,24 @@ impl<C: Clock> Read for SocketReader<'_, C> {
             return Err(kind.into());
         }
         self.socket.set_waiting(true)?;
-        let mut stream = self.socket.stream;
-        stream.read(buffer)
+        self.ask(buffer)
     }
 }
 
 impl<C: Clock> ReadReady for SocketReader<'_, C> {
-    fn read_ready(&mut self, buffer: &mut [u8]) -> Option<usize> {
+    /// What is given was asked for in one call, with room for the whole buffer.
+    fn read_ready(&mut self, buffer: &mut [u8]) -> Option<usize>
+        requires { 0 < length buffer.old }
+        ensures ready { IsReadReady None None buffer.new result }
+        ensures whole { IfSome result (λ count. self.new.asked ≡ length buffer.new) }
+    {
         if self.serving.is_behind() || self.failed.is_some() {
             return None;
         }
         if self.socket.set_waiting(false).is_err() {
             return None;
         }
-        let mut stream = self.socket.stream;
-        match stream.read(buffer) {
+        match self.ask(buffer) {
             Ok(0) => None,
             Ok(count) => Some(count),
             Err(error) => {
@@ -212,23 +236,38 @@ impl<C: Clock> ReadReady for SocketReader<'_, C> {
 #[derive(Drop)]
 pub struct SocketWriter<'a> {
     socket: &'a Socket<'a>,
+    /// How many bytes were handed to the system last.
+    handed: usize,
 }
 
 impl<'a> SocketWriter<'a> {
     /// Writes to this socket.
     pub fn new(socket: &'a Socket<'a>) -> SocketWriter<'a> {
-        SocketWriter { socket }
+        SocketWriter { socket, handed: 0 }
+    }
+
+    /// Hands all these bytes to the system, in one call, and notes how many these are. That line is what is left to trust of it.
+    fn hand_on(&mut self, bytes: &[u8]) -> io::Result<usize>
+        ensures bound { WritesAtMost result bytes.now }
+        ensures handed { self.new.handed ≡ length bytes.now }
+    {
+        self.handed = bytes.len();
+        let mut stream = self.socket.stream;
+        stream.write(bytes)
     }
 }
 
 impl Write for SocketWriter<'_> {
-    /// Waits only where the socket has no room.
-    fn write(&mut self, bytes: &[u8]) -> io::Result<usize> {
-        let mut stream = self.socket.stream;
-        match stream.write(bytes) {
+    /// Waits only where the socket has no room. All the bytes are handed to the system, in one call.
+    fn write(&mut self, bytes: &[u8]) -> io::Result<usize>
+        ensures bound { WritesAtMost result bytes.now }
+        ensures bytes { WriteAppends None None result bytes.now }
+        ensures whole { OnOk result (self.new.handed ≡ length bytes.now) }
+    {
+        match self.hand_on(bytes) {
             Err(error) if error.kind() == ErrorKind::WouldBlock => {
                 self.socket.set_waiting(true)?;
-                stream.write(bytes)
+                self.hand_on(bytes)
             }
             written => written,
         }

@@ -59,6 +59,7 @@ acted_world laws old mid new c e is below world handled goes gone =
     let log : mid.log ≡ new.log = sym (ap (λ (w : World). w.log) gone.else_same) in
     record {
       sound = laws.sound (state_of old) (e ∷ []) (state_of new) (state_of new, turn, refl) world.sound;
+      order = laws.order (state_of old) (e ∷ []) (state_of new) (state_of new, turn, refl) world.order;
       log = subst IsWorldLog log handled.tended.log;
       desks = λ d one at.
           let was = gone.desks d one at in
@@ -131,6 +132,7 @@ worked_world laws old new e is same worked world =
     let members : new.members ≡ old.members = ap (λ (w : World). w.members) same in
     record {
       sound = laws.sound (state_of old) (e ∷ []) (state_of new) (state_of new, turn, refl) world.sound;
+      order = laws.order (state_of old) (e ∷ []) (state_of new) (state_of new, turn, refl) world.order;
       log = worked.log;
       desks = λ d one at.
           right_kept old.log.device new.log.device one.desk worked.given

@@ -1,13 +1,14 @@
 -- A world at its beginning.
-use Rattle.std.proofs.Common.{◌≡◌, ◌∙◌, ℕ, List, [], reverse, sym, ap, ap₂, subst, arith}
+use Rattle.std.proofs.Common.{◌≡◌, ◌∙◌, ℕ, ◌≤◌, List, [], reverse, sym, ap, ap₂, subst, arith}
 use Rattle.words.specs.History.{History}
 use Rattle.hybrid.specs.Staging.{AreRight}
 use Rattle.world_log.specs.Places.{Receipt, Shelves}
 use Rattle.world_log.specs.Given.{IsGiven}
 use Rattle.world_log.specs.WorldLogs.{IsNew as IsNewLog, IsWorldLog}
 use Rattle.world_log.specs.Types.{Stripes}
-use Rattle.world_model.specs.States.{ClientState, State, start}
+use Rattle.world_model.specs.States.{ClientState, State, start, stripe_count}
 use Rattle.world_model.specs.Places.{Each}
+use Rattle.world_model.specs.Resting.{IsOrderly}
 use Rattle.world_model.specs.Soundness.{IsSound}
 use Rattle.world.specs.Desks.{IsNew, IsRight}
 use Rattle.world.specs.Laws.{TurnLaws}
@@ -39,10 +40,18 @@ new_right device desk is = record {
 pub new_kept : (state : State) (stripes : Stripes) (c : ℕ) (desk : Desk) → IsNew desk → IsKept state stripes c desk.plan
 new_kept state stripes c desk is = subst (IsKept state stripes c) (sym is.plan) tt
 
+start_ordered : TurnLaws → (world : World) (stripes clients frames limit : ℕ) → state_of world ≡ start stripes clients frames limit
+    → IsWorldLog world.log → IsOrderly (state_of world)
+unfolding state_of
+start_ordered laws world stripes clients frames limit is log =
+    subst IsOrderly (sym is)
+    (laws.order_start stripes clients frames limit (subst (λ (state : State). 1 ≤ stripe_count state) is log.even.some))
+
 pub world_is : TurnLaws → (world : World) (stripes clients frames limit : ℕ) → IsNewLog stripes frames limit world.log → IsWorldLog world.log
     → AreNew clients world.members.items → world.history.items ≡ [] → IsWorld world
 world_is laws world stripes clients frames limit new log are none = record {
   sound = subst IsSound (sym (start_is world stripes clients frames limit new are none)) (laws.start stripes clients frames limit);
+  order = start_ordered laws world stripes clients frames limit (start_is world stripes clients frames limit new are none) log;
   log = log;
   desks = λ c one at. new_right world.log.device one.desk (are.each c one at).1;
   plans = λ c one at. new_kept (state_of world) world.log.stripes c one.desk (are.each c one at).1;

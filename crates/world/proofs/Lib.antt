@@ -20,3 +20,4 @@ pub mod Committing
 pub mod Arranging
 pub mod Beginning
 pub mod Ending
+pub mod Finishing

@@ -1,5 +1,5 @@
 -- The laws of the crates below that the world's proofs rest on, as those crates state them.
-use Rattle.std.specs.Prelude.{ℕ, ◌≡◌, ◌<◌, List, [], None, get_or, length, false}
+use Rattle.std.specs.Prelude.{ℕ, ◌≡◌, ◌<◌, ◌≤◌, List, [], None, get_or, length, true, false}
 use Rattle.words.specs.declared.history.Entry.{Entry}
 use Rattle.words.specs.declared.reply.Reply.{Reply}
 use Rattle.words.specs.Store.{Bytes, Store, Write, writes_key}
@@ -14,7 +14,9 @@ use Rattle.world_log.specs.Given.{GivenLaws}
 use Rattle.world_log.specs.PlanLaws.{ColdLaw, OpeningLaw, ReadLaws, RoomLaws, ValueLaw, WaitLaw}
 use Rattle.world_model.specs.Planning.{taken}
 use Rattle.world_model.specs.Rooms.{StepsAll}
-use Rattle.world_model.specs.States.{State, client, start}
+use Rattle.world_model.specs.Enabled.{is_enabled}
+use Rattle.world_model.specs.Resting.{IsAtRest, IsOfCall, IsOrderly, events_left, rests}
+use Rattle.world_model.specs.States.{State, client, start, stripe_count}
 use Rattle.world_model.specs.Places.{NoneReleased}
 use Rattle.world_model.specs.Planned.{IsNoCommitOf, IsPlanned}
 use Rattle.world_model.specs.Soundness.{IsSound}
@@ -23,9 +25,17 @@ use Rattle.world_model.specs.Turns.{Turn, Turns}
 
 -- Events in the plain world, as `world_model` states their laws.
 pub record TurnLaws : Type 0 where
+  pub order_start : (stripes clients frames limit : ℕ) → 1 ≤ stripe_count (start stripes clients frames limit)
+      → IsOrderly (start stripes clients frames limit)
   pub start : (stripes clients frames limit : ℕ) → IsSound (start stripes clients frames limit)
   pub headline : (state : State) → IsSound state → Headline state
   pub places : (state : State) → IsSound state → NoneReleased state
+  pub order : (before : State) (events : List Event) (after : State) → Turns before events after → IsOrderly before → IsOrderly after
+  pub moves : (state : State) (c : ℕ) → IsOrderly state → c < length state.clients → rests state c ≡ false
+      → (e : Event) × IsOfCall e × (is_enabled state e ≡ true)
+  pub falls : (before : State) (e : Event) (after : State) → IsOfCall e → is_enabled before e ≡ true → IsSound before
+      → IsOrderly before → Turn before e after → events_left after < events_left before
+  pub rested : (state : State) (c : ℕ) → Headline state → c < length state.clients → rests state c ≡ true → IsAtRest state c
   pub rooms : (before : State) (stripes : List ℕ) (after : State) → StepsAll before stripes after → IsSound before → IsSound after
   pub taken : (before : State) (c i : ℕ) (stripes : List ℕ) (after : State) → IsSound before → c < length before.clients
       → get_or before.holders i None ≡ None → (client before c).due ≡ []

@@ -5,3 +5,4 @@ pub mod Stripes
 pub mod Planning
 pub mod Members
 pub mod Tables
+pub mod Still

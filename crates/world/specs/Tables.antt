@@ -25,6 +25,7 @@ use Rattle.world_model.specs.Planning.{PlansFor, asked_by, stay_begun, taken}
 use Rattle.world_model.specs.Commits.{Commits}
 use Rattle.world_model.specs.Effects.{Does}
 use Rattle.world_model.specs.Planned.{IsNoCommitOf, IsPlanned}
+use Rattle.world_model.specs.Resting.{IsOrderly}
 use Rattle.world_model.specs.Soundness.{IsSound}
 use Rattle.world.specs.Planning.{looks_up}
 use Rattle.world.specs.Peers.{HasAnswered, IsAsking, IsEndable, IsSteady}
@@ -70,6 +71,7 @@ IsKept state stripes c plan.Full = IsMet state c
 -- What holds of a world between any two events.
 pub record IsWorld (world : World) : Type 0 where
   pub sound : IsSound (state_of world)
+  pub order : IsOrderly (state_of world)
   pub log : IsWorldLog world.log
   pub desks : (c : ℕ) (one : Member) → slice_get world.members.items c ≡ Some one → IsRight world.log.device one.desk
   pub plans : (c : ℕ) (one : Member) → slice_get world.members.items c ≡ Some one → IsKept (state_of world) world.log.stripes c one.desk.plan

@@ -10,7 +10,8 @@ use world_log::laws::{
     reads_change_no_place, room_is_made, values_stay,
 };
 use world_model::theorems::{
-    events_keep_the_world_sound, plans_stay_right, room_keeps_the_world_sound,
+    calls_come_to_an_end, events_keep_the_order, events_keep_the_world_sound, no_client_is_stuck,
+    plans_stay_right, resting_clients_are_answered, room_keeps_the_world_sound,
     sound_worlds_tell_the_truth,
 };
 
@@ -19,6 +20,10 @@ pub(crate) fn laws()
     ensures turns { TurnLaws }
 {
     events_keep_the_world_sound();
+    events_keep_the_order();
+    no_client_is_stuck();
+    calls_come_to_an_end();
+    resting_clients_are_answered();
     plans_stay_right();
     room_keeps_the_world_sound();
     sound_worlds_tell_the_truth();

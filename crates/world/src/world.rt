@@ -1,19 +1,22 @@
 //! The world: clients, stripes on logs, a device and a history.
 
-ghost use Rattle.std.specs.Prelude.{◌≡◌, ◌<◌, ◌++◌, ◌∷◌, ◌&&◌, [], true, is_none, IfOk, OnOk, IfSome, None, Some, length, reverse, vec_len};
+ghost use Rattle.std.specs.Prelude.{ℕ, ◌≡◌, ◌<◌, ◌++◌, ◌∷◌, ◌&&◌, List, [], true, is_none, IfNone, IfOk, OnOk, IfSome, None, Some, length, reverse, vec_len};
 ghost use Rattle.world_events.specs.Actors.{actor};
 ghost use Rattle.world_events.specs.declared.event.Event.TheVariants.{Piece, Close, Take, Commit, Fetch, Give};
 ghost use Rattle.world_events.specs.declared.event.Event.TheVariants as event;
+ghost use Rattle.world_events.specs.declared.event.Event.{Event};
 ghost use Rattle.world_model.specs.States.{open_call, start};
 ghost use Rattle.world_model.specs.States as states;
 ghost use Rattle.world_model.specs.Advancing.{Goes, is_idle};
 ghost use Rattle.world_model.specs.Enabled.{holds_none, is_enabled, is_enabled_for, next_stripe};
 ghost use Rattle.world_model.specs.Places.{NoneReleased};
+ghost use Rattle.world_model.specs.Resting.{Finishes, IsAtRest, IsOfCall, events_left};
 ghost use Rattle.world_model.specs.Told.{Headline};
 ghost use Rattle.world_model.specs.Turns.{Turn, Turns};
 ghost use Rattle.world_log.specs.Stripes.{holders_of};
 ghost use Rattle.world_log.specs.WorldLogs.{IsWorldLog, stays_of};
 ghost use Rattle.world.specs.declared.desk.Stage.TheVariants as stage;
+ghost use Rattle.world.specs.Still.{GivesNone, IsStill, TakesNone};
 ghost use Rattle.world.specs.Peers.{IsAsking, IsEndable, IsForgetting, IsLeaving};
 ghost use Rattle.world.specs.Tables.{AreEndable, AreNew, Handled, Handles, HasAnsweredAt, HasComeTo, HasCommitted, HasGoneOn, HasHeld, HasWorked, IsAskingAt, IsReadyFor, IsStageAt, IsTaken, IsWorld, rest_of, state_of};
 
@@ -115,6 +118,50 @@ impl World {
         }
     }
 
+    /// Does events of calls, each as [`next_event`](World::next_event) gives it, until each client rests: it has no open call,
+    /// holds no stripe, and was told all that is due. It always gets there, whatever was done before.
+    ///
+    /// # Errors
+    ///
+    /// [`Stopped`] where an event found no memory. The world was given up.
+    pub fn finish(self) -> Result<World, Stopped>
+        requires world { IsWorld self }
+        ensures finished { IfOk result (λ world. (events : List Event) × Finishes (state_of self) events (state_of world)) }
+        ensures headline { IfOk result (λ world. Headline (state_of world)) }
+        ensures places { IfOk result (λ world. NoneReleased (state_of world)) }
+        ensures world { IfOk result IsWorld }
+    {
+        let mut world = self;
+        match world.come_to_rest() {
+            Ok(()) => {
+                world.tells();
+                Ok(world)
+            }
+            Err(stopped) => {
+                end_members(world.into_members());
+                Err(stopped)
+            }
+        }
+    }
+
+    /// An event of a call that is enabled: a commit, a fetch, a take or a give of the first client that may do one. `None` only
+    /// where each client rests.
+    pub fn next_event(&self) -> Option<Event>
+        requires world { IsWorld self.now }
+        ensures of_call { IfSome result IsOfCall }
+        ensures enabled { IfSome result (λ event. is_enabled (state_of self.now) event ≡ true) }
+        ensures rest { IfNone result ((c : ℕ) → c < length (state_of self.now).clients → IsAtRest (state_of self.now) c) }
+    {
+        self.tells();
+        laws();
+        for client in 0..self.members.len() {
+            if let Some(event) = self.event_of(client) {
+                return Some(event);
+            }
+        }
+        None
+    }
+
     /// What was written to a client, by its number.
     pub fn output(&self, client: usize) -> &[u8]
         requires { client < length (state_of self.now).clients }
@@ -159,6 +206,86 @@ impl World {
         }
         self.rests();
         Ok(())
+    }
+
+    /// Does events of calls until each client rests.
+    fn come_to_rest(&mut self) -> Result<(), Stopped>
+        requires world { IsWorld self.old }
+        ensures finished { OnOk result ((events : List Event) × Finishes (state_of self.old) events (state_of self.new)) }
+        ensures world { OnOk result (IsWorld self.new) }
+        ensures endable { AreEndable self.new.members.items }
+    {
+        while let Some(event) = self.next_event() {
+            self.follow(&event)?;
+        }
+        self.rests();
+        Ok(())
+    }
+
+    /// Does an event of a call, which is enabled. Fewer are left then.
+    fn follow(&mut self, event: &Event) -> Result<(), Stopped>
+        requires world { IsWorld self.old }
+        requires of_call { IsOfCall event.now }
+        requires enabled { is_enabled (state_of self.old) event.now ≡ true }
+        ensures turn { OnOk result (Turn (state_of self.old) event.now (state_of self.new)) }
+        ensures fewer { OnOk result (events_left (state_of self.new) < events_left (state_of self.old)) }
+        ensures world { OnOk result (IsWorld self.new) }
+        ensures endable { AreEndable self.new.members.items }
+    {
+        laws();
+        let _enabled = self.turn(event)?;
+        Ok(())
+    }
+
+    /// An event of a client's call that is enabled, if one is.
+    fn event_of(&self, client: usize) -> Option<Event>
+        requires log { IsWorldLog self.now.log }
+        requires within { client < vec_len self.now.members }
+        ensures of_call { IfSome result IsOfCall }
+        ensures own { IfSome result (λ event. actor event ≡ Some client) }
+        ensures enabled { IfSome result (λ event. is_enabled_for (state_of self.now) client (states.client (state_of self.now) client) event ≡ true) }
+        ensures still { IfNone result (IsStill (state_of self.now) client) }
+    {
+        if self.may_commit(client) {
+            return Some(Event::Commit(client));
+        }
+        if self.may_fetch(client) {
+            return Some(Event::Fetch(client));
+        }
+        if let Some(stripe) = self.taken_by(client) {
+            return Some(Event::Take(client, stripe));
+        }
+        match self.given_by(client) {
+            Some(stripe) => Some(Event::Give(client, stripe)),
+            None => None,
+        }
+    }
+
+    /// The stripe that a client may take, if it may take one.
+    fn taken_by(&self, client: usize) -> Option<usize>
+        requires log { IsWorldLog self.now.log }
+        requires within { client < vec_len self.now.members }
+        ensures may { IfSome result (λ i. is_enabled_for (state_of self.now) client (states.client (state_of self.now) client) (Take client i) ≡ true) }
+        ensures none { IfNone result (TakesNone (state_of self.now) client) }
+    {
+        match self.next_stripe(client) {
+            Some(stripe) if self.may_take(client, stripe) => Some(stripe),
+            _ => None,
+        }
+    }
+
+    /// A stripe that a client may give back, if it may give one.
+    fn given_by(&self, client: usize) -> Option<usize>
+        requires within { client < vec_len self.now.members }
+        ensures may { IfSome result (λ i. is_enabled_for (state_of self.now) client (states.client (state_of self.now) client) (Give client i) ≡ true) }
+        ensures none { IfNone result (GivesNone (state_of self.now) client) }
+    {
+        for stripe in 0..self.log.stripes.count() {
+            if self.may_give(client, stripe) {
+                return Some(stripe);
+            }
+        }
+        None
     }
 
     /// Does what an event does, and says whether it was enabled.
@@ -215,7 +342,7 @@ impl World {
             Event::Unlink(i) => self.unlink(*i),
             Event::Retire(i) => self.log.retire(*i),
             Event::Drain(i) => self.drain(*i),
-            Event::Release(i, page) => self.log.release(self.alloc, *i, page),
+            Event::Release(i, page) => self.log.release(*i, page),
             _ => unreachable!(),
         }
     }

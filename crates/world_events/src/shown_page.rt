@@ -1,6 +1,7 @@
 //! Pages that a released place shows.
 
 ghost use Rattle.std.specs.Prelude.{◌≡◌, IfOk, length, replicate};
+ghost use Rattle.std.specs.Arc.{arc_value};
 ghost use Rattle.world_events.specs.ShownPages.{page_of};
 
 use records::Page;
@@ -55,6 +56,30 @@ impl ShownPage {
         ensures { result.now ≡ self.now }
     {
         &self.page
+    }
+
+    /// The page, which is then shared: nothing is copied.
+    ///
+    /// # Errors
+    ///
+    /// [`OutOfMemory`] where it is shared as often as can be counted.
+    pub fn shared(&self) -> Result<Arc<Page>, OutOfMemory>
+        ensures { IfOk result (λ page. arc_value page ≡ self.now) }
+    {
+        Arc::try_clone(&self.page)
+    }
+
+    /// The same once more: both share the page.
+    ///
+    /// # Errors
+    ///
+    /// As [`shared`](ShownPage::shared).
+    pub fn again(&self) -> Result<ShownPage, OutOfMemory>
+        ensures { IfOk result (λ shown. shown ≡ self.now) }
+    {
+        Ok(ShownPage {
+            page: self.shared()?,
+        })
     }
 }
 

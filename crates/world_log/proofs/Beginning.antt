@@ -1,6 +1,6 @@
 -- Stripes that store nothing.
 use Rattle.std.proofs.Common.{◌≡◌, ℕ, zero, suc, ◌+◌, ◌≤◌, List, [], ◌∷◌, ◌++◌, length, length-append, map, replicate, Option, Some, None, refl, sym, ap, subst, ◌∙◌, arith, inl, inr, ◌⊎◌}
-use Rattle.std.specs.Prelude.{slice_get, slice_index_or}
+use Rattle.std.specs.Prelude.{false, slice_get, slice_index_or}
 use Rattle.words.specs.Store.{Bytes, empty}
 use Rattle.words.specs.Stripes.{stripe_of}
 use Rattle.records.specs.Page.{empty_page}
@@ -73,7 +73,7 @@ never_kept (suc i) kept is = cc is
 
 pub new_lane : (shard : Shard Receipt) (queues : Queues) (stripes buckets frames places : ℕ)
     → shard_log shard ≡ empty_log stripes buckets frames places
-    → shard_counted shard ≡ record { log = shard_log shard; in_flight = 0; unlinked = []; retired = []; drained = []; refused = [] }
+    → shard_counted shard ≡ record { log = shard_log shard; in_flight = 0; unlinked = []; retired = []; drained = []; refused = []; worn = false }
     → ((key : Bytes) (session : ℕ) → shard_marks shard key session ≡ None)
     → IsHybridLog (shard_log shard) → records_of (empty_page 0) ≡ []
     → queues.flushing ≡ has.Nothing → queues.retired.items ≡ [] → queues.drained.items ≡ []

@@ -91,7 +91,7 @@ impl WorldLog {
         };
         let mut released = false;
         'all: loop {
-            let done = self.release(alloc, i, &zeros)?;
+            let done = self.release(i, &zeros)?;
             if !done {
                 return Ok(released);
             }

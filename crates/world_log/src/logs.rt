@@ -21,7 +21,7 @@ use crate::queues::Queues;
 use crate::shelves::{WorldDevice, WorldReceipt};
 use crate::stopped::Stopped;
 use crate::stripes::Stripes;
-use crate::works::{copied, drain, write};
+use crate::works::{drain, shown, write};
 use hybrid::Staged;
 use shards::shard::Shard;
 use std::alloc::Global;
@@ -267,12 +267,13 @@ impl WorldLog {
         Ok(done)
     }
 
-    /// The oldest drained place of a stripe is released: from now on a read of it gives this page.
+    /// The oldest drained place of a stripe is released: from now on a read of it gives this page, which is shared with
+    /// the event. No page is copied for it.
     ///
     /// # Errors
     ///
-    /// [`Stopped`] where there is no memory for the page.
-    pub fn release(&mut self, alloc: Global, i: usize, page: &ShownPage) -> Result<bool, Stopped>
+    /// [`Stopped`] where the page is shared as often as can be counted.
+    pub fn release(&mut self, i: usize, page: &ShownPage) -> Result<bool, Stopped>
         requires log { IsWorldLog self.old }
         ensures took { OnOk result ((rest : State) → Took rest (event.Release i page.now) self.old self.new) }
         ensures told { IfOk result (λ done. (rest : State) → done ≡ is_enabled_in (state_of rest self.old) (event.Release i page.now)) }
@@ -283,7 +284,7 @@ impl WorldLog {
         if i >= self.stripes.lanes.len() {
             return Ok(false);
         }
-        let page = copied(alloc, page.page())?;
+        let page = shown(page)?;
         let lane = &mut self.stripes.lanes[i];
         Ok(lane.release(&mut self.device, page))
     }

@@ -20,6 +20,7 @@ use shards::counted::{Begun, CountedLog};
 use std::alloc::Global;
 use std::mem;
 use std::sync::Arc;
+use world_events::ShownPage;
 
 /// The flusher copies the oldest page that waits for it, where one does.
 pub(crate) fn copy(
@@ -57,12 +58,12 @@ fn is_idle(flushing: &Flushing) -> bool
     matches!(flushing, Flushing::Nothing)
 }
 
-/// A copy of a page.
-pub(crate) fn copied(alloc: Global, page: &Page) -> Result<Arc<Page>, Stopped>
-    ensures { IfOk result (λ copy. arc_value copy ≡ page.now) }
+/// The page that an event shows, which is shared and not copied.
+pub(crate) fn shown(page: &ShownPage) -> Result<Arc<Page>, Stopped>
+    ensures { IfOk result (λ shown. arc_value shown ≡ page.now) }
 {
-    match page.try_clone(alloc) {
-        Ok(copy) => shared(alloc, copy),
+    match page.shared() {
+        Ok(page) => Ok(page),
         Err(_) => Err(Stopped),
     }
 }

@@ -1,7 +1,7 @@
 -- Who holds which stripes, where one holder changes; and tests that hold.
-use Rattle.std.proofs.Common.{◌≡◌, ◌≢◌, ◌⊎◌, ℕ, zero, suc, Bool, true, false, ◌&&◌, not, List, [], ◌∷◌, get_or, set, Option, Some, None, refl, sym, ap, ◌∙◌, inl, inr, nat_eq, Decides, is_none}
+use Rattle.std.proofs.Common.{◌≡◌, ◌≢◌, ◌⊎◌, ℕ, zero, suc, Bool, true, false, ◌&&◌, not, List, [], ◌∷◌, get_or, set, Option, Some, None, refl, sym, ap, ap₂, ◌∙◌, inl, inr, if◌then◌else◌, nat_eq, Decides, is_none}
 use Rattle.std.proofs.lemmas.Bool.Decides.{Decides-eqb}
-use Rattle.world_model.specs.Enabled.{is_number, holds_none}
+use Rattle.world_model.specs.Enabled.{is_number, holds, holds_none, first_missing}
 use Rattle.world_model.specs.Advancing.{When}
 
 pub when_cases : (t : Bool) (P Q : Type 0) → When t P Q → ((t ≡ true) × P) ⊎ ((t ≡ false) × Q)
@@ -42,3 +42,19 @@ holds_none_set d [] i holder was is = refl
 holds_none_set d (first ∷ holders) zero holder was is = rw (was, is) refl
 holds_none_set d (first ∷ holders) (suc i) holder was is =
     ap (λ (t : Bool). not (is_number d first) && t) (holds_none_set d holders i holder was is)
+
+-- what is missing of some stripes goes by what a client holds
+pub missing_same : (holders later : List (Option ℕ)) (c : ℕ) (stripes : List ℕ) → ((j : ℕ) → holds later c j ≡ holds holders c j)
+    → first_missing later c stripes ≡ first_missing holders c stripes
+missing_same holders later c [] same = refl
+missing_same holders later c (stripe ∷ stripes) same =
+    ap₂ (λ (t : Bool) (o : Option ℕ). if t then o else Some stripe) (same stripe) (missing_same holders later c stripes same)
+
+-- a stripe gets a holder: the client held it not and is not that holder
+pub holds_set : (holders : List (Option ℕ)) (i c : ℕ) (holder : Option ℕ) → is_number c (get_or holders i None) ≡ false → is_number c holder ≡ false
+    → (j : ℕ) → holds (set holders i holder) c j ≡ holds holders c j
+holds_set [] i c holder was is j = refl
+holds_set (first ∷ holders) zero c holder was is zero = is ∙ sym was
+holds_set (first ∷ holders) zero c holder was is (suc j) = refl
+holds_set (first ∷ holders) (suc i) c holder was is zero = refl
+holds_set (first ∷ holders) (suc i) c holder was is (suc j) = holds_set holders i c holder was is j

@@ -9,6 +9,11 @@ pub mod Committing
 pub mod Begins
 pub mod Telling
 pub mod Soundness
+pub mod Else
 pub mod Planning
+pub mod Rising
+pub mod Ordering
+pub mod Waiting
+pub mod Falling
 mod EventRows
 mod LogRows

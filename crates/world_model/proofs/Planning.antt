@@ -1,5 +1,5 @@
 -- A plan stays the one that is due until its call is committed, whatever else happens.
-use Rattle.std.proofs.Common.{◌≡◌, ◌≢◌, ℕ, zero, suc, ◌<◌, Bool, true, false, ◌&&◌, ◌||◌, not, List, [], ◌∷◌, ◌++◌, length, get_or, set, replicate, Option, Some, None, is_none, nat_lt, nat_eq, refl, sym, ap, ap₂, ◌∙◌, subst, inl, inr, if◌then◌else◌, length-set}
+use Rattle.std.proofs.Common.{◌≡◌, ◌≢◌, ℕ, ◌<◌, Bool, true, false, ◌&&◌, ◌||◌, not, List, [], ◌∷◌, ◌++◌, length, get_or, set, Option, Some, None, is_none, nat_lt, nat_eq, refl, sym, ap, ap₂, ◌∙◌, subst, inl, inr, if◌then◌else◌, length-set}
 use Rattle.std.specs.Bool.{Decides}
 use Rattle.std.proofs.lemmas.Bool.{ltb-true}
 use Rattle.std.proofs.lemmas.Bool.Decides.{Decides-eqb}
@@ -20,20 +20,19 @@ use Rattle.transact.specs.Calls.{asked_of, call_of, call_keys}
 use Rattle.transact.specs.Plans.{IsPlan, stripes_with}
 use Rattle.connection.specs.Clients.{Progress}
 use Rattle.world_events.specs.declared.event.Event.{Event}
-use Rattle.world_events.specs.declared.event.Event.TheVariants.{Piece, Close, Take, Commit, Give, Fetch, Copy, Write as WriteIt, Install, Drop, Unlink, Retire, Drain, Release}
-use Rattle.world_model.specs.Logs.{place_at}
-use Rattle.world_model.specs.States.{Phase, Serving, Calling, Leaving, Left, Ended, Due, ClientState, State, fresh, client, log_of, stripe_count, open_call, with_client}
+use Rattle.world_events.specs.declared.event.Event.TheVariants.{Piece, Close, Take, Commit, Give, Fetch}
+use Rattle.world_model.specs.States.{Phase, Serving, Calling, Leaving, Left, Ended, Due, ClientState, State, fresh, client, stripe_count, open_call, with_client}
 use Rattle.world_events.specs.Actors.{actor}
 use Rattle.world_model.specs.Enabled.{is_number, holds, holds_none, first_missing, next_stripe, are_none, is_enabled_for, is_enabled_of}
 use Rattle.world_model.specs.Advancing.{is_idle, When, Goes}
-use Rattle.world_model.specs.Rooms.{Leaves, Sheds, Frees, Retires, Drains, Releases, Steps, ByPage, ByPlace, StepsAll}
 use Rattle.world_model.specs.Planning.{Plans, Names, MakesRoom, MeetsFull, PlansFor, asked_by, taken, Takes, reply_now}
 use Rattle.world_model.specs.Commits.{Told, Refused, Commits}
-use Rattle.world_model.specs.Effects.{Does, Works, fed, heard, Unlinks, StopsFull, Cleans}
+use Rattle.world_model.specs.Effects.{Does, fed, heard}
 use Rattle.world_model.specs.Turns.{DoesAndGoes, Turn}
 use Rattle.world_model.specs.Soundness.{IsSound}
 use Rattle.world_model.specs.Planned.{LocalLaws, IsPlanned, IsNoCommitOf}
-use Rattle.world_model.proofs.Holding.{when_cases, both, none_is, apart_eqb, held_by_one}
+use Rattle.world_model.proofs.Holding.{when_cases, both, none_is, apart_eqb, held_by_one, holds_set, missing_same}
+use Rattle.world_model.proofs.Else.{IsElse, steps_else, works_else}
 use Rattle.world_model.proofs.Marking.{call_given}
 
 -- A HISTORY WITH AN ENTRY MORE
@@ -122,21 +121,6 @@ names_none holders c d n [] entry differ held others = tt
 names_none holders c d n (key ∷ mine) entry differ held others =
     ((none_of holders c d n (keys_named entry.operation) key differ held.0 others, tt), names_none holders c d n mine entry differ held.1 others)
 
-missing_same : (holders later : List (Option ℕ)) (c : ℕ) (stripes : List ℕ) → ((j : ℕ) → holds later c j ≡ holds holders c j)
-    → first_missing later c stripes ≡ first_missing holders c stripes
-missing_same holders later c [] same = refl
-missing_same holders later c (stripe ∷ stripes) same =
-    ap₂ (λ (t : Bool) (o : Option ℕ). if t then o else Some stripe) (same stripe) (missing_same holders later c stripes same)
-
--- a stripe gets a holder: the client held it not and is not that holder
-holds_set : (holders : List (Option ℕ)) (i c : ℕ) (holder : Option ℕ) → is_number c (get_or holders i None) ≡ false → is_number c holder ≡ false
-    → (j : ℕ) → holds (set holders i holder) c j ≡ holds holders c j
-holds_set [] i c holder was is j = refl
-holds_set (first ∷ holders) zero c holder was is zero = is ∙ sym was
-holds_set (first ∷ holders) zero c holder was is (suc j) = refl
-holds_set (first ∷ holders) (suc i) c holder was is zero = refl
-holds_set (first ∷ holders) (suc i) c holder was is (suc j) = holds_set holders i c holder was is j
-
 -- THE SAME PLAN IN ANOTHER STATE
 
 module _ (c : ℕ) (call : Call) (asked : Asked) (reply : Reply) (writes : List Write) where
@@ -163,62 +147,11 @@ module _ (c : ℕ) (call : Call) (asked : Asked) (reply : Reply) (writes : List 
             (goes (operation_of (client old c).watches asked) planned.keys planned.plan);
       }
 
-  -- clients, holders and the history are the same
-  record IsElse (old new : State) : Type 0 where
-    clients : new.clients ≡ old.clients
-    holders : new.holders ≡ old.holders
-    history : new.history ≡ old.history
-
   else_planned : (old new : State) → IsElse old new → At old → At new
   else_planned old new is planned =
       planned_from old new (ap (λ (clients : List ClientState). get_or clients c fresh) is.clients)
       (λ j. ap (λ (holders : List (Option ℕ)). holds holders c j) is.holders) (ap (λ (holders : List (Option ℕ)). length holders) is.holders)
       (λ operation keys plan. rw is.history plan) planned
-
-  else_both : (one two three : State) → IsElse one two → IsElse two three → IsElse one three
-  else_both one two three first second = record {
-    clients = second.clients ∙ first.clients;
-    holders = second.holders ∙ first.holders;
-    history = second.history ∙ first.history;
-  }
-
-  leaves_else : (before : State) (i : ℕ) (o : Option ℕ) (after : State) → Leaves before i o after → IsElse before after
-  leaves_else before i (Some place) after leaves = rw leaves (record { clients = refl; holders = refl; history = refl })
-  leaves_else before i None after leaves = rw leaves.1 (record { clients = refl; holders = refl; history = refl })
-
-  shed_else : (before : State) (i : ℕ) (after : State) → Sheds before i after → IsElse before after
-  shed_else before i after sheds = leaves_else before i (place_at (log_of before i) (log_of before i).first) after sheds.leaves
-
-  frees_else : (before : State) (i : ℕ) (after : State) → Frees before i after → IsElse before after
-  frees_else before i _ (Retires some) = record { clients = refl; holders = refl; history = refl }
-  frees_else before i _ (Drains some) = record { clients = refl; holders = refl; history = refl }
-  frees_else before i _ (Releases page some) = record { clients = refl; holders = refl; history = refl }
-
-  step_else : (before : State) (i : ℕ) (after : State) → Steps before i after → IsElse before after
-  step_else before i after (ByPage sheds) = shed_else before i after sheds
-  step_else before i after (ByPlace within frees) = frees_else before i after frees
-
-  steps_else : (before : State) (stripes : List ℕ) (after : State) → StepsAll before stripes after → IsElse before after
-  steps_else before [] after steps = rw steps (record { clients = refl; holders = refl; history = refl })
-  steps_else before (i ∷ stripes) after steps =
-      else_both before steps.0 after (step_else before i steps.0 steps.1) (steps_else steps.0 stripes after steps.2)
-
-  unlinks_else : (before : State) (i : ℕ) (after : State) → Unlinks before i after → IsElse before after
-  unlinks_else before i after (StopsFull count _ steps full) = steps_else before (replicate count i) after steps
-  unlinks_else before i after (Cleans count mid place opened steps cold there few) =
-      let more = steps_else before (replicate count i) mid steps in
-      record { clients = more.clients; holders = more.holders; history = more.history }
-
-  works_else : (before : State) (e : Event) (after : State) → Works before e after → IsElse before after
-  works_else before (Copy i) after works = rw works (record { clients = refl; holders = refl; history = refl })
-  works_else before (WriteIt i) after works = rw works (record { clients = refl; holders = refl; history = refl })
-  works_else before (Install i) after works = rw works (record { clients = refl; holders = refl; history = refl })
-  works_else before (Drop i) after works = rw works (record { clients = refl; holders = refl; history = refl })
-  works_else before (Unlink i) after works = unlinks_else before i after works
-  works_else before (Retire i) after works = rw works (record { clients = refl; holders = refl; history = refl })
-  works_else before (Drain i) after works = rw works (record { clients = refl; holders = refl; history = refl })
-  works_else before (Release i page) after works = rw works (record { clients = refl; holders = refl; history = refl })
-  works_else before _ after works = absurd works
 
   -- another client is set
   other_set : (d : ℕ) (old : State) (peer : ClientState) → d ≢ c → At old → At (with_client old d peer)

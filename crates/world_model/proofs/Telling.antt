@@ -1,5 +1,5 @@
 -- What a sound world's clients were told.
-use Rattle.std.proofs.Common.{◌≡◌, ℕ, Bool, true, false, List, [], ◌∷◌, refl, sym, ◌∙◌, append-nil, inl, inr}
+use Rattle.std.proofs.Common.{◌≡◌, ℕ, ◌<◌, Bool, true, false, List, [], ◌∷◌, length, refl, sym, subst, ◌∙◌, append-nil, inl, inr}
 use Rattle.words.specs.declared.reply.Reply.{Reply}
 use Rattle.words.specs.Store.{Bytes}
 use Rattle.words.specs.History.{History, Pair, Placed, keys_of_pairs}
@@ -13,6 +13,8 @@ use Rattle.world_model.specs.Enabled.{holds_none}
 use Rattle.world_model.specs.Told.{mine, IsLeft, IsTold, Headline}
 use Rattle.world_model.specs.Soundness.{Talks, Over, HasAdvanced, IsSound}
 use Rattle.world_model.specs.Laws.{TalkLaws}
+use Rattle.world_model.specs.Resting.{IsAtRest, rests}
+use Rattle.world_model.proofs.Holding.{both, none_is}
 
 -- where an entry is taken and the rest follows, what the rest leads to follows
 takes_map : (c : ℕ) (operation : Operation) (reply : Reply) (entries : List Placed) (P Q : ℕ → List Placed → Type 0)
@@ -113,3 +115,13 @@ headline_is talks state sound = record {
       (sound.clients c below).talks (sound.rest c below);
   parts = λ i below free. sound.parts i;
 }
+
+-- a client that rests was told all that is due
+pub rest_is : (state : State) (c : ℕ) → Headline state → c < length state.clients → rests state c ≡ true → IsAtRest state c
+rest_is state c headline below is =
+    let test = both _ _ is in
+    record {
+      no_call = none_is _ test.0;
+      no_stripe = test.1;
+      told = subst (λ (none : Bool). IsTold c state.history none (client state c)) test.1 (headline.told c below);
+    }

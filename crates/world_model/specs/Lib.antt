@@ -13,3 +13,4 @@ pub mod Places
 pub mod Soundness
 pub mod Laws
 pub mod Planned
+pub mod Resting

@@ -1,13 +1,15 @@
 //! What holds however events follow each other.
 
-ghost use Rattle.std.specs.Prelude.{ℕ, ◌≡◌, ◌<◌, List, [], None, get_or, length};
+ghost use Rattle.std.specs.Prelude.{ℕ, ◌≡◌, ◌<◌, ◌≤◌, List, [], None, false, get_or, length, true};
 ghost use Rattle.words.specs.declared.reply.Reply.{Reply};
 ghost use Rattle.words.specs.Store.{Write};
 ghost use Rattle.words.specs.Session.{Asked};
 ghost use Rattle.transact.specs.declared.call.Call.{Call};
 ghost use Rattle.world_model.specs.Planning.{taken};
 ghost use Rattle.world_model.specs.Rooms.{StepsAll};
-ghost use Rattle.world_model.specs.States.{State, client, start};
+ghost use Rattle.world_model.specs.Enabled.{is_enabled};
+ghost use Rattle.world_model.specs.Resting.{IsAtRest, IsOfCall, IsOrderly, events_left, rests};
+ghost use Rattle.world_model.specs.States.{State, client, start, stripe_count};
 ghost use Rattle.world_model.specs.Turns.{Turn, Turns};
 ghost use Rattle.world_model.specs.Told.{Headline};
 ghost use Rattle.world_model.specs.Places.{NoneReleased};
@@ -64,3 +66,30 @@ pub fn plans_stay_right()
 {
     laws();
 }
+
+/// A world at the beginning is orderly: who holds which stripe follows the rising order of stripes. What events leave
+/// of an orderly world is an orderly world.
+pub fn events_keep_the_order()
+    ensures start { (stripes clients frames limit : ℕ) → 1 ≤ stripe_count (start stripes clients frames limit)
+        → IsOrderly (start stripes clients frames limit) }
+    ensures turns { (before : State) (events : List Event) (after : State) → Turns before events after → IsOrderly before → IsOrderly after }
+{}
+
+/// No client is stuck: as long as one does not rest, a take, a fetch, a commit or a give is enabled, the client's own or
+/// another's.
+pub fn no_client_is_stuck()
+    ensures { (state : State) (c : ℕ) → IsOrderly state → c < length state.clients → rests state c ≡ false
+        → (e : Event) × IsOfCall e × (is_enabled state e ≡ true) }
+{}
+
+/// Each enabled take, fetch, commit and give lowers the number of the events that are left at most. So, whatever
+/// happened before, calls come to their ends, as long as clients are fed nothing more.
+pub fn calls_come_to_an_end()
+    ensures { (before : State) (e : Event) (after : State) → IsOfCall e → is_enabled before e ≡ true → IsSound before
+        → IsOrderly before → Turn before e after → events_left after < events_left before }
+{}
+
+/// Where the headline holds, a client that rests was told all that is due.
+pub fn resting_clients_are_answered()
+    ensures { (state : State) (c : ℕ) → Headline state → c < length state.clients → rests state c ≡ true → IsAtRest state c }
+{}

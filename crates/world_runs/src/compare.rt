@@ -4,7 +4,7 @@ ghost use Rattle.std.specs.Prelude.{◌<◌, length};
 ghost use Rattle.world.specs.Tables.{state_of};
 
 use crate::plain::Plain;
-use crate::told::Told;
+use crate::told::{Told, Waits};
 use crate::watches::Watches;
 use std::alloc::Global;
 use words::history::{Entry, Operation};
@@ -27,13 +27,19 @@ impl Sums {
         let told = (self.entries as u64).saturating_add(self.refused as u64);
         told <= commits && commits <= told.saturating_add(clients as u64)
     }
+
+    /// Whether so many calls were asked for, and each is an entry or was refused.
+    pub(crate) fn are_all(&self, calls: u64) -> bool {
+        (self.entries as u64).saturating_add(self.refused as u64) == calls
+    }
 }
 
-/// The sums of a world in which all is as a plain map has it. `None` where it is not, and where there was no memory.
-pub(crate) fn compared(alloc: Global, world: &World) -> Option<Sums> {
+/// The sums of a world in which all is as a plain map has it, where calls may wait or none. `None` where it is not, and
+/// where there was no memory.
+pub(crate) fn compared(alloc: Global, world: &World, waits: Waits) -> Option<Sums> {
     let mut refused: usize = 0;
     for client in 0..world.clients() {
-        let count = compared_of(alloc, world, client)?;
+        let count = compared_of(alloc, world, client, waits)?;
         refused = refused.checked_add(count)?;
     }
     let history = world.history();
@@ -50,7 +56,7 @@ fn is_undone(entry: &Entry) -> bool {
 }
 
 /// How many calls of one client were refused.
-fn compared_of(alloc: Global, world: &World, client: usize) -> Option<usize>
+fn compared_of(alloc: Global, world: &World, client: usize, waits: Waits) -> Option<usize>
     requires { client < length (state_of world.now).clients }
 {
     let mut plain = Plain::new(alloc);
@@ -64,7 +70,7 @@ fn compared_of(alloc: Global, world: &World, client: usize) -> Option<usize>
         }
         plain.go_on();
     }
-    told.end()
+    told.end(waits)
 }
 
 /// What a client watches from its entry at this position on. `None` where its transaction goes by other watches than it

@@ -55,6 +55,11 @@ impl Counts {
         self.commit
     }
 
+    /// How many requests were fed; each is a call, or a transaction.
+    pub(crate) fn pieces(&self) -> u64 {
+        self.piece
+    }
+
     /// Whether each kind was enabled at least once.
     pub(crate) fn are_all_there(&self) -> bool {
         let counts = [

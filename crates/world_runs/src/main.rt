@@ -1,8 +1,9 @@
 //! Random schedules of all events over small stripes, each compared with a plain map: what each client was told, each
 //! entry of the history, and what each transaction watches, are what the map has along the history. Calls that met a
-//! full stripe are told that, and do nothing. A line is printed for each seed, and how often each kind of event was
-//! enabled. It ends with status 1 where anything is not as the map has it, where a kind of event was never enabled, and
-//! where a stripe is full that has room, or none is full of those that are filled.
+//! full stripe are told that, and do nothing. Then each world is finished, and compared once more: each client has every
+//! reply. A line is printed for each seed, and how often each kind of event was enabled. It ends with status 1 where
+//! anything is not as the map has it, where a kind of event was never enabled, and where a stripe is full that has room,
+//! or none is full of those that are filled.
 #![tactic(auto)]
 
 mod compare;
@@ -25,6 +26,7 @@ use std::alloc::Global;
 use std::fmt;
 use std::fmt::{Display, Formatter};
 use std::process::ExitCode;
+use told::Waits;
 use words::limits::Limits;
 use world::World;
 use world_events::Event;
@@ -65,8 +67,8 @@ const RUNS: [(u64, usize); 12] = [
 /// What a run came to.
 #[derive(Clone, Copy)]
 enum Verdict {
-    /// All is as the map has it.
-    Right(Sums),
+    /// All is as the map has it, with the schedule's last event and when each client rests.
+    Right(Sums, Sums),
     /// Something is not.
     Wrong,
     /// There was no memory.
@@ -77,7 +79,7 @@ impl Verdict {
     /// Whether all is right, and stripes of so many places were full where they are few, and nowhere else.
     fn is_due(&self, places: usize) -> bool {
         match self {
-            Verdict::Right(sums) => (sums.refused == 0) == (places == MANY_PLACES),
+            Verdict::Right(sums, _) => (sums.refused == 0) == (places == MANY_PLACES),
             Verdict::Wrong | Verdict::Stopped => false,
         }
     }
@@ -86,11 +88,12 @@ impl Verdict {
 impl Display for Verdict {
     fn fmt<W: fmt::Write>(&self, f: &mut Formatter<W>) -> fmt::Result {
         match self {
-            Verdict::Right(sums) => {
+            Verdict::Right(sums, all) => {
                 write!(
                     f,
-                    "{} entries, {} of them transactions that were not done, {} calls refused, as the map has it",
-                    sums.entries, sums.undone, sums.refused
+                    "{} entries, {} of them transactions that were not done, {} calls refused, as the map has it; \
+                    at rest {} entries, {} calls refused",
+                    sums.entries, sums.undone, sums.refused, all.entries, all.refused
                 )
             }
             Verdict::Wrong => write!(f, "not as the map has it"),
@@ -115,17 +118,25 @@ fn main(rt: HostRuntime) -> Result<ExitCode> {
     }
 }
 
-/// Follows the random schedule of a seed in a new world, and compares it. Its events that were enabled are counted.
+/// Follows the random schedule of a seed in a new world, and compares it; and once more when each client rests. Its events
+/// that were enabled are counted.
 fn run(alloc: Global, seed: u64, places: usize, counts: &mut Counts) -> Verdict {
     let committed = counts.commits();
+    let fed = counts.pieces();
     let Some(world) = world_after(alloc, seed, places, counts) else {
         return Verdict::Stopped;
     };
-    let sums = compared(alloc, &world);
+    let sums = compared(alloc, &world, Waits::Some);
+    let Ok(world) = world.finish() else {
+        return Verdict::Stopped;
+    };
+    let all = compared(alloc, &world, Waits::None);
     world.end();
-    match sums {
-        Some(sums) if sums.are_of(counts.commits().saturating_sub(committed), CLIENTS) => {
-            Verdict::Right(sums)
+    let committed = counts.commits().saturating_sub(committed);
+    let fed = counts.pieces().saturating_sub(fed);
+    match (sums, all) {
+        (Some(sums), Some(all)) if sums.are_of(committed, CLIENTS) && all.are_all(fed) => {
+            Verdict::Right(sums, all)
         }
         _ => Verdict::Wrong,
     }

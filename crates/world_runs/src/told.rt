@@ -6,6 +6,13 @@ const FULL: &[u8] = b"-FULL store is full\r\n";
 /// What it is told of the requests of a transaction of two commands, before the last.
 const QUEUED: &[u8] = b"+OK\r\n+QUEUED\r\n+QUEUED\r\n";
 
+/// Whether some call may wait for its commit.
+#[derive(Clone, Copy, PartialEq, Eq)]
+pub(crate) enum Waits {
+    Some,
+    None,
+}
+
 /// What a client was told, behind what was compared already.
 #[derive(Drop)]
 pub(crate) struct Told<'a> {
@@ -50,10 +57,11 @@ impl<'a> Told<'a> {
         queued
     }
 
-    /// How many calls were refused, where nothing else is left than what was told of a transaction that waits.
-    pub(crate) fn end(mut self) -> Option<usize> {
+    /// How many calls were refused, where nothing else is left; but where a transaction may wait, what was told of one.
+    pub(crate) fn end(mut self, waits: Waits) -> Option<usize> {
         let _queued = self.take_refusals();
-        if self.rest.is_empty() || self.rest == QUEUED {
+        let queued = waits == Waits::Some && self.rest == QUEUED;
+        if self.rest.is_empty() || queued {
             Some(self.refused)
         } else {
             None

@@ -3,6 +3,8 @@
 #![tactic(auto)]
 
 #[cfg(test)]
+mod finishing;
+#[cfg(test)]
 mod pages;
 #[cfg(test)]
 mod tests;

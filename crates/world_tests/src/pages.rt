@@ -116,8 +116,28 @@ fn filled_world(alloc: Global, places: usize) -> Option<World>
 
 /// Whether this is the value, as a client is told it.
 fn is_value(alloc: Global, told: &[u8]) -> bool {
+    is_value_of(alloc, told, Length::Short)
+}
+
+/// The same of the value of this length.
+fn is_value_of(alloc: Global, told: &[u8], length: Length) -> bool {
     let mut due = Vec::new(alloc);
-    add_value(&mut due, Length::Short).is_some() && told == due.as_slice()
+    add_value(&mut due, length).is_some() && told == due.as_slice()
+}
+
+/// Adds three times the value as one array.
+fn add_three(text: &mut Vec<u8>) -> Option<()> {
+    add(text, b"*3\r\n")?;
+    for _ in 0..3 {
+        add_value(text, Length::Short)?;
+    }
+    Some(())
+}
+
+/// Whether this is three times the value, as a client is told them at once.
+fn are_three(alloc: Global, told: &[u8]) -> bool {
+    let mut due = Vec::new(alloc);
+    add_three(&mut due).is_some() && told == due.as_slice()
 }
 
 /// Follows a text in a filled world. Client 1 has the value then, or nothing; and there are so many entries.
@@ -191,10 +211,9 @@ fn a_stay_keeps_a_place(rt: HostRuntime) {
     row(&rt, rt.alloc(), text, true, 631);
 }
 
-/// The same where the page is fetched only after others have tried to release its place, three times; then the
-/// plan reads it itself.
+/// A transaction whose page is fetched in a round of its own.
 #[test]
-fn a_plan_reads_after_three_rounds(rt: HostRuntime) {
+fn a_transaction_reads_in_a_round(rt: HostRuntime) {
     let text = "copy 0; write 0; install 0; drop 0; copy 0; write 0; install 0; drop 0; \
         ask 1 MULTI; ask 1 GET k0000; ask 1 EXEC; take 1 0; give 1 0; fetch 1; take 1 0; commit 1; give 1 0";
     let Some(world) = filled_world(rt.alloc(), 4_096) else {
@@ -203,6 +222,100 @@ fn a_plan_reads_after_three_rounds(rt: HostRuntime) {
     let world = follow(&rt, rt.alloc(), world, text);
     if world.history().len() != 631 {
         panic!(rt; "entries")
+    }
+    world.end();
+}
+
+/// A call that lacks three pages names them all, and one fetch reads them all.
+#[test]
+fn one_fetch_reads_all_pages_of_a_call(rt: HostRuntime) {
+    let alloc = rt.alloc();
+    let text =
+        "do copy 0; do write 0; do install 0; do drop 0; do copy 0; do write 0; do install 0; do drop 0; \
+        do copy 0; do write 0; do install 0; do drop 0; do ask 1 MGET k0000 k0063 k0126; do take 1 0; not commit 1; \
+        do give 1 0; do fetch 1; do take 1 0; not give 1 0; do commit 1; do give 1 0";
+    let Some(world) = filled_world(alloc, 4_096) else {
+        panic!(rt; "no world")
+    };
+    let world = follow(&rt, alloc, world, text);
+    if world.clients() != 2 || !are_three(alloc, world.output(1)) {
+        panic!(rt; "told otherwise")
+    }
+    world.end();
+}
+
+/// Four keys of one bucket, by their numbers; no other of a number below 10,000 is of it.
+const CHAIN: [usize; 4] = [102, 263, 2_984, 3_499];
+
+/// Adds the events by which client 0 sets the key of a number to the long value.
+fn push_set(alloc: Global, events: &mut Vec<Event>, number: usize) -> Option<()> {
+    push(
+        events,
+        Event::Piece(0, set_of(alloc, number, Length::Long)?),
+    )?;
+    push_call(events)
+}
+
+/// A world in which the bucket of four keys leads through the pages 3, 2, 1 and 0, one key of it in each, all of which
+/// left their frames.
+fn chained_world(alloc: Global) -> Option<World>
+    ensures { IfSome result IsWorld }
+{
+    let mut events = Vec::new(alloc);
+    for (other, number) in CHAIN.iter().enumerate() {
+        push_set(alloc, &mut events, *number)?;
+        push_set(alloc, &mut events, other)?;
+    }
+    for number in 4..12 {
+        push_set(alloc, &mut events, number)?;
+    }
+    for _ in CHAIN {
+        push(&mut events, Event::Copy(0))?;
+        push(&mut events, Event::Write(0))?;
+        push(&mut events, Event::Install(0))?;
+        push(&mut events, Event::Drop(0))?;
+    }
+    let limits = Limits::new(1, 4_096, 12, 4_096, 2)?;
+    let world = World::new(alloc, &limits).ok()?;
+    world.run(events.as_slice()).ok()
+}
+
+/// A key behind four cold pages: three are fetched, each in a round of its own, and the fourth is read by the plan itself.
+#[test]
+fn a_plan_reads_the_page_behind_three_rounds(rt: HostRuntime) {
+    let alloc = rt.alloc();
+    let Some(world) = chained_world(alloc) else {
+        panic!(rt; "no world")
+    };
+    let text =
+        "do ask 1 GET k0102; do take 1 0; not commit 1; do give 1 0; do fetch 1; do take 1 0; not commit 1; do give 1 0; \
+        do fetch 1; do take 1 0; not commit 1; do give 1 0; do fetch 1; do take 1 0; not give 1 0; do commit 1; do give 1 0; \
+        not fetch 1";
+    let world = follow(&rt, alloc, world, text);
+    if world.clients() != 2 || !is_value_of(alloc, world.output(1), Length::Long) {
+        panic!(rt; "told otherwise")
+    }
+    if world.history().len() != 17 {
+        panic!(rt; "entries")
+    }
+    world.end();
+}
+
+/// The same call, where the world finishes it.
+#[test]
+fn a_finished_world_reads_cold_pages(rt: HostRuntime) {
+    let alloc = rt.alloc();
+    let Some(world) = chained_world(alloc) else {
+        panic!(rt; "no world")
+    };
+    let world = follow(
+        &rt,
+        alloc,
+        world,
+        "do ask 1 GET k0102; no rest; finish; rest",
+    );
+    if world.clients() != 2 || !is_value_of(alloc, world.output(1), Length::Long) {
+        panic!(rt; "told otherwise")
     }
     world.end();
 }

@@ -6,6 +6,7 @@
 //! - `close C`, `take C I`, `commit C`, `give C I`, and `fetch C`, `copy I` .. `release I BYTE` are the other
 //!   events, where a release shows a page of this byte, and `turn C I` is a take, a commit and a give;
 //! - `do EVENT` is an event that is enabled, and `not EVENT` one that is not; without such a word either will do;
+//! - `finish` does events of calls until each client rests, `rest` says that each does, and `no rest` that some does not;
 //! - `told C TEXT` says what was written to client C since the start, and `silent C` that it is nothing;
 //! - `entries C C ..` says which client's each entry of the history is, and `no entries` that there is none.
 //!
@@ -215,6 +216,18 @@ fn after_step(world: World, event: &Event, due: bool) -> Option<World>
     None
 }
 
+/// The world, where each client rests in it, or where some does not, as it is to be.
+fn at_rest(world: World, due: bool) -> Option<World>
+    requires { IsWorld world }
+    ensures { IfSome result IsWorld }
+{
+    if world.next_event().is_none() == due {
+        return Some(world);
+    }
+    world.end();
+    None
+}
+
 /// The world after a line. `None` where the line does not hold, or where there was no memory.
 fn after(alloc: Global, world: World, line: &str) -> Option<World>
     requires { IsWorld world }
@@ -222,6 +235,12 @@ fn after(alloc: Global, world: World, line: &str) -> Option<World>
 {
     if let Some((client, stripe)) = turn_of(line) {
         return after_turn(world, client, stripe);
+    }
+    match line {
+        "finish" => return world.finish().ok(),
+        "rest" => return at_rest(world, true),
+        "no rest" => return at_rest(world, false),
+        _ => {}
     }
     if let Some((event, due)) = step_of(alloc, line) {
         return after_step(world, &event, due);
@@ -278,6 +297,17 @@ fn pages_that_are_shown(rt: HostRuntime) -> Result<(), Fail> {
     Ok(())
 }
 
+/// A page that is shown once more, or is shared, is the same page.
+#[test]
+fn pages_that_are_shared(rt: HostRuntime) -> Result<(), Fail> {
+    let filled = ShownPage::filled(rt.alloc(), 7)?;
+    let again = filled.again()?;
+    assert!(rt; is_of(again.page(), 7));
+    let shared = filled.shared()?;
+    assert!(rt; is_of(&shared, 7));
+    Ok(())
+}
+
 /// So many events that are not enabled, between two that are.
 fn many(alloc: Global, count: usize) -> Result<Vec<Event>, OutOfMemory> {
     let mut events = Vec::new(alloc);
@@ -322,7 +352,7 @@ fn follow_both<R: Abort>(rt: &R, alloc: Global, world: Option<World>, first: &st
 }
 
 /// Follows a text in a new world of 16 stripes and two clients.
-fn schedule<R: Abort>(rt: &R, alloc: Global, text: &str) {
+pub(crate) fn schedule<R: Abort>(rt: &R, alloc: Global, text: &str) {
     follow_both(rt, alloc, new_world(alloc, 16, 2), "no entries", text);
 }
 

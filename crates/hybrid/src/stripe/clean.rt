@@ -63,6 +63,7 @@ impl<R: Shows> Stripe<R> {
         ensures cold { MatchWeighed result (λ weight. ⊤) (λ number. IsMissing self.now staged.now number) ⊤ }
         ensures lent { R.lends → MatchWeighed result (λ weight. ⊤) (λ number. ⊥) ⊤ }
         ensures needed { R.is_honest → AreRight staged.now → MatchWeighed result (λ weight. ⊤) (λ number. (number ≡ self.now.oldest) ⊎ IsNeeded self.now number) ⊤ }
+        ensures kept { MatchWeighed result (λ weight. (kept : Kept) × (receipt_of self.now self.now.oldest ≡ Some kept)) (λ number. ⊤) ⊤ }
         ensures resident { MatchWeighed result (λ weight. self.now.oldest < self.now.resident.oldest) (λ number. self.now.oldest < self.now.resident.oldest) (self.now.resident.oldest ≡ self.now.oldest) }
     {
         let number = self.oldest();

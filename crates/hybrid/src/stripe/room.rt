@@ -3,7 +3,7 @@
 ghost use Rattle.std.specs.Prelude.{if◌then◌else◌, nat_lt, ◌≡◌, ◌↔◌, ◌+◌, ◌-◌, ◌<◌, ◌≤◌, ◌^◌, ◌⊎◌, ℕ, IsTrue, IsSome, IfOk, IfErr, OnOk, OnErr, None};
 ghost use Rattle.std.specs.Bool.{OnTrue, OnFalse};
 ghost use Rattle.frames.specs.Resident.{first_mutable, next_number};
-ghost use Rattle.hybrid.specs.HybridLog.{log_of, HasRoom, IsHybridLog, expected, free, pages_for, with_dropped, receipt_of};
+ghost use Rattle.hybrid.specs.HybridLog.{log_of, tail_bytes, HasRoom, IsHybridLog, expected, free, pages_for, with_dropped, receipt_of};
 ghost use Rattle.hybrid.specs.Reserving.{AreNewServed, IsFlushed, IsReserved, KeepsBack, KeepsSpare, MatchFault, IsFull, beside, frames_for, spare};
 ghost use Rattle.hybrid.specs.Shedding.{HasShed, IsFlushedBy};
 
@@ -86,6 +86,7 @@ impl<R: Shows> Stripe<R> {
         requires light { weight ≤ WEIGHT_MAX }
         ensures room { IfOk result (λ room. (room.weight ≡ weight) × HasRoom self.new weight) }
         ensures log { log_of self.new ≡ log_of self.old }
+        ensures tail { tail_bytes self.new ≡ tail_bytes self.old }
         // Each page that left its frame was read-only, and had a receipt or was written to this device.
         ensures shed { OnOk result (HasShed D.wrote (λ r. record { identity = R.identity r; shown = R.shown r }) self.old device.old self.new device.new) }
         ensures shed_full { OnErr result (D.failures device.new ≡ D.failures device.old → HasShed D.wrote (λ r. record { identity = R.identity r; shown = R.shown r }) self.old device.old self.new device.new) }

@@ -18,6 +18,7 @@ returns-clause-stepped g c =
       says = (
         may_tell c.clean_step.result (shard_pages c.part.result.now) (shard_pages new) c.clean_step.ensures.done,
         cold_as c.clean_step.result _ (IsMissing (shard_log new) c.clean_step.new.staged) (λ number cold. cold.2) c.clean_step.ensures.cold,
+        λ t. c.clean_step.ensures.lacks t (c.requires.right t),
       );
     }
 

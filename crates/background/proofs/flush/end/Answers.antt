@@ -1,4 +1,4 @@
-use Rattle.std.proofs.Common.{◌∙◌, ◌∷◌, [], ap}
+use Rattle.std.proofs.Common.{◌∙◌, ◌∷◌, [], refl, ap}
 use Rattle.epoch.specs.Seats as seats
 use Rattle.gates.specs.Passes.{known}
 use Rattle.gates.specs.declared.view.Note.TheVariants as note
@@ -12,6 +12,7 @@ loop-init g c = record {
   resting = c.requires.own;
   outside = c.requires.outside;
   shown = c.requires.shown;
+  writes = refl;
   looked = looked_never (c.args.stripe ∷ []) (g.D.Device.failures c.args.device.now) (known c.args.pass.now) (seats.known c.args.seat.now);
 }
 
@@ -28,7 +29,8 @@ pub loop-preserved : goal.loop-preserved
 loop-preserved g c = record {
   resting = c.end_once.ensures.own;
   outside = c.end_once.ensures.outside;
-  shown = ap g.R.Shows.shown c.in-Again.ensures.again ∙ c.loop.invariant.shown;
+  shown = ap g.R.Shows.shown c.in-Again.ensures.again.1 ∙ c.loop.invariant.shown;
+  writes = c.end_once.ensures.no_write ∙ c.loop.invariant.writes;
   looked = looked_twice (c.args.stripe ∷ []) (g.D.Device.failures c.args.device.now) (g.D.Device.failures c.loop.device) (g.D.Device.failures c.end_once.new.device)
       (known c.args.pass.now) (known c.loop.pass) (known c.end_once.new.pass) (seats.known c.args.seat.now) (seats.known c.loop.seat) (seats.known c.end_once.new.seat)
       c.loop.invariant.looked (record { failures = c.end_once.ensures.no_fault; visited = c.in-Again.ensures.told; heard_more = c.end_once.ensures.heard });
@@ -39,3 +41,9 @@ returns-in-Landed-clause-no_fault g c = c.end_once.ensures.no_fault ∙ c.loop.i
 
 pub returns-in-Full-clause-no_fault : goal.returns-in-Full-clause-no_fault
 returns-in-Full-clause-no_fault g c = c.end_once.ensures.no_fault ∙ c.loop.invariant.looked.failures
+
+pub returns-in-Landed-clause-no_write : goal.returns-in-Landed-clause-no_write
+returns-in-Landed-clause-no_write g c = c.end_once.ensures.no_write ∙ c.loop.invariant.writes
+
+pub returns-in-Full-clause-no_write : goal.returns-in-Full-clause-no_write
+returns-in-Full-clause-no_write g c = c.end_once.ensures.no_write ∙ c.loop.invariant.writes

@@ -10,5 +10,6 @@ invariant-loop g l = record {
   resting : IsResting g.R.Shows.is_steady l.gates l.pass;
   outside : IsOutside l.epochs l.seat;
   shown : g.R.Shows.shown l.receipt ≡ l.page;
+  writes : g.D.Device.writes l.device ≡ g.D.Device.writes l.fn.device;
   looked : HasLooked (l.stripe ∷ []) (g.D.Device.failures l.fn.device) (g.D.Device.failures l.device) (known l.fn.pass) (known l.pass) (seats.known l.fn.seat) (seats.known l.seat);
 }

@@ -6,7 +6,7 @@ use Rattle.connection.proofs.answering.answer_piece.Goals as goal
 pub returns-clause-answered : goal.returns-clause-answered
 returns-clause-answered g c = λ was fed before talk.
     let so_far = c.answer_waiting-paused.ensures.paused was fed before (conversing_empty _ _ _ _ _ _ c.requires.empty talk) in
-    let said = c.conclude.ensures.answered was _ (fed ++ so_far.0) (before ++ so_far.1) _ so_far.4 in (
+    let said = c.conclude.ensures.answered _ was _ (fed ++ so_far.0) (before ++ so_far.1) _ so_far.4 in (
       so_far.0,
       so_far.1 ++ said.0,
       so_far.2,

@@ -1,7 +1,7 @@
 use Rattle.std.proofs.Common.{◌≡◌, ℕ, List, []}
 use Rattle.std.specs.Io.KnownBytes.{Appends, Consumes}
 use Rattle.words.specs.Stream.{front, Part}
-use Rattle.engine.specs.Passes.{knows, Rests}
+use Rattle.engine.specs.Passes.{knows, Rests, stripe_count}
 use Rattle.engine.specs.Calls.{promises_of}
 use Rattle.connection.specs.Clients.{IsOpen, mode_of}
 use Rattle.streams.specs.Streams.{stream_of, told_of, reads_of}
@@ -13,7 +13,7 @@ invariant-loop-ended g l = record {
   talk : (fed said : List ℕ)
       × Consumes (g.R.Read.remaining (stream_of l.initial.reader)) (g.R.Read.remaining (stream_of l.reader)) fed
       × Appends (g.W.Write.contents (stream_of l.initial.writer)) (g.W.Write.contents (stream_of l.writer)) said
-      × Conversing (promises_of g.D.Receipt.Shows.is_steady g.D.Receipt.Shows.lends) (knows g.D.Device.failures l.initial.pass) (knows g.D.Device.failures l.pass) fed l.talk.client said;
+      × Conversing (promises_of g.D.Receipt.Shows.is_steady g.D.Receipt.Shows.lends (stripe_count l.initial.store.engine.now)) (knows g.D.Device.failures l.initial.pass) (knows g.D.Device.failures l.pass) fed l.talk.client said;
   waits : front (l.talk.client).unread ≡ Part;
   is_open : IsOpen (mode_of (l.talk.client).stage);
   empty : l.talk.out.items ≡ [];

@@ -32,7 +32,7 @@ use Rattle.engine.proofs.Memory.{asks_on}
 use Rattle.engine.proofs.Values.{all_short}
 use Rattle.engine.proofs.Stopped.{full_writes, is_placed, not_wanted}
 use Rattle.engine.proofs.Entering.{asks, done_by, fit_installed, fit_kept, fit_undone, given_behind, given_still, may_still, named_held, no_reply, parts_of, of_call, placed, reply_due, seat_is, spent_of, told_stop, stands, stopped_by, this_fault, was_worn}
-use Rattle.engine.proofs.Rounds.{cold_then}
+use Rattle.engine.proofs.Later.{cold_then}
 use Rattle.engine.proofs.enter.enter.Goals as goal
 
 pub plan_freeing-requires-clause-place : goal.plan_freeing-requires-clause-place
@@ -80,17 +80,17 @@ returns-in_default g c =
           let f1 : ℕ = g.D.Device.failures c.plan_freeing.new.device in
           let last : Knowledge = given ends c.refuse.result.report (known_to held) in
           let seat : c.number-seat.result ≡ (known_to start).number = c.number-seat.ensures ∙ seat_is s start c.requires.may.is_open in
-          this_fault c.refuse.result.answer (fault_of c.in-Err.field-0.stop) (λ f. IsUndone (promises_of s g.R.Shows.lends) [] (asked_of c.args.call.now) f (know (known_to start) f0) (know last f1))
+          this_fault c.refuse.result.answer (fault_of c.in-Err.field-0.stop) (λ f. IsUndone (promises_of s g.R.Shows.lends c.args.stripes) [] (asked_of c.args.call.now) f (know (known_to start) f0) (know last f1))
           (c.refuse.ensures.answer ∙ ap answer.Fault c.told_of-fault.ensures.fault)
-          (stopped_by (promises_of s g.R.Shows.lends) c.args.call.now c.in-Err.field-0.stop c.in-Err.field-0.refused (known_to start) (known_to mid) last f0 f1 c.requires.entry
+          (stopped_by (promises_of s g.R.Shows.lends c.args.stripes) c.args.call.now c.in-Err.field-0.stop c.in-Err.field-0.refused (known_to start) (known_to mid) last f0 f1 c.requires.entry
           (ap (λ (r : Report). given ends r (known_to held)) (c.refuse.ensures.report ∙ c.told_of-fault.ensures.report)
           ∙ ap (λ (x : Knowledge). record x { notes = notes_of (report_of c.in-Err.field-0.stop c.in-Err.field-0.refused) ++ x.notes }) c.refuse.ensures.known)
           c.plan_freeing.ensures.keeps.known c.told_of-fault.ensures.never_cold c.in-Err.ensures.faults
-          (not_wanted (promises_of s g.R.Shows.lends) c.args.call.now c.in-Err.field-0.stop (after (known_to start).seen)
+          (not_wanted (promises_of s g.R.Shows.lends c.args.stripes) c.args.call.now c.in-Err.field-0.stop (after (known_to start).seen)
           (λ asks.
           let needs = asks_on s g.R.Shows.lends c.args.stripes start c.args.call.now c.requires.may.fit c.requires.may.there c.requires.other asks in
           c.in-Err.ensures.memory needs.0 needs.1 needs.2))
-          (full_writes s c.in-Err.field-0.stop (asked_for c.args.call.now) (known_to start)
+          (full_writes s c.args.stripes c.in-Err.field-0.stop (asked_for c.args.call.now) (known_to start)
           (λ t stripe written. written (asked_for c.args.call.now) (known_to start).seen (known_to start).watched (asks c.args.call.now c.requires.entry)
           (stands s c.args.stripes c.number-seat.result start seat c.requires.may.fit t) c.requires.ends c.requires.may.is_open.holding.seat.each_once)
           (λ t. c.in-Err.ensures.written t (all_short s c.args.stripes start c.requires.may.fit t (c.values_are_bounded.ensures (known_to start).seen (c.requires.may.is_open.holding.seat.legal t))))));
@@ -210,9 +210,9 @@ returns-in-Err-commit-clause-undone g c =
     let last : Knowledge = given ends c.refuse-in-Err-commit.result.report (known_to held) in
     let f0 : ℕ = g.D.Device.failures c.args.device.now in
     let f1 : ℕ = g.D.Device.failures c.plan_freeing.new.device in
-    this_fault c.refuse-in-Err-commit.result.answer fault.CommitsWornOut (λ f. IsUndone (promises_of s g.R.Shows.lends) [] (asked_of c.args.call.now) f (know start f0) (know last f1))
+    this_fault c.refuse-in-Err-commit.result.answer fault.CommitsWornOut (λ f. IsUndone (promises_of s g.R.Shows.lends c.args.stripes) [] (asked_of c.args.call.now) f (know start f0) (know last f1))
     c.refuse-in-Err-commit.ensures.answer
-    (was_worn (promises_of s g.R.Shows.lends) c.args.call.now start (known_to c.plan_freeing.new.parts) (known_to c.commit.new.self) (known_to c.undo.new.parts) last f0 f1 c.requires.entry
+    (was_worn (promises_of s g.R.Shows.lends c.args.stripes) c.args.call.now start (known_to c.plan_freeing.new.parts) (known_to c.commit.new.self) (known_to c.undo.new.parts) last f0 f1 c.requires.entry
     (ap (λ (r : Report). given ends r (known_to held)) c.refuse-in-Err-commit.ensures.report ∙ c.refuse-in-Err-commit.ensures.known)
     c.undo.ensures.keeps.known c.plan_freeing.ensures.keeps.known c.in-Err-commit.ensures.worn c.in-Ok.ensures.no_fault)
 

@@ -1,4 +1,4 @@
-use Rattle.engine.proofs.Rounds.{serves_all}
+use Rattle.engine.proofs.Later.{serves_all}
 use Rattle.engine.proofs.outside.read_outside.Goals as goal
 
 pub returns-clause-right : goal.returns-clause-right

@@ -80,6 +80,9 @@ returns-then-not-freed-clause-full g c =
       spent_at start mid last c.in-Err-StoreFull.stripe c.free_at-freed.result (lasts_still start (g.P.Parts.part_of c.freed.parts) mid c.freed.invariant.lasts c.reserve_set.ensures.waits) c.free_at-freed.ensures.freed,
     )
 
+pub returns-then-not-freed-clause-stripe : goal.returns-then-not-freed-clause-stripe
+returns-then-not-freed-clause-stripe g c = (rw c.in-Err-StoreFull.field-0-is at c.in-Err-StoreFull.ensures.full).0
+
 pub returns-then-not-freed-clause-worn : goal.returns-then-not-freed-clause-worn
 returns-then-not-freed-clause-worn g c = λ worn.
     heard_worn c.free_at-freed.result.refused.retire (g.S.Retires.knows c.args.own.now) (g.S.Retires.knows c.freed.own) (g.S.Retires.knows c.free_at-freed.new.own) c.freed.invariant.heard c.free_at-freed.ensures.told worn

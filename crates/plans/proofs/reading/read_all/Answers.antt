@@ -1,4 +1,4 @@
-use Rattle.std.proofs.Common.{◌∙◌, refl}
+use Rattle.std.proofs.Common.{◌≡◌, ◌∙◌, ◌+◌, [], ◌∷◌, length, length-append, refl, ap, arith}
 use Rattle.hybrid.specs.HybridLog.{Kept}
 use Rattle.shards.specs.Receipts.{kept_by}
 use Rattle.plans.proofs.Few.{more_both, more_none, read_both, read_same}
@@ -9,6 +9,7 @@ pub loop-receipt-init : goal.loop-receipt-init
 loop-receipt-init g c = record {
   same = refl;
   grows = more_none c.args.staged.now;
+  once = omega arith;
   alone = read_same g.D.Device.serves g.D.Device.releases g.D.Device.writes c.args.device.now;
   still = λ r is. is;
   served = λ served. served;
@@ -20,9 +21,11 @@ pub loop-receipt-preserved : goal.loop-receipt-preserved
 loop-receipt-preserved g c =
     let inv = c.loop-receipt.invariant in
     let k : Kept = kept_by g.R.Shows.identity g.R.Shows.shown c.in-Some.receipt in
+    let one_less : length c.loop-receipt.receipts ≡ length c.pop.new.self + 1 = ap length c.in-Some.ensures.some ∙ length-append c.pop.new.self (k ∷ []) in
     record {
       same = c.in_ok-read_one.ensures.no_fault ∙ inv.same;
       grows = more_both c.args.staged.now c.loop-receipt.staged c.read_one.new.staged inv.grows c.read_one.ensures.grows;
+      once = omega (arith, inv.once, c.read_one.ensures.once, one_less);
       alone = read_both g.D.Device.serves g.D.Device.releases g.D.Device.writes c.args.device.now c.loop-receipt.device c.read_one.new.device inv.alone c.read_one.ensures.device;
       still = λ r is. c.read_one.ensures.still_served r (inv.still r is);
       served = λ served. each_still g.D.Device.serves g.R.Shows.identity c.loop-receipt.device c.read_one.new.device c.pop.new.self c.read_one.ensures.still_served
@@ -49,3 +52,12 @@ returns-in_err-read_one-clause-grows g c = more_both c.args.staged.now c.loop-re
 
 pub returns-in_err-read_one-clause-device : goal.returns-in_err-read_one-clause-device
 returns-in_err-read_one-clause-device g c = read_both g.D.Device.serves g.D.Device.releases g.D.Device.writes c.args.device.now c.loop-receipt.device c.read_one.new.device c.loop-receipt.invariant.alone c.read_one.ensures.device
+
+pub returns-clause-once : goal.returns-clause-once
+returns-clause-once g c = omega (arith, c.loop-receipt.invariant.once)
+
+pub returns-in_err-read_one-clause-once : goal.returns-in_err-read_one-clause-once
+returns-in_err-read_one-clause-once g c =
+    let k : Kept = kept_by g.R.Shows.identity g.R.Shows.shown c.in-Some.receipt in
+    let one_less : length c.loop-receipt.receipts ≡ length c.pop.new.self + 1 = ap length c.in-Some.ensures.some ∙ length-append c.pop.new.self (k ∷ []) in
+    omega (arith, c.loop-receipt.invariant.once, c.read_one.ensures.once, one_less)

@@ -1,4 +1,4 @@
-use Rattle.std.proofs.Common.{◌≡◌, List, length}
+use Rattle.std.proofs.Common.{◌≡◌, ◌+◌, ◌≤◌, List, length}
 use Rattle.hybrid.specs.Staging.{AreRight, StagedPage}
 use Rattle.plans.specs.Reading.{AreRead, HasMore, ServesEach}
 use Rattle.shards.specs.Devices.{IsReadAlone}
@@ -8,6 +8,7 @@ abbrev pub invariant-loop-receipt : goal.invariant-loop-receipt
 invariant-loop-receipt g l = record {
   same : g.D.Device.failures l.device ≡ g.D.Device.failures l.fn.device;
   grows : HasMore l.fn.staged l.staged;
+  once : g.D.Device.reads l.device + length l.receipts ≤ g.D.Device.reads l.fn.device + length l.fn.receipts;
   alone : IsReadAlone g.D.Device.serves g.D.Device.releases g.D.Device.writes l.fn.device l.device;
   still : (r : _) → g.D.Device.serves l.fn.device r → g.D.Device.serves l.device r;
   served : ServesEach g.D.Device.serves g.R.Shows.identity l.fn.device l.fn.receipts → ServesEach g.D.Device.serves g.R.Shows.identity l.device l.receipts;

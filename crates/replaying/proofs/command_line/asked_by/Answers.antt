@@ -4,7 +4,7 @@ use Rattle.clap.specs.Faults.{is_simple_and_free}
 use Rattle.clap.proofs.FaultLemmas.{failed_up}
 use Rattle.clap.proofs.TakesLemmas.{passed_up}
 use Rattle.clap.proofs.WalkLemmas.{first_value-rows}
-use Rattle.replaying.specs.CommandLine.{replay, shown_by}
+use Rattle.replaying.specs.CommandLine.{replay, shown_by, until_by}
 use Rattle.replaying.proofs.command_line.asked_by.Goals as goal
 
 replay_is_simple : is_simple replay ≡ true
@@ -40,6 +40,14 @@ returns-clause-shown g c =
     ∙ ap shown_by
     (c.get_str-2.ensures ∙ first_value-rows (found_of c.in_ok-matches.matches) (codes "trace")
     ∙ ap (first_of (codes "trace")) (rows ∙ ap (λ (a : App). matches_of a (map g.S.AsStr.text c.args.words.now)) c.in_ok-command.ensures))
+
+pub returns-clause-until : goal.returns-clause-until
+returns-clause-until g c =
+    let rows = (c.in_ok-matches.ensures.matches (ap is_simple c.in_ok-command.ensures ∙ replay_is_simple)).0 in
+    c.until_by.ensures
+    ∙ ap until_by
+    (c.get_str-3.ensures ∙ first_value-rows (found_of c.in_ok-matches.matches) (codes "finish")
+    ∙ ap (first_of (codes "finish")) (rows ∙ ap (λ (a : App). matches_of a (map g.S.AsStr.text c.args.words.now)) c.in_ok-command.ensures))
 
 pub returns-clause-kinds : goal.returns-clause-kinds
 returns-clause-kinds g c =

@@ -9,4 +9,4 @@ returns-clause-ran g c =
     let read = c.in_ok-text.ensures.read in
     let P : List ℕ → Type 0 = λ text. IsFault text c.in-Err.fault in
     let is = subst P (c.as_slice.ensures.value ∙ read.2) c.in-Err.ensures in
-    (read.0, [], read.1, Appends-none _ _ (Keeps-same _), not_run c.args.shown read.0 c.in-Err.fault is)
+    (read.0, [], read.1, Appends-none _ _ (Keeps-same _), not_run c.args.shown c.args.until read.0 c.in-Err.fault is)

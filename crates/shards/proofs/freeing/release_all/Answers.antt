@@ -3,7 +3,7 @@ use Rattle.shards.proofs.Freed.{released_end, released_fewer, released_more, rel
 use Rattle.shards.proofs.freeing.release_all.Goals as goal
 
 pub all-init : goal.all-init
-all-init g c = record { released = (0, released_none c.args.log.now, λ e. absurd (cc e), λ e. refl, omega arith); same = refl }
+all-init g c = record { released = (0, released_none c.args.log.now, λ e. absurd (cc e), λ e. refl, omega arith); same = refl; writes = refl }
 
 pub all-preserved : goal.all-preserved
 all-preserved g c =
@@ -17,6 +17,7 @@ all-preserved g c =
         omega (arith, c.if-not-release.ensures.counted, r.4),
       );
       same = c.release.ensures.no_fault ∙ c.all.invariant.same;
+      writes = c.release.ensures.no_write ∙ c.all.invariant.writes;
     }
 
 pub all-smaller : goal.all-smaller

@@ -5,7 +5,7 @@ use Rattle.shards.proofs.freeing.retire_all.Given as goal
 abbrev pub invariant-all : goal.invariant-all
 invariant-all g l = record {
   is : g.S.Retires.is_of l.epochs l.own;
-  retired : HasRetiredAll l.fn.log l.log;
+  retired : HasRetiredAll false l.fn.log l.log;
   told : HasTriedAll false (g.S.Retires.knows l.fn.own) (g.S.Retires.knows l.own);
 }
 

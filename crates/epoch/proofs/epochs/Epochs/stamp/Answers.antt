@@ -1,7 +1,7 @@
 use Rattle.std.proofs.Common.{arith, ap, sym, ◌∙◌}
 use Rattle.epoch.proofs.Steps.{tells_any}
 use Rattle.epoch.proofs.Moments.{over}
-use Rattle.epoch.specs.Seats.{known, seats_of}
+use Rattle.epoch.specs.Seats.{blocks_in, known, seats_of}
 use Rattle.epoch.proofs.epochs.Epochs.stamp.Goals as goal
 
 pub split_seat-token-requires : goal.split_seat-token-requires
@@ -11,6 +11,9 @@ split_seat-token-requires g c =
       omega (arith, c.shared.ensures.wide),
       tells_any shared.key c.advance.new.seat.seat.id c.advance.new.seat.seat.me.0,
     )
+
+pub returns-in-Some-clause-fresh : goal.returns-in-Some-clause-fresh
+returns-in-Some-clause-fresh g c = ap (λ m. blocks_in c.in-Some.epoch m.0.notes) c.split_seat-token.ensures.4
 
 pub returns-in-Some-clause-over : goal.returns-in-Some-clause-over
 returns-in-Some-clause-over g c = λ s ruled at.

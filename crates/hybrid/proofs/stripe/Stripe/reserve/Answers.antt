@@ -1,5 +1,5 @@
 use Rattle.std.proofs.Common.{rules, ◌≡◌, ◌∙◌, ◌<◌, refl, ap, arith}
-use Rattle.hybrid.specs.HybridLog.{HybridLog, free, with_dropped}
+use Rattle.hybrid.specs.HybridLog.{HybridLog, free, tail_bytes, with_dropped}
 use Rattle.hybrid.specs.Reserving.{frames_for}
 use Rattle.frames.specs.Resident.{first_mutable}
 use Rattle.hybrid.proofs.Dropping.{on-true}
@@ -84,3 +84,9 @@ returns-in_err-flush_oldest-clause-shed_full g c =
     (g.D.Device.failures c.flush_oldest.new.device) c.loop-self.invariant.shed c.in_err-flush_oldest.ensures.unchanged c.loop-self.invariant.reserving.same
     c.in_err-flush_oldest.ensures.same in
     search rules
+
+pub returns-clause-tail : goal.returns-clause-tail
+returns-clause-tail g c = c.loop-self.invariant.reserving.tail
+
+pub returns-in_err-flush_oldest-clause-tail : goal.returns-in_err-flush_oldest-clause-tail
+returns-in_err-flush_oldest-clause-tail g c = ap (λ (p : HybridLog). tail_bytes p) c.in_err-flush_oldest.ensures.unchanged ∙ c.loop-self.invariant.reserving.tail

@@ -15,6 +15,9 @@ returns-in_default-page-clause-cold g c =
       unread = c.in_default-page.ensures.missing;
     }
 
+pub returns-in-Ok-clause-kept : goal.returns-in-Ok-clause-kept
+returns-in-Ok-clause-kept g c = (record { identity = g.R.Shows.identity c.in-Some.receipt.now; shown = g.R.Shows.shown c.in-Some.receipt.now }, c.in-Some.ensures.receipt)
+
 pub returns-in-Ok-clause-weight : goal.returns-in-Ok-clause-weight
 returns-in-Ok-clause-weight g c = λ honest right.
     let k : Kept = record { identity = g.R.Shows.identity c.in-Some.receipt.now; shown = g.R.Shows.shown c.in-Some.receipt.now } in

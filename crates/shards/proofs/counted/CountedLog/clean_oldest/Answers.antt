@@ -17,5 +17,6 @@ returns-in-Unlinked-clause-unlinked g c =
       unlinked = l;
       retired = map (retired_by g.R.Shows.identity g.R.Shows.shown) c.self.inside.retired.items;
       drained = map (drained_by g.R.Shows.identity g.R.Shows.shown) c.self.inside.drained.items;
-      refused = refused_of c.self.inside.retired.items;
+      refused = refused_of g.R.Shows.identity c.self.inside.retired.items;
+      worn = c.self.inside.worn;
     }) (ap (map view) c.push_back_reserved.ensures.items ∙ map-append view before (c.in-Unlinked.receipt ∷ [])))

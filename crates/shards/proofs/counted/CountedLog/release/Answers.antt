@@ -15,5 +15,6 @@ returns-clause-released g c =
       unlinked = map (kept_by g.R.Shows.identity g.R.Shows.shown) c.self.inside.unlinked.items;
       retired = map (retired_by g.R.Shows.identity g.R.Shows.shown) c.self.inside.retired.items;
       drained = map view c.pop_front.new.self.items;
-      refused = refused_of c.self.inside.retired.items;
+      refused = refused_of g.R.Shows.identity c.self.inside.retired.items;
+      worn = c.self.inside.worn;
     }) c.free_place.ensures) c.release.ensures.still_served

@@ -1,6 +1,7 @@
 use Rattle.epoch.specs.Seats.{known}
 use Rattle.hybrid.specs.declared.stripe.room.Purpose.TheVariants as purpose
-use Rattle.shards.specs.Shards.{shard_counted}
+use Rattle.shards.specs.Shards.{shard_counted, shard_log}
+use Rattle.shards.proofs.Lacking.{keeps_both, keeps_freed, keeps_shed, no_room}
 use Rattle.shards.proofs.Refreed.{full_pages, made_both, made_freed, made_shed, spent_now, spent_still, spent_since, tried_all}
 use Rattle.shards.proofs.shard.Shard.make_room.Goals as goal
 
@@ -51,6 +52,39 @@ returns-in-Err-StoreFull-reserve-clause-room g c =
     let full = rw c.in-Err-StoreFull-reserve.field-0-is at c.in-Err-StoreFull-reserve.ensures.fault in
     let freed = c.free_places-freed in (
       full_pages c.reserve-2.new.self full.0,
-      spent_since freed.result.refused c.args.self.now c.reserve.new.self c.reserve-2.new.self (made_shed c.args.weight purpose.Clean (shard_counted c.args.self.now) (shard_counted c.reserve.new.self) c.reserve.ensures.few c.reserve.ensures.waits).counts
+      spent_since freed.result.refused c.args.self.now c.reserve.new.self c.reserve-2.new.self (made_shed c.args.weight purpose.Clean (shard_counted c.args.self.now) (shard_counted c.reserve.new.self) c.reserve.ensures.few c.reserve.ensures.waits).waited
           (spent_still freed.result.refused c.reserve.new.self freed.new.self c.reserve-2.new.self c.reserve-2.ensures.waits (spent_now c.reserve.new.self freed.new.self freed.result freed.ensures.freed)),
     )
+
+pub returns-in-Ok-clause-records : goal.returns-in-Ok-clause-records
+returns-in-Ok-clause-records g c = keeps_shed c.args.weight purpose.Clean (shard_log c.args.self.now) (shard_log c.reserve.new.self) c.reserve.ensures.few c.reserve.ensures.records c.reserve.ensures.tail
+
+pub returns-in-Err-DeviceFault-clause-records : goal.returns-in-Err-DeviceFault-clause-records
+returns-in-Err-DeviceFault-clause-records g c = keeps_shed c.args.weight purpose.Clean (shard_log c.args.self.now) (shard_log c.reserve.new.self) c.reserve.ensures.few c.reserve.ensures.records c.reserve.ensures.tail
+
+pub returns-in-Ok-reserve-clause-records : goal.returns-in-Ok-reserve-clause-records
+returns-in-Ok-reserve-clause-records g c =
+    keeps_both (shard_log c.args.self.now) (shard_log c.reserve.new.self) (shard_log c.reserve-2.new.self)
+    (keeps_shed c.args.weight purpose.Clean (shard_log c.args.self.now) (shard_log c.reserve.new.self) c.reserve.ensures.few c.reserve.ensures.records c.reserve.ensures.tail)
+    (keeps_both (shard_log c.reserve.new.self) (shard_log c.free_places-freed.new.self) (shard_log c.reserve-2.new.self)
+    (keeps_freed (shard_counted c.reserve.new.self) (shard_counted c.free_places-freed.new.self) c.free_places-freed.result c.free_places-freed.ensures.freed)
+    (keeps_shed c.args.weight purpose.Clean (shard_log c.free_places-freed.new.self) (shard_log c.reserve-2.new.self) c.reserve-2.ensures.few c.reserve-2.ensures.records c.reserve-2.ensures.tail))
+
+pub returns-in-Err-DeviceFault-reserve-clause-records : goal.returns-in-Err-DeviceFault-reserve-clause-records
+returns-in-Err-DeviceFault-reserve-clause-records g c =
+    keeps_both (shard_log c.args.self.now) (shard_log c.reserve.new.self) (shard_log c.reserve-2.new.self)
+    (keeps_shed c.args.weight purpose.Clean (shard_log c.args.self.now) (shard_log c.reserve.new.self) c.reserve.ensures.few c.reserve.ensures.records c.reserve.ensures.tail)
+    (keeps_both (shard_log c.reserve.new.self) (shard_log c.free_places-freed.new.self) (shard_log c.reserve-2.new.self)
+    (keeps_freed (shard_counted c.reserve.new.self) (shard_counted c.free_places-freed.new.self) c.free_places-freed.result c.free_places-freed.ensures.freed)
+    (keeps_shed c.args.weight purpose.Clean (shard_log c.free_places-freed.new.self) (shard_log c.reserve-2.new.self) c.reserve-2.ensures.few c.reserve-2.ensures.records c.reserve-2.ensures.tail))
+
+pub returns-in-Err-StoreFull-reserve-clause-records : goal.returns-in-Err-StoreFull-reserve-clause-records
+returns-in-Err-StoreFull-reserve-clause-records g c =
+    keeps_both (shard_log c.args.self.now) (shard_log c.reserve.new.self) (shard_log c.reserve-2.new.self)
+    (keeps_shed c.args.weight purpose.Clean (shard_log c.args.self.now) (shard_log c.reserve.new.self) c.reserve.ensures.few c.reserve.ensures.records c.reserve.ensures.tail)
+    (keeps_both (shard_log c.reserve.new.self) (shard_log c.free_places-freed.new.self) (shard_log c.reserve-2.new.self)
+    (keeps_freed (shard_counted c.reserve.new.self) (shard_counted c.free_places-freed.new.self) c.free_places-freed.result c.free_places-freed.ensures.freed)
+    (keeps_shed c.args.weight purpose.Clean (shard_log c.free_places-freed.new.self) (shard_log c.reserve-2.new.self) c.reserve-2.ensures.few c.reserve-2.ensures.records c.reserve-2.ensures.tail))
+
+pub returns-in-Err-StoreFull-reserve-clause-lacks : goal.returns-in-Err-StoreFull-reserve-clause-lacks
+returns-in-Err-StoreFull-reserve-clause-lacks g c = no_room c.args.weight (shard_log c.free_places-freed.new.self) (shard_log c.reserve-2.new.self) c.reserve-2.ensures.tail c.in-Err-StoreFull-reserve.ensures.lacks

@@ -7,4 +7,5 @@ returns-clause-waits g c = λ i. record {
   retired = c.reserve.ensures.retired i;
   drained = c.reserve.ensures.drained i;
   refused = c.reserve.ensures.refused i;
+  worn = c.reserve.ensures.worn i;
 }

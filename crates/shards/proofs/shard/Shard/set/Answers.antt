@@ -7,4 +7,5 @@ returns-clause-waits g c = λ i. record {
   retired = c.install_one.ensures.retired i;
   drained = c.install_one.ensures.drained i;
   refused = c.install_one.ensures.refused i;
+  worn = c.install_one.ensures.worn i;
 }

@@ -1,9 +1,11 @@
 use Rattle.std.proofs.Common.{◌≡◌, ◌<◌, ◌∙◌, ◌+◌, refl, sym, ap, subst}
+use Rattle.std.specs.Prelude.{⊤}
 use Rattle.hybrid.specs.HybridLog.{HasRoom, HybridLog}
+use Rattle.hybrid.specs.Weighing.{oldest_weight}
 use Rattle.hybrid.specs.Reading.{unread}
 use Rattle.hybrid.specs.Staging.{IsMissing}
 use Rattle.shards.specs.Cleaning.{IsFetched, SameWaiting}
-use Rattle.shards.specs.Counted.{Counted, HasUnlinked}
+use Rattle.shards.specs.Counted.{Counted, HasUnlinked, MatchCleaning}
 use Rattle.shards.specs.Shards.{shard_counted, shard_log, shard_marks, shard_store}
 use Rattle.shards.specs.declared.shard.Shard.{Shard}
 use Rattle.shards.proofs.Cleaned.{cleaned_by, fault_more, fetched_less, same_waiting, waiting_by}
@@ -90,6 +92,8 @@ returns-in_default g c =
           (λ w same heavy. (whole same, heavy.0, heavy.1))
           (λ same resident. (whole same, subst (λ (l : Counted). l.log.resident.oldest ≡ l.log.oldest) (sym same) resident))
           c.clean_oldest.ensures.unlinked c.clean_oldest.ensures.unchanged c.clean_oldest.ensures.heavy c.clean_oldest.ensures.resident;
+      weighed = λ t right. subst (λ (s : Shard _). MatchCleaning c.clean_oldest.result ⊤ (λ number. ⊤) (λ heavy. heavy ≡ oldest_weight (shard_log s)) ⊤) inv.same
+          (c.clean_oldest.ensures.weighed (g.met.R.Shows.steady_is_honest t) right);
       same = tt;
       waiting = subst (λ (s : Shard _). SameWaiting (shard_counted s) c.clean_oldest.new.self) inv.same
           (waiting_by c.clean_oldest.result _ _ c.args.weight c.clean_oldest.ensures.unlinked c.clean_oldest.ensures.unchanged);

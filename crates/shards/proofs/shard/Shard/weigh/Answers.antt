@@ -1,7 +1,8 @@
-use Rattle.std.proofs.Common.{◌≡◌, ◌≤◌, ◌<◌, ◌∙◌, ◌+◌, false, refl, ap, subst}
-use Rattle.hybrid.specs.HybridLog.{HybridLog}
+use Rattle.std.proofs.Common.{◌≡◌, ◌≤◌, ◌<◌, ◌∙◌, ◌+◌, Some, false, refl, ap, subst}
+use Rattle.std.specs.Prelude.{⊤}
+use Rattle.hybrid.specs.HybridLog.{HybridLog, Kept, receipt_of}
 use Rattle.hybrid.specs.Staging.{IsMissing}
-use Rattle.hybrid.specs.Weighing.{MatchWeighed}
+use Rattle.hybrid.specs.Weighing.{MatchWeighed, oldest_weight}
 use Rattle.hybrid.specs.declared.stripe.TheConstants.{CLEAN_WEIGHT}
 use Rattle.shards.specs.Cleaning.{IsFetched}
 use Rattle.shards.specs.Shards.{shard_log}
@@ -53,6 +54,9 @@ returns-in_default g c =
       weighed = subst (λ (p : HybridLog). MatchWeighed c.weigh_oldest.result (λ weight. (weight ≤ CLEAN_WEIGHT) × (p.oldest < p.resident.oldest))
           (λ number. (c.args.reads ≡ false) × (g.R.Shows.lends → ⊥) × IsMissing (shard_log c.args.self.now) c.loop-number.staged number) (p.resident.oldest ≡ p.oldest)) c.stripe.ensures.log
           (weighed_by c.weigh_oldest.result _ _ _ _ c.in_default.not-Cold c.weigh_oldest.ensures.most c.weigh_oldest.ensures.resident);
+      weighs = λ t right. subst (λ (p : HybridLog). MatchWeighed c.weigh_oldest.result (λ weight. weight ≡ oldest_weight p) (λ number. ⊤) ⊤) c.stripe.ensures.log
+          (c.weigh_oldest.ensures.weight (g.met.R.Shows.steady_is_honest t) right);
+      kept = subst (λ (p : HybridLog). MatchWeighed c.weigh_oldest.result (λ weight. (kept : Kept) × (receipt_of p p.oldest ≡ Some kept)) (λ number. ⊤) ⊤) c.stripe.ensures.log c.weigh_oldest.ensures.kept;
       no_release = inv.releases;
       fault = tt;
       no_fault = inv.failures;

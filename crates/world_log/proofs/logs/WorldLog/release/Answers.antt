@@ -1,4 +1,4 @@
-use Rattle.std.proofs.Common.{◌∙◌, length, refl, arith, subst, sym}
+use Rattle.std.proofs.Common.{length, refl, arith, subst, sym}
 use Rattle.world_log.specs.Stripes.{lane_beside, lane_log}
 use Rattle.std.proofs.lemmas.Option.{slice_get_read}
 use Rattle.words.specs.Store.{Bytes}
@@ -36,7 +36,7 @@ returns-clause-took c rest =
     (λ other. took_release other c.args.self.now c.args.i c.index_mut-lane.result.now c.release.new.self c.release.new.device c.args.page.now c.release.result
     (reached c.args.self.now c.args.i c.index_mut-lane.result.now c.requires.log there)
     (subst (λ (p : Bytes). DoesRelease c.release.result p (lane_log c.index_mut-lane.result.now) (lane_beside c.index_mut-lane.result.now) c.args.self.now.device
-    (lane_log c.release.new.self) (lane_beside c.release.new.self) c.release.new.device) (c.in_ok-page.ensures ∙ c.page.ensures) c.release.ensures.does))
+    (lane_log c.release.new.self) (lane_beside c.release.new.self) c.release.new.device) c.in_ok-page.ensures c.release.ensures.does))
 
 pub returns-clause-log : goal.returns-clause-log
 returns-clause-log c =
@@ -73,4 +73,4 @@ returns-clause-told c rest =
     told_release (with_values rest c.args.self.now.stripes) c.args.self.now c.args.i c.index_mut-lane.result.now c.release.new.self c.release.new.device c.args.page.now c.release.result
     (reached c.args.self.now c.args.i c.index_mut-lane.result.now c.requires.log there)
     (subst (λ (p : Bytes). DoesRelease c.release.result p (lane_log c.index_mut-lane.result.now) (lane_beside c.index_mut-lane.result.now) c.args.self.now.device
-    (lane_log c.release.new.self) (lane_beside c.release.new.self) c.release.new.device) (c.in_ok-page.ensures ∙ c.page.ensures) c.release.ensures.does)
+    (lane_log c.release.new.self) (lane_beside c.release.new.self) c.release.new.device) c.in_ok-page.ensures c.release.ensures.does)

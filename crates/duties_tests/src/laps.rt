@@ -1,0 +1,115 @@
+//! The cleaner's laps, look by look.
+
+ghost use Rattle.std.specs.Prelude.{◌≡◌};
+
+use std::test::Fail;
+use upkeep::{Laps, Seen};
+
+/// A stripe of 64 places, of which so many are used.
+fn used(used: usize) -> Seen {
+    Seen {
+        used,
+        places: 64,
+        opened: false,
+    }
+}
+
+/// Takes all steps of a lap whose first one was taken, and says how many it has; 0 where these are 10,000 or more.
+fn runs(laps: &mut Laps) -> usize
+    ensures { laps.new.left ≡ 0 }
+{
+    for steps in 1..10_000 {
+        if !laps.goes_on() {
+            laps.stop();
+            return steps;
+        }
+    }
+    laps.stop();
+    0
+}
+
+/// At which look a lap begins, of at most 2,000 looks at a stripe in which nothing changes, and how many steps it has.
+fn comes_to_a_lap(laps: &mut Laps, seen: &Seen) -> Option<(usize, usize)>
+    requires { laps.old.left ≡ 0 }
+    ensures { laps.new.left ≡ 0 }
+{
+    for look in 1..=2_000 {
+        if laps.begins(seen) {
+            return Some((look, runs(laps)));
+        }
+    }
+    None
+}
+
+/// Ten laps at a full store of live values that is only overwritten, each after so many looks. Such a store has no place that
+/// could come back, so a test of the thread over it would have no end to wait for: what is tested is when it tries again.
+#[test]
+fn a_full_store_of_live_values_is_tried_again_after_a_thousand_looks_at_most(
+    rt: HostRuntime,
+) -> Result<(), Fail> {
+    let mut laps = Laps::new();
+    assert_eq!(rt; comes_to_a_lap(&mut laps, &used(64)), Some((1, 256)));
+    for looks in [10, 20, 40, 80, 160, 320, 640, 1_000, 1_000] {
+        assert_eq!(rt; comes_to_a_lap(&mut laps, &used(64)), Some((looks, 256)));
+    }
+    Ok(())
+}
+
+/// A lap that gives three places back of 64 is not in vain: the next one begins at once, and patience is ten looks again.
+#[test]
+fn a_lap_that_gains_brings_patience_back(rt: HostRuntime) -> Result<(), Fail> {
+    let mut laps = Laps::new();
+    for looks in [1, 10, 20, 40] {
+        assert_eq!(rt; comes_to_a_lap(&mut laps, &used(64)), Some((looks, 256)));
+    }
+    assert_eq!(rt; comes_to_a_lap(&mut laps, &used(61)), Some((1, 244)));
+    for looks in [10, 20] {
+        assert_eq!(rt; comes_to_a_lap(&mut laps, &used(64)), Some((looks, 256)));
+    }
+    Ok(())
+}
+
+/// Where a store is not full, a lap in vain is followed by another only once more places are used, by more than two of 64.
+#[test]
+fn a_store_that_does_not_grow_is_left_alone(rt: HostRuntime) -> Result<(), Fail> {
+    let mut laps = Laps::new();
+    assert_eq!(rt; comes_to_a_lap(&mut laps, &used(40)), Some((1, 160)));
+    assert_eq!(rt; comes_to_a_lap(&mut laps, &used(40)), None);
+    assert_eq!(rt; comes_to_a_lap(&mut laps, &used(42)), None);
+    assert_eq!(rt; comes_to_a_lap(&mut laps, &used(43)), Some((1, 172)));
+    Ok(())
+}
+
+/// A deletion at a full store begins a short lap at once, and where its page is not had back, a whole one after ten looks.
+#[test]
+fn a_deletion_begins_a_short_lap(rt: HostRuntime) -> Result<(), Fail> {
+    let mut laps = Laps::new();
+    let mut seen = used(64);
+    for looks in [1, 10, 20, 40] {
+        assert_eq!(rt; comes_to_a_lap(&mut laps, &seen), Some((looks, 256)));
+    }
+    assert!(rt; !laps.begins(&seen));
+    laps.stop();
+    seen.opened = true;
+    assert_eq!(rt; comes_to_a_lap(&mut laps, &seen), Some((1, 64)));
+    assert_eq!(rt; comes_to_a_lap(&mut laps, &seen), Some((10, 256)));
+    Ok(())
+}
+
+/// Who writes waits only where a lap has steps left, and an eighth of the places or less are left.
+#[test]
+fn a_lap_is_behind_where_few_places_are_left(rt: HostRuntime) -> Result<(), Fail> {
+    let mut laps = Laps::new();
+    laps.note_behind(64, 64);
+    assert!(rt; !laps.is_behind());
+    assert!(rt; laps.begins(&used(56)));
+    laps.note_behind(56, 64);
+    assert!(rt; laps.is_behind());
+    laps.note_behind(55, 64);
+    assert!(rt; !laps.is_behind());
+    laps.note_behind(64, 64);
+    assert!(rt; laps.is_behind());
+    laps.note_level();
+    assert!(rt; !laps.is_behind());
+    Ok(())
+}

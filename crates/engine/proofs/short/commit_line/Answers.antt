@@ -1,5 +1,0 @@
-use Rattle.std.proofs.Common.{refl}
-use Rattle.engine.proofs.short.commit_line.Goals as goal
-
-pub commit-requires-clause-place : goal.commit-requires-clause-place
-commit-requires-clause-place g c = (refl, c.requires.place)

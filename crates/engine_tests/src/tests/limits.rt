@@ -1,0 +1,168 @@
+//! Engines at both ends of the range of each limit, and a store of more pages than the frames and places that an engine has where
+//! nothing else is asked for.
+
+ghost use Rattle.std.specs.Prelude.{◌≡◌, ◌+◌, All, IfOk, IfSome, IsTrue, true, ⊤, vec_len};
+ghost use Rattle.engine.specs.Passes.{Rests};
+ghost use Rattle.engine.specs.declared.TheConstants.{BACKGROUND_PASSES};
+
+use super::sets_to;
+use super::steps::{fill, key_of};
+use device::MemoryDevice;
+use engine::{BACKGROUND_PASSES, Engine, Pass};
+use gates::Open;
+use std::alloc::Global;
+use std::sync::Wait;
+use std::test::Fail;
+use words::limits::{FRAMES_DEFAULT, KEY_BYTES_MAX, Limits, PLACES_DEFAULT};
+use words::word::{OutOfMemory, Word};
+
+/// Stripes, buckets, frames, places and clients: each of them at either end of its range, and those of a store larger than the
+/// defaults. All at their most would take a gigabyte.
+const SIZES: &[[usize; 5]] = &[
+    [1, 1, 12, 64, 1],
+    [64, 1, 12, 64, 1],
+    [1, 65_536, 12, 65_536, 1],
+    [1, 1, 256, 64, 64],
+    [1, 65_536, 128, 8_192, 4],
+    [64, 65_536, 12, 64, 64],
+];
+
+/// An engine of these limits in memory, and its passes.
+fn engine_of(
+    alloc: Global,
+    limits: &Limits,
+) -> Result<(Engine<MemoryDevice>, Vec<Pass<MemoryDevice>>), OutOfMemory>
+    ensures count { IfOk result (λ made. vec_len made.1 ≡ limits.now.clients + BACKGROUND_PASSES) }
+    ensures rest { IfOk result (λ made. All (Rests ⊤ made.0) made.1.items) }
+{
+    let openings = MemoryDevice::openings(alloc, limits.clients + BACKGROUND_PASSES)?;
+    Engine::new(alloc, limits, openings)
+}
+
+/// An engine of these limits, and one of its passes.
+fn with_pass(alloc: Global, limits: &Limits) -> Option<(Engine<MemoryDevice>, Pass<MemoryDevice>)>
+    ensures { IfSome result (λ made. Rests ⊤ made.0 made.1) }
+{
+    let (engine, mut passes) = engine_of(alloc, limits).ok()?;
+    let pass = passes.swap_remove(0);
+    Some((engine, pass))
+}
+
+/// Whether a key has this value.
+fn has<R: Wait>(
+    rt: &R,
+    engine: &Engine<MemoryDevice>,
+    pass: &mut Pass<MemoryDevice>,
+    key: &Word,
+    value: &Word,
+) -> bool
+    requires { Rests ⊤ engine.now pass.old }
+    ensures { Rests ⊤ engine.now pass.new }
+{
+    if key.len() > KEY_BYTES_MAX {
+        return false;
+    }
+    match engine.get(rt, pass, key, &Open) {
+        Ok(Some(found)) => found.as_slice() == value.as_slice(),
+        Ok(None) | Err(_) => false,
+    }
+}
+
+/// Whether a key is set to itself, and read then.
+fn is_kept<R: Wait>(
+    rt: &R,
+    engine: &Engine<MemoryDevice>,
+    pass: &mut Pass<MemoryDevice>,
+    key: &Word,
+) -> bool
+    requires { Rests ⊤ engine.now pass.old }
+    ensures { Rests ⊤ engine.now pass.new }
+{
+    if !sets_to(rt, engine, pass, key, key, &Open) {
+        return false;
+    }
+    has(rt, engine, pass, key, key)
+}
+
+/// How many of so many keys are set to a value and read then.
+fn keeps<R: Wait>(
+    rt: &R,
+    alloc: Global,
+    engine: &Engine<MemoryDevice>,
+    pass: &mut Pass<MemoryDevice>,
+    count: usize,
+) -> Option<usize>
+    requires { Rests ⊤ engine.now pass.old }
+{
+    let mut kept = 0usize;
+    for number in 0..count {
+        let key = key_of(alloc, number)?;
+        if is_kept(rt, engine, pass, &key) {
+            kept = kept.saturating_add(1);
+        }
+    }
+    Some(kept)
+}
+
+/// How many of 100 keys an engine of these sizes keeps.
+fn kept_of<R: Wait>(rt: &R, alloc: Global, sizes: &[usize; 5]) -> Option<usize> {
+    let limits = Limits::new(sizes[0], sizes[1], sizes[2], sizes[3], sizes[4])?;
+    let (engine, mut pass) = with_pass(alloc, &limits)?;
+    keeps(rt, alloc, &engine, &mut pass, 100)
+}
+
+#[test]
+fn engines_at_both_ends_of_each_range(rt: HostRuntime) {
+    for sizes in SIZES {
+        assert!(rt; kept_of(&rt, rt.alloc(), sizes) == Some(100), "{sizes:?}");
+    }
+}
+
+/// How many pages a store of the defaults holds at most: those that have frames and those that have places.
+const PAGES: usize = FRAMES_DEFAULT + PLACES_DEFAULT;
+
+/// A value of which a page holds one.
+const VALUE: [u8; 32_760] = [b'v'; 32_760];
+
+/// How many of these keys have the value, one of each hundred, until one has not.
+fn finds<R: Wait>(
+    rt: &R,
+    alloc: Global,
+    engine: &Engine<MemoryDevice>,
+    pass: &mut Pass<MemoryDevice>,
+    hundreds: usize,
+) -> Option<usize>
+    requires { Rests ⊤ engine.now pass.old }
+{
+    let value = Word::from_slice(alloc, &VALUE).ok()?;
+    for number in 0..hundreds {
+        let key = key_of(alloc, number.saturating_mul(100))?;
+        if !has(rt, engine, pass, &key, &value) {
+            return Some(number);
+        }
+    }
+    Some(hundreds)
+}
+
+/// How many of so many keys can be set in a store of these limits, and how many of one in each hundred of them are read then.
+fn stored_and_found<R: Wait>(
+    rt: &R,
+    alloc: Global,
+    limits: &Limits,
+    count: usize,
+) -> Option<(usize, usize)> {
+    let (engine, mut pass) = with_pass(alloc, limits)?;
+    let stored = fill(rt, alloc, &engine, &mut pass, &VALUE, count)?;
+    let found = finds(rt, alloc, &engine, &mut pass, stored / 100)?;
+    Some((stored, found))
+}
+
+/// More pages than a store of the defaults holds, in one stripe.
+#[test]
+fn a_store_of_more_pages_than_the_defaults_hold(rt: HostRuntime) -> Result<(), Fail> {
+    let limits = Limits::new(1, 65_536, 128, 8_192, 1).ok_or("no limits")?;
+    let count = PAGES + 72;
+    let came = stored_and_found(&rt, rt.alloc(), &limits, count);
+    assert!(rt; came == Some((count, 42)), "{came:?}");
+    Ok(())
+}

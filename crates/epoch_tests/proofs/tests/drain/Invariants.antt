@@ -1,6 +1,0 @@
-use Rattle.epoch.specs.Seats.{IsOutside}
-use Rattle.epoch_tests.proofs.tests.drain.Given as goal
-
--- the seat is outside
-abbrev pub invariant-loop : goal.invariant-loop
-invariant-loop l = IsOutside l.epochs l.seat

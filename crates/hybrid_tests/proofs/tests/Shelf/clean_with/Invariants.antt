@@ -1,5 +1,0 @@
-use Rattle.hybrid.specs.HybridLog.{HasRoom}
-use Rattle.hybrid_tests.proofs.tests.Shelf.clean_with.Given as goal
-
-abbrev pub invariant-loop : goal.invariant-loop
-invariant-loop l = HasRoom l.self.stripe l.room.weight

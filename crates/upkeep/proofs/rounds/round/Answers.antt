@@ -1,0 +1,48 @@
+use Rattle.std.proofs.Common.{refl, ◌∙◌, sym, rules, arith}
+use Rattle.upkeep.proofs.Fair.{missed-none, missed-step}
+use Rattle.upkeep.proofs.rounds.round.Goals as goal
+use Rattle.upkeep.proofs.rounds.round.Goals.{then-visit, else-visit}
+
+pub loop-stripe-init : goal.loop-stripe-init
+loop-stripe-init g c = record {
+  ready = c.requires.ready;
+  count = refl;
+  laps = c.requires.laps;
+  duty = refl;
+  fair = omega (arith, missed-none (g.S.Stripes.events c.args.stripes.now) (g.S.Stripes.events c.args.stripes.now));
+  others = λ k. omega arith;
+  grows = omega arith;
+  done = λ is. let none : ⊥ = cc in absurd none;
+  idle = λ is. refl;
+}
+
+pub loop-stripe-preserved : goal.loop-stripe-preserved
+loop-stripe-preserved g c =
+    let before = c.loop-stripe.invariant in
+    let visited = c.visit.ensures in
+    record {
+      ready = visited.ready;
+      count = visited.count ∙ before.count;
+      laps = search rules;
+      duty = before.duty;
+      fair = missed-step c.loop-stripe.stripe _ _ _ _ _ _ before.others visited.others visited.looked visited.more before.fair;
+      others = λ k. omega (arith, before.others k, visited.others k);
+      grows =
+          elim c.if-visit.branch [
+            | then-visit w ↦ omega (arith, before.grows, visited.done w.if-visit.true)
+            | else-visit w ↦ omega (arith, before.grows, visited.idle w.if-visit.false)
+          ];
+      done = λ is.
+          elim c.if-visit.branch [
+            | then-visit w ↦ omega (arith, before.grows, visited.done w.if-visit.true)
+            | else-visit w ↦ omega (arith, visited.idle w.if-visit.false, before.done (sym w.done-is ∙ is))
+          ];
+      idle = λ is.
+          elim c.if-visit.branch [
+            | then-visit w ↦ let none : ⊥ = cc in absurd none
+            | else-visit w ↦ visited.idle w.if-visit.false ∙ before.idle (sym w.done-is ∙ is)
+          ];
+    }
+
+pub returns-clause-fair : goal.returns-clause-fair
+returns-clause-fair g c = search rules

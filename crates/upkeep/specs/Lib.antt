@@ -1,0 +1,4 @@
+pub mod Events
+pub mod Laps
+pub mod Steps
+pub mod Rounds

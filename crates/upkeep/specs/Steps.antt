@@ -1,0 +1,77 @@
+-- What is done at a stripe by what is seen there: the table of duties.
+use Rattle.std.specs.Prelude.{ℕ, ◌≡◌, ◌-◌, ◌<◌, Bool, true, false, List, [], ◌∷◌, ◌++◌}
+use Rattle.upkeep.specs.declared.stripes.Duty.{Duty}
+use Rattle.upkeep.specs.declared.stripes.Duty.TheVariants.{Flush, Evict, Clean}
+use Rattle.upkeep.specs.declared.stripes.Outcome.{Outcome}
+use Rattle.upkeep.specs.declared.stripes.Outcome.TheVariants as outcome
+use Rattle.upkeep.specs.declared.stripes.Event.{Event}
+use Rattle.upkeep.specs.declared.stripes.Event.TheVariants as event
+use Rattle.upkeep.specs.declared.steps.Step.{Step}
+use Rattle.upkeep.specs.declared.steps.Step.TheVariants.{Unneeded, Waits, Next, First}
+use Rattle.upkeep.specs.declared.laps.Laps.{Laps}
+use Rattle.upkeep.specs.Events.{is_done, stepped}
+use Rattle.upkeep.specs.Laps.{IsAfter, SameLap, begins_by, choice_by, is_behind_by}
+
+-- whether a step was done
+abbrev pub is_done_by : Step → Bool
+is_done_by Unneeded = false
+is_done_by (Waits seen) = false
+is_done_by (Next outcome) = is_done outcome
+is_done_by (First seen outcome) = is_done outcome
+
+-- What is told of a step at a stripe, the newest first. The flusher looks at nothing. The evictor asks whether frames are short, and does a step
+-- only where they are. The cleaner asks whether half of the places are used, and goes on only where they are: with a step of its lap, or by what it
+-- then sees of the places that are used and of a deletion's page.
+abbrev pub IsTold : Duty → (stripe : ℕ) → Step → (before later : List Event) → Type 0
+IsTold Flush stripe (Next came) before later = later ≡ stepped stripe Flush came ++ before
+IsTold Flush stripe Unneeded before later = ⊥
+IsTold Flush stripe (Waits seen) before later = ⊥
+IsTold Flush stripe (First seen came) before later = ⊥
+IsTold Evict stripe Unneeded before later = later ≡ event.Short stripe false ∷ before
+IsTold Evict stripe (Next came) before later = later ≡ stepped stripe Evict came ++ (event.Short stripe true ∷ before)
+IsTold Evict stripe (Waits seen) before later = ⊥
+IsTold Evict stripe (First seen came) before later = ⊥
+IsTold Clean stripe Unneeded before later = later ≡ event.HalfUsed stripe false ∷ before
+IsTold Clean stripe (Next came) before later = later ≡ stepped stripe Clean came ++ (event.HalfUsed stripe true ∷ before)
+IsTold Clean stripe (Waits seen) before later =
+    later ≡ event.Opened stripe seen.opened ∷ (event.Used stripe seen.used ∷ (event.HalfUsed stripe true ∷ before))
+IsTold Clean stripe (First seen came) before later =
+    later ≡ stepped stripe Clean came ++ (event.Opened stripe seen.opened ∷ (event.Used stripe seen.used ∷ (event.HalfUsed stripe true ∷ before)))
+
+-- A step of the cleaner that came to this leaves the laps so: it ends a lap where it met a fault or a full stripe.
+abbrev pub HasStopped : Outcome → (was now : Laps) → Type 0
+HasStopped outcome.Done was now = (now.left ≡ was.left) × SameLap was now
+HasStopped outcome.Idle was now = (now.left ≡ was.left) × SameLap was now
+HasStopped outcome.Full was now = (now.left ≡ 0) × SameLap was now
+HasStopped outcome.Fault was now = (now.left ≡ 0) × SameLap was now
+
+-- a step of a lap was taken, and came to this
+abbrev pub HasGoneOn : Outcome → (was now : Laps) → Type 0
+HasGoneOn outcome.Done was now = (now.left ≡ was.left - 1) × SameLap was now
+HasGoneOn outcome.Idle was now = (now.left ≡ was.left - 1) × SameLap was now
+HasGoneOn outcome.Full was now = (now.left ≡ 0) × SameLap was now
+HasGoneOn outcome.Fault was now = (now.left ≡ 0) × SameLap was now
+
+-- What becomes of the laps of a stripe of so many places. Only the cleaner has any: a step is the next of a lap that has one left, or the first of a
+-- lap that begins by what was seen, where none was left; else none begins.
+abbrev pub HasStepped : Duty → (places : ℕ) → Step → (was now : Laps) → Type 0
+HasStepped Flush places step was now = Unit {0}
+HasStepped Evict places step was now = Unit {0}
+HasStepped Clean places Unneeded was now = (now.left ≡ was.left) × SameLap was now
+HasStepped Clean places (Next came) was now = (0 < was.left) × HasGoneOn came was now
+HasStepped Clean places (Waits seen) was now =
+    (was.left ≡ 0) × (seen.places ≡ places) × (begins_by (choice_by was seen) seen.used ≡ false) × IsAfter was seen (choice_by was seen) now
+HasStepped Clean places (First seen came) was now =
+    (was.left ≡ 0) × (seen.places ≡ places) × (begins_by (choice_by was seen) seen.used ≡ true)
+    × (begun : Laps) × IsAfter was seen (choice_by was seen) begun × HasStopped came begun now
+
+-- The cleaner looked last at how many places of this stripe are used, and is behind there by that.
+abbrev pub IsBehindAfter : (stripe places : ℕ) → Laps → List Event → Type 0
+IsBehindAfter stripe places laps [] = ⊥
+IsBehindAfter stripe places laps (event.Used of used ∷ events) = (of ≡ stripe) × (laps.behind ≡ is_behind_by laps.left used places)
+IsBehindAfter stripe places laps (event.HalfUsed of answer ∷ events) = ⊥
+IsBehindAfter stripe places laps (event.Short of answer ∷ events) = ⊥
+IsBehindAfter stripe places laps (event.Opened of answer ∷ events) = ⊥
+IsBehindAfter stripe places laps (event.Full of ∷ events) = ⊥
+IsBehindAfter stripe places laps (event.Idle of duty ∷ events) = ⊥
+IsBehindAfter stripe places laps (event.Done of duty ∷ events) = ⊥

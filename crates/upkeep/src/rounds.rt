@@ -1,0 +1,109 @@
+//! Rounds over all stripes, the rests between them, and when they end.
+
+ghost use Rattle.std.specs.Prelude.{◌≡◌, ◌≢◌, ◌<◌, ◌≤◌, ◌+◌, true, false, length};
+ghost use Rattle.std.specs.List.{list_any};
+ghost use Rattle.upkeep.specs.Events.{missed, steps_done};
+ghost use Rattle.upkeep.specs.Rounds.{rest_by, laps_of, duty_of};
+
+use crate::chores::Chores;
+use crate::laps::Laps;
+use crate::steps::visit;
+use crate::stripes::{Duty, Stripes};
+use crate::surroundings::Surroundings;
+use std::sync::Wait;
+
+/// How long a thread rests that found nothing to do: 10 milliseconds while connections are served, else 50.
+const REST_MILLISECONDS: u64 = 10;
+
+const IDLE_MILLISECONDS: u64 = 50;
+
+/// Works at all stripes, round after round, until it is told that serving is over. Where no step was done at any stripe it
+/// rests, for 10 milliseconds, or 50 while no connection is served. The cleaner says after each round whether it is behind.
+pub fn keep_up<W: Wait, S: Stripes, B: Surroundings>(
+    rt: &W,
+    stripes: &mut S,
+    beside: &mut B,
+    chores: &mut Chores,
+)
+    requires ready { S.is_ready stripes.old }
+    requires laps { length (laps_of chores.old) ≡ S.count stripes.old }
+    ensures ready { S.is_ready stripes.new }
+    ensures over { B.over beside.new ≡ true }
+{
+    for _ in rt.forever() {
+        let done = round(stripes, chores);
+        tell(beside, chores);
+        if has_ended(beside, done) {
+            return;
+        }
+    }
+    unreachable!()
+}
+
+/// One visit to each stripe, and whether a step was done at any.
+pub fn round<S: Stripes>(stripes: &mut S, chores: &mut Chores) -> bool
+    requires ready { S.is_ready stripes.old }
+    requires laps { length (laps_of chores.old) ≡ S.count stripes.old }
+    ensures ready { S.is_ready stripes.new }
+    ensures count { S.count stripes.new ≡ S.count stripes.old }
+    ensures laps { length (laps_of chores.new) ≡ S.count stripes.new }
+    ensures duty { duty_of chores.new ≡ duty_of chores.old }
+    // Each stripe was looked at: no more were left out than calls of the device have failed.
+    ensures fair { missed (S.count stripes.old) (S.events stripes.old) (S.events stripes.new)
+        + S.failures stripes.old ≤ S.failures stripes.new }
+    ensures done { result ≡ true → steps_done (S.events stripes.old) < steps_done (S.events stripes.new) }
+    ensures idle { result ≡ false → steps_done (S.events stripes.new) ≡ steps_done (S.events stripes.old) }
+{
+    let mut done = false;
+    for stripe in 0..stripes.stripes() {
+        let laps = &mut chores.laps[stripe];
+        if visit(stripes, chores.duty, laps, chores.places, stripe) {
+            done = true;
+        }
+    }
+    done
+}
+
+/// The cleaner says whether it is behind at any stripe. Others say nothing.
+fn tell<B: Surroundings>(beside: &mut B, chores: &Chores)
+    ensures cleaner { duty_of chores.now ≡ Duty.Clean → B.behind beside.new ≡ list_any (λ laps. laps.behind) (laps_of chores.now) }
+    ensures others { duty_of chores.now ≢ Duty.Clean → B.behind beside.new ≡ B.behind beside.old }
+    ensures rested { B.rested beside.new ≡ B.rested beside.old }
+{
+    if chores.duty == Duty::Clean {
+        let behind = is_behind_anywhere(&chores.laps);
+        beside.tell_behind(behind);
+    }
+}
+
+/// Whether those who write wait for the cleaner at any stripe.
+fn is_behind_anywhere(laps: &[Laps]) -> bool
+    ensures { result ≡ list_any (λ laps. laps.behind) laps.now }
+{
+    laps.iter().any(|laps| laps.behind)
+}
+
+/// Whether serving is over. Where there was nothing to do, it rests before.
+fn has_ended<B: Surroundings>(beside: &mut B, done: bool) -> bool
+    ensures over { B.over beside.new ≡ result }
+    ensures busy { done ≡ true → B.rested beside.new ≡ B.rested beside.old }
+    ensures rest { done ≡ false → B.rested beside.new ≡ rest_by (B.idle beside.new) }
+    ensures behind { B.behind beside.new ≡ B.behind beside.old }
+{
+    if !done {
+        let rest = rest_after(beside.is_idle());
+        beside.rest(rest);
+    }
+    beside.is_over()
+}
+
+/// For how many milliseconds a thread rests that found nothing to do.
+pub fn rest_after(idle: bool) -> u64
+    ensures { result ≡ rest_by idle }
+{
+    if idle {
+        IDLE_MILLISECONDS
+    } else {
+        REST_MILLISECONDS
+    }
+}
