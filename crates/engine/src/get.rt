@@ -123,7 +123,16 @@ pub(crate) fn submit_get<T: Wait, L: Latch, R: Shows, D: Device<Receipt = R>>(
     ensures undone { IfFault (answer_with result) (λ fault. IsUndone (promises_of R.is_steady R.lends (stripes_of site.now.gates.now)) (stripes_asked (stripes_of site.now.gates.now) (get_call key.now)) (asked_of (get_call key.now)) fault (know (known pass.old) (D.failures device.old)) (know (known pass.new) (D.failures device.new))) }
 {
     let wanted = stripe_of_key(key, site.gates.stripes());
-    let answer = run(rt, site, pass, device, seat, staged, &wanted, &Getting { key });
+    let answer = run(
+        rt,
+        site,
+        pass,
+        device,
+        seat,
+        staged,
+        &wanted,
+        &Getting { key },
+    );
     staged.clear();
     answer
 }
