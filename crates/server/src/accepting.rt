@@ -33,6 +33,7 @@ pub fn listen<R: Net>(net: &R, options: &Options) -> Result<R::Listener, ServerF
 }
 
 /// Where connections come in, and whether it ever failed to give one.
+#[derive(Drop)]
 pub(crate) struct Door<'a> {
     listener: &'a TcpListener,
     failed: bool,
