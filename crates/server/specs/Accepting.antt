@@ -1,5 +1,5 @@
 -- When no connection comes any more.
-use Rattle.std.specs.Prelude.{⊥, ◌≢◌, Result, Ok, Err}
+use Rattle.std.specs.Prelude.{◌≢◌, Result, Ok, Err}
 use Rattle.std.specs.IoError.{error_kind}
 use Rattle.std.specs.declared.io.Error.{Error}
 use Rattle.std.specs.declared.io.ErrorKind.{ErrorKind}
