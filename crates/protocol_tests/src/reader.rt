@@ -304,6 +304,38 @@ fn five_words_of_the_most_bytes(rt: HostRuntime) -> Result<(), Fail> {
     check_cut(&rt, alloc, &stream, Cut::Pieces(16_384), &given)
 }
 
+/// The longest request: of the most words and, in all of them, of the most bytes.
+fn longest(alloc: Global) -> Result<Vec<u8>, Fail> {
+    let word = repeated(alloc, b"$1024\r\n", b"0123456789abcdef", 64, b"\r\n")?;
+    repeated(alloc, b"*128\r\n", &word, 128, b"")
+}
+
+/// Whether the longest request is cut at this place: it is among the first 300 or the last 300, or a word begins or ends
+/// there or near it.
+fn is_near_an_end(at: usize, length: usize) -> bool {
+    let in_word = at.saturating_sub(6) % 1_033;
+    at < 300 || length.saturating_sub(at) < 300 || in_word < 9 || in_word > 1_029
+}
+
+/// Asserts what a reader gives for the longest request, cut in two at each of these places.
+fn check_longest(rt: &impl Abort, alloc: Global, stream: &[u8], given: &[u8]) -> Result<(), Fail> {
+    for at in 0..stream.len() {
+        if is_near_an_end(at, stream.len()) {
+            check_cut(rt, alloc, stream, Cut::Two(at), given)?;
+        }
+    }
+    Ok(())
+}
+
+#[test]
+fn the_longest_request_is_given_however_it_is_cut(rt: HostRuntime) -> Result<(), Fail> {
+    let alloc = rt.alloc();
+    let word = repeated(alloc, b"", b"0123456789abcdef", 64, b",")?;
+    let given = repeated(alloc, b"", &word, 128, b";")?;
+    let stream = longest(alloc)?;
+    check_longest(&rt, alloc, &stream, &given)
+}
+
 /// Asserts which pieces a reader keeps, from the oldest on.
 fn check_kept(rt: &impl Abort, reader: &Reader, kept: &[&[u8]]) {
     for (index, &piece) in kept.iter().enumerate() {

@@ -1,5 +1,0 @@
-use Rattle.gates_tests.specs.Nothing.{Rests}
-use Rattle.gates_tests.proofs.tests.commit_many.Given as goal
-
-abbrev pub invariant-loop-n : goal.invariant-loop-n
-invariant-loop-n g l = Rests l.gates l.pass

@@ -1,7 +1,0 @@
-use Rattle.std.proofs.Common.{◌≡◌, vec_len}
-use Rattle.gates.specs.Plays.{AreEmpty}
-use Rattle.gates_tests.specs.Nothing.{nothing}
-use Rattle.gates_tests.proofs.tests.parts.Given as goal
-
-abbrev pub invariant-loop-number : goal.invariant-loop-number
-invariant-loop-number l = (vec_len l.parts ≡ l.number) × AreEmpty nothing l.parts.items

@@ -1,8 +1,0 @@
-//! Tests of calls over stripes that are logs, and of such stripes, through the public items of `plans` and `shards` alone.
-//! They stand apart from these, so that neither is proved a second time with them.
-#![tactic(auto)]
-
-pub mod calls;
-pub mod held;
-#[cfg(test)]
-mod tests;
