@@ -10,9 +10,12 @@ use engine::{BACKGROUND_PASSES, Engine, Pass};
 use gates::Open;
 use sockets::Serving;
 use std::alloc::{AllocError, Global};
+use std::io;
 use std::rt::Clock;
 use std::sync::Wait;
+use std::sync::atomic::{AtomicU64, Ordering};
 use std::test::Fail;
+use std::time::Duration;
 use upkeep::{Chores, Duty, Surroundings, keep_up, round};
 use words::limits::{FRAMES_MIN, KEY_BYTES_MAX, Limits, VALUE_BYTES_MAX};
 use words::word::Word;
@@ -251,8 +254,8 @@ fn comes_to_be_full<R: Wait, D: Device>(
     Some(false)
 }
 
-/// The thread of a cleaner, which ends after its first round, since serving is over.
-fn cleans_one_round<R: Clock + Wait, D: Device>(
+/// The thread of a cleaner, which ends once serving is over: after its first round where it is.
+fn cleans<R: Clock + Wait, D: Device>(
     rt: &R,
     alloc: Global,
     engine: &Engine<D>,
@@ -274,13 +277,13 @@ fn a_cleaner_tells_that_it_is_behind(rt: HostRuntime) -> Result<(), Fail> {
     let openings = MemoryDevice::openings(alloc, 1 + BACKGROUND_PASSES)?;
     let (engine, mut passes) = engine_over(alloc, 1, openings).ok_or("no engine")?;
     let mut pass = passes.swap_remove(0);
-    let serving = Serving::new(1);
+    let serving = Serving::new(&rt);
     serving.close();
     assert_eq!(rt;
         comes_to_be_full(&rt, alloc, &engine, &mut pass),
         Some(true)
     );
-    cleans_one_round(&rt, alloc, &engine, passes.swap_remove(0), &serving)?;
+    cleans(&rt, alloc, &engine, passes.swap_remove(0), &serving)?;
     assert!(rt; serving.is_behind());
     Ok(())
 }
@@ -291,10 +294,62 @@ fn a_cleaner_takes_it_back(rt: HostRuntime) -> Result<(), Fail> {
     let alloc = rt.alloc();
     let openings = MemoryDevice::openings(alloc, 1 + BACKGROUND_PASSES)?;
     let (engine, mut passes) = engine_over(alloc, 1, openings).ok_or("no engine")?;
-    let serving = Serving::new(1);
+    let serving = Serving::new(&rt);
     serving.set_behind(true);
     serving.close();
-    cleans_one_round(&rt, alloc, &engine, passes.swap_remove(0), &serving)?;
+    cleans(&rt, alloc, &engine, passes.swap_remove(0), &serving)?;
     assert!(rt; !serving.is_behind());
+    Ok(())
+}
+
+/// A clock whose rests take no time. It counts them and their milliseconds. At the third the connection that is served ends, and
+/// at the fifth no further one is accepted.
+#[derive(Drop)]
+struct Rested<'a, W> {
+    rt: &'a W,
+    serving: &'a Serving,
+    rests: AtomicU64,
+    time: AtomicU64,
+}
+
+impl<W: Wait> Wait for Rested<'_, W> {}
+
+impl<W> Clock for Rested<'_, W> {
+    fn monotonic(&self) -> io::Result<Duration> {
+        Ok(Duration::from_secs(7))
+    }
+
+    fn since_1970(&self) -> io::Result<Duration> {
+        Ok(Duration::from_secs(7))
+    }
+
+    fn sleep(&self, duration: Duration) {
+        let time = u64::try_from(duration.as_millis()).unwrap_or(u64::MAX);
+        self.time.fetch_add(time, Ordering::SeqCst);
+        match self.rests.fetch_add(1, Ordering::SeqCst) {
+            2 => self.serving.end(),
+            4 => self.serving.close(),
+            _ => {}
+        }
+    }
+}
+
+/// A thread with nothing to do rests by the clock: for 10 milliseconds while a connection is served, and else for 50.
+#[test]
+fn a_thread_rests_by_the_clock(rt: HostRuntime) -> Result<(), Fail> {
+    let alloc = rt.alloc();
+    let openings = MemoryDevice::openings(alloc, 1 + BACKGROUND_PASSES)?;
+    let (engine, mut passes) = engine_over(alloc, 1, openings).ok_or("no engine")?;
+    let serving = Serving::new(&rt);
+    serving.begin();
+    let clock = Rested {
+        rt: &rt,
+        serving: &serving,
+        rests: AtomicU64::new(0),
+        time: AtomicU64::new(0),
+    };
+    cleans(&clock, alloc, &engine, passes.swap_remove(0), &serving)?;
+    assert_eq!(rt; clock.rests.load(Ordering::SeqCst), 5);
+    assert_eq!(rt; clock.time.load(Ordering::SeqCst), 3 * 10 + 2 * 50);
     Ok(())
 }

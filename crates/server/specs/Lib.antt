@@ -1,3 +1,4 @@
+pub mod Accepting
 pub mod Closing
 pub mod Faults
 pub mod Numbers

@@ -1,7 +1,8 @@
 //! Listening, and handing each connection to a worker.
 
 ghost use Rattle.std.specs.Duration.{as_nanos};
-ghost use Rattle.std.specs.Prelude.{◌≡◌, ◌≢◌, ◌*◌, IfErr};
+ghost use Rattle.std.specs.Prelude.{◌≡◌, ◌≢◌, ◌*◌, ◌↔◌, true, false, IfErr, IsErr, IsTrue};
+ghost use Rattle.server.specs.Accepting.{IsFailure};
 
 use crate::fault::ServerFault;
 use crossbeam_channel::Sender;
@@ -31,19 +32,60 @@ pub fn listen<R: Net>(net: &R, options: &Options) -> Result<R::Listener, ServerF
     TcpListener::bind(net, address).map_err(|_| ServerFault::CannotListen)
 }
 
+/// Where connections come in, and whether it ever failed to give one.
+#[derive(Drop)]
+pub(crate) struct Door<'a> {
+    listener: &'a TcpListener,
+    failed: bool,
+}
+
+impl<'a> Door<'a> {
+    /// The connections that come to this listener.
+    pub(crate) fn new(listener: &'a TcpListener) -> Door<'a>
+        ensures { result.failed ≡ false }
+    {
+        Door {
+            listener,
+            failed: false,
+        }
+    }
+
+    /// Asks the system for the next connection, in one line, and notes where it fails. That line is what is left to trust.
+    fn next(&mut self) -> io::Result<TcpStream>
+        ensures failed { self.old.failed ≡ false → (IsTrue self.new.failed ↔ IsFailure result) }
+        ensures kept { self.old.failed ≡ true → self.new.failed ≡ true }
+    {
+        let came = self.listener.accept().map(|(stream, _)| stream);
+        self.failed = self.failed || has_failed(&came);
+        came
+    }
+}
+
+/// Whether this is why no connection comes any more. It is not where one came that its client gave up before it was accepted.
+fn has_failed(came: &io::Result<TcpStream>) -> bool
+    ensures { IsTrue result ↔ IsFailure came.now }
+{
+    match came {
+        Ok(_) => false,
+        Err(error) => error.kind() != ErrorKind::ConnectionAborted,
+    }
+}
+
 /// Accepts so many connections and no more, and hands each to a worker that is free or comes free soon. One
-/// for which there is none is turned away. Once it returns nothing can be handed over.
+/// for which there is none is turned away. Once it returns nothing can be handed over. It goes on until one cannot be accepted.
 pub(crate) fn accept_all<R: Clock + Wait>(
     rt: &R,
-    listener: TcpListener,
+    door: &mut Door,
     count: u32,
     workers: Sender<TcpStream>,
     closer: Sender<Leaving>,
 ) -> Result<(), ServerFault>
-    ensures { IfErr result (λ fault. fault ≡ ServerFault.CannotAccept) }
+    requires { door.old.failed ≡ false }
+    ensures fault { IfErr result (λ fault. fault ≡ ServerFault.CannotAccept) }
+    ensures failed { IsTrue door.new.failed ↔ IsErr result }
 {
     for _ in 0..count {
-        let stream = accept(rt, &listener)?;
+        let stream = accept(rt, door)?;
         if let Err(refused) = workers.send_timeout(rt, stream, patience()) {
             turn_away(rt, refused.into_inner(), &closer);
         }
@@ -58,15 +100,19 @@ fn patience() -> Duration
     Duration::from_millis(PATIENCE_MILLISECONDS)
 }
 
-/// The next connection. One that its client gave up before it was accepted is passed over.
-fn accept(rt: &impl Wait, listener: &TcpListener) -> Result<TcpStream, ServerFault>
-    ensures { IfErr result (λ fault. fault ≡ ServerFault.CannotAccept) }
+/// The next connection. One that its client gave up before it was accepted is passed over, and no failure is.
+fn accept(rt: &impl Wait, door: &mut Door) -> Result<TcpStream, ServerFault>
+    requires { door.old.failed ≡ false }
+    ensures fault { IfErr result (λ fault. fault ≡ ServerFault.CannotAccept) }
+    ensures failed { IsTrue door.new.failed ↔ IsErr result }
 {
     for _ in rt.forever() {
-        match listener.accept() {
-            Ok((stream, _)) => return Ok(stream),
-            Err(error) if error.kind() == ErrorKind::ConnectionAborted => {}
-            Err(_) => return Err(ServerFault::CannotAccept),
+        let came = door.next();
+        if has_failed(&came) {
+            return Err(ServerFault::CannotAccept);
+        }
+        if let Ok(stream) = came {
+            return Ok(stream);
         }
     }
     unreachable!()

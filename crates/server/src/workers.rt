@@ -5,7 +5,7 @@ ghost use Rattle.engine.specs.Passes.{knows, Rests, stripe_count};
 ghost use Rattle.upkeep.specs.Rounds.{laps_of};
 ghost use Rattle.engine.specs.declared.TheConstants.{BACKGROUND_PASSES};
 
-use crate::accepting::accept_all;
+use crate::accepting::{Door, accept_all};
 use crate::ending_list::Endings;
 use crate::fault::ServerFault;
 use crate::working::{Shared, work};
@@ -20,7 +20,7 @@ use std::net::{TcpListener, TcpStream};
 use std::rt::Clock;
 use std::sync::Wait;
 use std::thread;
-use std::thread::{Scope, Threads, available_parallelism};
+use std::thread::{Scope, Threads};
 
 /// How many openings of its device a server with these options wants: one for each worker, and one for each thread that works
 /// in the background.
@@ -93,7 +93,7 @@ where
         latch,
         endings,
         engine,
-        serving: Serving::new(processors(rt)),
+        serving: Serving::new(rt),
         handed: for_workers,
     };
     run_threads(rt, &shared, listener, options, passes, to_workers)
@@ -155,7 +155,13 @@ where
     ensures opened { IfErr result (λ fault. fault ≢ ServerFault.CannotOpenDevice) }
 {
     let to_closer = start_threads(rt, scope, shared, options, passes)?;
-    accept_all(rt, listener, options.accept, to_workers, to_closer)
+    accept_all(
+        rt,
+        &mut Door::new(&listener),
+        options.accept,
+        to_workers,
+        to_closer,
+    )
 }
 
 /// Starts the threads beside the one that accepts, and gives what the closer is handed connections over by.
@@ -179,14 +185,6 @@ where
     let passes = start_background(rt, scope, options, shared.engine, passes, &shared.serving)?;
     start_workers(rt, scope, shared, passes, options.workers, &to_closer)?;
     Ok(to_closer)
-}
-
-/// How many processors there are; 1 where the system does not tell.
-fn processors(rt: &impl Threads) -> usize {
-    match available_parallelism(rt) {
-        Ok(count) => count.get(),
-        Err(_) => 1,
-    }
 }
 
 /// Starts the thread that closes connections, and gives what they are handed over by.

@@ -1,6 +1,6 @@
 //! A worker, who serves one connection after the other.
 
-ghost use Rattle.std.specs.Prelude.{◌≡◌, []};
+ghost use Rattle.std.specs.Prelude.{◌≡◌, ◌↔◌, [], IsSome, IsTrue};
 ghost use Rattle.engine.specs.Passes.{knows, Rests};
 ghost use Rattle.server.specs.Closing.{has_client_by};
 
@@ -10,7 +10,7 @@ use crossbeam_channel::{Receiver, Sender};
 use device::Device;
 use engine::{Engine, Pass};
 use gates::Latch;
-use sockets::{Leaving, Serving, Socket, SocketReader, SocketWriter, close_later};
+use sockets::{ClosedLater, Leaving, Serving, Socket, SocketReader, SocketWriter, close_later};
 use std::net::TcpStream;
 use std::rt::Clock;
 use std::sync::Wait;
@@ -52,7 +52,7 @@ pub(crate) fn work<R: AllocGlobal + Clock + Wait, L: Latch, D: Device>(
         pass = back;
         // Without memory for it, the ending is not listed.
         let _ = shared.endings.push(rt, ended);
-        close(rt, stream, ended, closer);
+        let _ = close(rt, stream, ended, closer);
     }
     unreachable!()
 }
@@ -85,9 +85,18 @@ fn serve_stream<R: AllocGlobal + Clock + Wait, L: Latch, D: Device>(
 
 /// Closes a connection that ended so: at once where its client has gone, and else once the client has had
 /// time to read the last reply.
-fn close<R: Clock + Wait>(rt: &R, stream: TcpStream, ended: Ended, closer: &Sender<Leaving>) {
+fn close<R: Clock + Wait>(
+    rt: &R,
+    stream: TcpStream,
+    ended: Ended,
+    closer: &Sender<Leaving>,
+) -> Option<ClosedLater>
+    ensures { IsSome result ↔ IsTrue (has_client_by ended) }
+{
     if has_client(ended) {
-        close_later(rt, stream, closer);
+        Some(close_later(rt, stream, closer))
+    } else {
+        None
     }
 }
 

@@ -3,11 +3,13 @@
 use crate::client::{connect, options_with, reads_at_once, sends};
 use server::listen;
 use sockets::{Serving, Socket, SocketReader, SocketWriter};
+use std::io;
 use std::io::{Read, Write};
 use std::net::{Net, TcpListener, TcpStream};
 use std::rt::Clock;
+use std::sync::atomic::{AtomicU64, Ordering};
 use std::test::Fail;
-use std::thread::sleep;
+use std::thread::{Threads, available_parallelism, sleep};
 use std::time::{Duration, Instant};
 use streams::ReadReady;
 
@@ -49,7 +51,7 @@ fn are_sent(clock: &impl Clock, client: &TcpStream, served: &TcpStream) -> bool 
 #[test]
 fn a_read_takes_all_that_is_there(rt: HostRuntime) -> Result<(), Fail> {
     let (client, served) = ends(&rt).ok_or("no connection")?;
-    let serving = Serving::new(1);
+    let serving = Serving::new(&rt);
     let socket = Socket::new(&served);
     let mut reader = SocketReader::new(&rt, &socket, &serving);
     let mut buffer = [0; 16_384];
@@ -84,7 +86,7 @@ fn a_socket_sends_at_once(rt: HostRuntime) -> Result<(), Fail> {
 #[test]
 fn a_read_waits_for_the_cleaner(rt: HostRuntime) -> Result<(), Fail> {
     let (client, served) = ends(&rt).ok_or("no connection")?;
-    let serving = Serving::new(1);
+    let serving = Serving::new(&rt);
     let socket = Socket::new(&served);
     let mut reader = SocketReader::new(&rt, &socket, &serving);
     let mut buffer = [0; 16_384];
@@ -94,5 +96,76 @@ fn a_read_waits_for_the_cleaner(rt: HostRuntime) -> Result<(), Fail> {
     let began = Instant::now(&rt)?;
     assert!(rt; matches!(reader.read(&mut buffer), Ok(16_384)));
     assert!(rt; began.elapsed(&rt)? >= Duration::from_millis(20));
+    Ok(())
+}
+
+/// A clock whose sleeps take no time. It counts their milliseconds, and once they are so many, the cleaner is not behind any more.
+#[derive(Drop)]
+struct Sleeps<'a> {
+    serving: &'a Serving,
+    slept: AtomicU64,
+    enough: u64,
+}
+
+impl Clock for Sleeps<'_> {
+    fn monotonic(&self) -> io::Result<Duration> {
+        Ok(Duration::from_secs(7))
+    }
+
+    fn since_1970(&self) -> io::Result<Duration> {
+        Ok(Duration::from_secs(7))
+    }
+
+    fn sleep(&self, duration: Duration) {
+        let time = u64::try_from(duration.as_millis()).unwrap_or(u64::MAX);
+        let before = self.slept.fetch_add(time, Ordering::SeqCst);
+        if before.saturating_add(time) >= self.enough {
+            self.serving.set_behind(false);
+        }
+    }
+}
+
+/// For how many milliseconds a read of all that is there waits, where the cleaner is behind or not, and is behind for so many.
+fn waits<R>(rt: &R, behind: bool, enough: u64) -> Option<u64>
+where
+    R: Clock + Net<Listener = TcpListener, Stream = TcpStream> + Threads,
+{
+    let (client, served) = ends(rt)?;
+    let serving = Serving::new(rt);
+    let socket = Socket::new(&served);
+    let clock = Sleeps {
+        serving: &serving,
+        slept: AtomicU64::new(0),
+        enough,
+    };
+    let mut reader = SocketReader::new(&clock, &socket, &serving);
+    serving.set_behind(behind);
+    let sent = are_sent(rt, &client, &served);
+    if !sent || !matches!(reader.read(&mut [0; 16_384]), Ok(16_384)) {
+        return None;
+    }
+    Some(clock.slept.load(Ordering::SeqCst))
+}
+
+/// A read waits only while the cleaner is behind, and for 20 milliseconds at most.
+#[test]
+fn a_read_waits_only_while_the_cleaner_is_behind(rt: HostRuntime) -> Result<(), Fail> {
+    assert_eq!(rt; waits(&rt, false, 0), Some(0));
+    assert_eq!(rt; waits(&rt, true, 3), Some(3));
+    assert_eq!(rt; waits(&rt, true, 1_000), Some(20));
+    Ok(())
+}
+
+/// As many connections are few as the system has processors for this process, and one more are not.
+#[test]
+fn connections_are_few_up_to_the_processors(rt: HostRuntime) -> Result<(), Fail> {
+    let processors = available_parallelism(&rt)?.get();
+    let serving = Serving::new(&rt);
+    for _ in 0..processors {
+        serving.begin();
+    }
+    assert!(rt; serving.is_few());
+    serving.begin();
+    assert!(rt; !serving.is_few());
     Ok(())
 }

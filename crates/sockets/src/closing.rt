@@ -88,14 +88,25 @@ fn is_soon(time: Duration) -> bool
     time.as_millis() < u128::from(LEAVING_MILLISECONDS_MAX)
 }
 
+/// Says that a connection was given to [`close_later`], which alone makes it.
+#[derive(Drop)]
+pub struct ClosedLater {
+    _made: (),
+}
+
 /// Has a connection closed once its client has closed it, by whoever is at the other end of this channel ([`close_all`]), and
 /// does not wait for that here. The last byte was sent. Where the connection cannot be handed over, or has failed, it is
 /// closed at once.
-pub fn close_later<R: Clock + Wait>(rt: &R, stream: TcpStream, closer: &Sender<Leaving>) {
+pub fn close_later<R: Clock + Wait>(
+    rt: &R,
+    stream: TcpStream,
+    closer: &Sender<Leaving>,
+) -> ClosedLater {
     if let Ok(leaving) = Leaving::new(rt, stream) {
         // Where it cannot be handed over, it is dropped, which closes it.
         let _ = closer.send(rt, leaving);
     }
+    ClosedLater { _made: () }
 }
 
 /// Closes connections as they are handed over by [`close_later`], until nobody can hand over another and the last is closed. A

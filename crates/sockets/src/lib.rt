@@ -11,6 +11,6 @@ mod pausing;
 mod serving;
 mod socket;
 
-pub use closing::{LEAVING_MAX, Leaving, close_all, close_later};
+pub use closing::{ClosedLater, LEAVING_MAX, Leaving, close_all, close_later};
 pub use serving::Serving;
 pub use socket::{Socket, SocketReader, SocketWriter};

@@ -13,6 +13,9 @@ const PAUSES_MAX: u32 = 20;
 
 /// Who is waited for.
 pub(crate) trait Awaited {
+    // How often it was asked so far whether it is behind.
+    ghost asked: { Self → ℕ };
+
     // How often it was said so far that it is behind.
     ghost told: { Self → ℕ };
 
@@ -21,13 +24,16 @@ pub(crate) trait Awaited {
 
     /// Whether it is behind those who write.
     fn is_behind(&mut self) -> bool
-        requires { told self.old < 2 ^ 32 - 1 }
+        requires asked { asked self.old < 2 ^ 32 - 1 }
+        requires told { told self.old < 2 ^ 32 - 1 }
+        ensures asked { asked self.new ≡ asked self.old + 1 }
         ensures told { told self.new ≡ told self.old + count_of result }
         ensures waited { waited self.new ≡ waited self.old };
 
     /// Waits for a millisecond.
     fn wait(&mut self)
         requires { waited self.old < 2 ^ 32 - 1 }
+        ensures asked { asked self.new ≡ asked self.old }
         ensures told { told self.new ≡ told self.old }
         ensures waited { waited self.new ≡ waited self.old + 1 };
 }
@@ -37,35 +43,49 @@ pub(crate) trait Awaited {
 pub(crate) struct Cleaner<'a, C> {
     clock: &'a C,
     serving: &'a Serving,
-    /// How often it was said that it is behind.
-    told: u32,
-    /// How many milliseconds it was waited for.
-    waited: u32,
+    /// How often it was asked in the last read whether it is behind.
+    pub(crate) asked: u32,
+    /// How often it was said there that it is.
+    pub(crate) told: u32,
+    /// How many milliseconds it was waited for there.
+    pub(crate) waited: u32,
 }
 
 impl<'a, C> Cleaner<'a, C> {
     /// The cleaner, for which nobody has waited.
-    pub(crate) fn new(clock: &'a C, serving: &'a Serving) -> Cleaner<'a, C>
-        ensures told { result.told ≡ 0 }
-        ensures waited { result.waited ≡ 0 }
-    {
+    pub(crate) fn new(clock: &'a C, serving: &'a Serving) -> Cleaner<'a, C> {
         Cleaner {
             clock,
             serving,
+            asked: 0,
             told: 0,
             waited: 0,
         }
+    }
+
+    /// Another read begins, in which nobody has asked or waited.
+    pub(crate) fn begin(&mut self)
+        ensures asked { self.new.asked ≡ 0 }
+        ensures told { self.new.told ≡ 0 }
+        ensures waited { self.new.waited ≡ 0 }
+    {
+        self.asked = 0;
+        self.told = 0;
+        self.waited = 0;
     }
 }
 
 /// Each call asks or waits once, in one line, and counts it. That line is what is left to trust.
 impl<C: Clock> Awaited for Cleaner<'_, C> {
+    ghost asked = { λ c. c.asked };
+
     ghost told = { λ c. c.told };
 
     ghost waited = { λ c. c.waited };
 
     fn is_behind(&mut self) -> bool {
         let behind = self.serving.is_behind();
+        self.asked += 1;
         if behind {
             self.told += 1;
         }
@@ -78,12 +98,15 @@ impl<C: Clock> Awaited for Cleaner<'_, C> {
     }
 }
 
-/// Waits for the cleaner where it is behind, a millisecond each time that it is said so, and 20 at most.
+/// Waits for the cleaner where it is behind, a millisecond each time that it is said so, and 20 at most. It waits for less only
+/// where it was said that it is not behind.
 pub(crate) fn pause<A: Awaited>(cleaner: &mut A)
+    requires asked { A.asked cleaner.old ≡ 0 }
     requires told { A.told cleaner.old ≡ 0 }
     requires waited { A.waited cleaner.old ≡ 0 }
     ensures each { A.waited cleaner.new ≡ A.told cleaner.new }
     ensures most { A.waited cleaner.new ≤ 20 }
+    ensures stops { A.waited cleaner.new < 20 → A.asked cleaner.new ≡ A.told cleaner.new + 1 }
 {
     let mut left = PAUSES_MAX;
     while left > 0 {

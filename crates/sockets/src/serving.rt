@@ -1,6 +1,12 @@
 //! How many connections are served right now, whether more may come, and whether the cleaner keeps up with them.
 
+ghost use Rattle.std.specs.Prelude.{◌≡◌, ◌<◌};
+ghost use Rattle.sockets.specs.Polling.{processors_by, processors_in};
+
+use std::io;
+use std::num::NonZeroUsize;
 use std::sync::atomic::{AtomicBool, AtomicUsize, Ordering};
+use std::thread::{Threads, available_parallelism};
 
 /// How many connections are served right now and on how many processors, whether more may come, and whether the cleaner keeps
 /// up with them. Threads share it; none waits for another.
@@ -13,11 +19,14 @@ pub struct Serving {
 }
 
 impl Serving {
-    /// No connection is served. There are so many processors.
-    pub fn new(processors: usize) -> Serving {
+    /// No connection is served. There are as many processors as the system tells, which is asked in one line; no other number
+    /// can be given.
+    pub fn new(host: &impl Threads) -> Serving
+        ensures { 0 < processors_in result }
+    {
         Serving {
             count: AtomicUsize::new(0),
-            processors,
+            processors: processors_of(available_parallelism(host)),
             closed: AtomicBool::new(false),
             behind: AtomicBool::new(false),
         }
@@ -61,5 +70,16 @@ impl Serving {
     /// Whether the cleaner is behind those who write.
     pub fn is_behind(&self) -> bool {
         self.behind.load(Ordering::SeqCst)
+    }
+}
+
+/// How many processors there are where the system tells so: 1 where it does not.
+fn processors_of(told: io::Result<NonZeroUsize>) -> usize
+    ensures count { result ≡ processors_by told }
+    ensures some { 0 < result }
+{
+    match told {
+        Ok(count) => count.get(),
+        Err(_) => 1,
     }
 }

@@ -15,10 +15,11 @@
 //! the other, or more than is read at once, has it changed seldom.
 
 ghost use Rattle.std.specs.Duration.{as_nanos};
-ghost use Rattle.std.specs.Prelude.{◌≡◌, ◌≤◌, ◌<◌, ◌/◌, ◌↔◌, None, length, IfSome, IsTrue, OnOk};
+ghost use Rattle.std.specs.Prelude.{◌≡◌, ◌≤◌, ◌<◌, ◌-◌, ◌/◌, ◌↔◌, true, None, length, IfSome, IsTrue, OnOk};
 ghost use Rattle.std.specs.Io.{ReadsAtMost, WritesAtMost};
 ghost use Rattle.std.specs.Io.KnownBytes.{ReadConsumes, WriteAppends};
 ghost use Rattle.streams.specs.Streams.{IsReadReady};
+ghost use Rattle.sockets.specs.Pausing.{HasPaused};
 
 use crate::pausing::{Cleaner, pause};
 use crate::serving::Serving;
@@ -84,6 +85,10 @@ pub struct SocketReader<'a, C> {
     clock: &'a C,
     socket: &'a Socket<'a>,
     serving: &'a Serving,
+    /// How long the last read waited for the cleaner.
+    cleaner: Cleaner<'a, C>,
+    /// Whether few connections were served when that was asked last.
+    few: bool,
     /// How the socket failed when it was asked. The system tells that once, so the next read tells it again.
     failed: Option<ErrorKind>,
     /// How many reads sleep at once before one asks again.
@@ -101,6 +106,8 @@ impl<'a, C: Clock> SocketReader<'a, C> {
             clock,
             socket,
             serving,
+            cleaner: Cleaner::new(clock, serving),
+            few: false,
             failed: None,
             rests: 0,
             next_rests: 0,
@@ -113,6 +120,7 @@ impl<'a, C: Clock> SocketReader<'a, C> {
     fn ask(&mut self, buffer: &mut [u8]) -> io::Result<usize>
         ensures bound { ReadsAtMost result buffer.new }
         ensures asked { self.new.asked ≡ length buffer.new }
+        ensures kept { self.new.cleaner ≡ self.old.cleaner }
     {
         self.asked = buffer.len();
         let mut stream = self.socket.stream;
@@ -120,19 +128,27 @@ impl<'a, C: Clock> SocketReader<'a, C> {
     }
 
     /// Keeps a failure for the next read to tell.
-    fn note(&mut self, kind: ErrorKind) {
+    fn note(&mut self, kind: ErrorKind)
+        ensures { self.new.cleaner ≡ self.old.cleaner }
+    {
         if kind != ErrorKind::WouldBlock && kind != ErrorKind::Interrupted {
             self.failed = Some(kind);
         }
     }
 
-    /// Whether the next read asks for input before it sleeps.
-    fn takes_a_look(&mut self) -> bool {
+    /// Whether the next read asks for input before it sleeps: where few connections are served, and no rest is left. Whether few
+    /// are is asked in one line, which is what is left to trust of it.
+    fn takes_a_look(&mut self) -> bool
+        ensures rests { self.new.rests ≡ self.old.rests - 1 }
+        ensures look { IsTrue result ↔ (self.old.rests ≡ 0) × IsTrue self.new.few }
+        ensures kept { self.new.cleaner ≡ self.old.cleaner }
+    {
+        self.few = self.serving.is_few();
         if self.rests > 0 {
             self.rests -= 1;
             return false;
         }
-        self.serving.is_few()
+        self.few
     }
 
     /// Whether a reader that began to ask then still asks.
@@ -146,9 +162,12 @@ impl<'a, C: Clock> SocketReader<'a, C> {
     /// Asks for input again and again, and reads it once it is there. `None` where none came, or the socket
     /// ended or failed.
     fn look(&mut self, buffer: &mut [u8]) -> Option<usize>
-        requires { 0 < length buffer.old }
+        requires room { 0 < length buffer.old }
+        requires few { self.old.few ≡ true }
+        requires rested { self.old.rests ≡ 0 }
         ensures within { IfSome result (λ count. count ≤ length buffer.new) }
         ensures asked { IfSome result (λ count. self.new.asked ≡ length buffer.new) }
+        ensures kept { self.new.cleaner ≡ self.old.cleaner }
     {
         let Ok(began) = Instant::now(self.clock) else {
             return None;
@@ -188,13 +207,16 @@ fn is_brief(time: Duration) -> bool
 }
 
 impl<C: Clock> Read for SocketReader<'_, C> {
-    /// What is given was asked for in one call, with room for the whole buffer.
+    /// What is given was asked for in one call, with room for the whole buffer. Before, the cleaner was waited for where it is
+    /// behind.
     fn read(&mut self, buffer: &mut [u8]) -> io::Result<usize>
         ensures bound { ReadsAtMost result buffer.new }
         ensures bytes { ReadConsumes None None result buffer.new }
         ensures whole { OnOk result (self.new.asked ≡ length buffer.new) }
+        ensures paused { HasPaused self.new.cleaner.asked self.new.cleaner.told self.new.cleaner.waited }
     {
-        pause(&mut Cleaner::new(self.clock, self.serving));
+        self.cleaner.begin();
+        pause(&mut self.cleaner);
         if self.failed.is_none() && !buffer.is_empty() && self.takes_a_look() {
             if let Some(count) = self.look(buffer) {
                 return Ok(count);
@@ -214,6 +236,7 @@ impl<C: Clock> ReadReady for SocketReader<'_, C> {
         requires { 0 < length buffer.old }
         ensures ready { IsReadReady None None buffer.new result }
         ensures whole { IfSome result (λ count. self.new.asked ≡ length buffer.new) }
+        ensures kept { self.new.cleaner ≡ self.old.cleaner }
     {
         if self.serving.is_behind() || self.failed.is_some() {
             return None;

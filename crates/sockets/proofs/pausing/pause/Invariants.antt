@@ -3,6 +3,7 @@ use Rattle.sockets.proofs.pausing.pause.Given as goal
 
 abbrev pub invariant-loop-left : goal.invariant-loop-left
 invariant-loop-left g l = record {
+  asked : g.A.Awaited.asked l.cleaner ≡ g.A.Awaited.told l.cleaner;
   each : g.A.Awaited.waited l.cleaner ≡ g.A.Awaited.told l.cleaner;
   most : g.A.Awaited.waited l.cleaner + l.left ≡ 20;
 }

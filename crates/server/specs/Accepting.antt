@@ -1,0 +1,11 @@
+-- When no connection comes any more.
+use Rattle.std.specs.Prelude.{◌≢◌, Result, Ok, Err}
+use Rattle.std.specs.IoError.{error_kind}
+use Rattle.std.specs.declared.io.Error.{Error}
+use Rattle.std.specs.declared.io.ErrorKind.{ErrorKind}
+use Rattle.std.specs.declared.io.ErrorKind.TheVariants.{ConnectionAborted}
+
+-- Asked for the next connection, the system gave none, for another reason than that its client gave it up before it was accepted.
+abbrev pub IsFailure : {T : Type 0} → Result T Error → Type 0
+IsFailure (Ok stream) = ⊥
+IsFailure (Err error) = error_kind error ≢ ConnectionAborted
