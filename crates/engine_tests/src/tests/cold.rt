@@ -15,11 +15,77 @@ use std::sync::{Arc, Wait};
 use std::test::Fail;
 use std::thread::{Threads, join};
 use transact::call::Answer;
+use words::limits::KEY_BYTES_MAX;
 use words::reply::{CommandReply, Item, Reply};
 use words::word::Word;
 
 /// What `k0000` is set to anew.
 const ANEW: [u8; 1000] = [b'w'; 1000];
+
+/// A way in which a GET is asked, each with rounds of its own.
+#[derive(Clone, Copy, Debug)]
+pub(super) enum Way {
+    /// As the server asks a plain GET.
+    Get,
+    /// As any call.
+    Submit,
+}
+
+/// All of them.
+pub(super) const WAYS: [Way; 2] = [Way::Get, Way::Submit];
+
+/// A key, and the request for it.
+#[derive(Clone, Copy)]
+pub(super) struct Wanted {
+    pub(super) key: &'static str,
+    pub(super) request: &'static str,
+}
+
+/// The key in the oldest page.
+pub(super) const OLDEST: Wanted = Wanted {
+    key: "k0000",
+    request: "GET k0000",
+};
+
+/// What a key has, by `Engine::get`. `None` where it has no value, or was not read.
+fn got<R: Wait, D: Device>(
+    rt: &R,
+    alloc: Global,
+    engine: &Engine<D>,
+    pass: &mut Pass<D>,
+    key: &str,
+) -> Option<Word>
+    requires rests { Rests D.Receipt.is_steady engine.now pass.old }
+    ensures rests { Rests D.Receipt.is_steady engine.now pass.new }
+{
+    let key = Word::from_slice(alloc, key.as_bytes()).ok()?;
+    if key.len() > KEY_BYTES_MAX {
+        return None;
+    }
+    engine.get(rt, pass, &key, &Open).ok()?
+}
+
+/// How a key is answered that is read this way.
+pub(super) fn read_by<R: Wait, D: Device>(
+    rt: &R,
+    alloc: Global,
+    engine: &Engine<D>,
+    pass: &mut Pass<D>,
+    way: Way,
+    wanted: Wanted,
+) -> Option<Answer>
+    requires rests { Rests D.Receipt.is_steady engine.now pass.old }
+    ensures rests { Rests D.Receipt.is_steady engine.now pass.new }
+{
+    match way {
+        Way::Get => {
+            let word = got(rt, alloc, engine, pass, wanted.key)?;
+            let reply = CommandReply::One(Item::Bulk(word));
+            Some(Answer::Reply(Reply::Single(reply)))
+        }
+        Way::Submit => answer_of(rt, alloc, &Open, engine, pass, wanted.request),
+    }
+}
 
 /// Whether a GET of `k0000` was answered by this value.
 pub(super) fn is_value(answer: &Option<Answer>, value: &[u8]) -> bool {
@@ -77,7 +143,7 @@ fn cleans<R: Wait, D: Device>(rt: &R, engine: &Engine<D>, pass: &mut Pass<D>) ->
 }
 
 /// How many of so many calls of the cleaner are done.
-fn cleans_often<R: Wait, D: Device>(
+pub(super) fn cleans_often<R: Wait, D: Device>(
     rt: &R,
     engine: &Engine<D>,
     pass: &mut Pass<D>,
@@ -181,7 +247,7 @@ pub(super) type Opening = Waiting<Faulty<MemoryDevice>>;
 
 /// The openings of a device in memory whose receipts lend no page, over one signal. Each fails the calls with these numbers,
 /// and the reads of the first one wait.
-fn openings(alloc: Global, signal: &Arc<Signal>, failing: &[u64]) -> Option<Vec<Opening>>
+pub(super) fn openings(alloc: Global, signal: &Arc<Signal>, failing: &[u64]) -> Option<Vec<Opening>>
     ensures { IfSome result (λ openings. vec_len openings ≡ 4) }
 {
     let mut below = MemoryDevice::openings(alloc, 1 + BACKGROUND_PASSES).ok()?;
@@ -207,23 +273,38 @@ pub(super) fn with_two(
     ensures first { IfSome result (λ made. Rests ⊤ made.0 made.1) }
     ensures second { IfSome result (λ made. Rests ⊤ made.0 made.2) }
 {
+    with_two_of(alloc, signal, failing, 4096)
+}
+
+/// The same, with so many places.
+pub(super) fn with_two_of(
+    alloc: Global,
+    signal: &Arc<Signal>,
+    failing: &[u64],
+    places: usize,
+) -> Option<(Engine<Opening>, Pass<Opening>, Pass<Opening>)>
+    ensures one { IfSome result (λ made. stripe_count made.0 ≡ 1) }
+    ensures first { IfSome result (λ made. Rests ⊤ made.0 made.1) }
+    ensures second { IfSome result (λ made. Rests ⊤ made.0 made.2) }
+{
     let openings = openings(alloc, signal, failing)?;
-    let (engine, mut passes) = narrow_over(alloc, 4096, openings)?;
+    let (engine, mut passes) = narrow_over(alloc, places, openings)?;
     let second = passes.swap_remove(1);
     let first = passes.swap_remove(0);
     Some((engine, first, second))
 }
 
 /// The GET that waits.
-fn reads_slowly<R: Wait, D: Device>(
+pub(super) fn reads_slowly<R: Wait, D: Device>(
     rt: &R,
     alloc: Global,
     engine: &Engine<D>,
     mut pass: Pass<D>,
+    way: Way,
 ) -> Option<Answer>
     requires rests { Rests D.Receipt.is_steady engine.now pass }
 {
-    answer_of(rt, alloc, &Open, engine, &mut pass, "GET k0000")
+    read_by(rt, alloc, engine, &mut pass, way, OLDEST)
 }
 
 /// Does the deed once the GET waits, and lets it go on. Whether the deed was done.
@@ -239,14 +320,18 @@ fn does_meanwhile<R: Wait, D: Device>(
     requires rests { Rests D.Receipt.is_steady engine.now pass }
     ensures rests { Rests D.Receipt.is_steady engine.now result.0 }
 {
-    let came = signal.meets_read();
+    let came = signal.meets_reads(1);
     let is_done = deed.is_done(rt, alloc, engine, &mut pass);
     signal.let_go();
     (pass, came && is_done)
 }
 
 /// Whether the place of the page comes back in two calls of the cleaner.
-fn releases_in_two<R: Wait, D: Device>(rt: &R, engine: &Engine<D>, pass: &mut Pass<D>) -> bool
+pub(super) fn releases_in_two<R: Wait, D: Device>(
+    rt: &R,
+    engine: &Engine<D>,
+    pass: &mut Pass<D>,
+) -> bool
     requires one { stripe_count engine.now ≡ 1 }
     requires rests { Rests D.Receipt.is_steady engine.now pass.old }
     ensures rests { Rests D.Receipt.is_steady engine.now pass.new }
@@ -268,6 +353,7 @@ fn beside<R: Threads + Wait + Sync>(
     reader: Pass<Opening>,
     other: Pass<Opening>,
     deed: Deed,
+    way: Way,
 ) -> (Option<Answer>, (Pass<Opening>, bool))
     requires one { stripe_count engine.now ≡ 1 }
     requires reader { Rests ⊤ engine.now reader }
@@ -278,7 +364,7 @@ fn beside<R: Threads + Wait + Sync>(
         rt,
         move || -> Option<Answer>
             requires { Rests ⊤ engine.now reader }
-        { reads_slowly(rt, alloc, engine, reader) },
+        { reads_slowly(rt, alloc, engine, reader, way) },
         move || -> (Pass<Opening>, bool)
             requires one { stripe_count engine.now ≡ 1 }
             requires other { Rests ⊤ engine.now other }
@@ -320,37 +406,60 @@ fn goes_well_over<R: Threads + Wait + Sync>(
     alloc: Global,
     signal: &Arc<Signal>,
     deed: Deed,
+    way: Way,
 ) -> Option<bool> {
     let (engine, reader, mut other) = with_two(alloc, signal, &[])?;
     if !chills(rt, alloc, &engine, &mut other, &VALUE, KEYS) {
         return None;
     }
-    let (answer, (mut other, is_done)) = beside(rt, alloc, signal, &engine, reader, other, deed);
+    let (answer, (mut other, is_done)) = beside(
+        rt, alloc, signal, &engine, reader, other, deed, way,
+    );
     let is_well = ends_well(rt, alloc, &engine, &mut other, deed, signal);
     Some(is_done && deed.may_be(&answer) && is_well && signal.is_in_time())
 }
 
 /// Whether that deed beside a cold read goes well, over a new signal.
-fn goes_well<R: Threads + Wait + Sync>(rt: &R, alloc: Global, deed: Deed) -> Option<bool> {
+fn goes_well<R: Threads + Wait + Sync>(
+    rt: &R,
+    alloc: Global,
+    deed: Deed,
+    way: Way,
+) -> Option<bool> {
     let signal = Arc::new(alloc, Signal::new()).ok()?;
-    goes_well_over(rt, alloc, &signal, deed)
+    goes_well_over(rt, alloc, &signal, deed, way)
 }
 
 /// While a cold read is under way, the place of its page is not released. It is once the read is over.
 #[test]
 fn a_cold_reader_keeps_its_place(rt: HostRuntime) -> Result<(), Fail> {
-    assert!(rt; goes_well(&rt, rt.alloc(), Deed::Cleans) == Some(true));
+    for way in WAYS {
+        assert!(rt;
+            goes_well(&rt, rt.alloc(), Deed::Cleans, way) == Some(true),
+            "{way:?}"
+        );
+    }
     Ok(())
 }
 
 #[test]
 fn a_cold_key_is_set_anew_meanwhile(rt: HostRuntime) -> Result<(), Fail> {
-    assert!(rt; goes_well(&rt, rt.alloc(), Deed::Rewrites) == Some(true));
+    for way in WAYS {
+        assert!(rt;
+            goes_well(&rt, rt.alloc(), Deed::Rewrites, way) == Some(true),
+            "{way:?}"
+        );
+    }
     Ok(())
 }
 
 #[test]
 fn a_cold_page_leaves_the_log_meanwhile(rt: HostRuntime) -> Result<(), Fail> {
-    assert!(rt; goes_well(&rt, rt.alloc(), Deed::Unlinks) == Some(true));
+    for way in WAYS {
+        assert!(rt;
+            goes_well(&rt, rt.alloc(), Deed::Unlinks, way) == Some(true),
+            "{way:?}"
+        );
+    }
     Ok(())
 }

@@ -107,7 +107,7 @@ fn finds_it_held<D: Device>(
 ) -> bool
     requires rests { Rests D.Receipt.is_steady engine.now pass }
 {
-    let came = signal.meets_read();
+    let came = signal.meets_reads(1);
     let is_busy = is_busy(alloc, engine, &mut pass, "k0629", 0);
     signal.let_go();
     came && is_busy

@@ -10,18 +10,18 @@ use std::sync::Arc;
 use std::sync::atomic::{AtomicBool, AtomicU64, Ordering};
 use std::thread::yield_now;
 
-/// How often a thread gives way to the other one at most. 10,000 times are too few: where each has a processor they are over
-/// in some milliseconds, in which the other one may not have run at all.
-const TURNS: u64 = 10_000_000;
+/// How often a thread gives way to the other one at most. 10,000,000 times are too few: where each has a processor they are
+/// over in some seconds, and the other one may need more, where it is built without optimization or others compute too.
+const TURNS: u64 = 100_000_000;
 
 /// What a read that waits and another thread tell one another, and what the openings count.
 #[derive(Drop)]
 pub(super) struct Signal {
-    /// A read waits, or has waited.
-    came: AtomicBool,
-    /// It may go on.
-    may_go: AtomicBool,
-    /// It went on after all turns.
+    /// How many reads wait, or have waited.
+    came: AtomicU64,
+    /// How many of them may go on.
+    may_go: AtomicU64,
+    /// One went on after all turns.
     late: AtomicBool,
     /// How many receipts were taken back.
     releases: AtomicU64,
@@ -31,24 +31,29 @@ impl Signal {
     /// Nothing was told yet.
     pub(super) fn new() -> Signal {
         Signal {
-            came: AtomicBool::new(false),
-            may_go: AtomicBool::new(false),
+            came: AtomicU64::new(0),
+            may_go: AtomicU64::new(0),
             late: AtomicBool::new(false),
             releases: AtomicU64::new(0),
         }
     }
 
-    /// Waits until a read waits. False after all turns.
-    pub(super) fn meets_read(&self) -> bool {
-        is_told(&self.came)
+    /// Waits until so many reads wait, or have waited. False after all turns.
+    pub(super) fn meets_reads(&self, count: u64) -> bool {
+        has_come_to(&self.came, count)
     }
 
-    /// Lets the read go on.
+    /// Lets the first reads go on, so many.
+    pub(super) fn let_go_first(&self, count: u64) {
+        self.may_go.store(count, Ordering::SeqCst);
+    }
+
+    /// Lets all reads go on.
     pub(super) fn let_go(&self) {
-        self.may_go.store(true, Ordering::SeqCst);
+        self.let_go_first(u64::MAX);
     }
 
-    /// Whether the read went on only once it might.
+    /// Whether each read went on only once it might.
     pub(super) fn is_in_time(&self) -> bool {
         !self.late.load(Ordering::SeqCst)
     }
@@ -60,16 +65,17 @@ impl Signal {
 
     /// Tells that a read came, and waits until it may go on.
     fn hold_up(&self) {
-        self.came.store(true, Ordering::SeqCst);
-        let may_go = is_told(&self.may_go);
-        self.late.store(!may_go, Ordering::SeqCst);
+        let earlier = self.came.fetch_add(1, Ordering::SeqCst);
+        if !has_come_to(&self.may_go, earlier.saturating_add(1)) {
+            self.late.store(true, Ordering::SeqCst);
+        }
     }
 }
 
-/// Waits until this is so. False after all turns.
-fn is_told(told: &AtomicBool) -> bool {
+/// Waits until a count is so much at least. False after all turns.
+fn has_come_to(told: &AtomicU64, count: u64) -> bool {
     for _ in 0..TURNS {
-        if told.load(Ordering::SeqCst) {
+        if told.load(Ordering::SeqCst) >= count {
             return true;
         }
         yield_now();
