@@ -1,5 +1,6 @@
 //! Runs of `replay` beside the one that is stored with it, each on the words of a command line: what is
 //! printed, and then the exit status. One is traced. The last is a schedule of some 20,000 events.
+#![tactic(auto)]
 
 use anyhow::Result;
 use schedules::{Shown, Until, run_schedule};
@@ -17,17 +18,16 @@ const WORDS: [&str; 6] = [
     "--help",
 ];
 
-/// Prints each run.
-pub(crate) fn replay_each(rt: &HostRuntime) -> Result<()> {
+fn main(rt: HostRuntime) -> Result<()> {
     for word in WORDS {
-        let code = replaying::answer(rt, &["replay", word]);
+        let code = replaying::answer(&rt, &["replay", word]);
         println!(rt; "{word}: {code:?}")?;
     }
-    let code = replaying::answer(rt, &["replay", "--trace", "watched.schedule"]);
+    let code = replaying::answer(&rt, &["replay", "--trace", "watched.schedule"]);
     println!(rt; "traced: {code:?}")?;
     let schedule = long(rt.alloc(), 20_000)?;
     let mut reader = Noted::new(schedule.as_slice());
-    let mut writer = Noted::new(io::writer(rt));
+    let mut writer = Noted::new(io::writer(&rt));
     let ran = run_schedule(
         rt.alloc(),
         Shown::Report,
