@@ -135,16 +135,21 @@ fn check_cut(
     check_log(rt, &mut log, stream, cut, given)
 }
 
+/// Asserts what a reader gives for the stream that is cut in two, at every place.
+fn check_each_cut(rt: &impl Abort, alloc: Global, stream: &[u8], given: &[u8]) -> Result<(), Fail> {
+    for at in 0..stream.len() {
+        check_cut(rt, alloc, stream, Cut::Two(at), given)?;
+    }
+    Ok(())
+}
+
 /// Asserts what a reader gives for the stream as one piece, in pieces of 1, 2, 3 and 7 bytes, and cut in
 /// two at every place.
 fn check(rt: &impl Abort, alloc: Global, stream: &[u8], given: &[u8]) -> Result<(), Fail> {
     for size in [1, 2, 3, 7, stream.len()] {
         check_cut(rt, alloc, stream, Cut::Pieces(size), given)?;
     }
-    for at in 0..stream.len() {
-        check_cut(rt, alloc, stream, Cut::Two(at), given)?;
-    }
-    Ok(())
+    check_each_cut(rt, alloc, stream, given)
 }
 
 #[test]
@@ -304,36 +309,25 @@ fn five_words_of_the_most_bytes(rt: HostRuntime) -> Result<(), Fail> {
     check_cut(&rt, alloc, &stream, Cut::Pieces(16_384), &given)
 }
 
-/// The longest request: of the most words and, in all of them, of the most bytes.
-fn longest(alloc: Global) -> Result<Vec<u8>, Fail> {
-    let word = repeated(alloc, b"$1024\r\n", b"0123456789abcdef", 64, b"\r\n")?;
-    repeated(alloc, b"*128\r\n", &word, 128, b"")
-}
-
-/// Whether the longest request is cut at this place: it is among the first 300 or the last 300, or a word begins or ends
-/// there or near it.
-fn is_near_an_end(at: usize, length: usize) -> bool {
-    let in_word = at.saturating_sub(6) % 1_033;
-    at < 300 || length.saturating_sub(at) < 300 || in_word < 9 || in_word > 1_029
-}
-
-/// Asserts what a reader gives for the longest request, cut in two at each of these places.
-fn check_longest(rt: &impl Abort, alloc: Global, stream: &[u8], given: &[u8]) -> Result<(), Fail> {
-    for at in 0..stream.len() {
-        if is_near_an_end(at, stream.len()) {
-            check_cut(rt, alloc, stream, Cut::Two(at), given)?;
-        }
+/// 128 words of 1,024 bytes, each of a byte of its own, with texts around each.
+fn longest(alloc: Global, first: &[u8], before: &[u8], after: &[u8]) -> Result<Vec<u8>, Fail> {
+    let mut all = first.to_vec(alloc)?;
+    for byte in 0..128_u8 {
+        all.extend_from_slice(before)?;
+        all.extend_from_slice(&[byte; 1024])?;
+        all.extend_from_slice(after)?;
     }
-    Ok(())
+    Ok(all)
 }
 
+/// A request has no more words, and no more bytes in all of them.
 #[test]
 fn the_longest_request_is_given_however_it_is_cut(rt: HostRuntime) -> Result<(), Fail> {
     let alloc = rt.alloc();
-    let word = repeated(alloc, b"", b"0123456789abcdef", 64, b",")?;
-    let given = repeated(alloc, b"", &word, 128, b";")?;
-    let stream = longest(alloc)?;
-    check_longest(&rt, alloc, &stream, &given)
+    let stream = longest(alloc, b"*128\r\n", b"$1024\r\n", b"\r\n")?;
+    let mut given = longest(alloc, b"", b"", b",")?;
+    given.push(b';')?;
+    check_each_cut(&rt, alloc, &stream, &given)
 }
 
 /// Asserts which pieces a reader keeps, from the oldest on.
