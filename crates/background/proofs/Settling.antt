@@ -5,7 +5,10 @@ use Rattle.std.proofs.lemmas.Bool.{le-ltb}
 use Rattle.epoch.specs.declared.view.View.{View}
 use Rattle.epoch.specs.declared.view.Note.{Note}
 use Rattle.epoch.specs.declared.view.Note.TheVariants.{Worn}
-use Rattle.epoch.specs.Seats.{WasWorn}
+use Rattle.epoch.specs.declared.epochs.Epochs.{Epochs}
+use Rattle.epoch.specs.declared.epochs.EpochSeat.{EpochSeat}
+use Rattle.epoch.specs.Seats.{WasWorn, known}
+use Rattle.words.specs.Store.{Bytes}
 use Rattle.words.specs.declared.reply.Fault.{Fault}
 use Rattle.words.specs.declared.reply.Fault.TheVariants as fault
 use Rattle.gates.specs.declared.view.Knowledge.{Knowledge}
@@ -29,8 +32,10 @@ use Rattle.shards.specs.declared.flushing.Unflushed.TheVariants as unflushed
 use Rattle.shards.specs.Shards.{shard_meaning, shard_pages}
 use Rattle.background.specs.declared.clean.Round.{Round}
 use Rattle.background.specs.declared.clean.Round.TheVariants as round
-use Rattle.shards.specs.Heard.{HasHeard, HasHeardWorn, HasTried, worn_times}
-use Rattle.background.specs.Visits.{HasCleaned, HasLooked, MatchRound, MayTell, Visited, WasFull, none_refused, report_for, round_for}
+use Rattle.shards.specs.Heard.{HasHeard, HasHeardWorn, HasTried, HasTriedOutside, worn_times}
+use Rattle.background.specs.declared.written.Written.{Written}
+use Rattle.background.specs.Steps.{HasHeardOutside, MayTell}
+use Rattle.background.specs.Visits.{HasCleaned, HasLooked, MatchRound, Visited, WasFull, none_refused, report_for, round_for}
 use Rattle.background.proofs.Visiting.{visited, visited_twice}
 
 -- what holds of what was made holds in another form
@@ -105,6 +110,13 @@ worn_is (suc n) notes = ap (λ (l : List Note). Worn ∷ l) (worn_is n notes)
 
 pub heard_by : (before later : View) → HasTried before later → HasHeard before later
 heard_by before later tried = record { more = worn_list tried.times; notes = tried.notes ∙ worn_is tried.times before.notes }
+
+pub heard_outside : (epochs : Epochs) (before later : EpochSeat) → HasTriedOutside epochs before later → HasHeardOutside epochs before later
+heard_outside epochs before later tried = record { outside = tried.outside; heard = heard_by (known before) (known later) tried.tried }
+
+-- a receipt that is to land again shows what it showed
+pub shown_again : {R : Type 0} (again written : Written R) (shown : R → Bytes) → again ≡ written → shown written.receipt ≡ written.page.now → shown again.receipt ≡ again.page.now
+shown_again {R} again written shown same was = subst (λ (w : Written R). shown w.receipt ≡ w.page.now) (sym same) was
 
 worn_by : (before later : View) → WasWorn before later → HasHeardWorn before later
 worn_by before later worn = record { more = []; notes = worn.notes }

@@ -1,1 +1,3 @@
 pub mod Visits
+pub mod Steps
+pub mod Looks

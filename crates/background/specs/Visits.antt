@@ -1,10 +1,13 @@
 -- What becomes of a pass that visits one stripe, and of the stripe's part.
-use Rattle.std.specs.Prelude.{ℕ, ◌≡◌, ◌≢◌, ◌⊎◌, ◌+◌, Bool, true, false, Option, Some, Result, Ok, Err, List, [], ◌∷◌, ◌++◌}
+use Rattle.std.specs.Prelude.{ℕ, ◌≡◌, ◌≢◌, ◌⊎◌, ◌+◌, Bool, true, false, Option, Some, Result, Ok, Err, List, [], ◌∷◌, ◌++◌, IfOk}
 use Rattle.epoch.specs.declared.view.View.{View}
+use Rattle.epoch.specs.declared.epochs.EpochSeat.{EpochSeat}
+use Rattle.epoch.specs.Seats as seats
 use Rattle.words.specs.Store.{Bytes}
 use Rattle.words.specs.History.{History}
 use Rattle.words.specs.declared.reply.Fault.{Fault}
 use Rattle.words.specs.declared.reply.Fault.TheVariants as fault
+use Rattle.gates.specs.declared.gates.Pass.{Pass}
 use Rattle.gates.specs.declared.view.Work.{Work}
 use Rattle.gates.specs.declared.view.Work.TheVariants.{Flush, Clean}
 use Rattle.gates.specs.declared.view.Refused.{Refused}
@@ -13,23 +16,21 @@ use Rattle.gates.specs.declared.view.Note.{Note}
 use Rattle.gates.specs.declared.view.Note.TheVariants as note
 use Rattle.gates.specs.declared.report.Report.{Report}
 use Rattle.gates.specs.declared.report.Report.TheVariants as report
-use Rattle.gates.specs.Background.{AreRefused, IsIdle, IsSpent, IsStep}
-use Rattle.gates.specs.Pages.{IsFull, Pages}
-use Rattle.gates.specs.Passes.{AreBusy}
+use Rattle.gates.specs.Passes.{AreBusy, WasBusy, known}
 use Rattle.gates.specs.Rule.{Meaning}
-use Rattle.hybrid.specs.HybridLog.{Kept, receipt_at}
+use Rattle.shards.specs.Cleaning.{MatchFault}
+use Rattle.shards.specs.Heard.{HasHeard, HasHeardWorn}
+use Rattle.shards.specs.declared.shard.Shard.{Shard}
+use Rattle.background.specs.declared.at.Turn.{Turn}
 use Rattle.shards.specs.declared.cleaning.Stepped.{Stepped}
 use Rattle.shards.specs.declared.cleaning.Stepped.TheVariants as stepped
+use Rattle.transact.specs.declared.call.Busy.{Busy}
 use Rattle.background.specs.declared.cells.Began.{Began}
 use Rattle.background.specs.declared.cells.Began.TheVariants as began
-use Rattle.background.specs.declared.cells.Flight.{Flight}
 use Rattle.background.specs.declared.cells.Landing.{Landing}
 use Rattle.background.specs.declared.cells.Landing.TheVariants as landing
-use Rattle.shards.specs.declared.shard.Shard.{Shard}
-use Rattle.shards.specs.Shards.{shard_log}
 use Rattle.background.specs.declared.clean.Round.{Round}
 use Rattle.background.specs.declared.clean.Round.TheVariants as round
-use Rattle.shards.specs.Heard.{HasHeard, HasHeardWorn}
 
 -- The pass was told this last, and before it that others had stripes of these, and nothing else. It made no entry, and watches what it did.
 pub record Visited (stripes : List ℕ) (last : List Note) (was now : Knowledge) : Type 0 where
@@ -55,18 +56,6 @@ abbrev pub told : Work → (stripe : ℕ) → (done : Bool) → List Note
 told work stripe true = note.Done stripe work ∷ []
 told work stripe false = note.Idle stripe work ∷ []
 
--- by what began
-abbrev pub MatchBegan : Began → (idle : Type 0) → (full : Refused → Type 0) → (sealed : Flight → Type 0) → Type 0
-MatchBegan began.Idle idle full sealed = idle
-MatchBegan (began.Full refused) idle full sealed = full refused
-MatchBegan (began.Sealed flight) idle full sealed = sealed flight
-
--- by how a flight ended
-abbrev pub MatchLanding : {R : Type 0} → Landing R → (landed : Type 0) → (again : Flight → R → Type 0) → (full : Refused → Type 0) → Type 0
-MatchLanding landing.Landed landed again full = landed
-MatchLanding (landing.Again flight receipt) landed again full = again flight receipt
-MatchLanding (landing.Full refused) landed again full = full refused
-
 -- The pass was told last that the stripe is full, and none of its places could be released but for what the epochs refused. A retirement was
 -- refused only where the seat was told that the epoch word is worn out.
 pub record WasFull (stripes : List ℕ) (stripe : ℕ) (was now : Knowledge) (heard hears : View) : Type 0 where
@@ -84,7 +73,7 @@ HasBegun stripes stripe (began.Sealed flight) was now heard hears = Visited stri
 -- what is told where a flush ends
 abbrev pub told_at_end : {R : Type 0} → (stripe : ℕ) → Landing R → List Note
 told_at_end stripe landing.Landed = note.Done stripe Flush ∷ []
-told_at_end stripe (landing.Again flight receipt) = []
+told_at_end stripe (landing.Again written) = []
 told_at_end stripe (landing.Full refused) = note.Full stripe refused ∷ []
 
 -- What the end of a flush came to: it was done, which was told last, or the store is full.
@@ -130,17 +119,6 @@ pub record HasLooked (stripes : List ℕ) (failed_before failed : ℕ) (was now 
   pub visited : Visited stripes [] was now
   pub heard_more : HasHeard heard hears
 
--- what a step of the cleaner came to may be told of its part
-abbrev pub MayTell : Result Stepped Fault → (was now : Pages) → Type 0
-MayTell (Ok stepped.Done) was now = (refused : Refused) → IsStep (Clean refused) was now
-MayTell (Ok (stepped.Idle refused)) was now = IsIdle (Clean refused) now × AreRefused (Clean refused) was now
-MayTell (Ok (stepped.Full refused)) was now = IsFull now × IsSpent refused was now
-MayTell (Ok (stepped.Cold number)) was now = Unit {0}
-MayTell (Err fault.StoreFull) was now = Unit {0}
-MayTell (Err fault.DeviceFault) was now = Unit {0}
-MayTell (Err fault.OutOfMemory) was now = Unit {0}
-MayTell (Err fault.CommitsWornOut) was now = Unit {0}
-
 -- nothing was refused
 abbrev pub none_refused : Refused
 none_refused = record { retire = false; drain = false }
@@ -170,8 +148,55 @@ MatchRound (Ok (round.Ended done)) ended again = ended (Ok done)
 MatchRound (Ok round.Again) ended again = again
 MatchRound (Err fault) ended again = ended (Err fault)
 
--- the part of this stripe keeps this receipt of the page of this number
-pub record Keeps {R : Type 0} (parts : ℕ → Option (Shard R)) (stripe number : ℕ) (kept : Kept) : Type 0 where
-  pub part : Shard R
-  pub there : parts stripe ≡ Some part
-  pub has : receipt_at (shard_log part) number ≡ Some kept
+module _ {T : Type 0} where
+  -- A stripe was another pass's: that is all that the pass was told, and neither the device nor the seat was asked.
+  pub record HasMissed {D : Type 0} (stripe : ℕ) (busy : Busy) (before later : Pass T × D × EpochSeat) : Type 0 where
+    pub stripe_is : busy.stripe ≡ stripe
+    pub was_busy : WasBusy busy.stripe (known before.0) (known later.0)
+    pub not_asked : later.1 ≡ before.1
+    pub no_epoch : later.2 ≡ before.2
+
+  module _ {D : Type 0} (failures : D → ℕ) where
+    -- what the flusher's step came to for its pass, the device and the seat, where the pass waits for its stripe
+    abbrev pub FlushedBy : (stripe : ℕ) → Result Bool Fault → (before later : Pass T × D × EpochSeat) → Type 0
+    FlushedBy stripe result before later =
+        HasFlushed (stripe ∷ []) stripe result (failures before.1) (failures later.1) (known before.0) (known later.0) (seats.known before.2) (seats.known later.2)
+
+    -- the same with one try of the stripe
+    abbrev pub TriedFlush : (stripe : ℕ) → Result (Result Bool Fault) Busy → (before later : Pass T × D × EpochSeat) → Type 0
+    TriedFlush stripe result before later =
+        IfOk result (λ done. HasFlushed [] stripe done (failures before.1) (failures later.1) (known before.0) (known later.0) (seats.known before.2) (seats.known later.2))
+
+    -- what the cleaner's step came to, where the pass waits for its stripe
+    abbrev pub CleanedBy : (lends : Type 0) (stripe : ℕ) → Result Bool Fault → (before later : Pass T × D × EpochSeat) → Type 0
+    CleanedBy lends stripe result before later =
+        HasCleaned lends (stripe ∷ []) stripe result (failures before.1) (failures later.1) (known before.0) (known later.0) (seats.known before.2) (seats.known later.2)
+
+    -- the same with one try of the stripe
+    abbrev pub TriedClean : (lends : Type 0) (stripe : ℕ) → Result (Result Bool Fault) Busy → (before later : Pass T × D × EpochSeat) → Type 0
+    TriedClean lends stripe result before later =
+        IfOk result
+        (λ done. HasCleaned lends [] stripe done (failures before.1) (failures later.1) (known before.0) (known later.0) (seats.known before.2) (seats.known later.2))
+
+    -- what a look of the cleaner came to
+    abbrev pub LookedBy : (stripe : ℕ) → (before later : Pass T × D × EpochSeat) → Type 0
+    LookedBy stripe before later =
+        HasLooked (stripe ∷ []) (failures before.1) (failures later.1) (known before.0) (known later.0) (seats.known before.2) (seats.known later.2)
+
+  -- what a flush that begins came to for its pass and the seat
+  abbrev pub BegunBy : (stripe : ℕ) → Began → (before later : Pass T × EpochSeat) → Type 0
+  BegunBy stripe began before later = HasBegun (stripe ∷ []) stripe began (known before.0) (known later.0) (seats.known before.1) (seats.known later.1)
+
+  -- what the end of one came to
+  abbrev pub EndedBy : (stripe : ℕ) → (done : Bool) → (before later : Pass T × EpochSeat) → Type 0
+  EndedBy stripe done before later = HasEnded (stripe ∷ []) stripe done (known before.0) (known later.0) (seats.known before.1) (seats.known later.1)
+
+-- what a round of the cleaner's step came to: an end of the step, or a look, where no page may be read while the stripe is held
+abbrev pub TookRound : {R D : Type 0} → (failures : D → ℕ) (lends : Type 0) → Turn R → Result Round Fault → (before later : Pass (Shard R) × D × EpochSeat) → Type 0
+TookRound failures lends turn result before later =
+    MatchRound result (λ ended. CleanedBy failures lends turn.at.now.stripe ended before later)
+    ((turn.reads ≡ false) × LookedBy failures turn.at.now.stripe before later)
+
+-- why a page was not read: a call of the device has failed, or there was no memory
+abbrev pub ReadFailed : Fault → (failed_before failed : ℕ) → Type 0
+ReadFailed fault failed_before failed = MatchFault fault (failed ≡ failed_before) (failed ≡ failed_before + 1) ⊥

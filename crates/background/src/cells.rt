@@ -1,32 +1,26 @@
 //! One stripe of the parts that are held.
 
-ghost use Rattle.std.specs.Prelude.{⊤, ◌≡◌, ◌+◌, IsSome, IfOk, IfErr, OnErr, OnOk, Some, true, false};
-ghost use Rattle.std.specs.Bool.{OnTrue, OnFalse};
-ghost use Rattle.epoch.specs.Seats.{IsOutside, WasWorn, known};
-ghost use Rattle.gates.specs.Background.{IsIdle, IsSpent, IsStep};
-ghost use Rattle.gates.specs.Pages.{IsFull};
-ghost use Rattle.gates.specs.declared.view.Work.TheVariants.{Evict, Flush};
-ghost use Rattle.hybrid.specs.HybridLog.{Kept, receipt_at, with_dropped};
-ghost use Rattle.hybrid.specs.Staging.{AreRight, IsMissing};
-ghost use Rattle.hybrid.specs.Weighing.{oldest_weight};
-ghost use Rattle.shards.specs.Cleaning.{MatchStepped};
-ghost use Rattle.shards.specs.Cleaning as cleaned;
-ghost use Rattle.shards.specs.Counted.{Counted, HasFlushed, HasLanded, IsFirstSealed, claimed, with_flight, without_flight};
-ghost use Rattle.shards.specs.Flushing.{HasFreedFirst, HasRefreed, MatchUnflushed};
+ghost use Rattle.std.specs.Prelude.{⊤, ◌≡◌, IsSome, IfOk, OnOk, Some};
+ghost use Rattle.epoch.specs.Seats.{IsOutside, known};
+ghost use Rattle.hybrid.specs.HybridLog.{Kept, receipt_at};
+ghost use Rattle.hybrid.specs.Staging.{AreRight};
+ghost use Rattle.shards.specs.Devices.{HasRested};
 ghost use Rattle.shards.specs.Flushing as flushed;
-ghost use Rattle.shards.specs.Heard.{HasHeardWorn, HasTried};
+ghost use Rattle.shards.specs.Heard.{HasTriedOutside, ToldWorn};
 ghost use Rattle.shards.specs.Receipts.{kept_by};
-ghost use Rattle.shards.specs.Rooms.{HasNoRoom};
-ghost use Rattle.shards.specs.Shards.{shard_counted, shard_log, shard_meaning, shard_pages};
-ghost use Rattle.background.specs.Visits.{HasStepped, Keeps, MatchBegan, MatchLanding, MayTell};
+ghost use Rattle.shards.specs.Shards.{shard_log};
+ghost use Rattle.background.specs.Steps.{BegunAt, CleanedAt, CleanedSo, EndedAt, EndedSo, EvictedAt, FailedAt, FailedSo, FlushedAt};
+ghost use Rattle.background.specs.Steps.{IsStillHeld, Keeps, MatchBegan, SteppedAt};
 
+use crate::at::{At, Turn};
+use crate::written::Written;
 use device::{Device, Shows};
-use epoch::{EpochSeat, Epochs};
+use epoch::EpochSeat;
 use gates::{Parts, Refused};
 use hybrid::Staged;
 use records::Page;
 use shards::cleaning::Stepped;
-use shards::flushing::{Beginning, Ending, Unflushed};
+use shards::flushing::{Beginning, Ending, Flown, Unflushed};
 use shards::shard::Shard;
 use std::alloc::AllocError;
 use words::reply;
@@ -49,11 +43,11 @@ pub(crate) enum Began {
 }
 
 /// How a flight ends that released what it could.
-pub(crate) enum Landing<R: Shows> {
+pub(crate) enum Landing<'a, R: Shows> {
     /// The receipt is kept, or its place is unlinked.
     Landed,
-    /// Places were released first, and one is counted for the page now. This is its receipt, which is to land in another hold.
-    Again(Flight, R),
+    /// Places were released first, and one is counted for the page now. Its receipt is to land in another hold.
+    Again(Written<'a, R>),
     /// No place may be taken for the page, and none can be released, but for what the epochs refused.
     Full(Refused),
 }
@@ -62,9 +56,8 @@ pub(crate) enum Landing<R: Shows> {
 pub(crate) fn evict_at<R: Shows, P: Parts<Shard<R>>>(parts: &mut P, stripe: usize) -> bool
     requires open { P.is_open parts.old }
     requires there { IsSome (P.part_of parts.old stripe) }
-    ensures stepped { HasStepped (shard_meaning R.is_steady) stripe (P.part_of parts.old) (P.part_of parts.new) (λ was now. OnTrue result (IsStep Evict (shard_pages was) (shard_pages now)) × OnFalse result (IsIdle Evict (shard_pages now)) × OnTrue result (shard_counted now ≡ record (shard_counted was) { log = with_dropped (shard_log was) }) × OnFalse result (now ≡ was)) }
-    ensures open { P.is_open parts.new }
-    ensures keeps { P.keeps parts.old parts.new }
+    ensures stepped { SteppedAt R.is_steady P.part_of stripe parts.old parts.new (EvictedAt result) }
+    ensures still { IsStillHeld P.is_open P.keeps parts.old parts.new }
 {
     parts.part(stripe).drop_oldest()
 }
@@ -73,25 +66,22 @@ pub(crate) fn evict_at<R: Shows, P: Parts<Shard<R>>>(parts: &mut P, stripe: usiz
 /// that can be released is released first.
 pub(crate) fn begin_at<R: Shows, D: Device<Receipt = R>, P: Parts<Shard<R>>>(
     parts: &mut P,
-    stripe: usize,
+    at: &At<R>,
     page: &mut Page,
-    epochs: &Epochs,
     seat: &mut EpochSeat,
     device: &mut D,
 ) -> Began
     requires open { P.is_open parts.old }
-    requires there { IsSome (P.part_of parts.old stripe) }
-    requires outside { IsOutside epochs.now seat.old }
-    ensures stepped { HasStepped (shard_meaning R.is_steady) stripe (P.part_of parts.old) (P.part_of parts.new) (λ was now. MatchBegan result (IsIdle Flush (shard_pages now)) (λ refused. IsFull (shard_pages now) × IsSpent refused (shard_pages was) (shard_pages now)) (λ flight. ⊤) × MatchBegan result (HasFreedFirst (shard_counted was) (shard_counted now)) (λ refused. HasFreedFirst (shard_counted was) (shard_counted now)) (λ flight. (mid : Counted) × HasFreedFirst (shard_counted was) mid × IsFirstSealed mid.log flight.number page.new × (shard_counted now ≡ with_flight mid))) }
-    ensures outside { IsOutside epochs.now seat.new }
-    ensures worn { MatchBegan result ⊤ (λ refused. refused.retire ≡ true → HasHeardWorn (known seat.old) (known seat.new)) (λ flight. ⊤) }
-    ensures tried { HasTried (known seat.old) (known seat.new) }
-    ensures no_fault { D.failures device.new ≡ D.failures device.old }
-    ensures no_write { D.writes device.new ≡ D.writes device.old }
-    ensures open { P.is_open parts.new }
-    ensures keeps { P.keeps parts.old parts.new }
+    requires there { IsSome (P.part_of parts.old at.now.stripe) }
+    requires outside { IsOutside at.now.epochs.now seat.old }
+    ensures stepped { SteppedAt R.is_steady P.part_of at.now.stripe parts.old parts.new (BegunAt result page.new) }
+    ensures seat { HasTriedOutside at.now.epochs.now seat.old seat.new }
+    ensures worn { MatchBegan result ⊤ (λ refused. ToldWorn refused (known seat.old) (known seat.new)) (λ flight. ⊤) }
+    ensures rested { HasRested D.failures D.writes device.old device.new }
+    ensures still { IsStillHeld P.is_open P.keeps parts.old parts.new }
 {
-    match parts.part(stripe).begin_freeing(page, epochs, seat, device) {
+    let part = parts.part(at.stripe);
+    match part.begin_freeing(page, at.epochs, seat, device) {
         Beginning::Idle => Began::Idle,
         Beginning::Full(refused) => Began::Full(refused),
         Beginning::Sealed(number) => Began::Sealed(Flight { number }),
@@ -100,37 +90,44 @@ pub(crate) fn begin_at<R: Shows, D: Device<Receipt = R>, P: Parts<Shard<R>>>(
 
 /// Keeps the receipt of a page that was written, or counts its place as unlinked. Where no place is counted for it and none may
 /// be taken, each place that can be released is released, and the receipt has to land in another hold.
-pub(crate) fn end_at<R: Shows, D: Device<Receipt = R>, P: Parts<Shard<R>>>(
+pub(crate) fn end_at<'a, R: Shows, D: Device<Receipt = R>, P: Parts<Shard<R>>>(
     parts: &mut P,
-    stripe: usize,
-    flight: Flight,
-    page: &Page,
-    receipt: R,
-    epochs: &Epochs,
+    at: &At<R>,
+    written: Written<'a, R>,
     seat: &mut EpochSeat,
     device: &mut D,
-) -> Landing<R>
+) -> Landing<'a, R>
     requires open { P.is_open parts.old }
-    requires there { IsSome (P.part_of parts.old stripe) }
-    requires shown { R.shown receipt ≡ page.now }
-    requires outside { IsOutside epochs.now seat.old }
-    ensures stepped { HasStepped (shard_meaning R.is_steady) stripe (P.part_of parts.old) (P.part_of parts.new) (λ was now. MatchLanding result (IsStep Flush (shard_pages was) (shard_pages now)) (λ again back. ⊤) (λ refused. IsFull (shard_pages now) × IsSpent refused (shard_pages was) (shard_pages now)) × MatchLanding result (HasLanded (claimed (shard_counted was)) flight.number page.now (kept_by R.identity R.shown receipt) (shard_counted now)) (λ again back. ((mid : Counted) × HasRefreed (shard_counted was) mid × (shard_counted now ≡ claimed mid))) (λ refused. HasRefreed (shard_counted was) (shard_counted now))) }
-    ensures again { MatchLanding result ⊤ (λ again back. (again ≡ flight) × (back ≡ receipt)) (λ refused. ⊤) }
-    ensures outside { IsOutside epochs.now seat.new }
-    ensures worn { MatchLanding result ⊤ (λ again back. ⊤) (λ refused. refused.retire ≡ true → HasHeardWorn (known seat.old) (known seat.new)) }
-    ensures tried { HasTried (known seat.old) (known seat.new) }
-    ensures no_fault { D.failures device.new ≡ D.failures device.old }
-    ensures no_write { D.writes device.new ≡ D.writes device.old }
-    ensures open { P.is_open parts.new }
-    ensures keeps { P.keeps parts.old parts.new }
+    requires there { IsSome (P.part_of parts.old at.now.stripe) }
+    requires shown { R.shown written.receipt ≡ written.page.now }
+    requires outside { IsOutside at.now.epochs.now seat.old }
+    ensures stepped { SteppedAt R.is_steady P.part_of at.now.stripe parts.old parts.new (EndedAt R.identity R.shown result written.entry) }
+    ensures ended { EndedSo result written.entry (known seat.old) (known seat.new) }
+    ensures seat { HasTriedOutside at.now.epochs.now seat.old seat.new }
+    ensures rested { HasRested D.failures D.writes device.old device.new }
+    ensures still { IsStillHeld P.is_open P.keeps parts.old parts.new }
 {
+    let Written {
+        flight,
+        page,
+        receipt,
+    } = written;
     let Flight { number } = flight;
+    let flown = Flown {
+        number,
+        page,
+        receipt,
+    };
     match parts
-        .part(stripe)
-        .end_freeing(number, page, receipt, epochs, seat, device)
+        .part(at.stripe)
+        .end_freeing(flown, at.epochs, seat, device)
     {
         Ending::Landed => Landing::Landed,
-        Ending::Again(receipt) => Landing::Again(Flight { number }, receipt),
+        Ending::Again(receipt) => Landing::Again(Written {
+            flight: Flight { number },
+            page,
+            receipt,
+        }),
         Ending::Full(refused) => Landing::Full(refused),
     }
 }
@@ -139,9 +136,8 @@ pub(crate) fn end_at<R: Shows, D: Device<Receipt = R>, P: Parts<Shard<R>>>(
 pub(crate) fn fail_at<R: Shows, P: Parts<Shard<R>>>(parts: &mut P, stripe: usize, flight: Flight)
     requires open { P.is_open parts.old }
     requires there { IsSome (P.part_of parts.old stripe) }
-    ensures stepped { HasStepped (shard_meaning R.is_steady) stripe (P.part_of parts.old) (P.part_of parts.new) (λ was now. shard_counted now ≡ without_flight (shard_counted was)) }
-    ensures open { P.is_open parts.new }
-    ensures keeps { P.keeps parts.old parts.new }
+    ensures stepped { SteppedAt R.is_steady P.part_of stripe parts.old parts.new FailedAt }
+    ensures still { IsStillHeld P.is_open P.keeps parts.old parts.new }
 {
     let Flight { number: _ } = flight;
     parts.part(stripe).fail_flush();
@@ -151,55 +147,46 @@ pub(crate) fn fail_at<R: Shows, P: Parts<Shard<R>>>(parts: &mut P, stripe: usize
 /// held. Where no place may be taken for it, each place that can be released is released first.
 pub(crate) fn flush_at<R: Shows, D: Device<Receipt = R>, P: Parts<Shard<R>>>(
     parts: &mut P,
-    stripe: usize,
+    at: &At<R>,
     page: &mut Page,
-    epochs: &Epochs,
     seat: &mut EpochSeat,
     device: &mut D,
 ) -> Result<bool, Unflushed>
     requires open { P.is_open parts.old }
-    requires there { IsSome (P.part_of parts.old stripe) }
-    requires outside { IsOutside epochs.now seat.old }
-    ensures stepped { HasStepped (shard_meaning R.is_steady) stripe (P.part_of parts.old) (P.part_of parts.new) (λ was now. IfOk result (λ done. OnTrue done (IsStep Flush (shard_pages was) (shard_pages now))) × IfOk result (λ done. OnFalse done (IsIdle Flush (shard_pages now))) × IfErr result (λ fault. MatchUnflushed fault ⊤ (λ refused. IsFull (shard_pages now) × IsSpent refused (shard_pages was) (shard_pages now))) × IfOk result (λ done. OnTrue done ((mid : Counted) × HasFreedFirst (shard_counted was) mid × HasFlushed mid (shard_counted now))) × IfOk result (λ done. OnFalse done (HasFreedFirst (shard_counted was) (shard_counted now))) × OnErr result (HasFreedFirst (shard_counted was) (shard_counted now))) }
-    ensures outside { IsOutside epochs.now seat.new }
-    ensures fault { IfErr result (λ fault. MatchUnflushed fault (D.failures device.new ≡ D.failures device.old + 1) (λ refused. (refused.retire ≡ true → HasHeardWorn (known seat.old) (known seat.new)) × (D.failures device.new ≡ D.failures device.old))) }
-    ensures tried { HasTried (known seat.old) (known seat.new) }
+    requires there { IsSome (P.part_of parts.old at.now.stripe) }
+    requires outside { IsOutside at.now.epochs.now seat.old }
+    ensures stepped { SteppedAt R.is_steady P.part_of at.now.stripe parts.old parts.new (FlushedAt result) }
+    ensures seat { HasTriedOutside at.now.epochs.now seat.old seat.new }
+    ensures fault { FailedSo result (D.failures device.old) (D.failures device.new) (known seat.old) (known seat.new) }
     ensures no_fault { OnOk result (D.failures device.new ≡ D.failures device.old) }
     ensures writes { flushed.HasWritten result (D.writes device.old) (D.writes device.new) }
-    ensures open { P.is_open parts.new }
-    ensures keeps { P.keeps parts.old parts.new }
+    ensures still { IsStillHeld P.is_open P.keeps parts.old parts.new }
 {
-    parts.part(stripe).flush(page, epochs, seat, device)
+    parts.part(at.stripe).flush(page, at.epochs, seat, device)
 }
 
-/// Does the first of the cleaner's steps that can be done. Where `reads`, pages that are wanted are read meanwhile.
+/// Does the first of the cleaner's steps that can be done.
 pub(crate) fn clean_at<R: Shows, D: Device<Receipt = R>, P: Parts<Shard<R>>>(
     parts: &mut P,
-    stripe: usize,
-    epochs: &Epochs,
+    turn: &Turn<R>,
     seat: &mut EpochSeat,
     staged: &mut Staged<R>,
-    reads: bool,
     device: &mut D,
 ) -> Result<Stepped, reply::Fault>
     requires open { P.is_open parts.old }
-    requires there { IsSome (P.part_of parts.old stripe) }
-    requires outside { IsOutside epochs.now seat.old }
+    requires there { IsSome (P.part_of parts.old turn.now.at.now.stripe) }
+    requires outside { IsOutside turn.now.at.now.epochs.now seat.old }
     requires right { R.is_steady → AreRight staged.old }
-    ensures stepped { HasStepped (shard_meaning R.is_steady) stripe (P.part_of parts.old) (P.part_of parts.new) (λ was now. MayTell result (shard_pages was) (shard_pages now) × IfOk result (λ step. MatchStepped step ⊤ (λ refused. ⊤) (λ refused. ⊤) (λ number. IsMissing (shard_log now) staged.new number)) × (R.is_steady → IfOk result (λ step. MatchStepped step ⊤ (λ refused. ⊤) (λ refused. HasNoRoom (shard_log now) (oldest_weight (shard_log was))) (λ number. ⊤)))) }
-    ensures outside { IsOutside epochs.now seat.new }
+    ensures stepped { SteppedAt R.is_steady P.part_of turn.now.at.now.stripe parts.old parts.new (CleanedAt R.is_steady result staged.new) }
+    ensures seat { HasTriedOutside turn.now.at.now.epochs.now seat.old seat.new }
     ensures right { R.is_steady → AreRight staged.new }
-    ensures worn { IfOk result (λ step. MatchStepped step ⊤ (λ refused. refused.retire ≡ true → WasWorn (known seat.old) (known seat.new)) (λ refused. refused.retire ≡ true → HasHeardWorn (known seat.old) (known seat.new)) (λ number. ⊤)) }
-    ensures tried { HasTried (known seat.old) (known seat.new) }
-    ensures cold { IfOk result (λ step. MatchStepped step ⊤ (λ refused. ⊤) (λ refused. ⊤) (λ number. (reads ≡ false) × (R.lends → ⊥))) }
-    ensures fault { IfErr result (λ fault. cleaned.MatchFault fault ((R.lends → ⊥) × (D.failures device.new ≡ D.failures device.old)) (D.failures device.new ≡ D.failures device.old + 1) ⊥) }
-    ensures no_fault { OnOk result (D.failures device.new ≡ D.failures device.old) }
-    ensures open { P.is_open parts.new }
-    ensures keeps { P.keeps parts.old parts.new }
+    ensures came { CleanedSo R.lends D.failures turn.now.reads result (device.old, seat.old) (device.new, seat.new) }
+    ensures still { IsStillHeld P.is_open P.keeps parts.old parts.new }
 {
+    let at = turn.at;
     parts
-        .part(stripe)
-        .clean_step(epochs, seat, staged, reads, device)
+        .part(at.stripe)
+        .clean_step(at.epochs, seat, staged, turn.reads, device)
 }
 
 /// A copy of the receipt that is kept of a page.
@@ -223,8 +210,7 @@ pub(crate) fn copy_at<R: Shows, P: Parts<Shard<R>>>(
     requires kept { (kept : Kept) × Keeps (P.part_of parts.old) stripe number kept }
     ensures copy { IfOk result (λ receipt. Keeps (P.part_of parts.old) stripe number (kept_by R.identity R.shown receipt)) }
     ensures same { P.part_of parts.new ≡ P.part_of parts.old }
-    ensures open { P.is_open parts.new }
-    ensures keeps { P.keeps parts.old parts.new }
+    ensures still { IsStillHeld P.is_open P.keeps parts.old parts.new }
 {
     copy_of(parts.part(stripe), number)
 }

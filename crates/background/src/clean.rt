@@ -1,19 +1,18 @@
 //! The cleaner's step: a place on the device comes nearer to its release.
 
-ghost use Rattle.std.specs.Prelude.{◌≡◌, ◌+◌, ◌<◌, [], ◌∷◌, false, IfOk, IfErr, OnOk};
-ghost use Rattle.gates.specs.Passes.{IsResting, WasBusy, known, stripes_of};
+ghost use Rattle.std.specs.Prelude.{◌≡◌, ◌<◌, IfOk, IfErr, OnOk};
+ghost use Rattle.gates.specs.Passes.{IsResting, stripes_of};
 ghost use Rattle.epoch.specs.Seats.{IsInside, IsOutside};
-ghost use Rattle.epoch.specs.Seats as seats;
 ghost use Rattle.hybrid.specs.Staging.{AreRight};
-ghost use Rattle.shards.specs.Cleaning.{MatchFault};
 ghost use Rattle.background.specs.declared.clean.Round.TheVariants as round;
-ghost use Rattle.background.specs.Visits.{HasCleaned, HasLooked, MatchRound, report_for, round_for};
+ghost use Rattle.background.specs.Visits.{CleanedBy, HasMissed, ReadFailed, TookRound, TriedClean, report_for, round_for};
 
+use crate::at::{At, Turn};
 use crate::cells::{clean_at, copy_at};
 use device::{Device, Shows};
 use epoch::{EpochSeat, Epochs, Inside};
-use gates::{Gates, Pass, Refused, Report, Sorted, Work};
-use hybrid::{ReadFault, Staged};
+use gates::{Pass, Refused, Report, Work};
+use hybrid::Staged;
 use shards::cleaning::Stepped;
 use shards::shard::Shard;
 use std::alloc::AllocError;
@@ -23,12 +22,6 @@ use words::reply::Fault;
 
 /// How often a step gives its stripe back to read a page that it wants. After that it reads while it holds the stripe.
 const ROUNDS: usize = 3;
-
-/// Nothing was refused.
-const NOTHING: Refused = Refused {
-    retire: false,
-    drain: false,
-};
 
 /// What a round of the cleaner's step came to.
 #[derive(Clone, Copy, Debug)]
@@ -52,29 +45,25 @@ enum Round {
 /// room, and no place can be released.
 pub fn clean_one<R: Shows, D: Device<Receipt = R>, W: Wait>(
     rt: &W,
-    gates: &Gates<Shard<R>>,
+    at: &At<R>,
     pass: &mut Pass<Shard<R>>,
     device: &mut D,
-    epochs: &Epochs,
     seat: EpochSeat,
     staged: &mut Staged<R>,
-    stripe: usize,
 ) -> (Result<bool, Fault>, EpochSeat)
-    requires own { IsResting R.is_steady gates.now pass.old }
-    requires below { stripe < stripes_of gates.now }
-    requires outside { IsOutside epochs.now seat }
-    ensures own { IsResting R.is_steady gates.now pass.new }
-    ensures outside { IsOutside epochs.now result.1 }
-    ensures cleaned { HasCleaned R.lends (stripe ∷ []) stripe result.0 (D.failures device.old) (D.failures device.new) (known pass.old) (known pass.new) (seats.known seat) (seats.known result.1) }
+    requires own { IsResting R.is_steady at.now.gates.now pass.old }
+    requires below { at.now.stripe < stripes_of at.now.gates.now }
+    requires outside { IsOutside at.now.epochs.now seat }
+    ensures own { IsResting R.is_steady at.now.gates.now pass.new }
+    ensures outside { IsOutside at.now.epochs.now result.1 }
+    ensures cleaned { CleanedBy D.failures R.lends at.now.stripe result.0 (pass.old, device.old, seat) (pass.new, device.new, result.1) }
 {
     staged.clear();
     let mut seat = seat;
     let mut round = 0;
     'rounds: loop {
         let reads = round == ROUNDS;
-        let (came, back) = clean_round(
-            rt, gates, pass, device, epochs, seat, staged, reads, stripe,
-        );
+        let (came, back) = clean_round(rt, &Turn { at: &*at, reads }, pass, device, seat, staged);
         seat = back;
         match came {
             Ok(Round::Ended(done)) => return (Ok(done), seat),
@@ -92,79 +81,71 @@ pub fn clean_one<R: Shows, D: Device<Receipt = R>, W: Wait>(
 /// [`Busy`] where the stripe's word was read as another pass's. Nothing was changed then, and neither the device nor the
 /// epochs were asked; what the pass has seen may have grown. Else the faults of [`clean_one`].
 pub fn try_clean_one<R: Shows, D: Device<Receipt = R>>(
-    gates: &Gates<Shard<R>>,
+    at: &At<R>,
     pass: &mut Pass<Shard<R>>,
     device: &mut D,
-    epochs: &Epochs,
     seat: &mut EpochSeat,
     staged: &mut Staged<R>,
-    stripe: usize,
 ) -> Result<Result<bool, Fault>, Busy>
-    requires own { IsResting R.is_steady gates.now pass.old }
-    requires below { stripe < stripes_of gates.now }
-    requires outside { IsOutside epochs.now seat.old }
-    ensures own { IsResting R.is_steady gates.now pass.new }
-    ensures outside { IsOutside epochs.now seat.new }
-    ensures cleaned { IfOk result (λ done. HasCleaned R.lends [] stripe done (D.failures device.old) (D.failures device.new) (known pass.old) (known pass.new) (seats.known seat.old) (seats.known seat.new)) }
-    ensures stripe { IfErr result (λ busy. busy.stripe ≡ stripe) }
-    ensures busy { IfErr result (λ busy. WasBusy busy.stripe (known pass.old) (known pass.new)) }
-    ensures not_asked { IfErr result (λ busy. device.new ≡ device.old) }
-    ensures no_epoch { IfErr result (λ busy. seat.new ≡ seat.old) }
+    requires own { IsResting R.is_steady at.now.gates.now pass.old }
+    requires below { at.now.stripe < stripes_of at.now.gates.now }
+    requires outside { IsOutside at.now.epochs.now seat.old }
+    ensures own { IsResting R.is_steady at.now.gates.now pass.new }
+    ensures outside { IsOutside at.now.epochs.now seat.new }
+    ensures cleaned { TriedClean D.failures R.lends at.now.stripe result (pass.old, device.old, seat.old) (pass.new, device.new, seat.new) }
+    ensures missed { IfErr result (λ busy. HasMissed at.now.stripe busy (pass.old, device.old, seat.old) (pass.new, device.new, seat.new)) }
 {
-    let _stripes = gates.stripes();
-    let wanted = Sorted::none().with(stripe);
-    match gates.try_take(pass, &wanted) {
-        Ok(()) => {
-            let mut held = gates.hold(pass, &wanted);
-            staged.clear();
-            let came = clean_at(&mut held, stripe, epochs, seat, staged, true, device);
-            held.give(&report_of(stripe, &came));
-            match round_of(came) {
-                Ok(Round::Ended(done)) => Ok(Ok(done)),
-                Ok(Round::Again) => unreachable!(),
-                Err(fault) => Ok(Err(fault)),
-            }
-        }
-        Err(stripe) => Err(Busy { stripe }),
+    let stripe = at.stripe;
+    if !at.gates.try_take_one(pass, stripe) {
+        return Err(Busy { stripe });
+    }
+    let mut held = at.gates.hold_one(pass, stripe);
+    staged.clear();
+    let turn = Turn {
+        at: &*at,
+        reads: true,
+    };
+    let came = clean_at(&mut held, &turn, seat, staged, device);
+    held.give(&report_of(stripe, &came));
+    match round_of(came) {
+        Ok(Round::Ended(done)) => Ok(Ok(done)),
+        Ok(Round::Again) => unreachable!(),
+        Err(fault) => Ok(Err(fault)),
     }
 }
 
-/// One round: a step in one hold of the stripe. A page that it wants is read meanwhile where `reads`. Else the stripe is
+/// One round: a step in one hold of the stripe. A page that it wants is read meanwhile where the turn reads. Else the stripe is
 /// given back, and the page is read while nobody waits for it, inside a stay: that begins before the receipt is copied, so that
 /// its place is not released meanwhile.
 fn clean_round<R: Shows, D: Device<Receipt = R>, W: Wait>(
     rt: &W,
-    gates: &Gates<Shard<R>>,
+    turn: &Turn<R>,
     pass: &mut Pass<Shard<R>>,
     device: &mut D,
-    epochs: &Epochs,
     seat: EpochSeat,
     staged: &mut Staged<R>,
-    reads: bool,
-    stripe: usize,
 ) -> (Result<Round, Fault>, EpochSeat)
-    requires own { IsResting R.is_steady gates.now pass.old }
-    requires below { stripe < stripes_of gates.now }
-    requires outside { IsOutside epochs.now seat }
+    requires own { IsResting R.is_steady turn.now.at.now.gates.now pass.old }
+    requires below { turn.now.at.now.stripe < stripes_of turn.now.at.now.gates.now }
+    requires outside { IsOutside turn.now.at.now.epochs.now seat }
     requires right { R.is_steady → AreRight staged.old }
-    ensures own { IsResting R.is_steady gates.now pass.new }
-    ensures outside { IsOutside epochs.now result.1 }
+    ensures own { IsResting R.is_steady turn.now.at.now.gates.now pass.new }
+    ensures outside { IsOutside turn.now.at.now.epochs.now result.1 }
     ensures right { R.is_steady → AreRight staged.new }
-    ensures came { MatchRound result.0 (λ ended. HasCleaned R.lends (stripe ∷ []) stripe ended (D.failures device.old) (D.failures device.new) (known pass.old) (known pass.new) (seats.known seat) (seats.known result.1)) ((reads ≡ false) × HasLooked (stripe ∷ []) (D.failures device.old) (D.failures device.new) (known pass.old) (known pass.new) (seats.known seat) (seats.known result.1)) }
+    ensures came { TookRound D.failures R.lends turn.now result.0 (pass.old, device.old, seat) (pass.new, device.new, result.1) }
 {
-    let _stripes = gates.stripes();
-    let wanted = Sorted::none().with(stripe);
+    let at = turn.at;
     let mut seat = seat;
-    let mut held = gates.take(rt, pass, &wanted);
-    let came = clean_at(&mut held, stripe, epochs, &mut seat, staged, reads, device);
+    let mut held = at.gates.take_one(rt, pass, at.stripe);
+    let came = clean_at(&mut held, turn, &mut seat, staged, device);
     if let Ok(Stepped::Cold(number)) = came {
-        let inside = epochs.enter(rt, seat);
-        let copy = copy_at(&mut held, stripe, number);
+        let inside = at.epochs.enter(rt, seat);
+        let copy = copy_at(&mut held, at.stripe, number);
         held.give(&Report::Nothing);
-        let read = fetch(epochs, &inside, copy, staged, device);
-        return (read, epochs.leave(inside));
+        let read = fetch(at.epochs, &inside, copy, staged, device);
+        return (read, at.epochs.leave(inside));
     }
-    held.give(&report_of(stripe, &came));
+    held.give(&report_of(at.stripe, &came));
     (round_of(came), seat)
 }
 
@@ -179,7 +160,7 @@ fn fetch<R: Shows, D: Device<Receipt = R>>(
     requires stay { IsInside epochs.now inside.now }
     ensures right { R.is_steady → AreRight staged.old → AreRight staged.new }
     ensures again { IfOk result (λ came. came ≡ round.Again) }
-    ensures fault { IfErr result (λ fault. MatchFault fault (D.failures device.new ≡ D.failures device.old) (D.failures device.new ≡ D.failures device.old + 1) ⊥) }
+    ensures fault { IfErr result (λ fault. ReadFailed fault (D.failures device.old) (D.failures device.new)) }
     ensures no_fault { OnOk result (D.failures device.new ≡ D.failures device.old) }
 {
     // The stay is at hand: clauses alone name it.
@@ -187,11 +168,8 @@ fn fetch<R: Shows, D: Device<Receipt = R>>(
     let Ok(receipt) = copy else {
         return Err(Fault::OutOfMemory);
     };
-    match staged.read(receipt, device) {
-        Ok(()) => Ok(Round::Again),
-        Err(ReadFault::DeviceFault) => Err(Fault::DeviceFault),
-        Err(ReadFault::OutOfMemory) => Err(Fault::OutOfMemory),
-    }
+    staged.read(receipt, device)?;
+    Ok(Round::Again)
 }
 
 /// What a round comes to whose step came to this.
@@ -212,7 +190,7 @@ fn report_of(stripe: usize, came: &Result<Stepped, Fault>) -> Report
     ensures { result ≡ report_for stripe came.now }
 {
     match came {
-        Ok(Stepped::Done) => Report::Done(stripe as u64, Work::Clean(NOTHING)),
+        Ok(Stepped::Done) => Report::Done(stripe as u64, Work::Clean(Refused::NONE)),
         Ok(Stepped::Idle(refused)) => Report::Idle(stripe as u64, Work::Clean(*refused)),
         Ok(Stepped::Full(refused)) => Report::Full(stripe as u64, *refused),
         Ok(Stepped::Cold(_)) => Report::Nothing,

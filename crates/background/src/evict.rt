@@ -7,7 +7,7 @@ ghost use Rattle.background.specs.Visits.{Visited, told};
 
 use crate::cells::evict_at;
 use device::Shows;
-use gates::{Gates, Pass, Report, Sorted, Work};
+use gates::{Gates, Pass, Report, Work};
 use shards::shard::Shard;
 use std::sync::Wait;
 use transact::call::Busy;
@@ -25,9 +25,7 @@ pub fn evict_one<R: Shows, W: Wait>(
     ensures own { IsResting R.is_steady gates.now pass.new }
     ensures told { Visited (stripe ∷ []) (told Evict stripe result) (known pass.old) (known pass.new) }
 {
-    let _stripes = gates.stripes();
-    let wanted = Sorted::none().with(stripe);
-    let mut held = gates.take(rt, pass, &wanted);
+    let mut held = gates.take_one(rt, pass, stripe);
     if evict_at(&mut held, stripe) {
         held.give(&Report::Done(stripe as u64, Work::Evict));
         true
@@ -55,19 +53,15 @@ pub fn try_evict_one<R: Shows>(
     ensures stripe { IfErr result (λ busy. busy.stripe ≡ stripe) }
     ensures busy { IfErr result (λ busy. WasBusy busy.stripe (known pass.old) (known pass.new)) }
 {
-    let _stripes = gates.stripes();
-    let wanted = Sorted::none().with(stripe);
-    match gates.try_take(pass, &wanted) {
-        Ok(()) => {
-            let mut held = gates.hold(pass, &wanted);
-            if evict_at(&mut held, stripe) {
-                held.give(&Report::Done(stripe as u64, Work::Evict));
-                Ok(true)
-            } else {
-                held.give(&Report::Idle(stripe as u64, Work::Evict));
-                Ok(false)
-            }
-        }
-        Err(stripe) => Err(Busy { stripe }),
+    if !gates.try_take_one(pass, stripe) {
+        return Err(Busy { stripe });
+    }
+    let mut held = gates.hold_one(pass, stripe);
+    if evict_at(&mut held, stripe) {
+        held.give(&Report::Done(stripe as u64, Work::Evict));
+        Ok(true)
+    } else {
+        held.give(&Report::Idle(stripe as u64, Work::Evict));
+        Ok(false)
     }
 }

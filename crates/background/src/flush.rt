@@ -1,16 +1,19 @@
 //! The flusher's step: a read-only page is written to the device, and the log keeps its receipt.
 
-ghost use Rattle.std.specs.Prelude.{◌≡◌, ◌+◌, ◌<◌, ⊤, [], ◌∷◌, true, IfOk, IfErr};
+ghost use Rattle.std.specs.Prelude.{◌≡◌, ◌<◌, [], ◌∷◌, IfOk, IfErr};
 ghost use Rattle.epoch.specs.Seats.{IsOutside};
 ghost use Rattle.epoch.specs.Seats as seats;
-ghost use Rattle.gates.specs.Passes.{IsResting, WasBusy, known, stripes_of};
-ghost use Rattle.shards.specs.Heard.{HasHeard, HasHeardWorn};
-ghost use Rattle.background.specs.Visits.{HasBegun, HasEnded, HasFlushed, HasWritten, MatchLanding, Visited, told_at_end};
+ghost use Rattle.gates.specs.Passes.{IsResting, known, stripes_of};
+ghost use Rattle.shards.specs.Devices.{HasRested};
+ghost use Rattle.background.specs.Steps.{EndedSo, HasHeardOutside};
+ghost use Rattle.background.specs.Visits.{BegunBy, EndedBy, FlushedBy, HasMissed, HasWritten, TriedFlush, Visited, told_at_end};
 
+use crate::at::At;
 use crate::cells::{Began, Flight, Landing, begin_at, end_at, fail_at, flush_at};
+use crate::written::Written;
 use device::{Device, Shows};
-use epoch::{EpochSeat, Epochs};
-use gates::{Gates, Pass, Report, Sorted, Work};
+use epoch::EpochSeat;
+use gates::{Pass, Report, Work};
 use records::Page;
 use shards::flushing::Unflushed;
 use shards::shard::Shard;
@@ -30,34 +33,35 @@ use words::reply::Fault;
 /// be taken for the page, and none can be released.
 pub fn flush_one<R: Shows, D: Device<Receipt = R>, W: Wait>(
     rt: &W,
-    gates: &Gates<Shard<R>>,
+    at: &At<R>,
     pass: &mut Pass<Shard<R>>,
     device: &mut D,
-    epochs: &Epochs,
     seat: &mut EpochSeat,
     page: &mut Page,
-    stripe: usize,
 ) -> Result<bool, Fault>
-    requires own { IsResting R.is_steady gates.now pass.old }
-    requires below { stripe < stripes_of gates.now }
-    requires outside { IsOutside epochs.now seat.old }
-    ensures own { IsResting R.is_steady gates.now pass.new }
-    ensures outside { IsOutside epochs.now seat.new }
-    ensures flushed { HasFlushed (stripe ∷ []) stripe result (D.failures device.old) (D.failures device.new) (known pass.old) (known pass.new) (seats.known seat.old) (seats.known seat.new) }
+    requires own { IsResting R.is_steady at.now.gates.now pass.old }
+    requires below { at.now.stripe < stripes_of at.now.gates.now }
+    requires outside { IsOutside at.now.epochs.now seat.old }
+    ensures own { IsResting R.is_steady at.now.gates.now pass.new }
+    ensures outside { IsOutside at.now.epochs.now seat.new }
+    ensures flushed { FlushedBy D.failures at.now.stripe result (pass.old, device.old, seat.old) (pass.new, device.new, seat.new) }
     ensures writes { HasWritten result (D.writes device.old) (D.writes device.new) }
 {
-    let flight = match begin(rt, gates, pass, device, epochs, seat, stripe, page) {
+    let flight = match begin(rt, at, pass, device, seat, page) {
         Began::Idle => return Ok(false),
         Began::Full(_refused) => return Err(Fault::StoreFull),
         Began::Sealed(flight) => flight,
     };
     let Ok(receipt) = device.write(page) else {
-        fail(rt, gates, pass, stripe, flight);
+        fail(rt, at, pass, flight);
         return Err(Fault::DeviceFault);
     };
-    if end(
-        rt, gates, pass, device, epochs, seat, stripe, flight, page, receipt,
-    ) {
+    let written = Written {
+        flight,
+        page,
+        receipt,
+    };
+    if end(rt, at, pass, device, seat, written) {
         Ok(true)
     } else {
         Err(Fault::StoreFull)
@@ -72,51 +76,43 @@ pub fn flush_one<R: Shows, D: Device<Receipt = R>, W: Wait>(
 /// [`Busy`] where the stripe's word was read as another pass's. Nothing was changed then, and neither the device nor the
 /// epochs were asked; what the pass has seen may have grown. Else the faults of [`flush_one`].
 pub fn try_flush_one<R: Shows, D: Device<Receipt = R>>(
-    gates: &Gates<Shard<R>>,
+    at: &At<R>,
     pass: &mut Pass<Shard<R>>,
     device: &mut D,
-    epochs: &Epochs,
     seat: &mut EpochSeat,
     page: &mut Page,
-    stripe: usize,
 ) -> Result<Result<bool, Fault>, Busy>
-    requires own { IsResting R.is_steady gates.now pass.old }
-    requires below { stripe < stripes_of gates.now }
-    requires outside { IsOutside epochs.now seat.old }
-    ensures own { IsResting R.is_steady gates.now pass.new }
-    ensures outside { IsOutside epochs.now seat.new }
-    ensures flushed { IfOk result (λ done. HasFlushed [] stripe done (D.failures device.old) (D.failures device.new) (known pass.old) (known pass.new) (seats.known seat.old) (seats.known seat.new)) }
+    requires own { IsResting R.is_steady at.now.gates.now pass.old }
+    requires below { at.now.stripe < stripes_of at.now.gates.now }
+    requires outside { IsOutside at.now.epochs.now seat.old }
+    ensures own { IsResting R.is_steady at.now.gates.now pass.new }
+    ensures outside { IsOutside at.now.epochs.now seat.new }
+    ensures flushed { TriedFlush D.failures at.now.stripe result (pass.old, device.old, seat.old) (pass.new, device.new, seat.new) }
     ensures writes { IfOk result (λ done. HasWritten done (D.writes device.old) (D.writes device.new)) }
-    ensures stripe { IfErr result (λ busy. busy.stripe ≡ stripe) }
-    ensures busy { IfErr result (λ busy. WasBusy busy.stripe (known pass.old) (known pass.new)) }
-    ensures not_asked { IfErr result (λ busy. device.new ≡ device.old) }
-    ensures no_epoch { IfErr result (λ busy. seat.new ≡ seat.old) }
+    ensures missed { IfErr result (λ busy. HasMissed at.now.stripe busy (pass.old, device.old, seat.old) (pass.new, device.new, seat.new)) }
 {
-    let _stripes = gates.stripes();
-    let wanted = Sorted::none().with(stripe);
-    match gates.try_take(pass, &wanted) {
-        Ok(()) => {
-            let mut held = gates.hold(pass, &wanted);
-            match flush_at(&mut held, stripe, page, epochs, seat, device) {
-                Ok(true) => {
-                    held.give(&Report::Done(stripe as u64, Work::Flush));
-                    Ok(Ok(true))
-                }
-                Ok(false) => {
-                    held.give(&Report::Idle(stripe as u64, Work::Flush));
-                    Ok(Ok(false))
-                }
-                Err(Unflushed::Full(refused)) => {
-                    held.give(&Report::Full(stripe as u64, refused));
-                    Ok(Err(Fault::StoreFull))
-                }
-                Err(Unflushed::DeviceFault) => {
-                    held.give(&Report::Nothing);
-                    Ok(Err(Fault::DeviceFault))
-                }
-            }
+    let stripe = at.stripe;
+    if !at.gates.try_take_one(pass, stripe) {
+        return Err(Busy { stripe });
+    }
+    let mut held = at.gates.hold_one(pass, stripe);
+    match flush_at(&mut held, at, page, seat, device) {
+        Ok(true) => {
+            held.give(&Report::Done(stripe as u64, Work::Flush));
+            Ok(Ok(true))
         }
-        Err(stripe) => Err(Busy { stripe }),
+        Ok(false) => {
+            held.give(&Report::Idle(stripe as u64, Work::Flush));
+            Ok(Ok(false))
+        }
+        Err(Unflushed::Full(refused)) => {
+            held.give(&Report::Full(stripe as u64, refused));
+            Ok(Err(Fault::StoreFull))
+        }
+        Err(Unflushed::DeviceFault) => {
+            held.give(&Report::Nothing);
+            Ok(Err(Fault::DeviceFault))
+        }
     }
 }
 
@@ -124,28 +120,23 @@ pub fn try_flush_one<R: Shows, D: Device<Receipt = R>>(
 /// that can be released is released first.
 fn begin<R: Shows, D: Device<Receipt = R>, W: Wait>(
     rt: &W,
-    gates: &Gates<Shard<R>>,
+    at: &At<R>,
     pass: &mut Pass<Shard<R>>,
     device: &mut D,
-    epochs: &Epochs,
     seat: &mut EpochSeat,
-    stripe: usize,
     page: &mut Page,
 ) -> Began
-    requires own { IsResting R.is_steady gates.now pass.old }
-    requires below { stripe < stripes_of gates.now }
-    requires outside { IsOutside epochs.now seat.old }
-    ensures own { IsResting R.is_steady gates.now pass.new }
-    ensures outside { IsOutside epochs.now seat.new }
-    ensures begun { HasBegun (stripe ∷ []) stripe result (known pass.old) (known pass.new) (seats.known seat.old) (seats.known seat.new) }
-    ensures heard { HasHeard (seats.known seat.old) (seats.known seat.new) }
-    ensures no_fault { D.failures device.new ≡ D.failures device.old }
-    ensures no_write { D.writes device.new ≡ D.writes device.old }
+    requires own { IsResting R.is_steady at.now.gates.now pass.old }
+    requires below { at.now.stripe < stripes_of at.now.gates.now }
+    requires outside { IsOutside at.now.epochs.now seat.old }
+    ensures own { IsResting R.is_steady at.now.gates.now pass.new }
+    ensures seat { HasHeardOutside at.now.epochs.now seat.old seat.new }
+    ensures begun { BegunBy at.now.stripe result (pass.old, seat.old) (pass.new, seat.new) }
+    ensures rested { HasRested D.failures D.writes device.old device.new }
 {
-    let _stripes = gates.stripes();
-    let wanted = Sorted::none().with(stripe);
-    let mut held = gates.take(rt, pass, &wanted);
-    match begin_at(&mut held, stripe, page, epochs, seat, device) {
+    let stripe = at.stripe;
+    let mut held = at.gates.take_one(rt, pass, stripe);
+    match begin_at(&mut held, at, page, seat, device) {
         Began::Idle => {
             held.give(&Report::Idle(stripe as u64, Work::Flush));
             Began::Idle
@@ -164,37 +155,26 @@ fn begin<R: Shows, D: Device<Receipt = R>, W: Wait>(
 /// Keeps the receipt of a page that was written, or counts its place as unlinked, and says whether it could.
 fn end<R: Shows, D: Device<Receipt = R>, W: Wait>(
     rt: &W,
-    gates: &Gates<Shard<R>>,
+    at: &At<R>,
     pass: &mut Pass<Shard<R>>,
     device: &mut D,
-    epochs: &Epochs,
     seat: &mut EpochSeat,
-    stripe: usize,
-    flight: Flight,
-    page: &Page,
-    receipt: R,
+    written: Written<R>,
 ) -> bool
-    requires own { IsResting R.is_steady gates.now pass.old }
-    requires below { stripe < stripes_of gates.now }
-    requires outside { IsOutside epochs.now seat.old }
-    requires shown { R.shown receipt ≡ page.now }
-    ensures own { IsResting R.is_steady gates.now pass.new }
-    ensures outside { IsOutside epochs.now seat.new }
-    ensures ended { HasEnded (stripe ∷ []) stripe result (known pass.old) (known pass.new) (seats.known seat.old) (seats.known seat.new) }
-    ensures no_fault { D.failures device.new ≡ D.failures device.old }
-    ensures no_write { D.writes device.new ≡ D.writes device.old }
+    requires own { IsResting R.is_steady at.now.gates.now pass.old }
+    requires below { at.now.stripe < stripes_of at.now.gates.now }
+    requires outside { IsOutside at.now.epochs.now seat.old }
+    requires shown { R.shown written.receipt ≡ written.page.now }
+    ensures own { IsResting R.is_steady at.now.gates.now pass.new }
+    ensures outside { IsOutside at.now.epochs.now seat.new }
+    ensures ended { EndedBy at.now.stripe result (pass.old, seat.old) (pass.new, seat.new) }
+    ensures rested { HasRested D.failures D.writes device.old device.new }
 {
-    let mut flight = flight;
-    let mut receipt = receipt;
+    let mut written = written;
     for _ in rt.forever() {
-        match end_once(
-            rt, gates, pass, device, epochs, seat, stripe, flight, page, receipt,
-        ) {
+        match end_once(rt, at, pass, device, seat, written) {
             Landing::Landed => return true,
-            Landing::Again(again, back) => {
-                flight = again;
-                receipt = back;
-            }
+            Landing::Again(again) => written = again,
             Landing::Full(_refused) => return false,
         }
     }
@@ -203,44 +183,34 @@ fn end<R: Shows, D: Device<Receipt = R>, W: Wait>(
 
 /// Keeps the receipt of a page that was written, or counts its place as unlinked, in one hold. Where no place is counted for it
 /// and none may be taken, each place that can be released is released, and the receipt comes back to land in another hold.
-fn end_once<R: Shows, D: Device<Receipt = R>, W: Wait>(
+fn end_once<'a, R: Shows, D: Device<Receipt = R>, W: Wait>(
     rt: &W,
-    gates: &Gates<Shard<R>>,
+    at: &At<R>,
     pass: &mut Pass<Shard<R>>,
     device: &mut D,
-    epochs: &Epochs,
     seat: &mut EpochSeat,
-    stripe: usize,
-    flight: Flight,
-    page: &Page,
-    receipt: R,
-) -> Landing<R>
-    requires own { IsResting R.is_steady gates.now pass.old }
-    requires below { stripe < stripes_of gates.now }
-    requires outside { IsOutside epochs.now seat.old }
-    requires shown { R.shown receipt ≡ page.now }
-    ensures own { IsResting R.is_steady gates.now pass.new }
-    ensures outside { IsOutside epochs.now seat.new }
-    ensures again { MatchLanding result ⊤ (λ again back. (again ≡ flight) × (back ≡ receipt)) (λ refused. ⊤) }
-    ensures told { Visited (stripe ∷ []) (told_at_end stripe result) (known pass.old) (known pass.new) }
-    ensures worn { MatchLanding result ⊤ (λ again back. ⊤) (λ refused. refused.retire ≡ true → HasHeardWorn (seats.known seat.old) (seats.known seat.new)) }
-    ensures heard { HasHeard (seats.known seat.old) (seats.known seat.new) }
-    ensures no_fault { D.failures device.new ≡ D.failures device.old }
-    ensures no_write { D.writes device.new ≡ D.writes device.old }
+    written: Written<'a, R>,
+) -> Landing<'a, R>
+    requires own { IsResting R.is_steady at.now.gates.now pass.old }
+    requires below { at.now.stripe < stripes_of at.now.gates.now }
+    requires outside { IsOutside at.now.epochs.now seat.old }
+    requires shown { R.shown written.receipt ≡ written.page.now }
+    ensures own { IsResting R.is_steady at.now.gates.now pass.new }
+    ensures seat { HasHeardOutside at.now.epochs.now seat.old seat.new }
+    ensures told { Visited (at.now.stripe ∷ []) (told_at_end at.now.stripe result) (known pass.old) (known pass.new) }
+    ensures ended { EndedSo result written.entry (seats.known seat.old) (seats.known seat.new) }
+    ensures rested { HasRested D.failures D.writes device.old device.new }
 {
-    let _stripes = gates.stripes();
-    let wanted = Sorted::none().with(stripe);
-    let mut held = gates.take(rt, pass, &wanted);
-    match end_at(
-        &mut held, stripe, flight, page, receipt, epochs, seat, device,
-    ) {
+    let stripe = at.stripe;
+    let mut held = at.gates.take_one(rt, pass, stripe);
+    match end_at(&mut held, at, written, seat, device) {
         Landing::Landed => {
             held.give(&Report::Done(stripe as u64, Work::Flush));
             Landing::Landed
         }
-        Landing::Again(flight, receipt) => {
+        Landing::Again(written) => {
             held.give(&Report::Nothing);
-            Landing::Again(flight, receipt)
+            Landing::Again(written)
         }
         Landing::Full(refused) => {
             held.give(&Report::Full(stripe as u64, refused));
@@ -250,21 +220,13 @@ fn end_once<R: Shows, D: Device<Receipt = R>, W: Wait>(
 }
 
 /// Counts a place off whose page could not be written.
-fn fail<R: Shows, W: Wait>(
-    rt: &W,
-    gates: &Gates<Shard<R>>,
-    pass: &mut Pass<Shard<R>>,
-    stripe: usize,
-    flight: Flight,
-)
-    requires own { IsResting R.is_steady gates.now pass.old }
-    requires below { stripe < stripes_of gates.now }
-    ensures own { IsResting R.is_steady gates.now pass.new }
-    ensures told { Visited (stripe ∷ []) [] (known pass.old) (known pass.new) }
+fn fail<R: Shows, W: Wait>(rt: &W, at: &At<R>, pass: &mut Pass<Shard<R>>, flight: Flight)
+    requires own { IsResting R.is_steady at.now.gates.now pass.old }
+    requires below { at.now.stripe < stripes_of at.now.gates.now }
+    ensures own { IsResting R.is_steady at.now.gates.now pass.new }
+    ensures told { Visited (at.now.stripe ∷ []) [] (known pass.old) (known pass.new) }
 {
-    let _stripes = gates.stripes();
-    let wanted = Sorted::none().with(stripe);
-    let mut held = gates.take(rt, pass, &wanted);
-    fail_at(&mut held, stripe, flight);
+    let mut held = at.gates.take_one(rt, pass, at.stripe);
+    fail_at(&mut held, at.stripe, flight);
     held.give(&Report::Nothing);
 }

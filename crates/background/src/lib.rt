@@ -11,8 +11,10 @@
 //! may wait for others has a form that does not: it tries to take its stripe once.
 #![tactic(auto)]
 
+pub mod at;
 mod cells;
 pub mod clean;
 pub mod evict;
 pub mod flush;
 pub mod look;
+mod written;

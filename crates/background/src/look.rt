@@ -4,16 +4,31 @@ ghost use Rattle.std.specs.Prelude.{◌≡◌, ◌+◌, ◌<◌, [], ◌∷◌, 
 ghost use Rattle.gates.specs.Background.{IsSeen};
 ghost use Rattle.gates.specs.Passes.{IsResting, known, stripes_of};
 ghost use Rattle.gates.specs.declared.view.Look.TheVariants.{FewerExpected, FewerFree, HalfUsed, Used};
-ghost use Rattle.gates.specs.declared.view.Note.TheVariants as note;
+ghost use Rattle.gates.specs.declared.view.Note.TheVariants.{Seen};
 ghost use Rattle.hybrid.specs.declared.stripe.TheConstants.{CALL_PAGES, CLEAN_PAGES};
-ghost use Rattle.shards.specs.Shards.{shard_meaning, shard_pages};
-ghost use Rattle.background.specs.Visits.{HasStepped, Visited};
+ghost use Rattle.shards.specs.Shards.{shard_pages};
+ghost use Rattle.background.specs.Looks.{Answers};
+ghost use Rattle.background.specs.Steps.{IsStillHeld, SeenAt, SteppedAt};
+ghost use Rattle.background.specs.Visits.{Visited};
 
 use device::Shows;
-use gates::{Gates, Look, Parts, Pass, Report, Sorted};
+use gates::{Gates, Look, Parts, Pass, Report};
 use hybrid::{CALL_PAGES, CLEAN_PAGES};
 use shards::shard::Shard;
 use std::sync::Wait;
+
+/// What is looked at.
+#[derive(Clone, Copy, Debug)]
+enum Kind {
+    /// Whether half of the places are used.
+    HalfUsed,
+    /// How many are.
+    Used,
+    /// Whether fewer frames are free than a call can open pages.
+    FewerFree,
+    /// Whether fewer are free or may be had than values leave.
+    FewerExpected,
+}
 
 /// Whether at least half of a stripe's places on the device are taken and not released. It waits where another pass holds the
 /// stripe.
@@ -26,13 +41,11 @@ pub fn is_half_used<R: Shows, W: Wait>(
     requires own { IsResting R.is_steady gates.now pass.old }
     requires below { stripe < stripes_of gates.now }
     ensures own { IsResting R.is_steady gates.now pass.new }
-    ensures told { Visited (stripe ∷ []) (note.Seen stripe (HalfUsed result) ∷ []) (known pass.old) (known pass.new) }
+    ensures told { Visited (stripe ∷ []) (Seen stripe (HalfUsed result) ∷ []) (known pass.old) (known pass.new) }
 {
-    let _stripes = gates.stripes();
-    let wanted = Sorted::none().with(stripe);
-    let mut held = gates.take(rt, pass, &wanted);
-    let found = is_half_used_at(&mut held, stripe);
-    held.give(&Report::Seen(stripe as u64, Look::HalfUsed(found)));
+    let Look::HalfUsed(found) = look(rt, gates, pass, stripe, Kind::HalfUsed) else {
+        unreachable!()
+    };
     found
 }
 
@@ -46,14 +59,12 @@ pub fn used_places<R: Shows, W: Wait>(
     requires own { IsResting R.is_steady gates.now pass.old }
     requires below { stripe < stripes_of gates.now }
     ensures own { IsResting R.is_steady gates.now pass.new }
-    ensures told { Visited (stripe ∷ []) (note.Seen stripe (Used result) ∷ []) (known pass.old) (known pass.new) }
+    ensures told { Visited (stripe ∷ []) (Seen stripe (Used result) ∷ []) (known pass.old) (known pass.new) }
 {
-    let _stripes = gates.stripes();
-    let wanted = Sorted::none().with(stripe);
-    let mut held = gates.take(rt, pass, &wanted);
-    let found = used_places_at(&mut held, stripe);
-    held.give(&Report::Seen(stripe as u64, Look::Used(found as u64)));
-    found
+    let Look::Used(found) = look(rt, gates, pass, stripe, Kind::Used) else {
+        unreachable!()
+    };
+    found as usize
 }
 
 /// Whether fewer frames of a stripe are free than pages that a call can open. It waits where another pass holds the stripe.
@@ -66,13 +77,11 @@ pub fn is_short_of_frames<R: Shows, W: Wait>(
     requires own { IsResting R.is_steady gates.now pass.old }
     requires below { stripe < stripes_of gates.now }
     ensures own { IsResting R.is_steady gates.now pass.new }
-    ensures told { Visited (stripe ∷ []) (note.Seen stripe (FewerFree CALL_PAGES result) ∷ []) (known pass.old) (known pass.new) }
+    ensures told { Visited (stripe ∷ []) (Seen stripe (FewerFree CALL_PAGES result) ∷ []) (known pass.old) (known pass.new) }
 {
-    let _stripes = gates.stripes();
-    let wanted = Sorted::none().with(stripe);
-    let mut held = gates.take(rt, pass, &wanted);
-    let found = is_short_of_frames_at(&mut held, stripe);
-    held.give(&Report::Seen(stripe as u64, Look::FewerFree(CALL_PAGES as u64, found)));
+    let Look::FewerFree(_count, found) = look(rt, gates, pass, stripe, Kind::FewerFree) else {
+        unreachable!()
+    };
     found
 }
 
@@ -87,59 +96,57 @@ pub fn lacks_spare_frames<R: Shows, W: Wait>(
     requires own { IsResting R.is_steady gates.now pass.old }
     requires below { stripe < stripes_of gates.now }
     ensures own { IsResting R.is_steady gates.now pass.new }
-    ensures told { Visited (stripe ∷ []) (note.Seen stripe (FewerExpected (CLEAN_PAGES + 1) result) ∷ []) (known pass.old) (known pass.new) }
+    ensures told { Visited (stripe ∷ []) (Seen stripe (FewerExpected (CLEAN_PAGES + 1) result) ∷ []) (known pass.old) (known pass.new) }
 {
-    let _stripes = gates.stripes();
-    let wanted = Sorted::none().with(stripe);
-    let mut held = gates.take(rt, pass, &wanted);
-    let found = lacks_spare_frames_at(&mut held, stripe);
-    held.give(&Report::Seen(
-        stripe as u64,
-        Look::FewerExpected(CLEAN_PAGES as u64 + 1, found),
-    ));
+    let Look::FewerExpected(_count, found) = look(rt, gates, pass, stripe, Kind::FewerExpected)
+    else {
+        unreachable!()
+    };
     found
 }
 
-/// Whether at least half of the places of a stripe that is held are used.
-fn is_half_used_at<R: Shows, P: Parts<Shard<R>>>(parts: &mut P, stripe: usize) -> bool
-    requires open { P.is_open parts.old }
-    requires there { IsSome (P.part_of parts.old stripe) }
-    ensures stepped { HasStepped (shard_meaning R.is_steady) stripe (P.part_of parts.old) (P.part_of parts.new) (λ was now. (now ≡ was) × IsSeen (HalfUsed result) (shard_pages now)) }
-    ensures open { P.is_open parts.new }
-    ensures keeps { P.keeps parts.old parts.new }
+/// Takes a stripe, looks at it, and gives it back.
+fn look<R: Shows, W: Wait>(
+    rt: &W,
+    gates: &Gates<Shard<R>>,
+    pass: &mut Pass<Shard<R>>,
+    stripe: usize,
+    kind: Kind,
+) -> Look
+    requires own { IsResting R.is_steady gates.now pass.old }
+    requires below { stripe < stripes_of gates.now }
+    ensures own { IsResting R.is_steady gates.now pass.new }
+    ensures answers { Answers kind result }
+    ensures told { Visited (stripe ∷ []) (Seen stripe result ∷ []) (known pass.old) (known pass.new) }
 {
-    parts.part(stripe).is_half_used()
+    let mut held = gates.take_one(rt, pass, stripe);
+    let seen = look_at(&mut held, stripe, kind);
+    held.give(&Report::Seen(stripe as u64, seen));
+    seen
 }
 
-/// How many places of a stripe that is held are used.
-fn used_places_at<R: Shows, P: Parts<Shard<R>>>(parts: &mut P, stripe: usize) -> usize
+/// Looks at a stripe that is held.
+fn look_at<R: Shows, P: Parts<Shard<R>>>(parts: &mut P, stripe: usize, kind: Kind) -> Look
     requires open { P.is_open parts.old }
     requires there { IsSome (P.part_of parts.old stripe) }
-    ensures stepped { HasStepped (shard_meaning R.is_steady) stripe (P.part_of parts.old) (P.part_of parts.new) (λ was now. (now ≡ was) × IsSeen (Used result) (shard_pages now)) }
-    ensures open { P.is_open parts.new }
-    ensures keeps { P.keeps parts.old parts.new }
+    ensures answers { Answers kind result }
+    ensures stepped { SteppedAt R.is_steady P.part_of stripe parts.old parts.new (SeenAt result) }
+    ensures still { IsStillHeld P.is_open P.keeps parts.old parts.new }
 {
-    parts.part(stripe).used_places()
+    seen_of(parts.part(stripe), kind)
 }
 
-/// Whether frames of a stripe that is held are short.
-fn is_short_of_frames_at<R: Shows, P: Parts<Shard<R>>>(parts: &mut P, stripe: usize) -> bool
-    requires open { P.is_open parts.old }
-    requires there { IsSome (P.part_of parts.old stripe) }
-    ensures stepped { HasStepped (shard_meaning R.is_steady) stripe (P.part_of parts.old) (P.part_of parts.new) (λ was now. (now ≡ was) × IsSeen (FewerFree CALL_PAGES result) (shard_pages now)) }
-    ensures open { P.is_open parts.new }
-    ensures keeps { P.keeps parts.old parts.new }
+/// What is seen of a stripe.
+fn seen_of<R: Shows>(part: &Shard<R>, kind: Kind) -> Look
+    ensures answers { Answers kind result }
+    ensures seen { IsSeen result (shard_pages part.now) }
 {
-    parts.part(stripe).is_short_of_frames()
-}
-
-/// Whether frames that values leave of a stripe that is held are lacking.
-fn lacks_spare_frames_at<R: Shows, P: Parts<Shard<R>>>(parts: &mut P, stripe: usize) -> bool
-    requires open { P.is_open parts.old }
-    requires there { IsSome (P.part_of parts.old stripe) }
-    ensures stepped { HasStepped (shard_meaning R.is_steady) stripe (P.part_of parts.old) (P.part_of parts.new) (λ was now. (now ≡ was) × IsSeen (FewerExpected (CLEAN_PAGES + 1) result) (shard_pages now)) }
-    ensures open { P.is_open parts.new }
-    ensures keeps { P.keeps parts.old parts.new }
-{
-    parts.part(stripe).lacks_spare_frames()
+    match kind {
+        Kind::HalfUsed => Look::HalfUsed(part.is_half_used()),
+        Kind::Used => Look::Used(part.used_places() as u64),
+        Kind::FewerFree => Look::FewerFree(CALL_PAGES as u64, part.is_short_of_frames()),
+        Kind::FewerExpected => {
+            Look::FewerExpected(CLEAN_PAGES as u64 + 1, part.lacks_spare_frames())
+        }
+    }
 }

@@ -42,12 +42,6 @@ busy_both stripes (Idle stripe work ∷ one) two first second = absurd first
 busy_both stripes (Done stripe work ∷ one) two first second = absurd first
 busy_both stripes (Seen stripe look ∷ one) two first second = absurd first
 
--- what a call came to of so many stripes, where that is how many there are
-pub fault_counted : (steady lends : Type 0) (n count : ℕ) → n ≡ count → (a : Answer) (asked : Option Asked) (was now : Known)
-    → IfFault a (λ fault. IsUndone (promises_of steady lends n) [] asked fault was now) → IfFault a (λ fault. IsUndone (promises_of steady lends count) [] asked fault was now)
-fault_counted steady lends n count same a asked was now undone =
-    subst (λ (m : ℕ). IfFault a (λ fault. IsUndone (promises_of steady lends m) [] asked fault was now)) same undone
-
 -- the same, whichever way it is answered
 pub answered_counted : (steady lends : Type 0) (n count : ℕ) → n ≡ count → (a : Answer) (call : Call) (was now : Known)
     → IsAnswered (promises_of steady lends n) [] call a was now → IsAnswered (promises_of steady lends count) [] call a was now

@@ -1,5 +1,5 @@
 -- What is held before, between and after the steps of a call.
-use Rattle.std.proofs.Common.{◌≡◌, ◌+◌, ◌<◌, ◌≤◌, ◌∙◌, ⊎_elim, inl, inr, arith, option_map, map, ◌-◌, None, ℕ, List, [], ◌∷◌, ◌++◌, length, Bool, true, false, Option, Some, IsSome, refl, sym, ap, subst}
+use Rattle.std.proofs.Common.{◌≡◌, ◌+◌, ◌<◌, ◌∙◌, ⊎_elim, inl, inr, arith, option_map, map, ◌-◌, None, ℕ, List, [], ◌∷◌, ◌++◌, length, Bool, true, false, Option, Some, IsSome, refl, sym, ap, subst}
 use Rattle.std.specs.Borrow.{Bor, MutBor}
 use Rattle.words.specs.declared.reply.Reply.{Reply}
 use Rattle.words.specs.declared.reply.Fault.{Fault}
@@ -28,8 +28,8 @@ use Rattle.hybrid.specs.HybridLog.{HybridLog}
 use Rattle.hybrid.specs.Reserving.{IsFull}
 use Rattle.gates.specs.Sets.{part_at}
 use Rattle.gates.specs.Plays.{kept}
-use Rattle.gates.specs.Passes.{AllFit, AreAsTaken, Committed, KeysHeld, WasTold, stripes_of}
-use Rattle.gates.specs.Helds.{HasTaken, IsOpen, SameHold, borrow_of, gates_of, has_committed, held_parts, held_taken, known_to, number_of, operation_asked}
+use Rattle.gates.specs.Passes.{AllFit, AreAsTaken, Committed, KeysHeld, MayEnd, WasTold, stripes_of}
+use Rattle.gates.specs.Helds.{HasTaken, IsOpen, SameHold, borrow_of, gates_of, has_committed, held_parts, held_stripes, held_taken, known_to, number_of, operation_asked}
 use Rattle.transact.specs.declared.call.Answer.{Answer}
 use Rattle.transact.specs.declared.call.Answer.TheVariants as answer
 use Rattle.transact.specs.declared.call.Call.{Call}
@@ -45,9 +45,9 @@ use Rattle.plans.specs.declared.stop.Stop.{Stop}
 use Rattle.plans.specs.declared.stop.Stop.TheVariants as stop
 use Rattle.plans.specs.Stops.{IfCold, IfFull, IfNoMemory, faults}
 use Rattle.transact.specs.Submits.{IfFault, IfReply, asked_for}
-use Rattle.transact.specs.Tables.{AreThere, Became, Stand, clears, stays}
+use Rattle.transact.specs.Tables.{AreThere, Became, HasBegun, Stand, clears, stays, touches_and_clears}
 use Rattle.engine.specs.Calls.{Forgot, HasItsPlace, IsCause, IsDone, IsUndone, Promises}
-use Rattle.engine.specs.Entering.{MayBeGiven, MayEnter, at_fault}
+use Rattle.engine.specs.Entering.{MayBeGiven, MayBegin, MayEnter, MaySubmit, at_fault}
 use Rattle.engine.specs.Memory.{AsksNoMemory}
 use Rattle.engine.specs.Passes.{Known, know}
 use Rattle.engine.specs.Stops.{IfSpent, IsOfCall, fault_of, report_of}
@@ -108,6 +108,24 @@ module _ {R : Type 0} (steady : Type 0) where
   -- the number of the pass that holds
   pub seat_is : (held : Held (Shard R)) → IsOpen steady held → number_of held ≡ (known_to held).number
   seat_is held opened = sym opened.holding.seat.number_is
+
+  -- the pass that holds is the same where it knows that it is
+  pub holder_same : (start held : Held (Shard R)) → IsOpen steady start → IsOpen steady held → (known_to held).number ≡ (known_to start).number → number_of held ≡ number_of start
+  holder_same start held opened opened_still same = seat_is held opened_still ∙ same ∙ sym (seat_is start opened)
+
+  -- what becomes of parts, and what is taken back of marks, where stripes and their holder are said otherwise
+  pub became_by : (n m a b : ℕ) (ws : List Write) (keys : List Bytes) (before later : ℕ → Option (Shard R)) → n ≡ m → a ≡ b
+      → Became (shard_meaning steady) n ws (touches_and_clears ws a keys) before later → Became (shard_meaning steady) m ws (touches_and_clears ws b keys) before later
+  became_by n m a b ws keys before later count holder became =
+      subst (λ (k : ℕ). Became (shard_meaning steady) k ws (touches_and_clears ws b keys) before later) count
+      (subst (λ (k : ℕ). Became (shard_meaning steady) n ws (touches_and_clears ws k keys) before later) holder became)
+
+  pub marks_undone : (n m a b : ℕ) (keys : List Bytes) (held later : ℕ → Option (Shard R)) → n ≡ m → a ≡ b
+      → ((before : ℕ → Option (Shard R)) → HasBegun (shard_meaning steady) n a keys before held → Became (shard_meaning steady) n [] stays before later)
+      → (before : ℕ → Option (Shard R)) → HasBegun (shard_meaning steady) m b keys before held → Became (shard_meaning steady) m [] stays before later
+  marks_undone n m a b keys held later count holder undone before has =
+      subst (λ (k : ℕ). Became (shard_meaning steady) k [] stays before later) count
+      (undone before (subst (λ (k : ℕ). HasBegun (shard_meaning steady) k a keys before held) (sym count) (subst (λ (k : ℕ). HasBegun (shard_meaning steady) m k keys before held) (sym holder) has)))
 
   -- the same is held, and parts have other bytes and the same meaning
   pub fit_kept : (n : ℕ) (start mid : Held (Shard R)) → SameHold start mid → Fit n start → Became (shard_meaning steady) n [] stays (parts_of start) (parts_of mid) → Fit n mid
@@ -187,23 +205,27 @@ module _ {R : Type 0} (steady : Type 0) where
       subst (λ (l : List Bytes). KeysHeld n (held_parts last) l) (keys_are ∙ ap (λ (k : Knowledge). keys_of_pairs k.watched) (sym same.known))
       (keys_held (shard_meaning steady) n (held_parts last) keys there)
 
+  -- as many stripes as the same gates have
+  pub counted : (start held : Held (Shard R)) → gates_of held ≡ gates_of start → held_stripes held ≡ held_stripes start
+  counted start held gates = ap (λ (g : Gates (Shard R)). stripes_of g) gates
+
   -- what is held once all that is watched is forgotten
-  pub given_forgot : (n seat : ℕ) (keys : List Bytes) (report : Report) (start last : Held (Shard R)) → IsOpen steady last → IsToldOf (shard_meaning steady) (held_taken last) (held_parts last) report → seat ≡ (known_to start).number
-      → keys ≡ keys_of_pairs (known_to start).watched → AreThere n (parts_of start) keys → Fit n start → SameHold start last
-      → Became (shard_meaning steady) n [] (clears seat keys) (parts_of start) (parts_of last) → MayBeGiven steady true report n start last
-  given_forgot n seat keys report start last opened told seat_is keys_are there fit same became = record {
+  pub given_forgot : (seat : ℕ) (keys : List Bytes) (report : Report) (start last : Held (Shard R)) → IsOpen steady last → IsToldOf (shard_meaning steady) (held_taken last) (held_parts last) report → seat ≡ (known_to start).number
+      → keys ≡ keys_of_pairs (known_to start).watched → AreThere (held_stripes start) (parts_of start) keys → Fit (held_stripes start) start → SameHold start last
+      → Became (shard_meaning steady) (held_stripes start) [] (clears seat keys) (parts_of start) (parts_of last) → MayBeGiven steady true report start last
+  given_forgot seat keys report start last opened told seat_is keys_are there fit same became = record {
     is_open = opened;
     gates = ap (λ (g : Bor (Gates (Shard R))). g.now) same.gates;
     pass = same.pass;
     told = told;
-    keys = λ yes. forgot_held n keys start last same keys_are (there_after n keys (parts_of start) (parts_of last) became.there there);
-    fit = fit_forgot n seat keys start last seat_is keys_are fit same became;
+    keys = λ yes. forgot_held (held_stripes start) keys start last same keys_are (there_after (held_stripes start) keys (parts_of start) (parts_of last) became.there there);
+    fit = fit_forgot (held_stripes start) seat keys start last seat_is keys_are fit same became;
   }
 
   -- what is held where the pass watches what it did
-  pub given_still : (n : ℕ) (report : Report) (start last : Held (Shard R)) → IsOpen steady last → IsToldOf (shard_meaning steady) (held_taken last) (held_parts last) report → gates_of last ≡ gates_of start → borrow_of last ≡ borrow_of start → Fit n last
-      → MayBeGiven steady false report n start last
-  given_still n report start last opened told gates pass fit = record {
+  pub given_still : (report : Report) (start last : Held (Shard R)) → IsOpen steady last → IsToldOf (shard_meaning steady) (held_taken last) (held_parts last) report → gates_of last ≡ gates_of start → borrow_of last ≡ borrow_of start → Fit (held_stripes start) last
+      → MayBeGiven steady false report start last
+  given_still report start last opened told gates pass fit = record {
     is_open = opened;
     gates = gates;
     pass = pass;
@@ -213,53 +235,57 @@ module _ {R : Type 0} (steady : Type 0) where
   }
 
   -- the same, from before the last steps
-  pub given_behind : (ends : Bool) (report : Report) (n : ℕ) (start mid last : Held (Shard R)) → gates_of mid ≡ gates_of start → borrow_of mid ≡ borrow_of start → MayBeGiven steady ends report n mid last → MayBeGiven steady ends report n start last
-  given_behind ends report n start mid last gates pass given = record {
+  pub given_behind : (ends : Bool) (report : Report) (start mid last : Held (Shard R)) → gates_of mid ≡ gates_of start → borrow_of mid ≡ borrow_of start → MayBeGiven steady ends report mid last → MayBeGiven steady ends report start last
+  given_behind ends report start mid last gates pass given = record {
     is_open = given.is_open;
     gates = given.gates ∙ gates;
     pass = given.pass ∙ pass;
     told = given.told;
-    keys = given.keys;
-    fit = given.fit;
+    keys = subst (λ (m : ℕ). MayEnd ends m (held_parts last) (known_to last).watched) (counted start mid gates) given.keys;
+    fit = subst (λ (m : ℕ). AllFit (shard_meaning steady) m (kept ends [] (known_to last)) (held_taken last) (held_parts last)) (counted start mid gates) given.fit;
   }
 
   -- a call may be entered still
-  pub may_still : (n : ℕ) (call : Call) (start mid : Held (Shard R)) → MayEnter steady n call start → IsOpen steady mid → has_committed mid ≡ false → gates_of mid ≡ gates_of start
-      → ((i : ℕ) → IsSome (parts_of start i) → IsSome (parts_of mid i)) → Fit n mid → MayEnter steady n call mid
-  may_still n call start mid may opened fresh gates there fit = record {
+  pub may_still : (call : Call) (start mid : Held (Shard R)) → MayEnter steady call start → IsOpen steady mid → has_committed mid ≡ false → gates_of mid ≡ gates_of start
+      → ((i : ℕ) → IsSome (parts_of start i) → IsSome (parts_of mid i)) → Fit (held_stripes start) mid → MayEnter steady call mid
+  may_still call start mid may opened fresh gates there fit = record {
     is_open = opened;
     fresh = fresh;
-    some = may.some;
-    most = may.most;
-    count = may.count ∙ sym (ap (λ (g : Gates (Shard R)). stripes_of g) gates);
-    there = there_after n (call_keys call) (parts_of start) (parts_of mid) there may.there;
-    fit = fit;
+    there = subst (λ (m : ℕ). AreThere m (parts_of mid) (call_keys call)) (sym (counted start mid gates)) (there_after (held_stripes start) (call_keys call) (parts_of start) (parts_of mid) there may.there);
+    fit = subst (λ (m : ℕ). Fit m mid) (sym (counted start mid gates)) fit;
   }
 
-  -- what may be given back, by the number of stripes of its own gates
-  pub given_here : (ends : Bool) (report : Report) (n : ℕ) (start held : Held (Shard R)) (gates : Gates (Shard R)) → n ≡ stripes_of gates → gates_of held ≡ gates → MayBeGiven steady ends report n start held
-      → MayBeGiven steady ends report (stripes_of (gates_of held)) held held
-  given_here ends report n start held gates n_is same given =
-      subst (λ (m : ℕ). MayBeGiven steady ends report m held held) (n_is ∙ ap (λ (g : Gates (Shard R)). stripes_of g) (sym same)) (record {
-        is_open = given.is_open;
-        gates = refl;
-        pass = refl;
-        told = given.told;
-        keys = given.keys;
-        fit = given.fit;
-      })
+  -- what may be given back, as it is held now
+  pub given_here : (ends : Bool) (report : Report) (start held : Held (Shard R)) → MayBeGiven steady ends report start held → MayBeGiven steady ends report held held
+  given_here ends report start held given = record {
+    is_open = given.is_open;
+    gates = refl;
+    pass = refl;
+    told = given.told;
+    keys = subst (λ (m : ℕ). MayEnd ends m (held_parts held) (known_to held).watched) (sym (counted start held given.gates)) given.keys;
+    fit = subst (λ (m : ℕ). AllFit (shard_meaning steady) m (kept ends [] (known_to held)) (held_taken held) (held_parts held)) (sym (counted start held given.gates)) given.fit;
+  }
 
   -- a call may be entered where its stripes were taken
-  pub may_enter : (n : ℕ) (call : Call) (gates : Gates (Shard R)) (stripes : List ℕ) (pass : MutBor (Pass (Shard R))) (held : Held (Shard R)) → 1 ≤ n → n ≤ 64 → n ≡ stripes_of gates
-      → AreThere n (parts_of held) (call_keys call) → HasTaken (shard_meaning steady) gates stripes pass held → MayEnter steady n call held
-  may_enter n call gates stripes pass held some most n_is there taken = record {
-    is_open = taken.is_open;
-    fresh = taken.fresh;
-    some = some;
-    most = most;
-    count = n_is ∙ ap (λ (g : Gates (Shard R)). stripes_of g) (sym taken.gates_are);
-    there = there;
-    fit = subst (λ (m : ℕ). Fit m held) (sym n_is) taken.fit;
+  pub may_enter : (call : Call) (gates : Gates (Shard R)) (stripes : List ℕ) (pass : MutBor (Pass (Shard R))) (held : Held (Shard R))
+      → AreThere (stripes_of gates) (parts_of held) (call_keys call) → HasTaken (shard_meaning steady) gates stripes pass held → MayEnter steady call held
+  may_enter call gates stripes pass held there taken =
+      let count : stripes_of gates ≡ held_stripes held = ap (λ (g : Gates (Shard R)). stripes_of g) (sym taken.gates_are) in
+      record {
+        is_open = taken.is_open;
+        fresh = taken.fresh;
+        there = subst (λ (m : ℕ). AreThere m (parts_of held) (call_keys call)) count there;
+        fit = subst (λ (m : ℕ). Fit m held) count taken.fit;
+      }
+
+  -- a call may begin where its stripes were taken
+  pub may_begin : (call : Call) (gates : Gates (Shard R)) (stripes : List ℕ) (pass : MutBor (Pass (Shard R))) (held : Held (Shard R))
+      → AreThere (stripes_of gates) (parts_of held) (call_keys call) → HasTaken (shard_meaning steady) gates stripes pass held → MaySubmit steady gates call pass.now → MayBegin steady call held
+  may_begin call gates stripes pass held there taken may = record {
+    may = may_enter call gates stripes pass held there taken;
+    lent = taken.lent;
+    place = subst (λ (w : List Pair). HasItsPlace w (asked_of call)) (sym taken.learned.watched) may.place;
+    ends = subst (λ (w : List Pair). EndsAll call w) (sym taken.learned.watched) may.ends;
   }
 
   -- a stripe that a plan found full is so by its pages
@@ -393,14 +419,6 @@ undone_by promises call f start mid last f0 f1 told entry is number seen mine wa
       notes = ap (λ (k : Knowledge). k.notes) is ∙ notes;
       cause = cause_same promises f [] (asked_for call) (know start f0) (know start f1) (know last f1) told (ap (λ (k : Knowledge). k.seen) is ∙ seen) refl cause;
     })
-
--- what is still watched after a fault, where the call is no transaction
-pub unended : (call : Call) (watched : List Pair) → IsEntry call → ((commands : List Command) (watching : List Bytes) → call ≡ Exec commands watching → ⊥)
-    → watched_at_fault watched (asked_for call) ≡ watched
-unended (One command) watched entry never = refl
-unended (Watch keys) watched entry never = refl
-unended (Exec commands watching) watched entry never = absurd (never commands watching refl)
-unended (Forget watching) watched entry never = absurd entry
 
 -- the plan was not made, and that was told
 pub stopped_by : {R : Type 0} (promises : Promises) (call : Call) (stop : Stop R) (refused : Refused) (start mid last : Knowledge) (f0 f1 : ℕ) → IsEntry call

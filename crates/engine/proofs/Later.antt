@@ -1,6 +1,5 @@
 -- Calls that give their stripes back and take them again.
-use Rattle.std.proofs.Common.{IfOk, Result, Ok, Err, ◌≡◌, ◌∙◌, ◌+◌, ◌≤◌, nat_eq, false, ℕ, List, [], ◌∷◌, ◌++◌, append_assoc, refl, sym, ap, subst, arith}
-use Rattle.std.proofs.lemmas.Bool.Decides.{nat_tests}
+use Rattle.std.proofs.Common.{false, IfOk, Result, Ok, Err, Option, Some, ◌≡◌, ◌∙◌, ◌+◌, ℕ, List, [], ◌∷◌, ◌++◌, append_assoc, refl, sym, ap, subst}
 use Rattle.hybrid.specs.HybridLog.{Kept}
 use Rattle.plans.specs.Reading.{ServesEach}
 use Rattle.words.specs.History.{History, after}
@@ -22,10 +21,20 @@ use Rattle.engine.specs.Calls.{IsUndone, Promises}
 use Rattle.engine.specs.Entering.{at_fault}
 use Rattle.engine.specs.Answers.{IsAnswered}
 use Rattle.engine.specs.Memory.{AsksNoMemory, set_call}
-use Rattle.engine.specs.Passes.{Known, know}
+use Rattle.epoch.specs.declared.epochs.Epochs.{Epochs}
+use Rattle.epoch.specs.declared.epochs.EpochSeat.{EpochSeat}
+use Rattle.plans.specs.declared.hands.Hands.{Hands}
+use Rattle.engine.specs.Passes.{AreFree, HasHands, Known, know}
 use Rattle.engine.specs.Stops.{fault_of}
-use Rattle.engine.specs.declared.outside.TheConstants.{ROUNDS}
-use Rattle.engine.proofs.Behind.{busy_both, undone_behind}
+use Rattle.words.specs.History.{Pair}
+use Rattle.gates.specs.declared.gates.Gates.{Gates}
+use Rattle.gates.specs.declared.gates.Pass.{Pass}
+use Rattle.gates.specs.Passes.{IsResting, known}
+use Rattle.shards.specs.declared.shard.Shard.{Shard}
+use Rattle.transact.specs.Plans.{EndsAll}
+use Rattle.engine.specs.Calls.{HasItsPlace}
+use Rattle.engine.specs.Entering.{HasWaited, MaySubmit}
+use Rattle.engine.proofs.Behind.{answered_later, busy_both, undone_behind}
 use Rattle.engine.proofs.Entering.{stopped_by}
 use Rattle.engine.proofs.Memory.{needs_near}
 
@@ -69,14 +78,6 @@ pub serves_all : {D R : Type 0} (serves : D → R → Type 0) (identity : R → 
 serves_all serves identity device [] all = tt
 serves_all serves identity device (kept ∷ receipts) all = (λ r named. all r, serves_all serves identity device receipts all)
 
--- a round that may not read is not the last
-pub few : (n : ℕ) → nat_eq n ROUNDS ≡ false → n ≤ ROUNDS → n + 1 ≤ ROUNDS
-few n not below = grind (arith, nat_tests)
-
--- what is said of receipts that are wanted
-pub cold_then : {R : Type 0} (P : List Kept → Type 0) (s : Stop R) (receipts : List Kept) → s ≡ stop.Cold receipts → IfCold s P → P receipts
-cold_then {R} P s receipts is holds = subst (λ (x : Stop R). IfCold x P) is holds
-
 -- a call that wants pages which no receipt lends may want memory
 wants_memory : (promises : Promises) (store : Store) (call : Call) → ((key value : Bytes) → call ≡ set_call key value → ⊥) → (promises.lends → ⊥)
     → ¬ AsksNoMemory (promises.steady × promises.lends) store (asked_for call)
@@ -100,7 +101,36 @@ pub this_failed : (promises : Promises) (stripes : List ℕ) (call : Call) (a : 
 this_failed promises stripes call a fault was now is undone =
     subst (λ (x : Answer). IsAnswered promises stripes call x was now) (sym is) (record { done = tt; undone = undone })
 
--- an answer that is due both ways
-pub both_ok : {A E : Type 0} (P Q : A → Type 0) (S : A → Type 0) (r : Result A E) → ((a : A) → P a → Q a → S a) → IfOk r P → IfOk r Q → IfOk r S
-both_ok P Q S (Ok a) both p q = both a p q
-both_ok P Q S (Err e) both p q = tt
+-- what a pass learned while it waited twice
+pub waited_both : (stripes : List ℕ) (one two three : Knowledge × ℕ) → HasWaited stripes one two → HasWaited stripes two three → HasWaited stripes one three
+waited_both stripes one two three first second = record {
+  learned = learned_both one.0 two.0 three.0 first.learned second.learned;
+  told = told_both stripes one.0 two.0 three.0 first.told second.told;
+  no_fault = second.no_fault ∙ first.no_fault;
+}
+
+pub waited_none : (stripes : List ℕ) (one : Knowledge × ℕ) → HasWaited stripes one one
+waited_none stripes one = record { learned = learned_none one.0; told = told_none stripes one.0; no_fault = refl }
+
+-- a pass that waited may submit its call still
+pub may_submit_still : {R : Type 0} (steady : Type 0) (gates : Gates (Shard R)) (call : Call) (one two : Pass (Shard R)) (f0 f1 : ℕ) (stripes : List ℕ) → MaySubmit steady gates call one
+    → IsResting steady gates two → HasWaited stripes (known one, f0) (known two, f1) → MaySubmit steady gates call two
+may_submit_still steady gates call one two f0 f1 stripes may rests waited = record {
+  rests = rests;
+  place = subst (λ (w : List Pair). HasItsPlace w (asked_of call)) (sym waited.learned.watched) may.place;
+  ends = subst (λ (w : List Pair). EndsAll call w) (sym waited.learned.watched) may.ends;
+}
+
+-- a call that was answered after it waited was answered so from before that
+pub answered_waited : (promises : Promises) (stripes : List ℕ) (call : Call) (a : Answer) (before later : Knowledge × ℕ) (now : Known) → HasWaited stripes before later
+    → IsAnswered promises stripes call a (know later.0 later.1) now → IsAnswered promises stripes call a (know before.0 before.1) now
+answered_waited promises stripes call a before later now waited answered =
+    answered_later stripes before.0 later.0 before.1 now waited.learned waited.told promises a call
+    (subst (λ (f : ℕ). IsAnswered promises stripes call a (know later.0 f) now) waited.no_fault answered)
+
+some_hands : {R : Type 0} (a b : Hands R EpochSeat) → Some a ≡ Some b → a ≡ b
+some_hands a b e = cc e
+
+-- the hands of a pass that has some
+pub free_of : {R : Type 0} (epochs : Epochs) (hands : Option (Hands R EpochSeat)) (own : Hands R EpochSeat) → Some own ≡ hands → HasHands epochs hands → AreFree epochs own
+free_of epochs hands own is has = subst (AreFree epochs) (some_hands has.0 own (sym has.1 ∙ sym is)) has.2

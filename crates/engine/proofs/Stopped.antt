@@ -1,9 +1,9 @@
 -- Plans that were not made, and what they are answered.
-use Rattle.std.proofs.Common.{◌≡◌, ◌∙◌, ◌+◌, ◌<◌, ℕ, List, [], ◌∷◌, Some, false, cond, eq-eqb, refl, sym, ap, subst, arith}
+use Rattle.std.proofs.Common.{◌≡◌, ◌+◌, ◌<◌, ℕ, List, [], ◌∷◌, Some, false, cond, eq-eqb, refl, sym, ap, subst, arith}
 use Rattle.words.specs.declared.command.Command.TheVariants.{Set}
 use Rattle.words.specs.declared.command.When.TheVariants.{Always}
 use Rattle.words.specs.History.{Pair, after}
-use Rattle.words.specs.Session.{Asked, line_reply, operation_of, watched_at_fault}
+use Rattle.words.specs.Session.{line_reply, watched_at_fault}
 use Rattle.words.specs.Store.{Bytes, Store, Write}
 use Rattle.words.specs.Stripes.{stripe_of}
 use Rattle.words.specs.declared.history.Operation.TheVariants.{Run}
@@ -18,6 +18,8 @@ use Rattle.shards.specs.Rooms.{share}
 use Rattle.shards.specs.Shards.{weigh}
 use Rattle.plans.specs.declared.stop.Stop.{Stop}
 use Rattle.plans.specs.declared.stop.Stop.TheVariants as stop
+use Rattle.hybrid.specs.HybridLog.{Kept}
+use Rattle.plans.specs.Planning.{MatchStop}
 use Rattle.plans.specs.Sizes.{IsPlaced}
 use Rattle.plans.specs.Stops.{IfCold, IfFull, IfNoMemory, faults}
 use Rattle.engine.specs.Calls.{HasItsPlace, IsUndone, Promises}
@@ -43,14 +45,31 @@ written_there n key value =
     omega (arith, here)
 
 module _ {R : Type 0} where
-  -- what would be written where a stripe is full
-  pub full_writes : (steady : Type 0) (n : ℕ) {W : ℕ → Type 0} (s : Stop R) (asked : Asked) (start : Knowledge)
-      → (steady → (i : ℕ) → W i → 0 < share n i (made start.seen (operation_of start.watched asked))) → (steady → IfFull s W)
-      → IfFull s (λ stripe. steady → 0 < share n stripe (made start.seen (operation_of start.watched asked)))
-  full_writes steady n stop.OutOfMemory asked start more full = tt
-  full_writes steady n stop.DeviceFault asked start more full = tt
-  full_writes steady n (stop.StoreFull stripe) asked start more full = λ t. more t stripe (full t)
-  full_writes steady n (stop.Cold receipts) asked start more full = tt
+  -- each case of why a plan was not made
+  pub cold_in : (s : Stop R) (C : List Kept → Type 0) (M F : Type 0) (U : ℕ → Type 0) → MatchStop s C M F U → IfCold s C
+  cold_in stop.OutOfMemory C M F U has = tt
+  cold_in stop.DeviceFault C M F U has = tt
+  cold_in (stop.StoreFull stripe) C M F U has = tt
+  cold_in (stop.Cold receipts) C M F U has = has
+
+  pub memory_in : (s : Stop R) (C : List Kept → Type 0) (M F : Type 0) (U : ℕ → Type 0) → MatchStop s C M F U → ¬ M → IfNoMemory s ⊥
+  memory_in stop.OutOfMemory C M F U has none = none has
+  memory_in stop.DeviceFault C M F U has none = tt
+  memory_in (stop.StoreFull stripe) C M F U has none = tt
+  memory_in (stop.Cold receipts) C M F U has none = tt
+
+  pub full_in : (s : Stop R) (C : List Kept → Type 0) (M F : Type 0) (U : ℕ → Type 0) → MatchStop s C M F U → IfFull s U
+  full_in stop.OutOfMemory C M F U has = tt
+  full_in stop.DeviceFault C M F U has = tt
+  full_in (stop.StoreFull stripe) C M F U has = has
+  full_in (stop.Cold receipts) C M F U has = tt
+
+  -- what is said of a full stripe, said otherwise
+  pub full_then : (s : Stop R) (P Q : ℕ → Type 0) → ((i : ℕ) → P i → Q i) → IfFull s P → IfFull s Q
+  full_then stop.OutOfMemory P Q turn has = tt
+  full_then stop.DeviceFault P Q turn has = tt
+  full_then (stop.StoreFull stripe) P Q turn has = turn stripe has
+  full_then (stop.Cold receipts) P Q turn has = tt
 
   -- a call that needs no memory is not stopped by want of it
   pub not_wanted : (promises : Promises) (call : Call) (s : Stop R) (store : Store) → (AsksNoMemory (promises.steady × promises.lends) store (asked_for call) → IfNoMemory s ⊥)

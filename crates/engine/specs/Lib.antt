@@ -3,5 +3,6 @@ pub mod Entering
 pub mod Passes
 pub mod Calls
 pub mod Stops
-pub mod Stays
+pub mod Visits
 pub mod Answers
+pub mod Steps

@@ -10,6 +10,7 @@ use Rattle.gates.specs.declared.gates.Gates.{Gates}
 use Rattle.gates.specs.Plays.{newcomer}
 use Rattle.gates.specs.Passes.{known, stripes_of, IsResting}
 use Rattle.shards.specs.declared.shard.Shard.{Shard}
+use Rattle.plans.specs.declared.hands.Hands.{Hands}
 use Rattle.engine.specs.declared.pass.Pass.{Pass}
 use Rattle.engine.specs.declared.Engine.{Engine}
 
@@ -28,9 +29,14 @@ abbrev pub know : Knowledge → (failures : ℕ) → Known
 know knows failures =
     record { number = knows.number; seen = knows.seen; mine = knows.mine; notes = knows.notes; watched = knows.watched; failures = failures }
 
--- there is a seat of these epochs, which has no stay
-abbrev pub HasSeat : Epochs → Option EpochSeat → Type 0
-HasSeat epochs seat = (own : EpochSeat) × (seat ≡ Some own) × IsOutside epochs own
+-- Hands of a seat that has no stay.
+pub record AreFree {R : Type 0} (epochs : Epochs) (hands : Hands R EpochSeat) : Type 0 where
+  pub outside : IsOutside epochs hands.own
+  pub none : hands.staged ≡ []
+
+-- there are hands of a seat of these epochs, which has no stay, and no page is staged
+abbrev pub HasHands : {R : Type 0} → Epochs → Option (Hands R EpochSeat) → Type 0
+HasHands {R} epochs hands = (own : Hands R EpochSeat) × (hands ≡ Some own) × AreFree epochs own
 
 module _ {D R : Type 0} where
   -- what a pass knows; `failures` counts the failed calls of an opening
@@ -38,11 +44,10 @@ module _ {D R : Type 0} where
   knows failures pass = know (known pass.gates) (failures pass.device)
 
   -- the pass holds none of these gates' stripes, and where the device is steady, what it has seen is legal; it has its own entries of it. It has
-  -- a seat of these epochs, and no stay; and no page is staged.
+  -- hands of a seat of these epochs, no stay, and no page is staged.
   pub record RestsOf (steady : Type 0) (gates : Gates (Shard R)) (epochs : Epochs) (pass : Pass D R) : Type 0 where
     pub rests : IsResting steady gates pass.gates
-    pub seated : HasSeat epochs pass.seat
-    pub none_staged : pass.staged ≡ []
+    pub has_hands : HasHands epochs pass.hands
 
   -- the pass is one of the engine's, and holds nothing
   abbrev pub Rests : (steady : Type 0) → Engine D R → Pass D R → Type 0

@@ -1,9 +1,12 @@
 -- Plans that were not made, as calls are answered then.
+use Rattle.std.specs.Prelude.{◌≡◌, true}
+use Rattle.epoch.specs.declared.view.View.{View}
 use Rattle.words.specs.declared.reply.Fault.{Fault}
 use Rattle.words.specs.declared.reply.Fault.TheVariants as fault
 use Rattle.gates.specs.declared.view.Refused.{Refused}
 use Rattle.gates.specs.declared.report.Report.{Report}
 use Rattle.gates.specs.declared.report.Report.TheVariants as report
+use Rattle.shards.specs.Heard.{HasHeardWorn}
 use Rattle.plans.specs.declared.stop.Stop.{Stop}
 use Rattle.plans.specs.declared.stop.Stop.TheVariants as stop
 
@@ -37,3 +40,7 @@ IsOfCall (report.Full stripe refused) = Unit {0}
 IsOfCall (report.Idle stripe work) = ⊥
 IsOfCall (report.Done stripe work) = ⊥
 IsOfCall (report.Seen stripe look) = ⊥
+
+-- where the epochs refused to retire, their seat was told last that their word is worn out
+abbrev pub IsWornBy : (before later : View) → Refused → Type 0
+IsWornBy before later refused = refused.retire ≡ true → HasHeardWorn before later

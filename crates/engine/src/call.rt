@@ -1,23 +1,24 @@
 //! Any call of a pass over the gates.
 
 ghost use Rattle.std.specs.Prelude.{◌≡◌, ◌<◌, [], IfErr, IfOk};
-ghost use Rattle.gates.specs.Sets.{AreBelow, times};
+ghost use Rattle.gates.specs.Sets.{times};
 ghost use Rattle.gates.specs.Passes.{IsResting, WasBusy, known, stripes_of};
-ghost use Rattle.transact.specs.Calls.{asked_of};
 ghost use Rattle.transact.specs.Plans.{EndsAll, IsEntry};
-ghost use Rattle.transact.specs.Submits.{IfFault, IfReply, asked_for, stripes_asked};
-ghost use Rattle.engine.specs.Calls.{HasItsPlace, IsDone, IsUndone, promises_of};
-ghost use Rattle.engine.specs.Entering.{WasAbandoned};
-ghost use Rattle.engine.specs.Passes.{HasSeat, know};
+ghost use Rattle.transact.specs.Submits.{asked_for, stripes_asked};
+ghost use Rattle.engine.specs.Answers.{IsAnswered};
+ghost use Rattle.engine.specs.Calls.{promises_of};
+ghost use Rattle.engine.specs.Entering.{AreStripesOf, MaySubmit, WasAbandoned};
+ghost use Rattle.engine.specs.Passes.{HasHands, know};
 
 use crate::enter::{Entered, enter_at_once, enter_call, give_back, refuse};
-use crate::rounds::{Enters, run};
+use crate::rounds::{Asking, Enters, run};
 use crate::site::Site;
 use device::{Device, Shows};
 use epoch::EpochSeat;
 use gates::{Held, Latch, Pass, Report, Sorted};
-use hybrid::Staged;
+use plans::hands::Hands;
 use plans::laws::stripes_hold_keys;
+use plans::reading::WhenCold;
 use plans::stop::Receipts;
 use shards::retires::Retires;
 use shards::shard::Shard;
@@ -27,24 +28,22 @@ use transact::stripes::keys_of;
 use words::reply::Fault;
 
 impl Enters<Answer> for Call {
-    ghost use Rattle.transact.specs.declared.call.Answer.{Answer};
     ghost use Rattle.transact.specs.declared.call.Call.{Call};
+    ghost use Rattle.engine.specs.Entering.{own_answer};
 
     ghost call_of = { λ (call : Call). call };
 
-    ghost says = { λ (answer : Answer). answer };
+    ghost says = { own_answer };
 
     fn enter<L: Latch, R: Shows, D: Device<Receipt = R>, S: Retires>(
         &self,
         site: &Site<L, R>,
         held: &mut Held<'_, Shard<R>>,
-        stripes: usize,
         device: &mut D,
-        staged: &mut Staged<R>,
-        own: &mut S,
-        reads: bool,
+        hands: &mut Hands<R, S>,
+        cold: WhenCold,
     ) -> Result<Entered<Answer>, Receipts<R>> {
-        enter_call(site, held, stripes, device, staged, own, self, reads)
+        enter_call(site, held, device, hands, self, cold)
     }
 
     fn fail<T: Wait, L: Latch, R: Shows>(
@@ -68,24 +67,23 @@ pub(crate) fn submit<T: Wait, L: Latch, R: Shows, D: Device<Receipt = R>>(
     site: &Site<L, R>,
     pass: &mut Pass<Shard<R>>,
     device: &mut D,
-    seat: &mut Option<EpochSeat>,
-    staged: &mut Staged<R>,
+    hands: &mut Option<Hands<R, EpochSeat>>,
     call: Call,
 ) -> Answer
-    requires rests { IsResting R.is_steady site.now.gates.now pass.old }
-    requires place { HasItsPlace (known pass.old).watched (asked_of call) }
-    requires ends { EndsAll call (known pass.old).watched }
-    requires seat { HasSeat site.now.epochs.now seat.old }
-    requires none { staged.old ≡ [] }
+    requires may { MaySubmit R.is_steady site.now.gates.now call pass.old }
+    requires hands { HasHands site.now.epochs.now hands.old }
     ensures rests { IsResting R.is_steady site.now.gates.now pass.new }
-    ensures seat { HasSeat site.now.epochs.now seat.new }
-    ensures none { staged.new ≡ [] }
-    ensures done { IfReply result (λ reply. IsDone (stripes_asked (stripes_of site.now.gates.now) call) (asked_of call) reply (know (known pass.old) (D.failures device.old)) (know (known pass.new) (D.failures device.new))) }
-    ensures undone { IfFault result (λ fault. IsUndone (promises_of R.is_steady R.lends (stripes_of site.now.gates.now)) (stripes_asked (stripes_of site.now.gates.now) call) (asked_of call) fault (know (known pass.old) (D.failures device.old)) (know (known pass.new) (D.failures device.new))) }
+    ensures hands { HasHands site.now.epochs.now hands.new }
+    ensures answered { IsAnswered (promises_of R.is_steady R.lends (stripes_of site.now.gates.now))
+        (stripes_asked (stripes_of site.now.gates.now) call) call result
+        (know (known pass.old) (D.failures device.old)) (know (known pass.new) (D.failures device.new)) }
 {
     let wanted = keys_of(&call, site.gates.stripes());
-    let answer = run(rt, site, pass, device, seat, staged, &wanted, &call);
-    staged.clear();
+    let asking = Asking {
+        call: &call,
+        wanted: &wanted,
+    };
+    let answer = run(rt, site, pass, device, hands, &asking);
     call.spend();
     answer
 }
@@ -101,20 +99,15 @@ pub(crate) fn try_submit<L: Latch, R: Shows, D: Device<Receipt = R>>(
     site: &Site<L, R>,
     pass: &mut Pass<Shard<R>>,
     device: &mut D,
-    seat: &mut Option<EpochSeat>,
-    staged: &mut Staged<R>,
+    hands: &mut Option<Hands<R, EpochSeat>>,
     call: Call,
 ) -> Result<Answer, (Busy, Call)>
-    requires rests { IsResting R.is_steady site.now.gates.now pass.old }
-    requires place { HasItsPlace (known pass.old).watched (asked_of call) }
-    requires ends { EndsAll call (known pass.old).watched }
-    requires seat { HasSeat site.now.epochs.now seat.old }
-    requires none { staged.old ≡ [] }
+    requires may { MaySubmit R.is_steady site.now.gates.now call pass.old }
+    requires hands { HasHands site.now.epochs.now hands.old }
     ensures rests { IsResting R.is_steady site.now.gates.now pass.new }
-    ensures seat { HasSeat site.now.epochs.now seat.new }
-    ensures none { staged.new ≡ [] }
-    ensures done { IfOk result (λ answer. IfReply answer (λ reply. IsDone [] (asked_of call) reply (know (known pass.old) (D.failures device.old)) (know (known pass.new) (D.failures device.new)))) }
-    ensures undone { IfOk result (λ answer. IfFault answer (λ fault. IsUndone (promises_of R.is_steady R.lends (stripes_of site.now.gates.now)) [] (asked_of call) fault (know (known pass.old) (D.failures device.old)) (know (known pass.new) (D.failures device.new)))) }
+    ensures hands { HasHands site.now.epochs.now hands.new }
+    ensures answered { IfOk result (λ answer. IsAnswered (promises_of R.is_steady R.lends (stripes_of site.now.gates.now)) [] call answer
+        (know (known pass.old) (D.failures device.old)) (know (known pass.new) (D.failures device.new))) }
     ensures stripe { IfErr result (λ refusal. 0 < times refusal.0.stripe (stripes_asked (stripes_of site.now.gates.now) call)) }
     ensures busy { IfErr result (λ refusal. WasBusy refusal.0.stripe (known pass.old) (known pass.new)) }
     ensures no_call { IfErr result (λ refusal. D.failures device.new ≡ D.failures device.old) }
@@ -122,11 +115,10 @@ pub(crate) fn try_submit<L: Latch, R: Shows, D: Device<Receipt = R>>(
 {
     stripes_hold_keys::<R>();
     let gates = site.gates;
-    let stripes = gates.stripes();
-    let wanted = keys_of(&call, stripes);
+    let wanted = keys_of(&call, gates.stripes());
     match gates.try_take(pass, &wanted) {
         Ok(()) => {
-            let Some(mut own) = seat.take() else {
+            let Some(mut taken) = hands.take() else {
                 unreachable!()
             };
             let mut held = gates.hold(pass, &wanted);
@@ -134,10 +126,10 @@ pub(crate) fn try_submit<L: Latch, R: Shows, D: Device<Receipt = R>>(
                 answer,
                 ends,
                 report,
-            } = enter_at_once(site, &mut held, stripes, device, staged, &mut own, &call);
-            *seat = Some(own);
+            } = enter_at_once(site, &mut held, device, &mut taken, &call);
+            taken.staged.clear();
+            *hands = Some(taken);
             give_back(held, ends, &report);
-            staged.clear();
             call.spend();
             Ok(answer)
         }
@@ -158,21 +150,19 @@ fn abandon<T: Wait, L: Latch, R: Shows>(
     requires rests { IsResting R.is_steady site.now.gates.now pass.old }
     requires entry { IsEntry call.now }
     requires ends { EndsAll call.now (known pass.old).watched }
-    requires wanted { wanted.now ≡ stripes_asked (stripes_of site.now.gates.now) call.now }
-    requires below { AreBelow (stripes_of site.now.gates.now) wanted.now }
+    requires wanted { AreStripesOf (stripes_of site.now.gates.now) call.now wanted.now }
     ensures rests { IsResting R.is_steady site.now.gates.now pass.new }
     ensures answer { result ≡ Answer.Fault fault }
     ensures known { WasAbandoned wanted.now (asked_for call.now) (known pass.old) (known pass.new) }
 {
     stripes_hold_keys::<R>();
     let gates = site.gates;
-    let stripes = gates.stripes();
     let mut held = gates.take(rt, pass, wanted);
     let Entered {
         answer,
         ends,
         report,
-    } = refuse(&mut held, stripes, call, fault, Report::Nothing);
+    } = refuse(&mut held, call, fault, Report::Nothing);
     give_back(held, ends, &report);
     answer
 }

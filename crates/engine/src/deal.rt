@@ -3,6 +3,8 @@
 ghost use Rattle.std.specs.Prelude.{◌≡◌, ℕ, All, IfOk, Some, [], vec_len};
 ghost use Rattle.gates.specs.Passes.{AreNew};
 ghost use Rattle.epoch.specs.Seats.{IsOutside};
+ghost use Rattle.epoch.specs.declared.epochs.EpochSeat.{EpochSeat};
+ghost use Rattle.plans.specs.declared.hands.Hands.{Hands};
 ghost use Rattle.engine.specs.Passes.{AreDealt};
 
 use crate::pass::Pass;
@@ -10,6 +12,7 @@ use device::{Device, Shows};
 use epoch::{EpochSeat, Epochs};
 use gates::Gates;
 use hybrid::Staged;
+use plans::hands::Hands;
 use records::Page;
 use shards::shard::Shard;
 use std::alloc::Global;
@@ -67,15 +70,19 @@ fn pass_of<R: Shows, D: Device<Receipt = R>>(
 ) -> Result<Pass<D>, OutOfMemory>
     ensures gates { IfOk result (λ pass. pass.gates ≡ gates) }
     ensures device { IfOk result (λ pass. pass.device ≡ device) }
-    ensures seat { IfOk result (λ pass. pass.seat ≡ Some seat) }
-    ensures staged { IfOk result (λ pass. pass.staged ≡ []) }
+    ensures hands { IfOk result (λ pass. (hands : Hands R EpochSeat) × (pass.hands ≡ Some hands)
+        × (hands.own ≡ seat) × (hands.staged ≡ [])) }
 {
     let page = Page::new(alloc, 0)?;
+    let hands = Hands {
+        alloc,
+        staged: Staged::new(alloc),
+        own: seat,
+    };
     Ok(Pass {
         gates,
         device,
-        seat: Some(seat),
-        staged: Staged::new(alloc),
+        hands: Some(hands),
         page,
     })
 }

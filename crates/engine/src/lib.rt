@@ -19,16 +19,17 @@ ghost use Rattle.gates.specs.Plays.{AreEmpty};
 ghost use Rattle.gates.specs.Sets.{times};
 ghost use Rattle.transact.specs.Calls.{answer_of, answer_with, asked_of};
 ghost use Rattle.transact.specs.Plans.{EndsAll};
-ghost use Rattle.transact.specs.Submits.{IfReply, IfFault, stripes_asked};
+ghost use Rattle.transact.specs.Submits.{stripes_asked};
 ghost use Rattle.shards.specs.Shards.{shard_meaning};
 ghost use Rattle.engine.specs.Memory.{get_call, set_call};
 ghost use Rattle.engine.specs.Passes.{AreOf, knows, Rests, stripe_count};
-ghost use Rattle.engine.specs.Calls.{FoundBusy, HasItsPlace, HasLearned, IsDone, IsUndone, promises_of};
+ghost use Rattle.engine.specs.Answers.{ComesTo, WaitsAndComesTo};
+ghost use Rattle.engine.specs.Calls.{FoundBusy, HasItsPlace, HasLearned};
 
 use crate::call::{submit, try_submit};
 use crate::deal::deal;
 use crate::get::submit_get;
-use crate::set::submit_set;
+use crate::set::{Setting, submit_set};
 use crate::site::Site;
 use device::{Device, Shows};
 use epoch::Epochs;
@@ -38,6 +39,7 @@ use std::alloc::Global;
 use std::marker::PhantomData;
 use std::sync::Wait;
 use transact::call::{Answer, Busy, Call};
+use words::hash::Hashed;
 use words::limits::Limits;
 use words::reply::{Fault, Line};
 use words::word::{OutOfMemory, Word};
@@ -46,12 +48,12 @@ mod call;
 mod deal;
 mod enter;
 mod get;
-mod outside;
 mod pass;
 mod rounds;
 mod set;
 mod site;
 mod steps;
+mod visit;
 
 pub use pass::Pass;
 
@@ -62,7 +64,6 @@ pub const BACKGROUND_PASSES: usize = 3;
 /// The shared store: which value each key has.
 #[derive(Drop)]
 pub struct Engine<D: Device> {
-    alloc: Global,
     gates: Gates<Shard<D::Receipt>>,
     epochs: Epochs,
     opening: PhantomData<D>,
@@ -94,7 +95,6 @@ impl<D: Device> Engine<D> {
         let (epochs, seats) = Epochs::new(alloc, count)?;
         let passes = deal(alloc, &gates, &epochs, passes, seats, openings)?;
         let engine = Engine {
-            alloc,
             gates,
             epochs,
             opening: PhantomData,
@@ -124,8 +124,7 @@ impl<D: Device> Engine<D> {
         requires place { HasItsPlace (knows D.failures pass.old).watched (asked_of call) }
         requires watching { EndsAll call (knows D.failures pass.old).watched }
         ensures rests { Rests D.Receipt.is_steady self.now pass.new }
-        ensures done { IfReply result (λ reply. IsDone (stripes_asked (stripe_count self.now) call) (asked_of call) reply (knows D.failures pass.old) (knows D.failures pass.new)) }
-        ensures undone { IfFault result (λ fault. IsUndone (promises_of D.Receipt.is_steady D.Receipt.lends (stripe_count self.now)) (stripes_asked (stripe_count self.now) call) (asked_of call) fault (knows D.failures pass.old) (knows D.failures pass.new)) }
+        ensures answered { WaitsAndComesTo D.Receipt.is_steady D.Receipt.lends D.failures self.now call result pass.old pass.new }
     {
         self.submit_with(rt, pass, call, &Open)
     }
@@ -143,13 +142,11 @@ impl<D: Device> Engine<D> {
         requires place { HasItsPlace (knows D.failures pass.old).watched (asked_of call) }
         requires watching { EndsAll call (knows D.failures pass.old).watched }
         ensures rests { Rests D.Receipt.is_steady self.now pass.new }
-        ensures done { IfReply result (λ reply. IsDone (stripes_asked (stripe_count self.now) call) (asked_of call) reply (knows D.failures pass.old) (knows D.failures pass.new)) }
-        ensures undone { IfFault result (λ fault. IsUndone (promises_of D.Receipt.is_steady D.Receipt.lends (stripe_count self.now)) (stripes_asked (stripe_count self.now) call) (asked_of call) fault (knows D.failures pass.old) (knows D.failures pass.new)) }
+        ensures answered { WaitsAndComesTo D.Receipt.is_steady D.Receipt.lends D.failures self.now call result pass.old pass.new }
     {
         let number = pass.gates.number();
         latch.at(number, Point::Before);
         let site = Site {
-            alloc: self.alloc,
             gates: &self.gates,
             epochs: &self.epochs,
             latch,
@@ -159,8 +156,7 @@ impl<D: Device> Engine<D> {
             &site,
             &mut pass.gates,
             &mut pass.device,
-            &mut pass.seat,
-            &mut pass.staged,
+            &mut pass.hands,
             call,
         );
         latch.at(number, Point::After);
@@ -183,13 +179,12 @@ impl<D: Device> Engine<D> {
         requires rests { Rests D.Receipt.is_steady self.now pass.old }
         requires place { IsBounded (command.Get key.now) }
         ensures rests { Rests D.Receipt.is_steady self.now pass.new }
-        ensures done { IfReply (answer_with result) (λ reply. IsDone (stripes_asked (stripe_count self.now) (get_call key.now)) (asked_of (get_call key.now)) reply (knows D.failures pass.old) (knows D.failures pass.new)) }
-        ensures undone { IfFault (answer_with result) (λ fault. IsUndone (promises_of D.Receipt.is_steady D.Receipt.lends (stripe_count self.now)) (stripes_asked (stripe_count self.now) (get_call key.now)) (asked_of (get_call key.now)) fault (knows D.failures pass.old) (knows D.failures pass.new)) }
+        ensures answered { WaitsAndComesTo D.Receipt.is_steady D.Receipt.lends D.failures self.now (get_call key.now) (answer_with result)
+            pass.old pass.new }
     {
         let number = pass.gates.number();
         latch.at(number, Point::Before);
         let site = Site {
-            alloc: self.alloc,
             gates: &self.gates,
             epochs: &self.epochs,
             latch,
@@ -199,8 +194,7 @@ impl<D: Device> Engine<D> {
             &site,
             &mut pass.gates,
             &mut pass.device,
-            &mut pass.seat,
-            &mut pass.staged,
+            &mut pass.hands,
             key,
         );
         latch.at(number, Point::After);
@@ -224,13 +218,12 @@ impl<D: Device> Engine<D> {
         requires rests { Rests D.Receipt.is_steady self.now pass.old }
         requires place { IsBounded (command.Set key.now value.now Always) }
         ensures rests { Rests D.Receipt.is_steady self.now pass.new }
-        ensures done { IfReply (answer_of result) (λ reply. IsDone (stripes_asked (stripe_count self.now) (set_call key.now value.now)) (asked_of (set_call key.now value.now)) reply (knows D.failures pass.old) (knows D.failures pass.new)) }
-        ensures undone { IfFault (answer_of result) (λ fault. IsUndone (promises_of D.Receipt.is_steady D.Receipt.lends (stripe_count self.now)) (stripes_asked (stripe_count self.now) (set_call key.now value.now)) (asked_of (set_call key.now value.now)) fault (knows D.failures pass.old) (knows D.failures pass.new)) }
+        ensures answered { WaitsAndComesTo D.Receipt.is_steady D.Receipt.lends D.failures self.now (set_call key.now value.now)
+            (answer_of result) pass.old pass.new }
     {
         let number = pass.gates.number();
         latch.at(number, Point::Before);
         let site = Site {
-            alloc: self.alloc,
             gates: &self.gates,
             epochs: &self.epochs,
             latch,
@@ -240,9 +233,11 @@ impl<D: Device> Engine<D> {
             &site,
             &mut pass.gates,
             &mut pass.device,
-            &mut pass.seat,
-            key,
-            value,
+            &mut pass.hands,
+            &Setting {
+                key: &Hashed::new(key),
+                value,
+            },
         );
         latch.at(number, Point::After);
         answer
@@ -260,14 +255,13 @@ impl<D: Device> Engine<D> {
         requires place { HasItsPlace (knows D.failures pass.old).watched (asked_of call) }
         requires watching { EndsAll call (knows D.failures pass.old).watched }
         ensures rests { Rests D.Receipt.is_steady self.now pass.new }
-        ensures done { IfOk result (λ answer. IfReply answer (λ reply. IsDone [] (asked_of call) reply (knows D.failures pass.old) (knows D.failures pass.new))) }
-        ensures undone { IfOk result (λ answer. IfFault answer (λ fault. IsUndone (promises_of D.Receipt.is_steady D.Receipt.lends (stripe_count self.now)) [] (asked_of call) fault (knows D.failures pass.old) (knows D.failures pass.new))) }
+        ensures answered { IfOk result (λ answer. ComesTo D.Receipt.is_steady D.Receipt.lends D.failures self.now [] call answer
+            pass.old pass.new) }
         ensures stripe { IfErr result (λ refusal. 0 < times refusal.0.stripe (stripes_asked (stripe_count self.now) call)) }
         ensures busy { IfErr result (λ refusal. FoundBusy refusal.0.stripe (knows D.failures pass.old) (knows D.failures pass.new)) }
         ensures back { IfErr result (λ refusal. refusal.1 ≡ call) }
     {
         let site = Site {
-            alloc: self.alloc,
             gates: &self.gates,
             epochs: &self.epochs,
             latch: &Open,
@@ -276,8 +270,7 @@ impl<D: Device> Engine<D> {
             &site,
             &mut pass.gates,
             &mut pass.device,
-            &mut pass.seat,
-            &mut pass.staged,
+            &mut pass.hands,
             call,
         )
     }

@@ -2,7 +2,7 @@
 
 use device::{Device, Shows};
 use epoch::EpochSeat;
-use hybrid::Staged;
+use plans::hands::Hands;
 use records::Page;
 use shards::shard::Shard;
 
@@ -15,10 +15,8 @@ use shards::shard::Shard;
 pub struct Pass<D: Device> {
     pub(crate) gates: gates::Pass<Shard<D::Receipt>>,
     pub(crate) device: D,
-    /// None only during a stay.
-    pub(crate) seat: Option<EpochSeat>,
-    /// Empty between calls.
-    pub(crate) staged: Staged<D::Receipt>,
+    /// None only during a visit. No page is staged between calls.
+    pub(crate) hands: Option<Hands<D::Receipt, EpochSeat>>,
     /// Where a page is copied to that is to be written.
     pub(crate) page: Page,
 }

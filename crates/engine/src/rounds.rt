@@ -1,49 +1,48 @@
 //! The rounds of a call: it is entered over the stripes that are held, and anew after each read outside, until it is answered.
 
-ghost use Rattle.std.specs.Prelude.{◌≡◌, false, IfErr, IfNone, IfOk, IfSome, OnErr, OnOk};
-ghost use Rattle.gates.specs.Sets.{AreBelow};
-ghost use Rattle.gates.specs.Passes.{IsResting, Learned, ToldBusy, known, stripes_of};
-ghost use Rattle.hybrid.specs.Staging.{AreRight};
-ghost use Rattle.transact.specs.Calls.{asked_of};
-ghost use Rattle.transact.specs.Plans.{EndsAll};
-ghost use Rattle.transact.specs.Submits.{stripes_asked};
-ghost use Rattle.engine.specs.Calls.{HasItsPlace, promises_of};
+ghost use Rattle.std.specs.Prelude.{◌≡◌, ◌+◌, IfErr, IfNone, IfOk, IfSome, OnErr, OnOk};
+ghost use Rattle.gates.specs.Passes.{IsResting, known, stripes_of};
 ghost use Rattle.engine.specs.Answers.{IsAnswered};
-ghost use Rattle.engine.specs.Passes.{HasSeat, know};
-ghost use Rattle.engine.specs.Stays.{IsReading};
+ghost use Rattle.engine.specs.Calls.{promises_of};
+ghost use Rattle.engine.specs.Entering.{AreStripesOf, HasWaited, MaySubmit};
+ghost use Rattle.engine.specs.Passes.{HasHands, know};
+ghost use Rattle.engine.specs.Visits.{IsVisit};
 
-use crate::enter::{Entered, NOTHING, give_back, told_of};
-use crate::outside::{ROUNDS, Reading, read_in_a_stay, read_outside};
+use crate::enter::{Entered, give_back, told_of};
 use crate::site::Site;
+use crate::visit::Visit;
 use device::{Device, Shows};
 use epoch::EpochSeat;
-use gates::{Held, Latch, Pass, Sorted};
-use hybrid::Staged;
+use gates::{Held, Latch, Pass, Refused, Sorted};
+use plans::hands::Hands;
 use plans::laws::stripes_hold_keys;
+use plans::reading::WhenCold;
 use plans::stop::Receipts;
 use shards::retires::Retires;
 use shards::shard::Shard;
 use std::sync::Wait;
 use words::reply::Fault;
 
+/// A call, and the stripes of its keys.
+#[derive(Drop)]
+pub(crate) struct Asking<'a, E> {
+    pub(crate) call: &'a E,
+    pub(crate) wanted: &'a Sorted,
+}
+
 /// A call that is entered in each round anew, until one answers it with an `A`.
 pub(crate) trait Enters<A> {
-    ghost use Rattle.std.specs.Prelude.{◌≡◌, [], true, IfOk, OnErr};
-    ghost use Rattle.gates.specs.Sets.{AreBelow};
-    ghost use Rattle.gates.specs.Passes.{AreAsTaken, IsResting, known, stripes_of};
-    ghost use Rattle.gates.specs.Helds.{held_parts, held_taken, known_to};
-    ghost use Rattle.hybrid.specs.Staging.{AreRight};
+    ghost use Rattle.std.specs.Prelude.{◌≡◌, IfOk, OnErr};
+    ghost use Rattle.gates.specs.Passes.{IsResting, known, stripes_of};
+    ghost use Rattle.gates.specs.Helds.{held_stripes};
+    ghost use Rattle.plans.specs.declared.reading.WhenCold.TheVariants.{Stops};
     ghost use Rattle.transact.specs.declared.call.Answer.{Answer};
     ghost use Rattle.transact.specs.declared.call.Answer.TheVariants as answer;
     ghost use Rattle.transact.specs.declared.call.Call.{Call};
-    ghost use Rattle.transact.specs.Calls.{asked_of};
     ghost use Rattle.transact.specs.Plans.{EndsAll, IsEntry};
-    ghost use Rattle.transact.specs.Submits.{asked_for, stripes_asked};
-    ghost use Rattle.shards.specs.Heard.{HasHeard};
-    ghost use Rattle.engine.specs.Answers.{IsAnswered};
-    ghost use Rattle.engine.specs.Calls.{HasItsPlace, promises_of};
-    ghost use Rattle.engine.specs.Entering.{MayBeGiven, MayEnter, WasAbandoned, WasCold, given};
-    ghost use Rattle.engine.specs.Passes.{know};
+    ghost use Rattle.transact.specs.Submits.{asked_for};
+    ghost use Rattle.engine.specs.Calls.{promises_of};
+    ghost use Rattle.engine.specs.Entering.{AreReady, AreStripesOf, HasEntered, MayBegin, WasAbandoned, WasCold};
 
     /// The call that it stands for.
     ghost call_of: { Self → Call };
@@ -51,8 +50,8 @@ pub(crate) trait Enters<A> {
     /// The answer of a call that an `A` stands for.
     ghost says: { A → Answer };
 
-    /// Does what the call asks, over the stripes that are held. Pages that are wanted and not staged are read meanwhile if
-    /// `reads`.
+    /// Does what the call asks, over the stripes that are held. Pages that are wanted and not staged are read meanwhile,
+    /// or it stops.
     ///
     /// # Errors
     ///
@@ -61,24 +60,18 @@ pub(crate) trait Enters<A> {
         &self,
         site: &Site<L, R>,
         held: &mut Held<'_, Shard<R>>,
-        stripes: usize,
         device: &mut D,
-        staged: &mut Staged<R>,
-        own: &mut S,
-        reads: bool,
+        hands: &mut Hands<R, S>,
+        cold: WhenCold,
     ) -> Result<Entered<A>, Receipts<R>>
-        requires may { MayEnter R.is_steady stripes (call_of self.now) held.old }
-        requires lent { AreAsTaken (held_taken held.old) (held_parts held.old) }
-        requires is { S.is_of site.now.epochs.now own.old }
-        requires place { HasItsPlace (known_to held.old).watched (asked_of (call_of self.now)) }
-        requires ends { EndsAll (call_of self.now) (known_to held.old).watched }
-        requires right { R.is_steady → AreRight staged.old }
-        ensures is { S.is_of site.now.epochs.now own.new }
-        ensures right { R.is_steady → AreRight staged.new }
-        ensures back { IfOk result (λ entered. MayBeGiven R.is_steady entered.ends entered.report stripes held.old held.new) }
-        ensures answered { IfOk result (λ entered. IsAnswered (promises_of R.is_steady R.lends stripes) [] (call_of self.now) (says entered.answer) (know (known_to held.old) (D.failures device.old)) (know (given entered.ends entered.report (known_to held.new)) (D.failures device.new))) }
-        ensures cold { OnErr result (WasCold R.is_steady R.lends reads stripes (call_of self.now) held.old held.new) }
-        ensures no_fault { OnErr result (D.failures device.new ≡ D.failures device.old) };
+        requires begin { MayBegin R.is_steady (call_of self.now) held.old }
+        requires hands { AreReady (S.is_of site.now.epochs.now) R.is_steady hands.old }
+        ensures hands { AreReady (S.is_of site.now.epochs.now) R.is_steady hands.new }
+        ensures entered { IfOk result (HasEntered (promises_of R.is_steady R.lends (held_stripes held.old)) (call_of self.now) says
+            (held.old, D.failures device.old) (held.new, D.failures device.new)) }
+        ensures cold { OnErr result (WasCold R.is_steady R.lends (call_of self.now)
+            (held.old, D.failures device.old) (held.new, D.failures device.new)) }
+        ensures outside { OnErr result (cold ≡ Stops) };
 
     /// Answers by a fault that came while nothing was held.
     fn fail<T: Wait, L: Latch, R: Shows>(
@@ -92,8 +85,7 @@ pub(crate) trait Enters<A> {
         requires rests { IsResting R.is_steady site.now.gates.now pass.old }
         requires entry { IsEntry (call_of self.now) }
         requires ends { EndsAll (call_of self.now) (known pass.old).watched }
-        requires wanted { wanted.now ≡ stripes_asked (stripes_of site.now.gates.now) (call_of self.now) }
-        requires below { AreBelow (stripes_of site.now.gates.now) wanted.now }
+        requires wanted { AreStripesOf (stripes_of site.now.gates.now) (call_of self.now) wanted.now }
         ensures rests { IsResting R.is_steady site.now.gates.now pass.new }
         ensures answer { says result ≡ answer.Fault fault }
         ensures known { WasAbandoned wanted.now (asked_for (call_of self.now)) (known pass.old) (known pass.new) };
@@ -107,75 +99,66 @@ pub(crate) fn run<A, E: Enters<A>, T: Wait, L: Latch, R: Shows, D: Device<Receip
     site: &Site<L, R>,
     pass: &mut Pass<Shard<R>>,
     device: &mut D,
-    seat: &mut Option<EpochSeat>,
-    staged: &mut Staged<R>,
-    wanted: &Sorted,
-    call: &E,
+    hands: &mut Option<Hands<R, EpochSeat>>,
+    asking: &Asking<E>,
 ) -> A
-    requires rests { IsResting R.is_steady site.now.gates.now pass.old }
-    requires place { HasItsPlace (known pass.old).watched (asked_of (E.call_of call.now)) }
-    requires ends { EndsAll (E.call_of call.now) (known pass.old).watched }
-    requires wanted { wanted.now ≡ stripes_asked (stripes_of site.now.gates.now) (E.call_of call.now) }
-    requires below { AreBelow (stripes_of site.now.gates.now) wanted.now }
-    requires seat { HasSeat site.now.epochs.now seat.old }
-    requires right { R.is_steady → AreRight staged.old }
+    requires may { MaySubmit R.is_steady site.now.gates.now (E.call_of asking.now.call.now) pass.old }
+    requires hands { HasHands site.now.epochs.now hands.old }
+    requires wanted { AreStripesOf (stripes_of site.now.gates.now) (E.call_of asking.now.call.now) asking.now.wanted.now }
     ensures rests { IsResting R.is_steady site.now.gates.now pass.new }
-    ensures seat { HasSeat site.now.epochs.now seat.new }
-    ensures answered { IsAnswered (promises_of R.is_steady R.lends (stripes_of site.now.gates.now)) wanted.now (E.call_of call.now) (E.says result) (know (known pass.old) (D.failures device.old)) (know (known pass.new) (D.failures device.new)) }
+    ensures hands { HasHands site.now.epochs.now hands.new }
+    ensures answered { IsAnswered (promises_of R.is_steady R.lends (stripes_of site.now.gates.now)) asking.now.wanted.now
+        (E.call_of asking.now.call.now) (E.says result) (know (known pass.old) (D.failures device.old))
+        (know (known pass.new) (D.failures device.new)) }
 {
-    match first_round(rt, site, pass, device, seat, staged, wanted, call) {
+    match first_round(rt, site, pass, device, hands, asking) {
         Ok(answer) => answer,
-        Err(reading) => {
-            let mut reading = reading;
-            let answer = later_rounds(rt, site, pass, device, &mut reading, staged, wanted, call);
-            *seat = Some(reading.end(site.epochs));
+        Err(visit) => {
+            let mut visit = visit;
+            let answer = later_rounds(rt, site, pass, device, &mut visit, asking);
+            *hands = Some(visit.end(site.epochs));
             answer
         }
     }
 }
 
-/// The first round: the call in one hold of its stripes. If it wants pages, a stay begins, the stripes are given back, and the
+/// The first round: the call in one hold of its stripes. If it wants pages, a visit begins, the stripes are given back, and the
 /// pages are read while nobody waits for them.
 ///
 /// # Errors
 ///
-/// The stay, where pages were read and there is no answer yet.
+/// The visit, where pages were read and there is no answer yet.
 fn first_round<A, E: Enters<A>, T: Wait, L: Latch, R: Shows, D: Device<Receipt = R>>(
     rt: &T,
     site: &Site<L, R>,
     pass: &mut Pass<Shard<R>>,
     device: &mut D,
-    seat: &mut Option<EpochSeat>,
-    staged: &mut Staged<R>,
-    wanted: &Sorted,
-    call: &E,
-) -> Result<A, Reading>
-    requires rests { IsResting R.is_steady site.now.gates.now pass.old }
-    requires place { HasItsPlace (known pass.old).watched (asked_of (E.call_of call.now)) }
-    requires ends { EndsAll (E.call_of call.now) (known pass.old).watched }
-    requires wanted { wanted.now ≡ stripes_asked (stripes_of site.now.gates.now) (E.call_of call.now) }
-    requires below { AreBelow (stripes_of site.now.gates.now) wanted.now }
-    requires seat { HasSeat site.now.epochs.now seat.old }
-    requires right { R.is_steady → AreRight staged.old }
+    hands: &mut Option<Hands<R, EpochSeat>>,
+    asking: &Asking<E>,
+) -> Result<A, Visit<R>>
+    requires may { MaySubmit R.is_steady site.now.gates.now (E.call_of asking.now.call.now) pass.old }
+    requires hands { HasHands site.now.epochs.now hands.old }
+    requires wanted { AreStripesOf (stripes_of site.now.gates.now) (E.call_of asking.now.call.now) asking.now.wanted.now }
     ensures rests { IsResting R.is_steady site.now.gates.now pass.new }
-    ensures seat { OnOk result (HasSeat site.now.epochs.now seat.new) }
-    ensures right { R.is_steady → AreRight staged.new }
-    ensures answered { IfOk result (λ answer. IsAnswered (promises_of R.is_steady R.lends (stripes_of site.now.gates.now)) wanted.now (E.call_of call.now) (E.says answer) (know (known pass.old) (D.failures device.old)) (know (known pass.new) (D.failures device.new))) }
-    ensures stay { IfErr result (IsReading site.now.epochs.now) }
-    ensures learned { OnErr result (Learned (known pass.old) (known pass.new)) }
-    ensures told { OnErr result (ToldBusy wanted.now (known pass.old) (known pass.new)) }
-    ensures no_fault { OnErr result (D.failures device.new ≡ D.failures device.old) }
+    ensures hands { OnOk result (HasHands site.now.epochs.now hands.new) }
+    ensures answered { IfOk result (λ answer. IsAnswered (promises_of R.is_steady R.lends (stripes_of site.now.gates.now))
+        asking.now.wanted.now (E.call_of asking.now.call.now) (E.says answer) (know (known pass.old) (D.failures device.old))
+        (know (known pass.new) (D.failures device.new))) }
+    ensures visit { IfErr result (IsVisit R.is_steady site.now.epochs.now) }
+    ensures waited { OnErr result (HasWaited asking.now.wanted.now (known pass.old, D.failures device.old)
+        (known pass.new, D.failures device.new)) }
 {
     stripes_hold_keys::<R>();
     let gates = site.gates;
-    let stripes = gates.stripes();
-    let Some(mut own) = seat.take() else {
+    let Some(mut own) = hands.take() else {
         unreachable!()
     };
+    let (call, wanted) = (asking.call, asking.wanted);
     let mut held = (&*gates).take(rt, &mut *pass, &*wanted);
-    match call.enter(site, &mut held, stripes, device, staged, &mut own, false) {
+    match call.enter(site, &mut held, device, &mut own, WhenCold::Stops) {
         Ok(entered) => {
-            *seat = Some(own);
+            own.staged.clear();
+            *hands = Some(own);
             let Entered {
                 answer,
                 ends,
@@ -185,11 +168,12 @@ fn first_round<A, E: Enters<A>, T: Wait, L: Latch, R: Shows, D: Device<Receipt =
             Ok(answer)
         }
         Err(receipts) => {
-            match read_in_a_stay(rt, site.epochs, own, held, device, staged, receipts) {
-                Ok(reading) => Err(reading),
-                Err((own, stop)) => {
-                    *seat = Some(own);
-                    let fault = told_of(stop, NOTHING).fault;
+            let mut visit = Visit::begin(rt, site.epochs, own);
+            match visit.read(held, device, receipts) {
+                Ok(()) => Err(visit),
+                Err(stop) => {
+                    *hands = Some(visit.end(site.epochs));
+                    let fault = told_of(stop, Refused::NONE).fault;
                     Ok(call.fail(rt, site, pass, wanted, fault))
                 }
             }
@@ -203,68 +187,52 @@ fn later_rounds<A, E: Enters<A>, T: Wait, L: Latch, R: Shows, D: Device<Receipt 
     site: &Site<L, R>,
     pass: &mut Pass<Shard<R>>,
     device: &mut D,
-    reading: &mut Reading,
-    staged: &mut Staged<R>,
-    wanted: &Sorted,
-    call: &E,
+    visit: &mut Visit<R>,
+    asking: &Asking<E>,
 ) -> A
-    requires rests { IsResting R.is_steady site.now.gates.now pass.old }
-    requires place { HasItsPlace (known pass.old).watched (asked_of (E.call_of call.now)) }
-    requires ends { EndsAll (E.call_of call.now) (known pass.old).watched }
-    requires wanted { wanted.now ≡ stripes_asked (stripes_of site.now.gates.now) (E.call_of call.now) }
-    requires below { AreBelow (stripes_of site.now.gates.now) wanted.now }
-    requires right { R.is_steady → AreRight staged.old }
-    requires stay { IsReading site.now.epochs.now reading.old }
-    ensures stay { IsReading site.now.epochs.now reading.new }
+    requires may { MaySubmit R.is_steady site.now.gates.now (E.call_of asking.now.call.now) pass.old }
+    requires wanted { AreStripesOf (stripes_of site.now.gates.now) (E.call_of asking.now.call.now) asking.now.wanted.now }
+    requires visit { IsVisit R.is_steady site.now.epochs.now visit.old }
+    ensures visit { IsVisit R.is_steady site.now.epochs.now visit.new }
     ensures rests { IsResting R.is_steady site.now.gates.now pass.new }
-    ensures answered { IsAnswered (promises_of R.is_steady R.lends (stripes_of site.now.gates.now)) wanted.now (E.call_of call.now) (E.says result) (know (known pass.old) (D.failures device.old)) (know (known pass.new) (D.failures device.new)) }
+    ensures answered { IsAnswered (promises_of R.is_steady R.lends (stripes_of site.now.gates.now)) asking.now.wanted.now
+        (E.call_of asking.now.call.now) (E.says result) (know (known pass.old) (D.failures device.old))
+        (know (known pass.new) (D.failures device.new)) }
 {
-    let mut round = 1;
     'rounds: loop {
-        let reads = round == ROUNDS;
-        if let Some(answer) = later_round(
-            rt, site, pass, device, reading, staged, wanted, call, reads,
-        ) {
+        if let Some(answer) = later_round(rt, site, pass, device, visit, asking) {
             return answer;
         }
-        round += 1;
     }
 }
 
-/// One more round. Pages that are wanted are read while the stripes are held if `reads`; else outside, and there is no answer
-/// yet.
+/// One more round. Pages that are wanted are read while the stripes are held in the last round alone; else outside, and there is
+/// no answer yet.
 fn later_round<A, E: Enters<A>, T: Wait, L: Latch, R: Shows, D: Device<Receipt = R>>(
     rt: &T,
     site: &Site<L, R>,
     pass: &mut Pass<Shard<R>>,
     device: &mut D,
-    reading: &mut Reading,
-    staged: &mut Staged<R>,
-    wanted: &Sorted,
-    call: &E,
-    reads: bool,
+    visit: &mut Visit<R>,
+    asking: &Asking<E>,
 ) -> Option<A>
-    requires rests { IsResting R.is_steady site.now.gates.now pass.old }
-    requires place { HasItsPlace (known pass.old).watched (asked_of (E.call_of call.now)) }
-    requires ends { EndsAll (E.call_of call.now) (known pass.old).watched }
-    requires wanted { wanted.now ≡ stripes_asked (stripes_of site.now.gates.now) (E.call_of call.now) }
-    requires below { AreBelow (stripes_of site.now.gates.now) wanted.now }
-    requires right { R.is_steady → AreRight staged.old }
-    requires stay { IsReading site.now.epochs.now reading.old }
-    ensures stay { IsReading site.now.epochs.now reading.new }
+    requires may { MaySubmit R.is_steady site.now.gates.now (E.call_of asking.now.call.now) pass.old }
+    requires wanted { AreStripesOf (stripes_of site.now.gates.now) (E.call_of asking.now.call.now) asking.now.wanted.now }
+    requires visit { IsVisit R.is_steady site.now.epochs.now visit.old }
+    ensures visit { IsVisit R.is_steady site.now.epochs.now visit.new }
     ensures rests { IsResting R.is_steady site.now.gates.now pass.new }
-    ensures right { R.is_steady → AreRight staged.new }
-    ensures answered { IfSome result (λ answer. IsAnswered (promises_of R.is_steady R.lends (stripes_of site.now.gates.now)) wanted.now (E.call_of call.now) (E.says answer) (know (known pass.old) (D.failures device.old)) (know (known pass.new) (D.failures device.new))) }
-    ensures outside { IfNone result (reads ≡ false) }
-    ensures learned { IfNone result (Learned (known pass.old) (known pass.new)) }
-    ensures told { IfNone result (ToldBusy wanted.now (known pass.old) (known pass.new)) }
-    ensures no_fault { IfNone result (D.failures device.new ≡ D.failures device.old) }
+    ensures answered { IfSome result (λ answer. IsAnswered (promises_of R.is_steady R.lends (stripes_of site.now.gates.now))
+        asking.now.wanted.now (E.call_of asking.now.call.now) (E.says answer) (know (known pass.old) (D.failures device.old))
+        (know (known pass.new) (D.failures device.new))) }
+    ensures waited { IfNone result (HasWaited asking.now.wanted.now (known pass.old, D.failures device.old)
+        (known pass.new, D.failures device.new)) }
+    ensures round { IfNone result (visit.new.rounds ≡ visit.old.rounds + 1) }
 {
     stripes_hold_keys::<R>();
     let gates = site.gates;
-    let stripes = gates.stripes();
+    let (call, wanted) = (asking.call, asking.wanted);
     let mut held = (&*gates).take(rt, &mut *pass, &*wanted);
-    match call.enter(site, &mut held, stripes, device, staged, reading, reads) {
+    match visit.enter(call, site, &mut held, device) {
         Ok(entered) => {
             let Entered {
                 answer,
@@ -274,17 +242,10 @@ fn later_round<A, E: Enters<A>, T: Wait, L: Latch, R: Shows, D: Device<Receipt =
             give_back(held, ends, &report);
             Some(answer)
         }
-        Err(receipts) => match read_outside(
-            held,
-            site.epochs,
-            &*reading,
-            device,
-            staged,
-            receipts,
-        ) {
+        Err(receipts) => match visit.read(held, device, receipts) {
             Ok(()) => None,
             Err(stop) => {
-                let fault = told_of(stop, NOTHING).fault;
+                let fault = told_of(stop, Refused::NONE).fault;
                 Some(call.fail(rt, site, pass, wanted, fault))
             }
         },

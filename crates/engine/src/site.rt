@@ -4,13 +4,10 @@ use device::Shows;
 use epoch::Epochs;
 use gates::{Gates, Latch};
 use shards::shard::Shard;
-use std::alloc::Global;
 
 /// The parts of an engine that each round of a call goes by, and who is told where the call is.
 #[derive(Drop)]
 pub(crate) struct Site<'a, L: Latch, R: Shows> {
-    /// Where memory for keys, values and pages is had.
-    pub(crate) alloc: Global,
     pub(crate) gates: &'a Gates<Shard<R>>,
     pub(crate) epochs: &'a Epochs,
     /// It is told where the stripes of a call are held whose commit is next.

@@ -1,23 +1,22 @@
 //! The steps of the threads that work in the background: at one stripe each, by a pass, which is told what a step came to.
 //! None makes an entry in the history, and no key and no mark changes.
 
-ghost use Rattle.std.specs.Prelude.{◌≡◌, ◌+◌, ◌<◌, [], ◌∷◌, Some, IfErr, IfOk};
-ghost use Rattle.epoch.specs.Seats as seats;
-ghost use Rattle.epoch.specs.declared.epochs.EpochSeat.{EpochSeat};
-ghost use Rattle.gates.specs.Passes.{WasBusy, known};
+ghost use Rattle.std.specs.Prelude.{◌≡◌, ◌+◌, ◌<◌, [], ◌∷◌, IfErr, IfOk};
 ghost use Rattle.gates.specs.declared.view.Look.TheVariants.{FewerExpected, FewerFree, HalfUsed, Used};
 ghost use Rattle.gates.specs.declared.view.Note.TheVariants as note;
-ghost use Rattle.gates.specs.declared.view.Work.TheVariants.{Evict};
 ghost use Rattle.hybrid.specs.declared.stripe.TheConstants.{CALL_PAGES, CLEAN_PAGES};
-ghost use Rattle.background.specs.Visits.{HasCleaned, HasFlushed, HasWritten, Visited, told};
+ghost use Rattle.background.specs.Visits.{HasWritten};
 ghost use Rattle.engine.specs.Passes.{Rests, stripe_count};
+ghost use Rattle.engine.specs.Steps.{CleanedBy, EvictedBy, FlushedBy, FoundBusyBy, VisitedBy};
 
 use crate::{Engine, Pass};
+use background::at::At;
 use background::clean::{clean_one, try_clean_one};
 use background::evict::{evict_one, try_evict_one};
 use background::flush::{flush_one, try_flush_one};
 use background::look::{is_half_used, is_short_of_frames, lacks_spare_frames, used_places};
 use device::Device;
+use plans::hands::Hands;
 use std::sync::Wait;
 use transact::call::Busy;
 use words::reply::Fault;
@@ -47,23 +46,26 @@ impl<D: Device> Engine<D> {
         requires rests { Rests D.Receipt.is_steady self.now pass.old }
         requires below { stripe < stripe_count self.now }
         ensures rests { Rests D.Receipt.is_steady self.now pass.new }
-        ensures flushed { (was now : EpochSeat) → pass.old.seat ≡ Some was → pass.new.seat ≡ Some now → HasFlushed (stripe ∷ []) stripe result (D.failures pass.old.device) (D.failures pass.new.device) (known pass.old.gates) (known pass.new.gates) (seats.known was) (seats.known now) }
+        ensures flushed { FlushedBy D.failures (stripe ∷ []) stripe result pass.old pass.new }
         ensures writes { HasWritten result (D.writes pass.old.device) (D.writes pass.new.device) }
     {
-        let Some(mut seat) = pass.seat.take() else {
+        let Some(mut hands) = pass.hands.take() else {
             unreachable!()
+        };
+        let at = At {
+            gates: &self.gates,
+            epochs: &self.epochs,
+            stripe,
         };
         let result = flush_one(
             rt,
-            &self.gates,
+            &at,
             &mut pass.gates,
             &mut pass.device,
-            &self.epochs,
-            &mut seat,
+            &mut hands.own,
             &mut pass.page,
-            stripe,
         );
-        pass.seat = Some(seat);
+        pass.hands = Some(hands);
         result
     }
 
@@ -80,24 +82,27 @@ impl<D: Device> Engine<D> {
         requires rests { Rests D.Receipt.is_steady self.now pass.old }
         requires below { stripe < stripe_count self.now }
         ensures rests { Rests D.Receipt.is_steady self.now pass.new }
-        ensures flushed { (was now : EpochSeat) → pass.old.seat ≡ Some was → pass.new.seat ≡ Some now → IfOk result (λ done. HasFlushed [] stripe done (D.failures pass.old.device) (D.failures pass.new.device) (known pass.old.gates) (known pass.new.gates) (seats.known was) (seats.known now)) }
+        ensures flushed { IfOk result (λ done. FlushedBy D.failures [] stripe done pass.old pass.new) }
         ensures writes { IfOk result (λ done. HasWritten done (D.writes pass.old.device) (D.writes pass.new.device)) }
-        ensures busy { IfErr result (λ busy. (busy.stripe ≡ stripe) × WasBusy stripe (known pass.old.gates) (known pass.new.gates)) }
+        ensures busy { IfErr result (λ busy. (busy.stripe ≡ stripe) × FoundBusyBy stripe pass.old pass.new) }
         ensures not_asked { IfErr result (λ busy. pass.new.device ≡ pass.old.device) }
     {
-        let Some(mut seat) = pass.seat.take() else {
+        let Some(mut hands) = pass.hands.take() else {
             unreachable!()
         };
+        let at = At {
+            gates: &self.gates,
+            epochs: &self.epochs,
+            stripe,
+        };
         let result = try_flush_one(
-            &self.gates,
+            &at,
             &mut pass.gates,
             &mut pass.device,
-            &self.epochs,
-            &mut seat,
+            &mut hands.own,
             &mut pass.page,
-            stripe,
         );
-        pass.seat = Some(seat);
+        pass.hands = Some(hands);
         result
     }
 
@@ -116,7 +121,7 @@ impl<D: Device> Engine<D> {
         requires rests { Rests D.Receipt.is_steady self.now pass.old }
         requires below { stripe < stripe_count self.now }
         ensures rests { Rests D.Receipt.is_steady self.now pass.new }
-        ensures evicted { (done : _) × (result ≡ Ok done) × Visited (stripe ∷ []) (told Evict stripe done) (known pass.old.gates) (known pass.new.gates) }
+        ensures evicted { EvictedBy (stripe ∷ []) stripe result pass.old pass.new }
         ensures device { pass.new.device ≡ pass.old.device }
     {
         Ok(evict_one(rt, &self.gates, &mut pass.gates, stripe))
@@ -135,8 +140,8 @@ impl<D: Device> Engine<D> {
         requires rests { Rests D.Receipt.is_steady self.now pass.old }
         requires below { stripe < stripe_count self.now }
         ensures rests { Rests D.Receipt.is_steady self.now pass.new }
-        ensures evicted { IfOk result (λ step. (done : _) × (step ≡ Ok done) × Visited [] (told Evict stripe done) (known pass.old.gates) (known pass.new.gates)) }
-        ensures busy { IfErr result (λ busy. (busy.stripe ≡ stripe) × WasBusy stripe (known pass.old.gates) (known pass.new.gates)) }
+        ensures evicted { IfOk result (λ step. EvictedBy [] stripe step pass.old pass.new) }
+        ensures busy { IfErr result (λ busy. (busy.stripe ≡ stripe) × FoundBusyBy stripe pass.old pass.new) }
         ensures device { pass.new.device ≡ pass.old.device }
     {
         match try_evict_one(&self.gates, &mut pass.gates, stripe) {
@@ -163,23 +168,24 @@ impl<D: Device> Engine<D> {
         requires rests { Rests D.Receipt.is_steady self.now pass.old }
         requires below { stripe < stripe_count self.now }
         ensures rests { Rests D.Receipt.is_steady self.now pass.new }
-        ensures cleaned { (was now : EpochSeat) → pass.old.seat ≡ Some was → pass.new.seat ≡ Some now → HasCleaned D.Receipt.lends (stripe ∷ []) stripe result (D.failures pass.old.device) (D.failures pass.new.device) (known pass.old.gates) (known pass.new.gates) (seats.known was) (seats.known now) }
+        ensures cleaned { CleanedBy D.Receipt.lends D.failures (stripe ∷ []) stripe result pass.old pass.new }
     {
-        let Some(seat) = pass.seat.take() else {
+        let Some(hands) = pass.hands.take() else {
             unreachable!()
         };
-        let (result, seat) = clean_one(
-            rt,
-            &self.gates,
-            &mut pass.gates,
-            &mut pass.device,
-            &self.epochs,
-            seat,
-            &mut pass.staged,
+        let Hands {
+            alloc,
+            mut staged,
+            own,
+        } = hands;
+        let at = At {
+            gates: &self.gates,
+            epochs: &self.epochs,
             stripe,
-        );
-        pass.seat = Some(seat);
-        pass.staged.clear();
+        };
+        let (result, own) = clean_one(rt, &at, &mut pass.gates, &mut pass.device, own, &mut staged);
+        staged.clear();
+        pass.hands = Some(Hands { alloc, staged, own });
         result
     }
 
@@ -196,24 +202,32 @@ impl<D: Device> Engine<D> {
         requires rests { Rests D.Receipt.is_steady self.now pass.old }
         requires below { stripe < stripe_count self.now }
         ensures rests { Rests D.Receipt.is_steady self.now pass.new }
-        ensures cleaned { (was now : EpochSeat) → pass.old.seat ≡ Some was → pass.new.seat ≡ Some now → IfOk result (λ done. HasCleaned D.Receipt.lends [] stripe done (D.failures pass.old.device) (D.failures pass.new.device) (known pass.old.gates) (known pass.new.gates) (seats.known was) (seats.known now)) }
-        ensures busy { IfErr result (λ busy. (busy.stripe ≡ stripe) × WasBusy stripe (known pass.old.gates) (known pass.new.gates)) }
+        ensures cleaned { IfOk result (λ done. CleanedBy D.Receipt.lends D.failures [] stripe done pass.old pass.new) }
+        ensures busy { IfErr result (λ busy. (busy.stripe ≡ stripe) × FoundBusyBy stripe pass.old pass.new) }
         ensures not_asked { IfErr result (λ busy. pass.new.device ≡ pass.old.device) }
     {
-        let Some(mut seat) = pass.seat.take() else {
+        let Some(hands) = pass.hands.take() else {
             unreachable!()
         };
+        let Hands {
+            alloc,
+            mut staged,
+            mut own,
+        } = hands;
+        let at = At {
+            gates: &self.gates,
+            epochs: &self.epochs,
+            stripe,
+        };
         let result = try_clean_one(
-            &self.gates,
+            &at,
             &mut pass.gates,
             &mut pass.device,
-            &self.epochs,
-            &mut seat,
-            &mut pass.staged,
-            stripe,
+            &mut own,
+            &mut staged,
         );
-        pass.seat = Some(seat);
-        pass.staged.clear();
+        staged.clear();
+        pass.hands = Some(Hands { alloc, staged, own });
         result
     }
 
@@ -223,7 +237,7 @@ impl<D: Device> Engine<D> {
         requires rests { Rests D.Receipt.is_steady self.now pass.old }
         requires below { stripe < stripe_count self.now }
         ensures rests { Rests D.Receipt.is_steady self.now pass.new }
-        ensures told { Visited (stripe ∷ []) (note.Seen stripe (HalfUsed result) ∷ []) (known pass.old.gates) (known pass.new.gates) }
+        ensures told { VisitedBy (stripe ∷ []) (note.Seen stripe (HalfUsed result) ∷ []) pass.old pass.new }
         ensures device { pass.new.device ≡ pass.old.device }
     {
         is_half_used(rt, &self.gates, &mut pass.gates, stripe)
@@ -234,7 +248,7 @@ impl<D: Device> Engine<D> {
         requires rests { Rests D.Receipt.is_steady self.now pass.old }
         requires below { stripe < stripe_count self.now }
         ensures rests { Rests D.Receipt.is_steady self.now pass.new }
-        ensures told { Visited (stripe ∷ []) (note.Seen stripe (Used result) ∷ []) (known pass.old.gates) (known pass.new.gates) }
+        ensures told { VisitedBy (stripe ∷ []) (note.Seen stripe (Used result) ∷ []) pass.old pass.new }
         ensures device { pass.new.device ≡ pass.old.device }
     {
         used_places(rt, &self.gates, &mut pass.gates, stripe)
@@ -246,7 +260,7 @@ impl<D: Device> Engine<D> {
         requires rests { Rests D.Receipt.is_steady self.now pass.old }
         requires below { stripe < stripe_count self.now }
         ensures rests { Rests D.Receipt.is_steady self.now pass.new }
-        ensures told { Visited (stripe ∷ []) (note.Seen stripe (FewerFree CALL_PAGES result) ∷ []) (known pass.old.gates) (known pass.new.gates) }
+        ensures told { VisitedBy (stripe ∷ []) (note.Seen stripe (FewerFree CALL_PAGES result) ∷ []) pass.old pass.new }
         ensures device { pass.new.device ≡ pass.old.device }
     {
         is_short_of_frames(rt, &self.gates, &mut pass.gates, stripe)
@@ -258,7 +272,7 @@ impl<D: Device> Engine<D> {
         requires rests { Rests D.Receipt.is_steady self.now pass.old }
         requires below { stripe < stripe_count self.now }
         ensures rests { Rests D.Receipt.is_steady self.now pass.new }
-        ensures told { Visited (stripe ∷ []) (note.Seen stripe (FewerExpected (CLEAN_PAGES + 1) result) ∷ []) (known pass.old.gates) (known pass.new.gates) }
+        ensures told { VisitedBy (stripe ∷ []) (note.Seen stripe (FewerExpected (CLEAN_PAGES + 1) result) ∷ []) pass.old pass.new }
         ensures device { pass.new.device ≡ pass.old.device }
     {
         lacks_spare_frames(rt, &self.gates, &mut pass.gates, stripe)

@@ -1,2 +1,1 @@
-pub mod There
 pub mod Watching

@@ -1,7 +1,6 @@
-//! Tests of the engine, and in `planning` of calls over stripes (`plans`, `shards`), through their public items alone. They stand
-//! apart from these, so that none of them is proved a second time with its tests.
+//! Tests of the engine through its public items alone. They stand apart from it, so that it is not proved a second time with
+//! its tests.
 #![tactic(auto)]
 
-pub mod planning;
 #[cfg(test)]
 mod tests;

@@ -12,20 +12,24 @@ use device::{Device, FileDevice, MemoryDevice};
 use gates::Open;
 use options::{DeviceKind, Options};
 use server::{Endings, ServerFault, listen, opening_count, run_workers};
-use std::env;
 use std::fs::{File, Files};
 use std::net::{Net, SocketAddr, TcpListener, TcpStream};
 use std::process::ExitCode;
 use std::rt::{Clock, Env};
 use std::sync::Wait;
 use std::thread::Threads;
+use std::{env, io};
 
 /// The exit status where the server stopped before its time.
 const STOPPED: u8 = 1;
+/// The exit status of a wrong command line.
+const WRONG_ARGUMENT: u8 = 2;
 
 fn main(rt: HostRuntime) -> Result<ExitCode> {
-    let Some(words) = words_of(&rt) else {
-        return stopped(&rt, ServerFault::OutOfMemory);
+    let words = match words_of(&rt) {
+        Ok(words) => words,
+        Err(error) if error.kind() == io::ErrorKind::InvalidData => return no_text(&rt),
+        Err(_) => return stopped(&rt, ServerFault::OutOfMemory),
     };
     let options = match options_of(rt.alloc(), words.as_slice()) {
         Ok(options) => options,
@@ -43,9 +47,15 @@ fn main(rt: HostRuntime) -> Result<ExitCode> {
     }
 }
 
-/// The words of the command line, or `None` where there is no memory for them.
-fn words_of<R: Env + AllocGlobal>(rt: &R) -> Option<Vec<String>> {
-    env::args(rt).ok()?.collect(rt.alloc()).ok()
+/// The words of the command line. One that is no text is invalid data; else an error says that there is no memory for them.
+fn words_of<R: Env + AllocGlobal>(rt: &R) -> io::Result<Vec<String>> {
+    Ok(env::args(rt)?.collect(rt.alloc())?)
+}
+
+/// Tells on standard error that an argument is no UTF-8 text, which is a wrong argument as any other.
+fn no_text(rt: &impl Eprint) -> Result<ExitCode> {
+    eprintln!(rt; "garnetd: an argument is no UTF-8 text")?;
+    Ok(ExitCode::from(WRONG_ARGUMENT))
 }
 
 /// Listens, opens the device, says where it listens, and serves until the last connection has ended.

@@ -1,6 +1,6 @@
 -- Held stripes: what there is of them.
-use Rattle.std.specs.Prelude.{◌≡◌, ◌↔◌, ◌<◌, ℕ, IsSome, Bool, true, false, List, reverse, refl, Result, IfOk, OnOk, OnErr}
-use Rattle.std.proofs.Common.{◌∙◌}
+use Rattle.std.specs.Prelude.{◌≡◌, ◌↔◌, ◌<◌, ◌≤◌, ℕ, IsSome, Bool, true, false, List, reverse, refl, Result, IfOk, OnOk, OnErr}
+use Rattle.std.proofs.Common.{◌∙◌, ap}
 use Rattle.std.specs.Borrow.{MutBor}
 use Rattle.gates.specs.Sets.{times, part_at}
 use Rattle.gates.specs.Rule.{Meaning}
@@ -53,6 +53,10 @@ module _ {T : Type 0} where
   abbrev pub held_taken : Held T → List (ℕ × (ℕ × T))
   held_taken held = taken_in held.pass.now
 
+  -- how many stripes the gates have
+  abbrev pub held_stripes : Held T → ℕ
+  held_stripes held = stripes_of held.gates.now
+
   -- the pass has the stripes of these gates that are held
   pub record IsOpen (trusted : Type 0) (held : Held T) : Type 0 where
     pub holding : IsHolding trusted held.gates.now held.pass.now
@@ -66,6 +70,18 @@ module _ {T : Type 0} where
     pub known : known later.pass.now ≡ known before.pass.now
     pub committed : later.committed ≡ before.committed
     pub taken : taken_in later.pass.now ≡ taken_in before.pass.now
+
+  -- there is one stripe at least, and there are 64 at most
+  pub few_held : {trusted : Type 0} (held : Held T) → IsOpen trusted held → (1 ≤ held_stripes held) × (held_stripes held ≤ 64)
+  few_held held is_open = held.gates.now.small
+
+  -- the gates stay, with as many stripes
+  pub stripes_stay : (before later : Held T) → SameHold before later → held_stripes later ≡ held_stripes before
+  stripes_stay before later same = ap (λ g. stripes_of g.now) same.gates
+
+  -- and the pass
+  pub holder_stays : (before later : Held T) → SameHold before later → number_of later ≡ number_of before
+  holder_stays before later same = same.number
 
   -- nothing differs from itself
   pub same_as_it : (held : Held T) → SameHold held held

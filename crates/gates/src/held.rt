@@ -23,6 +23,7 @@ pub struct Held<'a, T: Part> {
 }
 
 impl<T: Part> Gates<T> {
+    ghost use Rattle.std.specs.Bool.{OnFalse, OnTrue};
     ghost use Rattle.gates.specs.declared.view.Note.TheVariants as note;
     ghost use Rattle.gates.specs.Sets.{times, AreBelow, part_at};
     ghost use Rattle.gates.specs.Passes.{stripes_of, known, parts_in, taken_in, takes_in, stripes_in, AllFit, AreAsTaken, IsHolding, IsResting, Learned, MayEnd, ToldBusy, WasTold, WasBusy, Committed, KeysHeld};
@@ -153,6 +154,62 @@ impl<T: Part> Gates<T> {
             order,
             committed: false,
         }
+    }
+
+    /// The set of one stripe.
+    #[inline]
+    fn set_of(&self, stripe: usize) -> Sorted
+        requires { stripe < stripes_of self.now }
+        ensures { result ≡ stripe ∷ [] }
+    {
+        // It is below 64, as each stripe is.
+        let _stripes = self.stripes();
+        Sorted::none().with(stripe)
+    }
+
+    /// Takes one stripe with one try, as [`Gates::try_take`] does, and says whether it did. [`Gates::hold_one`] lends it then.
+    pub fn try_take_one(&self, pass: &mut Pass<T>, stripe: usize) -> bool
+        requires own { IsResting T.meaning.trusted self.now pass.old }
+        requires below { stripe < stripes_of self.now }
+        ensures taken { OnTrue result (TookAll T.meaning self.now (stripe ∷ []) pass.old pass.new) }
+        ensures rests { OnFalse result (IsResting T.meaning.trusted self.now pass.new) }
+        ensures busy { OnFalse result (WasBusy stripe (known pass.old) (known pass.new)) }
+    {
+        let wanted = self.set_of(stripe);
+        match self.try_take(pass, &wanted) {
+            Ok(()) => true,
+            Err(_stripe) => false,
+        }
+    }
+
+    /// What the pass has taken, which is this stripe.
+    pub fn hold_one<'a>(&'a self, pass: &'a mut Pass<T>, stripe: usize) -> Held<'a, T>
+        requires holding { IsHolding T.meaning.trusted self.now pass.old }
+        requires below { stripe < stripes_of self.now }
+        requires all { stripes_in pass.old ≡ stripe ∷ [] }
+        ensures held { HasHeld T.meaning.trusted self.now pass.entry result }
+        // As of [`Gates::hold`].
+        ensures taken { (before : Pass T) → TookAll T.meaning self.now (stripe ∷ []) before pass.old → HasTaken T.meaning self.now (stripe ∷ []) (record pass.entry { now = before }) result }
+        ensures told { (before : Pass T) → TookAll T.meaning self.now (stripe ∷ []) before pass.old → (known_to result).notes ≡ (known before).notes }
+    {
+        let wanted = self.set_of(stripe);
+        self.hold(pass, &wanted)
+    }
+
+    /// Takes one stripe, as [`Gates::take`] does.
+    #[inline]
+    pub fn take_one<'a, R: Wait>(
+        &'a self,
+        rt: &R,
+        pass: &'a mut Pass<T>,
+        stripe: usize,
+    ) -> Held<'a, T>
+        requires own { IsResting T.meaning.trusted self.now pass.old }
+        requires below { stripe < stripes_of self.now }
+        ensures { HasTaken T.meaning self.now (stripe ∷ []) pass.entry result }
+    {
+        let wanted = self.set_of(stripe);
+        self.take(rt, pass, &wanted)
     }
 
     /// Takes stripes, in rising order, and waits where others hold them.
@@ -314,8 +371,12 @@ impl<'a, T: Part> Held<'a, T> {
 
 impl<'a, T: Part> Parts<T> for Held<'a, T> {
     ghost use Rattle.gates.specs.Sets.{part_at};
-    ghost use Rattle.gates.specs.Helds.{IsOpen, held_parts, SameHold, same_as_it, same_by_both};
+    ghost use Rattle.gates.specs.Helds.{IsOpen, held_parts, held_stripes, number_of, SameHold, same_as_it, same_by_both, few_held, stripes_stay, holder_stays};
     ghost use Rattle.gates.specs.Lending as lending;
+
+    ghost stripes_of = { held_stripes };
+
+    ghost holder_of = { number_of };
 
     ghost part_of = { λ held stripe. part_at (held_parts held) stripe };
 
@@ -324,6 +385,20 @@ impl<'a, T: Part> Parts<T> for Held<'a, T> {
     ghost is_open = { IsOpen T.meaning.trusted };
 
     ghost keeps = { SameHold };
+
+    fn stripes(&self) -> usize {
+        self.gates.stripes()
+    }
+
+    fn holder(&self) -> u64 {
+        self.pass.number
+    }
+
+    ghost are_few = { few_held };
+
+    ghost same_stripes = { stripes_stay };
+
+    ghost same_holder = { holder_stays };
 
     ghost keeps_same = { same_as_it };
 

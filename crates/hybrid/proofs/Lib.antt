@@ -1,3 +1,4 @@
+pub mod Addresses
 pub mod Starting
 pub mod Placing
 pub mod Finding

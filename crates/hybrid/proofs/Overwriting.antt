@@ -292,11 +292,14 @@ pub record IsOverwritten (now new : HybridLog) (address : ℕ) (value : Option (
   pub heads : new.heads ≡ now.heads
   pub bytes : tail_bytes new ≡ tail_bytes now
 
-pub overwritten-from : (v now : HybridLog) (address size : ℕ) (value : Option (List ℕ)) (page w : List ℕ) → v ≡ now → IsHybridLog v → IsRoomy now address size → length (value_bytes value) ≤ VALUE_BYTES_MAX → page ≡ page_of v.resident (address / PAGE_SIZE) → IsLaidOut w → number_of w ≡ number_of page → used_end w ≡ used_end page
-    → records_of w ≡ map (with_value (address % PAGE_SIZE) value) (records_of page) → IsOverwritten now (with_bytes v (address / PAGE_SIZE) w v.heads) address value
-overwritten-from v now address size value page w same is roomy fits there laid numbered end records =
+pub overwritten-from : (v now : HybridLog) (address number offset size : ℕ) (value : Option (List ℕ)) (page w : List ℕ) → number ≡ address / PAGE_SIZE → offset ≡ address % PAGE_SIZE → v ≡ now → IsHybridLog v → IsRoomy now address size → length (value_bytes value) ≤ VALUE_BYTES_MAX → page ≡ page_of v.resident number → IsLaidOut w → number_of w ≡ number_of page → used_end w ≡ used_end page
+    → records_of w ≡ map (with_value offset value) (records_of page) → IsOverwritten now (with_bytes v number w v.heads) address value
+overwritten-from v now address number offset size value page w number_is offset_is same is roomy fits read laid numbered end changed =
+    let there = read ∙ ap (page_of v.resident) number_is in
+    let records = changed ∙ ap (λ (o : ℕ). map (with_value o value) (records_of page)) offset_is in
     let roomy_v : IsRoomy v address size = subst (λ (q : HybridLog). IsRoomy q address size) (sym same) roomy in
     let at = room-at v address size is roomy_v in
     let r = overwritten v address size value w is roomy_v fits laid (numbered ∙ ap number_of there) (records ∙ ap (λ (q : List ℕ). map (with_value (address % PAGE_SIZE) value) (records_of q)) there) in
     let tail = tail-same v (address / PAGE_SIZE) w v.heads is (omega (arith, at.low)) at.high (end ∙ ap used_end there) in
-    subst (λ (q : HybridLog). IsOverwritten q (with_bytes v (address / PAGE_SIZE) w v.heads) address value) same (record { is = r.is; log = r.log; put = r.put; heads = refl; bytes = tail })
+    subst (λ (n : ℕ). IsOverwritten now (with_bytes v n w v.heads) address value) (sym number_is)
+    (subst (λ (q : HybridLog). IsOverwritten q (with_bytes v (address / PAGE_SIZE) w v.heads) address value) same (record { is = r.is; log = r.log; put = r.put; heads = refl; bytes = tail }))

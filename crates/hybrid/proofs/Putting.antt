@@ -133,21 +133,20 @@ pub record IsPutIn (now new : HybridLog) (a : ℕ) (key : List ℕ) (value : Opt
   pub address : a ≡ begin_of (next_number now.resident - 1) + tail_bytes now
   pub resident : begin_of now.resident.oldest ≤ a
 
-pub put-from : (v now : HybridLog) (number offset link hash : ℕ) (page w heads key : List ℕ) (value : Option (List ℕ)) → v ≡ now → IsHybridLog v → number ≡ next_number v.resident - 1 → page ≡ page_of v.resident number → IsLaidOut w → number_of w ≡ number_of page
+pub put-from : (v now : HybridLog) (number offset a head link hash : ℕ) (page w heads key : List ℕ) (value : Option (List ℕ)) → v ≡ now → IsHybridLog v → number ≡ next_number v.resident - 1 → page ≡ page_of v.resident number → IsLaidOut w → number_of w ≡ number_of page
     → records_of w ≡ records_of page ++ (used_end page, new_record link hash key value) ∷ [] → used_end w ≡ used_end page + size_for (length key) (length (value_bytes value)) → offset ≡ used_end page
-    → hash ≡ hash_of key → link ≡ slice_index v.heads (hash / v.stripes % length v.heads) → heads ≡ set v.heads (hash / v.stripes % length v.heads) (number * PAGE_SIZE + offset) → Fits key value
-    → IsPutIn now (with_bytes v number w heads) (number * PAGE_SIZE + offset) key value
-put-from v now number offset link hash page w heads key value same is at there laid numbered records end offset_is hashed linked moved fits =
+    → hash ≡ hash_of key → link ≡ slice_index v.heads (hash / v.stripes % length v.heads) → a ≡ number * PAGE_SIZE + offset → head ≡ a → heads ≡ set v.heads (hash / v.stripes % length v.heads) head → Fits key value
+    → IsPutIn now (with_bytes v number w heads) a key value
+put-from v now number offset a head link hash page w heads key value same is at there laid numbered records end offset_is hashed linked placed headed moved fits =
     let t = tail-is v number page is at there in
-    let a : ℕ = number * PAGE_SIZE + offset in
     let r : Stored = new_record link hash key value in
     let b_is : hash / v.stripes % length v.heads ≡ bucket_of v key = ap (λ (h : ℕ). h / v.stripes % length v.heads) hashed in
     let size : size_of r ≡ size_for (length key) (length (value_bytes value)) = omega arith in
     let short : IsShort r = record { size = omega (arith, size, size-short (length key) (length (value_bytes value)) fits.key_fits fits.value_fits); fits = fits } in
     let link_is : link ≡ head_of v key = linked ∙ ap (slice_index v.heads) b_is in
-    let heads_are : heads ≡ set v.heads (bucket_of v key) a = moved ∙ ap (λ (b : ℕ). set v.heads b a) b_is in
+    let heads_are : heads ≡ set v.heads (bucket_of v key) a = moved ∙ ap (set v.heads (hash / v.stripes % length v.heads)) headed ∙ ap (λ (b : ℕ). set v.heads b a) b_is in
     let records_there : records_of w ≡ records_of (page_of v.resident number) ++ (used_end (page_of v.resident number), r) ∷ [] = subst (λ (q : List ℕ). records_of w ≡ records_of q ++ (used_end q, r) ∷ []) there records in
-    let a_is : a ≡ number * PAGE_SIZE + used_end (page_of v.resident number) = ap (λ (o : ℕ). number * PAGE_SIZE + o) (offset_is ∙ ap used_end there) in
+    let a_is : a ≡ number * PAGE_SIZE + used_end (page_of v.resident number) = placed ∙ ap (λ (o : ℕ). number * PAGE_SIZE + o) (offset_is ∙ ap used_end there) in
     let low : HEADER_SIZE ≤ used_end (page_of v.resident number) = subst (λ (q : List ℕ). HEADER_SIZE ≤ used_end q) there t.low in
     let done = put-log v number a w heads key r is t.last laid (numbered ∙ t.numbered) records_there a_is refl link_is heads_are short low in
     let new : HybridLog = with_bytes v number w heads in
@@ -157,8 +156,8 @@ put-from v now number offset link hash page w heads key value same is at there l
     ap (λ (k : ℕ). slice_index_or (set v.resident.pages (number - v.resident.oldest) w) k []) last_at ∙ get_or-set_same v.resident.pages (number - v.resident.oldest) w [] (omega (arith, t.last, is.tail)) in
     let tail_end : used_end (slice_index_or (set v.resident.pages (number - v.resident.oldest) w) (length (set v.resident.pages (number - v.resident.oldest) w) - 1) []) ≡ used_end w = ap used_end tail_page in
     let bytes : tail_bytes new ≡ tail_bytes v + size_for (length key) (length (value_bytes value)) = omega (arith, tail_end, end, t.end) in
-    let address : a ≡ begin_of (next_number v.resident - 1) + tail_bytes v = omega (arith, offset_is, t.end, t.last) in
-    let resident : begin_of v.resident.oldest ≤ a = omega (arith, offset_is, t.low, t.last, is.tail) in
+    let address : a ≡ begin_of (next_number v.resident - 1) + tail_bytes v = omega (arith, placed, offset_is, t.end, t.last) in
+    let resident : begin_of v.resident.oldest ≤ a = omega (arith, placed, offset_is, t.low, t.last, is.tail) in
     subst (λ (q : HybridLog). IsPutIn q new a key value) same (record {
       is = done.is;
       appended = record { put = r; link_is = link_is; key_is = refl; hash_is = hashed; value_is = refl; capacity = refl; log = done.log };

@@ -2,6 +2,8 @@
 use Rattle.std.specs.Prelude.{◌≡◌, ℕ, ◌+◌, ◌<◌, ◌≤◌, ◌||◌, Bool, false, cond, List, [], ◌∷◌, ◌++◌, Option, Some, None}
 use Rattle.std.specs.Bool.{Decides}
 use Rattle.std.specs.Str.{bytes_eq}
+use Rattle.words.specs.declared.reply.Fault.{Fault}
+use Rattle.words.specs.declared.reply.Fault.TheVariants as reply
 use Rattle.hybrid.specs.declared.staged.ReadFault.{ReadFault}
 use Rattle.hybrid.specs.declared.staged.ReadFault.TheVariants as fault
 use Rattle.hybrid.specs.HybridLog.{HybridLog, Kept}
@@ -21,6 +23,11 @@ pub record HasStaged (kept : Kept) (old new : List StagedPage) : Type 0 where
 abbrev pub MatchReadFault : ReadFault → Type 0 → Type 0 → Type 0
 MatchReadFault fault.OutOfMemory P Q = P
 MatchReadFault fault.DeviceFault P Q = Q
+
+-- what keeps a request from its answer whose page was not read
+abbrev pub fault_of : ReadFault → Fault
+fault_of fault.OutOfMemory = reply.OutOfMemory
+fault_of fault.DeviceFault = reply.DeviceFault
 
 -- whether a page is staged that was read by a receipt of this identity
 abbrev pub is_staged : List StagedPage → List ℕ → Bool

@@ -11,6 +11,7 @@
 //! in take memory.
 #![tactic(auto)]
 
+mod address;
 pub mod laws;
 mod staged;
 mod stripe;

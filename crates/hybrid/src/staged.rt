@@ -10,6 +10,7 @@ use records::Page;
 use std::alloc::{AllocError, Global};
 use std::marker::Model;
 use thiserror::Error;
+use words::reply::Fault;
 
 /// Why no page was read.
 #[derive(Clone, Copy, Debug, PartialEq, Eq, Error)]
@@ -20,6 +21,19 @@ pub enum ReadFault {
     /// The device failed.
     #[error("device fault")]
     DeviceFault,
+}
+
+impl From<ReadFault> for Fault {
+    ghost use Rattle.hybrid.specs.Reading.{fault_of};
+
+    ghost from_gives = { λ error fault. fault ≡ fault_of error };
+
+    fn from(error: ReadFault) -> Fault {
+        match error {
+            ReadFault::OutOfMemory => Fault::OutOfMemory,
+            ReadFault::DeviceFault => Fault::DeviceFault,
+        }
+    }
 }
 
 /// Pages that were read from the device, each with the receipt that it was read by.

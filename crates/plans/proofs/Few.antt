@@ -122,6 +122,10 @@ pub ok_then : {A E P Q : Type 0} (r : Result A E) → (P → Q) → OnOk r P →
 ok_then (Ok x) f p = f p
 ok_then (Err e) f p = tt
 
+pub ok_two : {A E P Q S : Type 0} (r : Result A E) → (P → Q → S) → OnOk r P → OnOk r Q → OnOk r S
+ok_two (Ok x) f p q = f p q
+ok_two (Err e) f p q = tt
+
 -- memory was not refused
 pub never_refused : {A R : Type 0} (r : Result A (Stop R)) (P : Type 0) → IfErr r (λ s. IfNoMemory s ⊥) → IfErr r (λ s. IfNoMemory s P)
 never_refused (Ok x) P never = tt

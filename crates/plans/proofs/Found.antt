@@ -1,5 +1,5 @@
 -- What was looked up, of keys and then of more.
-use Rattle.std.proofs.Common.{◌≡◌, ◌∙◌, ◌||◌, bytes_eq, cond, zero, suc, ℕ, List, [], ◌∷◌, ◌++◌, Option, Some, nat_eq, length, append_assoc, refl, sym, ap, subst, true, false, ne_eqb, arith}
+use Rattle.std.proofs.Common.{◌≡◌, ◌∙◌, ◌≤◌, ◌||◌, unwrap_or, bytes_eq, cond, zero, suc, ℕ, List, [], ◌∷◌, ◌++◌, Option, Some, nat_eq, length, append_assoc, refl, sym, ap, subst, true, false, ne_eqb, arith}
 use Rattle.std.specs.Map.{update}
 use Rattle.words.specs.Store.{Bytes, Store, Write, empty, written}
 use Rattle.words.specs.History.{is_among}
@@ -14,6 +14,12 @@ use Rattle.plans.specs.declared.stop.Stop.TheVariants as stop
 use Rattle.shards.specs.Shards.{logs_of, shard_log}
 use Rattle.plans.specs.Sizes.{AllShort, AreShort, IsShort}
 use Rattle.plans.specs.Stops.{Each, HasFound, IfCold, IsCold, IsNeeded, IsWanted, IsWantedFor, IsNotEmpty}
+use Rattle.words.specs.declared.word.TheConstants.{WORD_INLINE}
+use Rattle.gates.specs.Rule.{Meaning}
+use Rattle.transact.specs.Tables.{joined}
+use Rattle.shards.specs.Shards.{shard_store}
+use Rattle.plans.specs.Planning.{HasMissed, MissedAt, of_get}
+use Rattle.plans.proofs.Hand.{hand_of}
 use Rattle.plans.proofs.Logs.{log_at}
 use Rattle.plans.proofs.Stores.{or_false, or_left, or_right, same_key, some_is}
 use Rattle.plans.proofs.Keys.{values_of-append}
@@ -186,3 +192,22 @@ some_wanted (k ∷ c) e = tt
 pub no_wanted : (c : List Kept) → nat_eq (length c) 0 ≡ true → c ≡ []
 no_wanted [] e = refl
 no_wanted (k ∷ c) e = absurd (cc (sym e ∙ ne_eqb (length (k ∷ c)) 0 (λ z. absurd (omega (arith, z)))))
+
+-- a key that was not found in its part was not found in the parts
+pub missed_of : {A R : Type 0} (r : Result A (Stop R)) (lends Right : Type 0) (contents : Meaning (Shard R)) (n : ℕ) (parts : ℕ → Option (Shard R)) (key : Bytes) (part : Shard R) (staged : List StagedPage)
+    → parts (stripe_of n key) ≡ Some part → shard_store part key ≡ joined contents n parts key → IfErr r (MissedAt lends Right part key staged)
+    → IfErr r (HasMissed lends Right n (of_get contents n parts key) staged (logs_of parts))
+missed_of (Ok value) lends Right contents n parts key part staged there same missed = tt
+missed_of (Err stop.OutOfMemory) lends Right contents n parts key part staged there same missed = λ right hand brief.
+    missed right (hand_of lends n parts key part staged there hand) (subst (λ (v : Option Bytes). length (unwrap_or v []) ≤ WORD_INLINE) (sym same) brief)
+missed_of (Err stop.DeviceFault) lends Right contents n parts key part staged there same missed = absurd missed
+missed_of (Err (stop.Cold receipts)) lends Right contents n parts key part staged there same missed =
+    let P : Kept → Type 0 = IsWantedFor Right (shard_log part) key staged in
+    let C : Kept → Type 0 = IsCold n (logs_of parts) (key ∷ []) staged in
+    let N : Kept → Type 0 = IsNeeded Right n (logs_of parts) (key ∷ []) staged in
+    record {
+      cold = (missed.some, each_as P C receipts (λ k is. cold_of n parts key part staged there k is.wanted) missed.each);
+      needed = each_as P N receipts (needed_of Right n parts key part staged there) missed.each;
+      unlent = missed.unlent;
+    }
+missed_of (Err (stop.StoreFull stripe)) lends Right contents n parts key part staged there same missed = absurd missed

@@ -1,5 +1,5 @@
 -- Places that were released, stripe by stripe.
-use Rattle.std.proofs.Common.{◌≡◌, ◌≢◌, ◌∙◌, ◌<◌, ◌≤◌, inl, inr, ⊎_elim, ℕ, zero, suc, Bool, true, false, List, [], ◌∷◌, ◌++◌, length, append_assoc, append-nil, Option, Some, None, IsSome, option_map, unwrap_or, refl, sym, ap, subst, arith}
+use Rattle.std.proofs.Common.{◌≡◌, ◌≢◌, ◌∙◌, ◌<◌, ◌≤◌, inl, inr, ⊎_elim, ℕ, zero, suc, Bool, true, false, List, [], ◌∷◌, ◌++◌, length, append_assoc, Option, Some, None, IsSome, option_map, unwrap_or, refl, sym, ap, subst, arith}
 use Rattle.std.specs.Prelude.{if◌then◌else◌}
 use Rattle.std.proofs.lemmas.Bool.{cases_eq}
 use Rattle.epoch.specs.declared.view.View.{View}
@@ -17,6 +17,7 @@ use Rattle.shards.specs.Shards.{SameWaits, logs_of, shard_counted, shard_log, sh
 use Rattle.words.specs.declared.word.TheConstants.{WORD_INLINE}
 use Rattle.words.specs.declared.command.Command.{Command}
 use Rattle.words.specs.declared.command.Command.TheVariants.{Get}
+use Rattle.words.specs.declared.history.Operation.{Operation}
 use Rattle.words.specs.History.{History, Pair, after}
 use Rattle.words.specs.Store.{Bytes, Store}
 use Rattle.words.specs.Stripes.{stripe_of}
@@ -25,6 +26,7 @@ use Rattle.transact.specs.declared.call.Call.{Call}
 use Rattle.transact.specs.declared.call.Call.TheVariants.{One, Watch, Exec, Forget}
 use Rattle.transact.specs.Tables.{AreThere, AreUnmarked, Became, HasBegun, Stand, begins, joined, joined_marks, mark_in, stays, value_in}
 use Rattle.plans.specs.Memory.{IsBrief, IsPlannedInPlace, NeedsNoMemoryOn}
+use Rattle.plans.specs.Planning.{AsksOn}
 use Rattle.plans.specs.Sizes.{AllShort, IsShort}
 use Rattle.plans.proofs.Become.{became_both, became_read}
 use Rattle.plans.proofs.Rooms.{stripe_below}
@@ -232,3 +234,17 @@ needs_same s u (Forget watching) same needs = absurd needs
 -- a stripe that is that of a key is one of all
 pub below_all : (n stripe : ℕ) (key : Bytes) → 1 ≤ n → stripe ≡ stripe_of n key → stripe < n
 below_all n stripe key some is = omega (arith, is, stripe_below n key some)
+
+-- a call that is asked on parts is asked on parts that read the same
+pub asks_after : {R : Type 0} (contents : Meaning (Shard R)) (n : ℕ) (a b : ℕ → Option (Shard R)) (holder : ℕ) (call : Call) (seen : History) (operation : Operation) → Became contents n [] stays a b
+    → AsksOn contents n a holder call seen operation → AsksOn contents n b holder call seen operation
+asks_after contents n a b holder call seen operation became asks = record {
+  asked = asks.asked;
+  watched = asks.watched;
+  short = short_same contents n a b became asks.short;
+  asks = asks.asks;
+  stand = stand_same contents n a b seen holder asks.watched became asks.stand;
+  ends = asks.ends;
+  once = asks.once;
+  is = asks.is;
+}

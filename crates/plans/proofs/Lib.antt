@@ -18,3 +18,5 @@ pub mod Installed
 pub mod Held
 pub mod Raised
 pub mod Freed
+pub mod Questions
+pub mod Reserved

@@ -5,6 +5,7 @@ use Rattle.words.specs.declared.limits.TheConstants.{WEIGHT_MAX}
 use Rattle.words.specs.Store.{Write, weight}
 use Rattle.hybrid.specs.declared.stripe.room.Purpose.{Purpose}
 use Rattle.hybrid.specs.HybridLog.{HybridLog, Kept}
+use Rattle.plans.specs.Planning.{MatchStop}
 use Rattle.plans.specs.declared.stop.Stop.{Stop}
 use Rattle.plans.specs.declared.stop.Stop.TheVariants as stop
 use Rattle.shards.specs.Rooms.{AreRoomy, IsFullAt, LacksRoom, LacksRoomAt, MakesRoom, MeetsFull, RoomAt, ShedFew, ShedsAt, purpose_of, share}
@@ -45,11 +46,11 @@ module _ {D R : Type 0} (wrote : D → List ℕ → R → D → Type 0) (view : 
   -- the same of a stop at that stripe
   pub met_stop : (s : Stop R) (failures : D → ℕ) (i share_is : ℕ) (purpose : Purpose) (ws : List Write) (a b c : ℕ → Option HybridLog) (d e f : D) → share_is ≡ share n i ws → purpose ≡ purpose_of ws → weight ws ≤ WEIGHT_MAX → i < n
       → MakesRoom wrote view n i ws a d b e → b i ≡ a i → ShedFew n ws a c → LacksRoomAt i share_is purpose b c → failures f ≡ failures e + faults s
-      → (0 < share_is → failures f ≡ failures e → ShedsAt wrote view i b e c f) → IfFull s (λ full. (full ≡ i) × (0 < share_is) × IsFullAt c full)
-      → IfFull s (λ stripe. MeetsFull wrote view n stripe (λ due. due ≡ ws) a d c f)
-  met_stop stop.OutOfMemory failures i share_is purpose ws a b c d e f is left light below made same few lacks counted shed full = tt
+      → (0 < share_is → failures f ≡ failures e → ShedsAt wrote view i b e c f) → MatchStop s (λ receipts. ⊥) ⊥ (Unit {0}) (λ full. (full ≡ i) × (0 < share_is) × IsFullAt c full)
+      → MatchStop s (λ receipts. ⊥) ⊥ (Unit {0}) (λ stripe. MeetsFull wrote view n stripe (λ due. due ≡ ws) a d c f)
+  met_stop stop.OutOfMemory failures i share_is purpose ws a b c d e f is left light below made same few lacks counted shed full = full
   met_stop stop.DeviceFault failures i share_is purpose ws a b c d e f is left light below made same few lacks counted shed full = tt
-  met_stop (stop.Cold receipts) failures i share_is purpose ws a b c d e f is left light below made same few lacks counted shed full = tt
+  met_stop (stop.Cold receipts) failures i share_is purpose ws a b c d e f is left light below made same few lacks counted shed full = full
   met_stop (stop.StoreFull j) failures i share_is purpose ws a b c d e f is left light below made same few lacks counted shed full =
       subst (λ (k : ℕ). MeetsFull wrote view n k (λ due. due ≡ ws) a d c f) (sym full.0)
       (met_full i ws a b c d e f light (omega (arith, full.1, is)) below made (shed full.1 (omega (arith, counted))) (subst (IsFullAt c) full.0 full.2) few

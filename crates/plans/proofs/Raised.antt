@@ -1,5 +1,5 @@
 -- Places that wait for their release, and how often words that were read blocked their drains.
-use Rattle.std.proofs.Common.{◌+◌, ◌≤◌, inl, inr, ⊎_elim, ℕ, List, arith}
+use Rattle.std.proofs.Common.{inl, inr, ⊎_elim, ℕ, List, arith}
 use Rattle.std.specs.List.{Contains}
 use Rattle.gates.specs.Background.{AreRaised, IsEachRefused}
 use Rattle.gates.specs.Pages.{Place}

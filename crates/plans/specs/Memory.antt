@@ -6,7 +6,7 @@ use Rattle.words.specs.declared.command.Command.TheVariants.{Get}
 use Rattle.words.specs.Answers.{value_of}
 use Rattle.words.specs.Commands.{IsInline, keys_of}
 use Rattle.words.specs.History.{is_among}
-use Rattle.words.specs.Store.{Bytes, Store}
+use Rattle.words.specs.Store.{Bytes, Store, Write}
 use Rattle.words.specs.Stripes.{stripe_of}
 use Rattle.strings.specs.Overlays.{NeedsNoMemory}
 use Rattle.hybrid.specs.HybridLog.{HybridLog, Kept, receipt_at}
@@ -22,6 +22,11 @@ IsAtHand lends log staged = lends ⊎ ((number : ℕ) (kept : Kept) → log.olde
 -- the same of the logs of the stripes of these keys
 abbrev pub AreAtHand : Type 0 → (n : ℕ) → (ℕ → Option HybridLog) → (keys : List Bytes) → List StagedPage → Type 0
 AreAtHand lends n logs keys staged = (key : Bytes) (log : HybridLog) → is_among keys key ≡ true → logs (stripe_of n key) ≡ Some log → IsAtHand lends log staged
+
+-- this, where one key was found, and the command needs no memory on what it has
+abbrev pub IfOneInPlace : (found : List Write) → Command → Type 0 → Type 0
+IfOneInPlace found command says =
+    (key : Bytes) (value : Option Bytes) → found ≡ (key, value) ∷ [] → NeedsNoMemory (of_one_key key value) command → says
 
 -- A command of one key that is planned without a growth where the key has this value: the key, its value, and each text that the command answers
 -- or writes are held without an allocation. The key may be missing.

@@ -1,18 +1,16 @@
 //! What commands answer, on what is found of their keys.
 
-ghost use Rattle.std.specs.Prelude.{◌≡◌, ◌≤◌, ◌+◌, ◌∷◌, ◌++◌, [], List, Option, length, OnOk, IfOk, IsOk};
+ghost use Rattle.std.specs.Prelude.{◌≡◌, ◌≤◌, ◌+◌, ◌∷◌, ◌++◌, [], length, OnOk, IfOk, IsOk};
 ghost use Rattle.words.specs.Store.{Bytes, empty, written};
-ghost use Rattle.words.specs.Commands.{IsInline, keys_of, keys_of_all};
+ghost use Rattle.words.specs.Commands.{keys_of, keys_of_all};
 ghost use Rattle.words.specs.Answers.{answer, answers};
 ghost use Rattle.words.specs.Answers as answering;
 ghost use Rattle.strings.specs.declared.found.TheConstants.{FOUND_INLINE};
-ghost use Rattle.strings.specs.Overlays.{NeedsNoMemory, shown};
-ghost use Rattle.transact.specs.Memory.{of_one_key};
-ghost use Rattle.transact.specs.Tables.{AreThere, joined};
+ghost use Rattle.strings.specs.Overlays.{shown};
 ghost use Rattle.hybrid.specs.Staging.{AreRight};
-ghost use Rattle.shards.specs.Shards.{logs_of, shard_meaning};
-ghost use Rattle.plans.specs.Memory.{AreAtHand};
-ghost use Rattle.plans.specs.Stops.{HasFound, IsNeeded};
+ghost use Rattle.plans.specs.Planning.{IsStillHeld, MayLookUp};
+ghost use Rattle.plans.specs.Finding.{FindsInPlaceIn, LooksUpIn};
+ghost use Rattle.plans.specs.Memory.{IfOneInPlace};
 
 use crate::cells::find_key;
 use crate::stop::Receipts;
@@ -34,32 +32,23 @@ use words::word::OutOfMemory;
 pub(crate) fn find_command<R: Shows, P: Parts<Shard<R>>>(
     alloc: Global,
     parts: &mut P,
-    stripes: usize,
     command: &Command,
     staged: &Staged<R>,
     found: &mut Writes,
     cold: &mut Receipts<R>,
 ) -> Result<(), OutOfMemory>
-    requires open { P.is_open parts.old }
-    requires some { 1 ≤ stripes }
-    requires there { AreThere stripes (P.part_of parts.old) (keys_of command.now) }
-    ensures found { OnOk result (HasFound (IsNeeded (R.is_honest × AreRight staged.now) stripes (logs_of (P.part_of parts.old)) (keys_of command.now) staged.now) (R.is_honest × AreRight staged.now) (joined (shard_meaning R.is_steady) stripes (P.part_of parts.old)) (keys_of command.now) cold.old cold.new found.old found.new) }
+    requires may { MayLookUp (P.is_open parts.old) (P.stripes_of parts.old) (P.part_of parts.old) (keys_of command.now) }
+    ensures found { OnOk result (LooksUpIn R.is_steady P.stripes_of P.part_of parts.old (R.is_honest × AreRight staged.now)
+        (keys_of command.now) staged.now (cold.old, found.old) (cold.new, found.new)) }
     ensures lent { R.lends → cold.new ≡ cold.old }
-    ensures memory { R.is_honest → AreRight staged.now → AreAtHand R.lends stripes (logs_of (P.part_of parts.old)) (keys_of command.now) staged.now → (key : Bytes) → keys_of command.now ≡ key ∷ [] → found.old ≡ [] → IsInline key → IsInline (answering.value_of (joined (shard_meaning R.is_steady) stripes (P.part_of parts.old) key)) → IsOk result }
+    ensures memory { (key : Bytes) → keys_of command.now ≡ key ∷ []
+        → FindsInPlaceIn R.is_steady P.stripes_of P.part_of parts.old R.lends (R.is_honest × AreRight staged.now) key staged.now
+        (length found.old) → found.old ≡ [] → IsOk result }
     ensures same { P.part_of parts.new ≡ P.part_of parts.old }
-    ensures open { P.is_open parts.new }
-    ensures keeps { P.keeps parts.old parts.new }
+    ensures held { IsStillHeld P.is_open P.keeps parts.old parts.new }
 {
     for place in 0..key_count(command) {
-        find_key(
-            alloc,
-            parts,
-            stripes,
-            key_at(command, place),
-            staged,
-            found,
-            cold,
-        )?;
+        find_key(alloc, parts, key_at(command, place), staged, found, cold)?;
     }
     Ok(())
 }
@@ -68,24 +57,21 @@ pub(crate) fn find_command<R: Shows, P: Parts<Shard<R>>>(
 pub(crate) fn find_commands<R: Shows, P: Parts<Shard<R>>>(
     alloc: Global,
     parts: &mut P,
-    stripes: usize,
     commands: &[Command],
     staged: &Staged<R>,
     found: &mut Writes,
     cold: &mut Receipts<R>,
 ) -> Result<(), OutOfMemory>
-    requires open { P.is_open parts.old }
-    requires some { 1 ≤ stripes }
-    requires there { AreThere stripes (P.part_of parts.old) (keys_of_all commands.now) }
-    ensures found { OnOk result (HasFound (IsNeeded (R.is_honest × AreRight staged.now) stripes (logs_of (P.part_of parts.old)) (keys_of_all commands.now) staged.now) (R.is_honest × AreRight staged.now) (joined (shard_meaning R.is_steady) stripes (P.part_of parts.old)) (keys_of_all commands.now) cold.old cold.new found.old found.new) }
+    requires may { MayLookUp (P.is_open parts.old) (P.stripes_of parts.old) (P.part_of parts.old) (keys_of_all commands.now) }
+    ensures found { OnOk result (LooksUpIn R.is_steady P.stripes_of P.part_of parts.old (R.is_honest × AreRight staged.now)
+        (keys_of_all commands.now) staged.now (cold.old, found.old) (cold.new, found.new)) }
     ensures lent { R.lends → cold.new ≡ cold.old }
     ensures same { P.part_of parts.new ≡ P.part_of parts.old }
-    ensures open { P.is_open parts.new }
-    ensures keeps { P.keeps parts.old parts.new }
+    ensures held { IsStillHeld P.is_open P.keeps parts.old parts.new }
 {
     let mut left = commands;
     while let Some((command, others)) = left.split_first() {
-        find_command(alloc, parts, stripes, command, staged, found, cold)?;
+        find_command(alloc, parts, command, staged, found, cold)?;
         left = others;
     }
     Ok(())
@@ -115,7 +101,7 @@ pub(crate) fn answer_one(
     command: &Command,
 ) -> Result<(CommandReply, Writes), OutOfMemory>
     ensures answer { IfOk result (λ done. done ≡ answer (written empty found.now) command.now) }
-    ensures memory { (key : Bytes) (value : Option Bytes) → found.now ≡ (key, value) ∷ [] → NeedsNoMemory (of_one_key key value) command.now → IsOk result }
+    ensures memory { IfOneInPlace found.now command.now (IsOk result) }
 {
     let mut overlay = Overlay::new(alloc);
     match answer_on(alloc, found, command, &mut overlay) {
@@ -135,7 +121,7 @@ fn answer_on<'a>(
     requires none { overlay.old.found ≡ [] }
     requires unwritten { overlay.old.writes ≡ [] }
     ensures answer { IfOk result (λ reply. (reply, overlay.new.writes) ≡ answer (written empty found.entry.now) command.now) }
-    ensures memory { (key : Bytes) (value : Option Bytes) → found.entry.now ≡ (key, value) ∷ [] → NeedsNoMemory (of_one_key key value) command.now → IsOk result }
+    ensures memory { IfOneInPlace found.entry.now command.now (IsOk result) }
 {
     show(found.as_slice(), &mut overlay.found)?;
     run(alloc, command, overlay)

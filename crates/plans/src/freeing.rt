@@ -1,37 +1,30 @@
 //! What a call releases itself, before it is answered that a stripe is full.
 
-ghost use Rattle.std.specs.Prelude.{◌≡◌, ◌+◌, ◌<◌, ◌≤◌, ◌∷◌, List, Some, IsSome, IfErr, IfOk, OnErr, OnOk, [], true, false};
-ghost use Rattle.words.specs.declared.limits.TheConstants.{WEIGHT_MAX};
-ghost use Rattle.words.specs.History.{History, Pair};
-ghost use Rattle.words.specs.Session.{Asked, operation_of};
+ghost use Rattle.std.specs.Prelude.{◌≡◌, Some, IsSome, IfErr, IfOk, OnOk, [], ⊤};
 ghost use Rattle.words.specs.Stripes as striping;
-ghost use Rattle.gates.specs.Passes.{AreWatched};
 ghost use Rattle.hybrid.specs.Staging.{AreRight};
-ghost use Rattle.hybrid.specs.Writing.{AreFit};
-ghost use Rattle.transact.specs.Calls.{asked_of, call_keys};
-ghost use Rattle.transact.specs.Plans.{EndsAll, IsEntry, IsPlan, keys_begun, made};
-ghost use Rattle.transact.specs.Tables.{AreThere, Became, HasBegun, Stand, begins, joined, stays};
-ghost use Rattle.shards.specs.Freeing.{FreesAt, HasTriedAll, IsSpentAt};
-ghost use Rattle.shards.specs.Heard.{HasHeard, HasHeardWorn};
-ghost use Rattle.plans.specs.Memory.{NeedsNoMemoryOn};
-ghost use Rattle.shards.specs.Rooms.{AreRoomy, IsFullAt, IsRoomyAt, share};
-ghost use Rattle.shards.specs.Shards.{logs_of, shard_meaning, weigh};
-ghost use Rattle.plans.specs.Sizes.{AllShort, IsPlaced};
-ghost use Rattle.plans.specs.Stops.{IfCold, IfFull, IfNoMemory, faults};
+ghost use Rattle.transact.specs.Plans.{keys_begun};
+ghost use Rattle.transact.specs.Tables.{stays};
+ghost use Rattle.shards.specs.Freeing.{FreesAt, HasTriedAll};
+ghost use Rattle.plans.specs.Holding.{AreMarkedFor, Becomes, NeedsMemory};
+ghost use Rattle.plans.specs.Planning.{AreDue, HaveFailedBy, IsReady, IsStillHeld, MatchStop, MayPlan, MayPut, asks_call};
+ghost use Rattle.plans.specs.Reserving.{IsRoomyFor, IsStuck, IsStuckFor, StillRetires, StillWorks};
+ghost use Rattle.plans.specs.Stops.{IfFull};
+ghost use Rattle.plans.specs.declared.reading.WhenCold.TheVariants.{Stops};
 
-use crate::plan::Planned;
-use crate::reading::plan_staged;
+use crate::hands::Hands;
+use crate::planned::Planned;
+use crate::reading::{WhenCold, plan_staged};
 use crate::short::reserve_set;
 use crate::stop::Stop;
 use device::{Device, Shows};
 use epoch::Epochs;
 use gates::{Parts, Refused};
-use hybrid::Staged;
 use shards::freeing::Freed;
 use shards::retires::Retires;
 use shards::shard::Shard;
-use std::alloc::Global;
 use transact::call::Call;
+use words::hash::Hashed;
 use words::word::Word;
 
 /// Why a call was not planned that released what it could, and what the epochs refused of that.
@@ -43,12 +36,6 @@ pub struct Halt<R: Shows> {
     pub refused: Refused,
 }
 
-/// Nothing was refused.
-const NOTHING: Refused = Refused {
-    retire: false,
-    drain: false,
-};
-
 /// Plans a call over a steady device, as [`plan_staged`] does. Where it meets a full stripe, it releases each place of that
 /// stripe that can be released, and where that was one at least, it plans again.
 ///
@@ -56,49 +43,35 @@ const NOTHING: Refused = Refused {
 ///
 /// A [`Halt`]: with [`Stop::StoreFull`] only where no place of that stripe can be released.
 pub fn plan_freeing<R: Shows, D: Device<Receipt = R>, P: Parts<Shard<R>>, S: Retires>(
-    alloc: Global,
     parts: &mut P,
-    stripes: usize,
-    seat: u64,
     call: &Call,
-    staged: &mut Staged<R>,
-    reads: bool,
+    hands: &mut Hands<R, S>,
+    cold: WhenCold,
     epochs: &Epochs,
-    own: &mut S,
     device: &mut D,
 ) -> Result<Planned, Halt<R>>
-    requires open { P.is_open parts.old }
-    requires some { 1 ≤ stripes }
-    requires most { stripes ≤ 64 }
-    requires entry { IsEntry call.now }
-    requires place { IsPlaced call.now }
-    requires there { AreThere stripes (P.part_of parts.old) (call_keys call.now) }
-    requires right { R.is_steady → AreRight staged.old }
-    requires is { S.is_of epochs.now own.old }
-    ensures is { S.is_of epochs.now own.new }
-    ensures right { R.is_steady → AreRight staged.new }
-    ensures plan { R.is_steady → AllShort (joined (shard_meaning R.is_steady) stripes (P.part_of parts.old)) → IfOk result (λ planned. (asked : Asked) (seen : History) (watched : List Pair) → asked_of call.now ≡ Some asked → Stand (shard_meaning R.is_steady) stripes (P.part_of parts.old) seen seat watched → EndsAll call.now watched → AreWatched watched watched → IsPlan seen (operation_of watched asked) planned.reply planned.writes) }
-    ensures cold { IfErr result (λ halt. IfCold halt.stop (λ receipts. (reads ≡ false) × (R.lends → ⊥))) }
-    ensures room { IfOk result (λ planned. AreRoomy stripes (logs_of (P.part_of parts.new)) planned.writes) }
-    ensures fits { IfOk result (λ planned. AreFit planned.writes) }
-    ensures ok { OnOk result (Became (shard_meaning R.is_steady) stripes [] (begins seat (keys_begun call.now)) (P.part_of parts.old) (P.part_of parts.new)) }
-    ensures begun { IfOk result (λ planned. HasBegun (shard_meaning R.is_steady) stripes seat planned.begun (P.part_of parts.old) (P.part_of parts.new)) }
-    ensures err { OnErr result (Became (shard_meaning R.is_steady) stripes [] stays (P.part_of parts.old) (P.part_of parts.new)) }
-    ensures full { IfErr result (λ halt. IfFull halt.stop (λ stripe. IsFullAt (logs_of (P.part_of parts.new)) stripe × IsSpentAt halt.refused stripe (P.part_of parts.old) (P.part_of parts.new))) }
-    ensures worn { IfErr result (λ halt. IfFull halt.stop (λ stripe. halt.refused.retire ≡ true → HasHeardWorn (S.knows own.old) (S.knows own.new))) }
-    ensures heard { HasHeard (S.knows own.old) (S.knows own.new) }
-    ensures written { R.is_steady → AllShort (joined (shard_meaning R.is_steady) stripes (P.part_of parts.old)) → IfErr result (λ halt. IfFull halt.stop (λ stripe. (asked : Asked) (seen : History) (watched : List Pair) → asked_of call.now ≡ Some asked → Stand (shard_meaning R.is_steady) stripes (P.part_of parts.old) seen seat watched → EndsAll call.now watched → AreWatched watched watched → 0 < share stripes stripe (made seen (operation_of watched asked)))) }
-    ensures memory { R.is_steady → R.lends → NeedsNoMemoryOn (joined (shard_meaning R.is_steady) stripes (P.part_of parts.old)) call.now → IfErr result (λ halt. IfNoMemory halt.stop ⊥) }
-    ensures faults { IfErr result (λ halt. D.failures device.new ≡ D.failures device.old + faults halt.stop) }
-    ensures no_fault { OnOk result (D.failures device.new ≡ D.failures device.old) }
-    ensures open { P.is_open parts.new }
-    ensures keeps { P.keeps parts.old parts.new }
+    requires may { MayPlan (P.is_open parts.old) (P.stripes_of parts.old) (P.part_of parts.old) call.now }
+    requires is { S.is_of epochs.now hands.old.own }
+    ensures works { StillWorks R.is_steady (S.is_of epochs.now hands.new.own)
+        (S.knows hands.old.own, hands.old.staged) (S.knows hands.new.own, hands.new.staged) }
+    ensures ready { IfOk result (IsReady (AreDue (R.is_steady × AreRight hands.old.staged)
+        (asks_call R.is_steady P.stripes_of P.holder_of P.part_of parts.old call.now)) (P.stripes_of parts.old) (P.part_of parts.new)) }
+    ensures marks { AreMarkedFor R.is_steady P.stripes_of P.holder_of P.part_of parts.old parts.new (keys_begun call.now) result }
+    ensures halted { IfErr result (λ halt. MatchStop halt.stop (λ receipts. (cold ≡ Stops) × (R.lends → ⊥))
+        (NeedsMemory R.is_steady P.stripes_of P.part_of parts.old (R.is_steady × AreRight hands.old.staged) R.lends call.now)
+        ⊤ (λ stripe. ⊤)) }
+    ensures full { IfErr result (λ halt. IfFull halt.stop (IsStuckFor (R.is_steady × AreRight hands.old.staged)
+        (asks_call R.is_steady P.stripes_of P.holder_of P.part_of parts.old call.now) (P.stripes_of parts.old) halt.refused
+        (P.part_of parts.old, S.knows hands.old.own) (P.part_of parts.new, S.knows hands.new.own))) }
+    ensures failed { HaveFailedBy (λ halt. halt.stop) result (D.failures device.old) (D.failures device.new) }
+    ensures held { IsStillHeld P.is_open P.keeps parts.old parts.new }
 {
     'freed: loop {
-        match plan_staged(alloc, parts, stripes, seat, call, staged, reads, device) {
+        let staged = &mut hands.staged;
+        match plan_staged(hands.alloc, parts, call, staged, cold, device) {
             Ok(planned) => return Ok(planned),
             Err(Stop::StoreFull(stripe)) => {
-                let freed = free_at(parts, stripes, stripe, epochs, own, device);
+                let freed = free_at(parts, stripe, epochs, &mut hands.own, device);
                 if !freed.released {
                     return Err(Halt {
                         stop: Stop::StoreFull(stripe),
@@ -109,7 +82,7 @@ pub fn plan_freeing<R: Shows, D: Device<Receipt = R>, P: Parts<Shard<R>>, S: Ret
             Err(stop) => {
                 return Err(Halt {
                     stop,
-                    refused: NOTHING,
+                    refused: Refused::NONE,
                 });
             }
         }
@@ -124,37 +97,29 @@ pub fn plan_freeing<R: Shows, D: Device<Receipt = R>, P: Parts<Shard<R>>, S: Ret
 /// A [`Halt`]: with [`Stop::StoreFull`] only where no place of the stripe can be released.
 pub fn reserve_freeing<R: Shows, D: Device<Receipt = R>, P: Parts<Shard<R>>, S: Retires>(
     parts: &mut P,
-    stripes: usize,
-    key: &Word,
+    key: &Hashed,
     value: &Word,
     epochs: &Epochs,
     own: &mut S,
     device: &mut D,
 ) -> Result<(), Halt<R>>
-    requires open { P.is_open parts.old }
-    requires some { 1 ≤ stripes }
-    requires light { weigh (key.now, Some value.now) ≤ WEIGHT_MAX }
-    requires there { AreThere stripes (P.part_of parts.old) (key.now ∷ []) }
+    requires may { MayPut (P.is_open parts.old) (P.stripes_of parts.old) (P.part_of parts.old) key.now value.now }
     requires is { S.is_of epochs.now own.old }
-    ensures is { S.is_of epochs.now own.new }
-    ensures became { Became (shard_meaning R.is_steady) stripes [] stays (P.part_of parts.old) (P.part_of parts.new) }
-    ensures room { OnOk result (IsRoomyAt (logs_of (P.part_of parts.new)) (striping.stripe_of stripes key.now) (weigh (key.now, Some value.now))) }
-    ensures full { IfErr result (λ halt. IfFull halt.stop (λ stripe. IsFullAt (logs_of (P.part_of parts.new)) stripe × IsSpentAt halt.refused stripe (P.part_of parts.old) (P.part_of parts.new))) }
-    ensures stripe { IfErr result (λ halt. IfFull halt.stop (λ stripe. stripe ≡ striping.stripe_of stripes key.now)) }
-    ensures worn { IfErr result (λ halt. IfFull halt.stop (λ stripe. halt.refused.retire ≡ true → HasHeardWorn (S.knows own.old) (S.knows own.new))) }
-    ensures heard { HasHeard (S.knows own.old) (S.knows own.new) }
-    ensures never_cold { IfErr result (λ halt. IfCold halt.stop (λ receipts. ⊥)) }
-    ensures memory { IfErr result (λ halt. IfNoMemory halt.stop ⊥) }
-    ensures faults { IfErr result (λ halt. D.failures device.new ≡ D.failures device.old + faults halt.stop) }
-    ensures no_fault { OnOk result (D.failures device.new ≡ D.failures device.old) }
-    ensures open { P.is_open parts.new }
-    ensures keeps { P.keeps parts.old parts.new }
+    ensures retires { StillRetires (S.is_of epochs.now own.new) (S.knows own.old) (S.knows own.new) }
+    ensures became { Becomes R.is_steady P.stripes_of P.part_of parts.old parts.new [] stays }
+    ensures room { OnOk result (IsRoomyFor (P.stripes_of parts.old) (P.part_of parts.new) (key.now, Some value.now)) }
+    ensures halted { IfErr result (λ halt. MatchStop halt.stop (λ receipts. ⊥) ⊥ ⊤
+        (λ stripe. stripe ≡ striping.stripe_of (P.stripes_of parts.old) key.now)) }
+    ensures full { IfErr result (λ halt. IfFull halt.stop (IsStuck halt.refused
+        (P.part_of parts.old, S.knows own.old) (P.part_of parts.new, S.knows own.new))) }
+    ensures failed { HaveFailedBy (λ halt. halt.stop) result (D.failures device.old) (D.failures device.new) }
+    ensures held { IsStillHeld P.is_open P.keeps parts.old parts.new }
 {
     'freed: loop {
-        match reserve_set(parts, stripes, key, value, device) {
+        match reserve_set(parts, key, value, device) {
             Ok(()) => return Ok(()),
             Err(Stop::StoreFull(stripe)) => {
-                let freed = free_at(parts, stripes, stripe, epochs, own, device);
+                let freed = free_at(parts, stripe, epochs, own, device);
                 if !freed.released {
                     return Err(Halt {
                         stop: Stop::StoreFull(stripe),
@@ -165,7 +130,7 @@ pub fn reserve_freeing<R: Shows, D: Device<Receipt = R>, P: Parts<Shard<R>>, S: 
             Err(stop) => {
                 return Err(Halt {
                     stop,
-                    refused: NOTHING,
+                    refused: Refused::NONE,
                 });
             }
         }
@@ -175,7 +140,6 @@ pub fn reserve_freeing<R: Shows, D: Device<Receipt = R>, P: Parts<Shard<R>>, S: 
 /// Releases each place of a stripe that can be released. What keys have and all marks stay, and other parts stay as they are.
 fn free_at<R: Shows, D: Device<Receipt = R>, P: Parts<Shard<R>>, S: Retires>(
     parts: &mut P,
-    stripes: usize,
     stripe: usize,
     epochs: &Epochs,
     own: &mut S,
@@ -185,12 +149,11 @@ fn free_at<R: Shows, D: Device<Receipt = R>, P: Parts<Shard<R>>, S: Retires>(
     requires there { IsSome (P.part_of parts.old stripe) }
     requires is { S.is_of epochs.now own.old }
     ensures is { S.is_of epochs.now own.new }
-    ensures became { Became (shard_meaning R.is_steady) stripes [] stays (P.part_of parts.old) (P.part_of parts.new) }
+    ensures became { Becomes R.is_steady P.stripes_of P.part_of parts.old parts.new [] stays }
     ensures freed { FreesAt stripe result (P.part_of parts.old) (P.part_of parts.new) }
     ensures told { HasTriedAll result.refused.retire (S.knows own.old) (S.knows own.new) }
     ensures no_fault { D.failures device.new ≡ D.failures device.old }
-    ensures open { P.is_open parts.new }
-    ensures keeps { P.keeps parts.old parts.new }
+    ensures held { IsStillHeld P.is_open P.keeps parts.old parts.new }
 {
     parts.part(stripe).free_places(epochs, own, device)
 }

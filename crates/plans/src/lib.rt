@@ -9,10 +9,12 @@
 mod cells;
 mod find;
 pub mod freeing;
+pub mod hands;
 mod install;
 pub mod laws;
 pub mod marks;
 pub mod plan;
+pub mod planned;
 pub mod reading;
 mod room;
 pub mod short;

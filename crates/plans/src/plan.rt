@@ -1,34 +1,28 @@
 //! What a call comes to, before its commit.
 
-ghost use Rattle.std.specs.Prelude.{◌≡◌, ◌≤◌, ◌<◌, ◌+◌, ⊤, [], ◌∷◌, ℕ, Some, Option, IfOk, IfErr, OnOk, OnErr, true, false, nat_lt, if◌then◌else◌, length, List, unwrap_or};
-ghost use Rattle.words.specs.declared.limits.TheConstants.{WEIGHT_MAX};
-ghost use Rattle.words.specs.declared.word.TheConstants.{WORD_INLINE};
-ghost use Rattle.words.specs.declared.history.Operation.TheVariants.{Run, Watch, Exec};
-ghost use Rattle.words.specs.Store.{Write, weight};
+ghost use Rattle.std.specs.Prelude.{◌≡◌, ⊤, [], ◌∷◌, true, IfOk, IfErr};
+ghost use Rattle.words.specs.declared.history.Operation.TheVariants.{Watch};
 ghost use Rattle.words.specs.Commands.{keys_of, keys_of_all, touches_keys};
-ghost use Rattle.words.specs.History.{History, Pair, after, is_dirty, keys_of_pairs, too_much};
-ghost use Rattle.words.specs.Session.{Asked, operation_of};
-ghost use Rattle.gates.specs.Passes.{AreWatched};
+ghost use Rattle.words.specs.History.{too_much};
 ghost use Rattle.hybrid.specs.Staging.{AreRight};
 ghost use Rattle.hybrid.specs.Writing.{AreFit};
-ghost use Rattle.transact.specs.Calls.{asked_of, call_keys};
-ghost use Rattle.transact.specs.Plans.{EndsAll, IsEntry, IsPlan, keys_begun, keys_ended, made};
-ghost use Rattle.transact.specs.Tables.{AllRead, AreThere, Became, HasBegun, Stand, begins, clears, joined, keys_written, stays, touches_and_clears};
-ghost use Rattle.shards.specs.declared.shard.Shard.{Shard};
+ghost use Rattle.transact.specs.Plans.{keys_begun};
+ghost use Rattle.transact.specs.Tables.{AreThere, keys_written};
 ghost use Rattle.plans.specs.declared.stop.Stop.TheVariants.{OutOfMemory};
 ghost use Rattle.shards.specs.Devices.{StillServes};
-ghost use Rattle.plans.specs.Memory.{AreAtHand, IsBriefOn, IsPlannedInPlace, NeedsNoMemoryOn};
 ghost use Rattle.shards.specs.Receipts.{kept_by};
-ghost use Rattle.shards.specs.Rooms.{AreRoomy, HaveGrown, LeaveFrames, MakesRoom, MeetsFull, ShedFew};
-ghost use Rattle.shards.specs.Shards.{SameLogs, SameWaits, logs_of, shard_meaning};
-ghost use Rattle.plans.specs.Sizes.{AllShort, AreSized, IsSized, IsPlaced};
-ghost use Rattle.plans.specs.Stops.{AreCold, Each, IfCold, IfFull, IfNoMemory, IsNeeded, faults, keys_looked_up};
+ghost use Rattle.shards.specs.Shards.{SameLogs, SameWaits, shard_meaning};
+ghost use Rattle.plans.specs.Planning.{AreDue, AreSettled, FoundFull, HasAnswered, HasMissedIn, HasPlanned, HasStopped};
+ghost use Rattle.plans.specs.Planning.{HaveFailed, IsPlanOfWatch, IsStillHeld, IsUnmarked, MatchStop, MayLookUp, MayPlan, StillStands};
+ghost use Rattle.plans.specs.Planning.{asks_call, asks_command, asks_commands, asks_copied, asks_exec, asks_get};
+ghost use Rattle.plans.specs.Sizes.{AreSized, IsSized};
+ghost use Rattle.plans.specs.Holding.{AreMarkedFor};
 
-use crate::cells::value_of;
 use crate::find::{answer_all, answer_one, find_command, find_commands};
-use crate::install::make_writes;
-use crate::marks::{any_marked, begin_all, clear_all, end_watches};
+use crate::marks::{any_marked, begin_all, clear_all};
+use crate::planned::Planned;
 use crate::room::reserve_all;
+use crate::short::value_of;
 use crate::stop::{Receipts, Stop};
 use device::{Device, Shows};
 use gates::Parts;
@@ -39,21 +33,10 @@ use strings::writes::Writes;
 use transact::call::Call;
 use words::bounds::writes_are_bounded;
 use words::command::{Command, Keys};
+use words::hash::Hashed;
 use words::locality::{depends_on_named_keys, writes_named_keys};
 use words::reply::{CommandReplies, Line, Refusal, Reply};
 use words::word::Word;
-
-/// What a call comes to: its reply, its writes, for which there is room, and the keys that its session began to
-/// watch for it. It borrows nothing.
-#[derive(Debug, Drop)]
-pub struct Planned {
-    /// What the call is answered.
-    pub reply: Reply,
-    /// What it writes.
-    pub writes: Writes,
-    /// The keys that its session did not watch before, and has watched since the plan.
-    pub begun: Keys,
-}
 
 /// Plans a call of a session: finds what it answers and writes, and makes room for its writes and its marks. No
 /// value is changed, and of the marks only those are added that the call begins. Over an honest device, where
@@ -66,50 +49,29 @@ pub struct Planned {
 pub fn plan<R: Shows, D: Device<Receipt = R>, P: Parts<Shard<R>>>(
     alloc: Global,
     parts: &mut P,
-    stripes: usize,
-    seat: u64,
     call: &Call,
     staged: &Staged<R>,
     device: &mut D,
 ) -> Result<Planned, Stop<R>>
-    requires open { P.is_open parts.old }
-    requires some { 1 ≤ stripes }
-    requires most { stripes ≤ 64 }
-    requires entry { IsEntry call.now }
-    requires place { IsPlaced call.now }
-    requires there { AreThere stripes (P.part_of parts.old) (call_keys call.now) }
-    ensures plan { R.is_honest → AreRight staged.now → AllShort (joined (shard_meaning R.is_steady) stripes (P.part_of parts.old)) → IfOk result (λ planned. (asked : Asked) (seen : History) (watched : List Pair) → asked_of call.now ≡ Some asked → Stand (shard_meaning R.is_steady) stripes (P.part_of parts.old) seen seat watched → EndsAll call.now watched → AreWatched watched watched → IsPlan seen (operation_of watched asked) planned.reply planned.writes) }
-    ensures room { IfOk result (λ planned. AreRoomy stripes (logs_of (P.part_of parts.new)) planned.writes) }
-    ensures fits { IfOk result (λ planned. AreFit planned.writes) }
-    ensures made { IfOk result (λ planned. MakesRoom D.wrote (kept_by R.identity R.shown) stripes stripes planned.writes (logs_of (P.part_of parts.old)) device.old (logs_of (P.part_of parts.new)) device.new) }
-    ensures ok { OnOk result (Became (shard_meaning R.is_steady) stripes [] (begins seat (keys_begun call.now)) (P.part_of parts.old) (P.part_of parts.new)) }
-    ensures begun { IfOk result (λ planned. HasBegun (shard_meaning R.is_steady) stripes seat planned.begun (P.part_of parts.old) (P.part_of parts.new)) }
-    ensures err { OnErr result (Became (shard_meaning R.is_steady) stripes [] stays (P.part_of parts.old) (P.part_of parts.new)) }
-    ensures cold { IfErr result (λ stop. IfCold stop (AreCold stripes (logs_of (P.part_of parts.old)) (keys_looked_up call.now) staged.now)) }
-    ensures needed { IfErr result (λ stop. IfCold stop (Each (IsNeeded (R.is_honest × AreRight staged.now) stripes (logs_of (P.part_of parts.old)) (keys_looked_up call.now) staged.now))) }
-    ensures lent { R.lends → IfErr result (λ stop. IfCold stop (λ receipts. ⊥)) }
-    ensures untouched { IfErr result (λ stop. IfCold stop (λ receipts. (P.part_of parts.new ≡ P.part_of parts.old) × (device.new ≡ device.old))) }
-    ensures full { IfErr result (λ stop. IfFull stop (λ stripe. MeetsFull D.wrote (kept_by R.identity R.shown) stripes stripe (λ writes. R.is_honest → AreRight staged.now → AllShort (joined (shard_meaning R.is_steady) stripes (P.part_of parts.old)) → (asked : Asked) (seen : History) (watched : List Pair) → asked_of call.now ≡ Some asked → Stand (shard_meaning R.is_steady) stripes (P.part_of parts.old) seen seat watched → EndsAll call.now watched → AreWatched watched watched → writes ≡ made seen (operation_of watched asked)) (logs_of (P.part_of parts.old)) device.old (logs_of (P.part_of parts.new)) device.new)) }
-    ensures memory { R.is_honest → AreRight staged.now → AreAtHand R.lends stripes (logs_of (P.part_of parts.old)) (keys_looked_up call.now) staged.now → NeedsNoMemoryOn (joined (shard_meaning R.is_steady) stripes (P.part_of parts.old)) call.now → IfErr result (λ stop. IfNoMemory stop ⊥) }
-    ensures few { IfOk result (λ planned. ShedFew stripes planned.writes (logs_of (P.part_of parts.old)) (logs_of (P.part_of parts.new))) }
-    ensures kept { IfOk result (λ planned. LeaveFrames stripes planned.writes (logs_of (P.part_of parts.old)) (logs_of (P.part_of parts.new))) }
-    ensures device { StillServes D.serves D.releases device.old device.new }
-    ensures spared { IfErr result (λ stop. IfNoMemory stop (SameLogs (P.part_of parts.old) (P.part_of parts.new) × (device.new ≡ device.old))) }
-    ensures faults { IfErr result (λ stop. D.failures device.new ≡ D.failures device.old + faults stop) }
-    ensures no_fault { OnOk result (D.failures device.new ≡ D.failures device.old) }
-    ensures waits { SameWaits (P.part_of parts.old) (P.part_of parts.new) }
-    ensures open { P.is_open parts.new }
-    ensures keeps { P.keeps parts.old parts.new }
+    requires may { MayPlan (P.is_open parts.old) (P.stripes_of parts.old) (P.part_of parts.old) call.now }
+    ensures planned { IfOk result (HasPlanned D.wrote (kept_by R.identity R.shown)
+        (AreDue (R.is_honest × AreRight staged.now) (asks_call R.is_steady P.stripes_of P.holder_of P.part_of parts.old call.now))
+        (P.stripes_of parts.old) (P.part_of parts.old, device.old) (P.part_of parts.new, device.new)) }
+    ensures marks { AreMarkedFor R.is_steady P.stripes_of P.holder_of P.part_of parts.old parts.new (keys_begun call.now) result }
+    ensures stopped { IfErr result (HasStopped D.wrote (kept_by R.identity R.shown) R.lends (R.is_honest × AreRight staged.now)
+        (asks_call R.is_steady P.stripes_of P.holder_of P.part_of parts.old call.now)
+        (P.stripes_of parts.old) staged.now (P.part_of parts.old, device.old) (P.part_of parts.new, device.new)) }
+    ensures stands { StillStands (StillServes D.serves D.releases) (P.part_of parts.old, device.old) (P.part_of parts.new, device.new) }
+    ensures failed { HaveFailed result (D.failures device.old) (D.failures device.new) }
+    ensures held { IsStillHeld P.is_open P.keeps parts.old parts.new }
 {
     writes_are_bounded();
     match call {
-        Call::One(command) => plan_one(alloc, parts, stripes, command, staged, device),
-        Call::Watch(keys) => plan_watch(alloc, parts, stripes, seat, keys),
+        Call::One(command) => plan_one(alloc, parts, command, staged, device),
+        Call::Watch(keys) => plan_watch(alloc, parts, keys),
         Call::Exec(commands, watching) => plan_exec(
             alloc,
             parts,
-            stripes,
-            seat,
             commands.as_slice(),
             watching.keys(),
             staged,
@@ -123,42 +85,27 @@ pub fn plan<R: Shows, D: Device<Receipt = R>, P: Parts<Shard<R>>>(
 fn plan_one<R: Shows, D: Device<Receipt = R>, P: Parts<Shard<R>>>(
     alloc: Global,
     parts: &mut P,
-    stripes: usize,
     command: &Command,
     staged: &Staged<R>,
     device: &mut D,
 ) -> Result<Planned, Stop<R>>
-    requires open { P.is_open parts.old }
-    requires some { 1 ≤ stripes }
-    requires most { stripes ≤ 64 }
+    requires may { MayLookUp (P.is_open parts.old) (P.stripes_of parts.old) (P.part_of parts.old) (keys_of command.now) }
     requires touches { touches_keys command.now ≡ true }
     requires sized { IsSized command.now }
-    requires there { AreThere stripes (P.part_of parts.old) (keys_of command.now) }
-    ensures plan { R.is_honest → AreRight staged.now → IfOk result (λ planned. (seen : History) → AllRead (shard_meaning R.is_steady) stripes (P.part_of parts.old) (after seen) → IsPlan seen (Run command.now) planned.reply planned.writes) }
-    ensures room { IfOk result (λ planned. AreRoomy stripes (logs_of (P.part_of parts.new)) planned.writes) }
-    ensures fits { IfOk result (λ planned. AreFit planned.writes) }
-    ensures made { IfOk result (λ planned. MakesRoom D.wrote (kept_by R.identity R.shown) stripes stripes planned.writes (logs_of (P.part_of parts.old)) device.old (logs_of (P.part_of parts.new)) device.new) }
-    ensures begun { IfOk result (λ planned. planned.begun ≡ []) }
-    ensures became { Became (shard_meaning R.is_steady) stripes [] stays (P.part_of parts.old) (P.part_of parts.new) }
-    ensures cold { IfErr result (λ stop. IfCold stop (AreCold stripes (logs_of (P.part_of parts.old)) (keys_of command.now) staged.now)) }
-    ensures needed { IfErr result (λ stop. IfCold stop (Each (IsNeeded (R.is_honest × AreRight staged.now) stripes (logs_of (P.part_of parts.old)) (keys_of command.now) staged.now))) }
-    ensures lent { R.lends → IfErr result (λ stop. IfCold stop (λ receipts. ⊥)) }
-    ensures untouched { IfErr result (λ stop. IfCold stop (λ receipts. (P.part_of parts.new ≡ P.part_of parts.old) × (device.new ≡ device.old))) }
-    ensures full { IfErr result (λ stop. IfFull stop (λ stripe. MeetsFull D.wrote (kept_by R.identity R.shown) stripes stripe (λ writes. R.is_honest → AreRight staged.now → (seen : History) → AllRead (shard_meaning R.is_steady) stripes (P.part_of parts.old) (after seen) → writes ≡ made seen (Run command.now)) (logs_of (P.part_of parts.old)) device.old (logs_of (P.part_of parts.new)) device.new)) }
-    ensures memory { R.is_honest → AreRight staged.now → AreAtHand R.lends stripes (logs_of (P.part_of parts.old)) (keys_of command.now) staged.now → IsPlannedInPlace (joined (shard_meaning R.is_steady) stripes (P.part_of parts.old)) command.now → IfErr result (λ stop. IfNoMemory stop ⊥) }
-    ensures few { IfOk result (λ planned. ShedFew stripes planned.writes (logs_of (P.part_of parts.old)) (logs_of (P.part_of parts.new))) }
-    ensures kept { IfOk result (λ planned. LeaveFrames stripes planned.writes (logs_of (P.part_of parts.old)) (logs_of (P.part_of parts.new))) }
-    ensures device { StillServes D.serves D.releases device.old device.new }
-    ensures spared { IfErr result (λ stop. IfNoMemory stop ((P.part_of parts.new ≡ P.part_of parts.old) × (device.new ≡ device.old))) }
-    ensures faults { IfErr result (λ stop. D.failures device.new ≡ D.failures device.old + faults stop) }
-    ensures no_fault { OnOk result (D.failures device.new ≡ D.failures device.old) }
-    ensures waits { SameWaits (P.part_of parts.old) (P.part_of parts.new) }
-    ensures open { P.is_open parts.new }
-    ensures keeps { P.keeps parts.old parts.new }
+    ensures planned { IfOk result (HasPlanned D.wrote (kept_by R.identity R.shown)
+        (AreDue (R.is_honest × AreRight staged.now) (asks_command R.is_steady P.stripes_of P.part_of parts.old command.now))
+        (P.stripes_of parts.old) (P.part_of parts.old, device.old) (P.part_of parts.new, device.new)) }
+    ensures unmarked { IsUnmarked (shard_meaning R.is_steady) (P.stripes_of parts.old) (P.part_of parts.old) (P.part_of parts.new) result }
+    ensures stopped { IfErr result (HasStopped D.wrote (kept_by R.identity R.shown) R.lends (R.is_honest × AreRight staged.now)
+        (asks_command R.is_steady P.stripes_of P.part_of parts.old command.now)
+        (P.stripes_of parts.old) staged.now (P.part_of parts.old, device.old) (P.part_of parts.new, device.new)) }
+    ensures stands { StillStands (StillServes D.serves D.releases) (P.part_of parts.old, device.old) (P.part_of parts.new, device.new) }
+    ensures failed { HaveFailed result (D.failures device.old) (D.failures device.new) }
+    ensures held { IsStillHeld P.is_open P.keeps parts.old parts.new }
 {
     match command {
-        Command::Get(key) => plan_get(alloc, parts, stripes, key, staged),
-        _ => plan_copied(alloc, parts, stripes, command, staged, device),
+        Command::Get(key) => plan_get(alloc, parts, key, staged),
+        _ => plan_copied(alloc, parts, command, staged, device),
     }
 }
 
@@ -166,27 +113,19 @@ fn plan_one<R: Shows, D: Device<Receipt = R>, P: Parts<Shard<R>>>(
 fn plan_get<R: Shows, P: Parts<Shard<R>>>(
     alloc: Global,
     parts: &mut P,
-    stripes: usize,
     key: &Word,
     staged: &Staged<R>,
 ) -> Result<Planned, Stop<R>>
-    requires open { P.is_open parts.old }
-    requires some { 1 ≤ stripes }
-    requires there { AreThere stripes (P.part_of parts.old) (key.now ∷ []) }
-    ensures plan { R.is_honest → AreRight staged.now → IfOk result (λ planned. (seen : History) → AllRead (shard_meaning R.is_steady) stripes (P.part_of parts.old) (after seen) → IsPlan seen (Run (Command.Get key.now)) planned.reply planned.writes) }
-    ensures writes { IfOk result (λ planned. planned.writes ≡ []) }
-    ensures begun { IfOk result (λ planned. planned.begun ≡ []) }
+    requires may { MayLookUp (P.is_open parts.old) (P.stripes_of parts.old) (P.part_of parts.old) (key.now ∷ []) }
+    ensures answered { IfOk result (HasAnswered (R.is_honest × AreRight staged.now)
+        (asks_get R.is_steady P.stripes_of P.part_of parts.old key.now)) }
+    ensures stopped { IfErr result (HasMissedIn R.is_steady P.stripes_of P.part_of parts.old
+        R.lends (R.is_honest × AreRight staged.now) key.now staged.now) }
     ensures same { P.part_of parts.new ≡ P.part_of parts.old }
-    ensures cold { IfErr result (λ stop. IfCold stop (AreCold stripes (logs_of (P.part_of parts.old)) (key.now ∷ []) staged.now)) }
-    ensures needed { IfErr result (λ stop. IfCold stop (Each (IsNeeded (R.is_honest × AreRight staged.now) stripes (logs_of (P.part_of parts.old)) (key.now ∷ []) staged.now))) }
-    ensures lent { R.lends → IfErr result (λ stop. IfCold stop (λ receipts. ⊥)) }
-    ensures never_full { IfErr result (λ stop. IfFull stop (λ stripe. ⊥)) }
-    ensures memory { R.is_honest → AreRight staged.now → AreAtHand R.lends stripes (logs_of (P.part_of parts.old)) (key.now ∷ []) staged.now → length (unwrap_or (joined (shard_meaning R.is_steady) stripes (P.part_of parts.old) key.now) []) ≤ WORD_INLINE → IfErr result (λ stop. IfNoMemory stop ⊥) }
-    ensures no_fault { IfErr result (λ stop. faults stop ≡ 0) }
-    ensures open { P.is_open parts.new }
-    ensures keeps { P.keeps parts.old parts.new }
+    ensures held { IsStillHeld P.is_open P.keeps parts.old parts.new }
 {
-    match value_of(alloc, parts, stripes, key, staged) {
+    let key = Hashed::new(key);
+    match value_of(alloc, parts, &key, staged) {
         Ok(value) => Ok(answered(alloc, Reply::value(value))),
         Err(stop) => Err(stop),
     }
@@ -196,46 +135,29 @@ fn plan_get<R: Shows, P: Parts<Shard<R>>>(
 fn plan_copied<R: Shows, D: Device<Receipt = R>, P: Parts<Shard<R>>>(
     alloc: Global,
     parts: &mut P,
-    stripes: usize,
     command: &Command,
     staged: &Staged<R>,
     device: &mut D,
 ) -> Result<Planned, Stop<R>>
-    requires open { P.is_open parts.old }
-    requires some { 1 ≤ stripes }
-    requires most { stripes ≤ 64 }
+    requires may { MayLookUp (P.is_open parts.old) (P.stripes_of parts.old) (P.part_of parts.old) (keys_of command.now) }
     requires touches { touches_keys command.now ≡ true }
     requires sized { IsSized command.now }
-    requires there { AreThere stripes (P.part_of parts.old) (keys_of command.now) }
-    ensures plan { R.is_honest → AreRight staged.now → IfOk result (λ planned. (seen : History) → AllRead (shard_meaning R.is_steady) stripes (P.part_of parts.old) (after seen) → IsPlan seen (Run command.now) planned.reply planned.writes) }
-    ensures room { IfOk result (λ planned. AreRoomy stripes (logs_of (P.part_of parts.new)) planned.writes) }
-    ensures fits { IfOk result (λ planned. AreFit planned.writes) }
-    ensures made { IfOk result (λ planned. MakesRoom D.wrote (kept_by R.identity R.shown) stripes stripes planned.writes (logs_of (P.part_of parts.old)) device.old (logs_of (P.part_of parts.new)) device.new) }
-    ensures begun { IfOk result (λ planned. planned.begun ≡ []) }
-    ensures became { Became (shard_meaning R.is_steady) stripes [] stays (P.part_of parts.old) (P.part_of parts.new) }
-    ensures cold { IfErr result (λ stop. IfCold stop (AreCold stripes (logs_of (P.part_of parts.old)) (keys_of command.now) staged.now)) }
-    ensures needed { IfErr result (λ stop. IfCold stop (Each (IsNeeded (R.is_honest × AreRight staged.now) stripes (logs_of (P.part_of parts.old)) (keys_of command.now) staged.now))) }
-    ensures lent { R.lends → IfErr result (λ stop. IfCold stop (λ receipts. ⊥)) }
-    ensures untouched { IfErr result (λ stop. IfCold stop (λ receipts. (P.part_of parts.new ≡ P.part_of parts.old) × (device.new ≡ device.old))) }
-    ensures full { IfErr result (λ stop. IfFull stop (λ stripe. MeetsFull D.wrote (kept_by R.identity R.shown) stripes stripe (λ writes. R.is_honest → AreRight staged.now → (seen : History) → AllRead (shard_meaning R.is_steady) stripes (P.part_of parts.old) (after seen) → writes ≡ made seen (Run command.now)) (logs_of (P.part_of parts.old)) device.old (logs_of (P.part_of parts.new)) device.new)) }
-    ensures memory { R.is_honest → AreRight staged.now → AreAtHand R.lends stripes (logs_of (P.part_of parts.old)) (keys_of command.now) staged.now → IsBriefOn (joined (shard_meaning R.is_steady) stripes (P.part_of parts.old)) command.now → IfErr result (λ stop. IfNoMemory stop ⊥) }
-    ensures few { IfOk result (λ planned. ShedFew stripes planned.writes (logs_of (P.part_of parts.old)) (logs_of (P.part_of parts.new))) }
-    ensures kept { IfOk result (λ planned. LeaveFrames stripes planned.writes (logs_of (P.part_of parts.old)) (logs_of (P.part_of parts.new))) }
-    ensures device { StillServes D.serves D.releases device.old device.new }
-    ensures spared { IfErr result (λ stop. IfNoMemory stop ((P.part_of parts.new ≡ P.part_of parts.old) × (device.new ≡ device.old))) }
-    ensures faults { IfErr result (λ stop. D.failures device.new ≡ D.failures device.old + faults stop) }
-    ensures no_fault { OnOk result (D.failures device.new ≡ D.failures device.old) }
-    ensures waits { SameWaits (P.part_of parts.old) (P.part_of parts.new) }
-    ensures open { P.is_open parts.new }
-    ensures keeps { P.keeps parts.old parts.new }
+    ensures planned { IfOk result (HasPlanned D.wrote (kept_by R.identity R.shown)
+        (AreDue (R.is_honest × AreRight staged.now) (asks_copied R.is_steady P.stripes_of P.part_of parts.old command.now))
+        (P.stripes_of parts.old) (P.part_of parts.old, device.old) (P.part_of parts.new, device.new)) }
+    ensures unmarked { IsUnmarked (shard_meaning R.is_steady) (P.stripes_of parts.old) (P.part_of parts.old) (P.part_of parts.new) result }
+    ensures stopped { IfErr result (HasStopped D.wrote (kept_by R.identity R.shown) R.lends (R.is_honest × AreRight staged.now)
+        (asks_copied R.is_steady P.stripes_of P.part_of parts.old command.now)
+        (P.stripes_of parts.old) staged.now (P.part_of parts.old, device.old) (P.part_of parts.new, device.new)) }
+    ensures stands { StillStands (StillServes D.serves D.releases) (P.part_of parts.old, device.old) (P.part_of parts.new, device.new) }
+    ensures failed { HaveFailed result (D.failures device.old) (D.failures device.new) }
+    ensures held { IsStillHeld P.is_open P.keeps parts.old parts.new }
 {
     depends_on_named_keys();
     writes_named_keys();
     let mut found = Writes::new(alloc);
     let mut cold = Receipts::new(alloc);
-    let Ok(()) = find_command(
-        alloc, parts, stripes, command, staged, &mut found, &mut cold,
-    ) else {
+    let Ok(()) = find_command(alloc, parts, command, staged, &mut found, &mut cold) else {
         return Err(Stop::OutOfMemory);
     };
     if !cold.is_empty() {
@@ -245,51 +167,35 @@ fn plan_copied<R: Shows, D: Device<Receipt = R>, P: Parts<Shard<R>>>(
         return Err(Stop::OutOfMemory);
     };
     drop(found);
-    settle(alloc, parts, stripes, Reply::Single(reply), writes, device)
+    settle(alloc, parts, Reply::Single(reply), writes, device)
 }
 
 /// Plans the commands of a transaction none of whose watched keys was written.
 fn plan_all<R: Shows, D: Device<Receipt = R>, P: Parts<Shard<R>>>(
     alloc: Global,
     parts: &mut P,
-    stripes: usize,
     commands: &[Command],
     staged: &Staged<R>,
     device: &mut D,
 ) -> Result<Planned, Stop<R>>
-    requires open { P.is_open parts.old }
-    requires some { 1 ≤ stripes }
-    requires most { stripes ≤ 64 }
+    requires may { MayLookUp (P.is_open parts.old) (P.stripes_of parts.old) (P.part_of parts.old) (keys_of_all commands.now) }
     requires sized { AreSized commands.now }
-    requires there { AreThere stripes (P.part_of parts.old) (keys_of_all commands.now) }
-    ensures plan { R.is_honest → AreRight staged.now → IfOk result (λ planned. (seen : History) (watched : List Pair) → AllRead (shard_meaning R.is_steady) stripes (P.part_of parts.old) (after seen) → is_dirty seen watched ≡ false → IsPlan seen (Exec commands.now watched) planned.reply planned.writes) }
-    ensures room { IfOk result (λ planned. AreRoomy stripes (logs_of (P.part_of parts.new)) planned.writes) }
-    ensures fits { IfOk result (λ planned. AreFit planned.writes) }
-    ensures made { IfOk result (λ planned. MakesRoom D.wrote (kept_by R.identity R.shown) stripes stripes planned.writes (logs_of (P.part_of parts.old)) device.old (logs_of (P.part_of parts.new)) device.new) }
-    ensures begun { IfOk result (λ planned. planned.begun ≡ []) }
-    ensures became { Became (shard_meaning R.is_steady) stripes [] stays (P.part_of parts.old) (P.part_of parts.new) }
-    ensures cold { IfErr result (λ stop. IfCold stop (AreCold stripes (logs_of (P.part_of parts.old)) (keys_of_all commands.now) staged.now)) }
-    ensures needed { IfErr result (λ stop. IfCold stop (Each (IsNeeded (R.is_honest × AreRight staged.now) stripes (logs_of (P.part_of parts.old)) (keys_of_all commands.now) staged.now))) }
-    ensures lent { R.lends → IfErr result (λ stop. IfCold stop (λ receipts. ⊥)) }
-    ensures untouched { IfErr result (λ stop. IfCold stop (λ receipts. (P.part_of parts.new ≡ P.part_of parts.old) × (device.new ≡ device.old))) }
-    ensures full { IfErr result (λ stop. IfFull stop (λ stripe. MeetsFull D.wrote (kept_by R.identity R.shown) stripes stripe (λ writes. R.is_honest → AreRight staged.now → (seen : History) (watched : List Pair) → AllRead (shard_meaning R.is_steady) stripes (P.part_of parts.old) (after seen) → is_dirty seen watched ≡ false → writes ≡ made seen (Exec commands.now watched)) (logs_of (P.part_of parts.old)) device.old (logs_of (P.part_of parts.new)) device.new)) }
-    ensures few { IfOk result (λ planned. ShedFew stripes planned.writes (logs_of (P.part_of parts.old)) (logs_of (P.part_of parts.new))) }
-    ensures kept { IfOk result (λ planned. LeaveFrames stripes planned.writes (logs_of (P.part_of parts.old)) (logs_of (P.part_of parts.new))) }
-    ensures device { StillServes D.serves D.releases device.old device.new }
-    ensures spared { IfErr result (λ stop. IfNoMemory stop ((P.part_of parts.new ≡ P.part_of parts.old) × (device.new ≡ device.old))) }
-    ensures faults { IfErr result (λ stop. D.failures device.new ≡ D.failures device.old + faults stop) }
-    ensures no_fault { OnOk result (D.failures device.new ≡ D.failures device.old) }
-    ensures waits { SameWaits (P.part_of parts.old) (P.part_of parts.new) }
-    ensures open { P.is_open parts.new }
-    ensures keeps { P.keeps parts.old parts.new }
+    ensures planned { IfOk result (HasPlanned D.wrote (kept_by R.identity R.shown)
+        (AreDue (R.is_honest × AreRight staged.now) (asks_commands R.is_steady P.stripes_of P.part_of parts.old commands.now))
+        (P.stripes_of parts.old) (P.part_of parts.old, device.old) (P.part_of parts.new, device.new)) }
+    ensures unmarked { IsUnmarked (shard_meaning R.is_steady) (P.stripes_of parts.old) (P.part_of parts.old) (P.part_of parts.new) result }
+    ensures stopped { IfErr result (HasStopped D.wrote (kept_by R.identity R.shown) R.lends (R.is_honest × AreRight staged.now)
+        (asks_commands R.is_steady P.stripes_of P.part_of parts.old commands.now)
+        (P.stripes_of parts.old) staged.now (P.part_of parts.old, device.old) (P.part_of parts.new, device.new)) }
+    ensures stands { StillStands (StillServes D.serves D.releases) (P.part_of parts.old, device.old) (P.part_of parts.new, device.new) }
+    ensures failed { HaveFailed result (D.failures device.old) (D.failures device.new) }
+    ensures held { IsStillHeld P.is_open P.keeps parts.old parts.new }
 {
     depends_on_named_keys();
     writes_named_keys();
     let mut found = Writes::new(alloc);
     let mut cold = Receipts::new(alloc);
-    let Ok(()) = find_commands(
-        alloc, parts, stripes, commands, staged, &mut found, &mut cold,
-    ) else {
+    let Ok(()) = find_commands(alloc, parts, commands, staged, &mut found, &mut cold) else {
         return Err(Stop::OutOfMemory);
     };
     if !cold.is_empty() {
@@ -300,51 +206,37 @@ fn plan_all<R: Shows, D: Device<Receipt = R>, P: Parts<Shard<R>>>(
     };
     drop(found);
     let reply = Reply::Array(CommandReplies::from_vec(replies));
-    settle(alloc, parts, stripes, reply, writes, device)
+    settle(alloc, parts, reply, writes, device)
 }
 
 /// Plans a transaction of a session that watches these keys. One that is dirty is null, and looks nothing up.
 fn plan_exec<R: Shows, D: Device<Receipt = R>, P: Parts<Shard<R>>>(
     alloc: Global,
     parts: &mut P,
-    stripes: usize,
-    seat: u64,
     commands: &[Command],
     watching: &[Word],
     staged: &Staged<R>,
     device: &mut D,
 ) -> Result<Planned, Stop<R>>
-    requires open { P.is_open parts.old }
-    requires some { 1 ≤ stripes }
-    requires most { stripes ≤ 64 }
+    requires may { MayLookUp (P.is_open parts.old) (P.stripes_of parts.old) (P.part_of parts.old) (keys_of_all commands.now) }
     requires sized { AreSized commands.now }
-    requires there { AreThere stripes (P.part_of parts.old) (keys_of_all commands.now) }
-    requires watching { AreThere stripes (P.part_of parts.old) watching.now }
-    ensures plan { R.is_honest → AreRight staged.now → IfOk result (λ planned. (seen : History) (watched : List Pair) → Stand (shard_meaning R.is_steady) stripes (P.part_of parts.old) seen seat watched → watching.now ≡ keys_of_pairs watched → AreWatched watched watched → IsPlan seen (Exec commands.now watched) planned.reply planned.writes) }
-    ensures room { IfOk result (λ planned. AreRoomy stripes (logs_of (P.part_of parts.new)) planned.writes) }
-    ensures fits { IfOk result (λ planned. AreFit planned.writes) }
-    ensures made { IfOk result (λ planned. MakesRoom D.wrote (kept_by R.identity R.shown) stripes stripes planned.writes (logs_of (P.part_of parts.old)) device.old (logs_of (P.part_of parts.new)) device.new) }
-    ensures begun { IfOk result (λ planned. planned.begun ≡ []) }
-    ensures became { Became (shard_meaning R.is_steady) stripes [] stays (P.part_of parts.old) (P.part_of parts.new) }
-    ensures cold { IfErr result (λ stop. IfCold stop (AreCold stripes (logs_of (P.part_of parts.old)) (keys_of_all commands.now) staged.now)) }
-    ensures needed { IfErr result (λ stop. IfCold stop (Each (IsNeeded (R.is_honest × AreRight staged.now) stripes (logs_of (P.part_of parts.old)) (keys_of_all commands.now) staged.now))) }
-    ensures lent { R.lends → IfErr result (λ stop. IfCold stop (λ receipts. ⊥)) }
-    ensures untouched { IfErr result (λ stop. IfCold stop (λ receipts. (P.part_of parts.new ≡ P.part_of parts.old) × (device.new ≡ device.old))) }
-    ensures full { IfErr result (λ stop. IfFull stop (λ stripe. MeetsFull D.wrote (kept_by R.identity R.shown) stripes stripe (λ writes. R.is_honest → AreRight staged.now → (seen : History) (watched : List Pair) → Stand (shard_meaning R.is_steady) stripes (P.part_of parts.old) seen seat watched → watching.now ≡ keys_of_pairs watched → AreWatched watched watched → writes ≡ made seen (Exec commands.now watched)) (logs_of (P.part_of parts.old)) device.old (logs_of (P.part_of parts.new)) device.new)) }
-    ensures few { IfOk result (λ planned. ShedFew stripes planned.writes (logs_of (P.part_of parts.old)) (logs_of (P.part_of parts.new))) }
-    ensures kept { IfOk result (λ planned. LeaveFrames stripes planned.writes (logs_of (P.part_of parts.old)) (logs_of (P.part_of parts.new))) }
-    ensures device { StillServes D.serves D.releases device.old device.new }
-    ensures spared { IfErr result (λ stop. IfNoMemory stop ((P.part_of parts.new ≡ P.part_of parts.old) × (device.new ≡ device.old))) }
-    ensures faults { IfErr result (λ stop. D.failures device.new ≡ D.failures device.old + faults stop) }
-    ensures no_fault { OnOk result (D.failures device.new ≡ D.failures device.old) }
-    ensures waits { SameWaits (P.part_of parts.old) (P.part_of parts.new) }
-    ensures open { P.is_open parts.new }
-    ensures keeps { P.keeps parts.old parts.new }
+    requires watching { AreThere (P.stripes_of parts.old) (P.part_of parts.old) watching.now }
+    ensures planned { IfOk result (HasPlanned D.wrote (kept_by R.identity R.shown)
+        (AreDue (R.is_honest × AreRight staged.now)
+        (asks_exec R.is_steady P.stripes_of P.holder_of P.part_of parts.old watching.now commands.now))
+        (P.stripes_of parts.old) (P.part_of parts.old, device.old) (P.part_of parts.new, device.new)) }
+    ensures unmarked { IsUnmarked (shard_meaning R.is_steady) (P.stripes_of parts.old) (P.part_of parts.old) (P.part_of parts.new) result }
+    ensures stopped { IfErr result (HasStopped D.wrote (kept_by R.identity R.shown) R.lends (R.is_honest × AreRight staged.now)
+        (asks_exec R.is_steady P.stripes_of P.holder_of P.part_of parts.old watching.now commands.now)
+        (P.stripes_of parts.old) staged.now (P.part_of parts.old, device.old) (P.part_of parts.new, device.new)) }
+    ensures stands { StillStands (StillServes D.serves D.releases) (P.part_of parts.old, device.old) (P.part_of parts.new, device.new) }
+    ensures failed { HaveFailed result (D.failures device.old) (D.failures device.new) }
+    ensures held { IsStillHeld P.is_open P.keeps parts.old parts.new }
 {
-    if any_marked(parts, stripes, seat, watching) {
+    if any_marked(parts, watching) {
         return Ok(answered(alloc, Reply::NullArray));
     }
-    plan_all(alloc, parts, stripes, commands, staged, device)
+    plan_all(alloc, parts, commands, staged, device)
 }
 
 /// A plan that writes nothing and begins no watch.
@@ -364,39 +256,26 @@ fn answered(alloc: Global, reply: Reply) -> Planned
 fn settle<R: Shows, D: Device<Receipt = R>, P: Parts<Shard<R>>>(
     alloc: Global,
     parts: &mut P,
-    stripes: usize,
     reply: Reply,
     writes: Writes,
     device: &mut D,
 ) -> Result<Planned, Stop<R>>
-    requires open { P.is_open parts.old }
-    requires some { 1 ≤ stripes }
-    requires most { stripes ≤ 64 }
+    requires may { MayLookUp (P.is_open parts.old) (P.stripes_of parts.old) (P.part_of parts.old) (keys_written writes) }
     requires fits { AreFit writes }
-    requires there { AreThere stripes (P.part_of parts.old) (keys_written writes) }
-    ensures reply { IfOk result (λ planned. planned.reply ≡ (if nat_lt WEIGHT_MAX (weight writes) then too_much else reply)) }
-    ensures writes { IfOk result (λ planned. planned.writes ≡ (if nat_lt WEIGHT_MAX (weight writes) then [] else writes)) }
-    ensures room { IfOk result (λ planned. AreRoomy stripes (logs_of (P.part_of parts.new)) planned.writes) }
-    ensures fits { IfOk result (λ planned. AreFit planned.writes) }
-    ensures made { IfOk result (λ planned. MakesRoom D.wrote (kept_by R.identity R.shown) stripes stripes planned.writes (logs_of (P.part_of parts.old)) device.old (logs_of (P.part_of parts.new)) device.new) }
-    ensures begun { IfOk result (λ planned. planned.begun ≡ []) }
-    ensures became { Became (shard_meaning R.is_steady) stripes [] stays (P.part_of parts.old) (P.part_of parts.new) }
-    ensures full { IfErr result (λ stop. IfFull stop (λ stripe. MeetsFull D.wrote (kept_by R.identity R.shown) stripes stripe (λ due. due ≡ writes) (logs_of (P.part_of parts.old)) device.old (logs_of (P.part_of parts.new)) device.new)) }
-    ensures never_cold { IfErr result (λ stop. IfCold stop (λ receipts. ⊥)) }
-    ensures memory { IfErr result (λ stop. IfNoMemory stop ⊥) }
-    ensures few { IfOk result (λ planned. ShedFew stripes planned.writes (logs_of (P.part_of parts.old)) (logs_of (P.part_of parts.new))) }
-    ensures kept { IfOk result (λ planned. LeaveFrames stripes planned.writes (logs_of (P.part_of parts.old)) (logs_of (P.part_of parts.new))) }
-    ensures device { StillServes D.serves D.releases device.old device.new }
-    ensures faults { IfErr result (λ stop. D.failures device.new ≡ D.failures device.old + faults stop) }
-    ensures no_fault { OnOk result (D.failures device.new ≡ D.failures device.old) }
-    ensures waits { SameWaits (P.part_of parts.old) (P.part_of parts.new) }
-    ensures open { P.is_open parts.new }
-    ensures keeps { P.keeps parts.old parts.new }
+    ensures planned { IfOk result (HasPlanned D.wrote (kept_by R.identity R.shown) (AreSettled reply writes)
+        (P.stripes_of parts.old) (P.part_of parts.old, device.old) (P.part_of parts.new, device.new)) }
+    ensures unmarked { IsUnmarked (shard_meaning R.is_steady) (P.stripes_of parts.old) (P.part_of parts.old) (P.part_of parts.new) result }
+    ensures stopped { IfErr result (λ stop. MatchStop stop (λ receipts. ⊥) ⊥ ⊤
+        (FoundFull D.wrote (kept_by R.identity R.shown) (λ due. due ≡ writes) (P.stripes_of parts.old) (P.part_of parts.old, device.old)
+        (P.part_of parts.new, device.new))) }
+    ensures stands { StillStands (StillServes D.serves D.releases) (P.part_of parts.old, device.old) (P.part_of parts.new, device.new) }
+    ensures failed { HaveFailed result (D.failures device.old) (D.failures device.new) }
+    ensures held { IsStillHeld P.is_open P.keeps parts.old parts.new }
 {
     if writes.weight().is_none() {
         return Ok(refused(alloc, reply, writes));
     }
-    match reserve_all(parts, stripes, writes.as_slice(), device) {
+    match reserve_all(parts, writes.as_slice(), device) {
         Ok(()) => Ok(Planned {
             reply,
             writes,
@@ -430,80 +309,22 @@ fn let_go<R: Shows>(reply: Reply, writes: Writes, stop: Stop<R>) -> Stop<R>
 fn plan_watch<R: Shows, P: Parts<Shard<R>>>(
     alloc: Global,
     parts: &mut P,
-    stripes: usize,
-    seat: u64,
     keys: &Keys,
 ) -> Result<Planned, Stop<R>>
     requires open { P.is_open parts.old }
-    requires some { 1 ≤ stripes }
-    requires there { AreThere stripes (P.part_of parts.old) keys.now }
-    ensures plan { IfOk result (λ planned. (seen : History) → IsPlan seen (Watch keys.now) planned.reply planned.writes) }
-    ensures writes { IfOk result (λ planned. planned.writes ≡ []) }
-    ensures ok { OnOk result (Became (shard_meaning R.is_steady) stripes [] (begins seat keys.now) (P.part_of parts.old) (P.part_of parts.new)) }
-    ensures began { IfOk result (λ planned. HasBegun (shard_meaning R.is_steady) stripes seat planned.begun (P.part_of parts.old) (P.part_of parts.new)) }
-    ensures err { OnErr result (Became (shard_meaning R.is_steady) stripes [] stays (P.part_of parts.old) (P.part_of parts.new)) }
-    ensures logs { SameLogs (P.part_of parts.old) (P.part_of parts.new) }
+    requires there { AreThere (P.stripes_of parts.old) (P.part_of parts.old) keys.now }
+    ensures planned { IfOk result (IsPlanOfWatch keys.now) }
+    ensures marks { AreMarkedFor R.is_steady P.stripes_of P.holder_of P.part_of parts.old parts.new keys.now result }
     ensures stop { IfErr result (λ stop. stop ≡ OutOfMemory) }
-    ensures waits { SameWaits (P.part_of parts.old) (P.part_of parts.new) }
-    ensures open { P.is_open parts.new }
-    ensures keeps { P.keeps parts.old parts.new }
+    ensures same { SameLogs (P.part_of parts.old) (P.part_of parts.new) × SameWaits (P.part_of parts.old) (P.part_of parts.new) }
+    ensures held { IsStillHeld P.is_open P.keeps parts.old parts.new }
 {
     let mut begun = Vec::new(alloc);
-    if let Err(_) = begin_all(parts, stripes, seat, keys.as_slice(), &mut begun) {
-        clear_all(parts, stripes, seat, begun.as_slice());
+    if let Err(_) = begin_all(parts, keys.as_slice(), &mut begun) {
+        clear_all(parts, begun.as_slice());
         return Err(Stop::OutOfMemory);
     }
     let mut planned = answered(alloc, Reply::line(Line::Done));
     planned.begun = Keys::from_vec(begun);
     Ok(planned)
-}
-
-impl Planned {
-    /// Makes the writes, and touches the marks of all sessions at the keys that are written. Where the call ends
-    /// its session's watches, they are ended. It takes no memory, and gives the reply.
-    pub fn install<R: Shows, P: Parts<Shard<R>>>(
-        self,
-        parts: &mut P,
-        stripes: usize,
-        seat: u64,
-        call: &Call,
-    ) -> Reply
-        requires open { P.is_open parts.old }
-        requires some { 1 ≤ stripes }
-        requires room { AreRoomy stripes (logs_of (P.part_of parts.old)) self.writes }
-        requires fits { AreFit self.writes }
-        requires there { AreThere stripes (P.part_of parts.old) (keys_ended call.now) }
-        ensures became { Became (shard_meaning R.is_steady) stripes self.writes (touches_and_clears self.writes seat (keys_ended call.now)) (P.part_of parts.old) (P.part_of parts.new) }
-        ensures grown { HaveGrown stripes self.writes (logs_of (P.part_of parts.old)) (logs_of (P.part_of parts.new)) }
-        ensures reply { result ≡ self.reply }
-        ensures waits { SameWaits (P.part_of parts.old) (P.part_of parts.new) }
-        ensures open { P.is_open parts.new }
-        ensures keeps { P.keeps parts.old parts.new }
-    {
-        let Planned {
-            reply,
-            writes,
-            begun: _,
-        } = self;
-        make_writes(parts, stripes, writes.as_slice());
-        end_watches(parts, stripes, seat, call);
-        drop(writes);
-        reply
-    }
-
-    /// Takes back the marks that were added for the plan. After the plan alone, values and marks are then as
-    /// before it. It takes no memory.
-    pub fn undo<R: Shows, P: Parts<Shard<R>>>(self, parts: &mut P, stripes: usize, seat: u64)
-        requires open { P.is_open parts.old }
-        requires some { 1 ≤ stripes }
-        requires there { AreThere stripes (P.part_of parts.old) self.begun }
-        ensures became { Became (shard_meaning R.is_steady) stripes [] (clears seat self.begun) (P.part_of parts.old) (P.part_of parts.new) }
-        ensures undone { (before : ℕ → Option (Shard R)) → HasBegun (shard_meaning R.is_steady) stripes seat self.begun before (P.part_of parts.old) → Became (shard_meaning R.is_steady) stripes [] stays before (P.part_of parts.new) }
-        ensures logs { SameLogs (P.part_of parts.old) (P.part_of parts.new) }
-        ensures waits { SameWaits (P.part_of parts.old) (P.part_of parts.new) }
-        ensures open { P.is_open parts.new }
-        ensures keeps { P.keeps parts.old parts.new }
-    {
-        clear_all(parts, stripes, seat, self.begun.as_slice());
-    }
 }

@@ -1,38 +1,42 @@
 //! Pages that a plan wants are read while the stripes are held.
 
-ghost use Rattle.std.specs.Prelude.{◌≡◌, ◌+◌, ◌<◌, ◌≤◌, ◌++◌, ⊤, [], ◌∷◌, ℕ, List, Some, Option, IfOk, IfErr, OnOk, OnErr, length, true, false, unwrap_or};
-ghost use Rattle.words.specs.History.{History, Pair, after};
-ghost use Rattle.words.specs.Store.{Write};
-ghost use Rattle.words.specs.Session.{Asked, operation_of, value_reply};
+ghost use Rattle.std.specs.Prelude.{◌≡◌, ◌+◌, ◌≤◌, ⊤, [], ◌∷◌, IfOk, IfErr, OnOk, length};
 ghost use Rattle.words.specs.declared.command.Command.TheVariants.{Get};
-ghost use Rattle.words.specs.declared.history.Operation.TheVariants.{Run};
-ghost use Rattle.words.specs.declared.word.TheConstants.{WORD_INLINE};
-ghost use Rattle.gates.specs.Passes.{AreWatched};
+ghost use Rattle.transact.specs.declared.call.Call.TheVariants.{One};
 ghost use Rattle.hybrid.specs.Reading.{HasStaged};
 ghost use Rattle.hybrid.specs.Staging.{AreRight};
-ghost use Rattle.hybrid.specs.Writing.{AreFit};
-ghost use Rattle.transact.specs.Calls.{asked_of, call_keys};
-ghost use Rattle.transact.specs.Plans.{EndsAll, IsEntry, IsPlan, keys_begun, made};
-ghost use Rattle.transact.specs.Tables.{AllRead, AreThere, Became, HasBegun, Stand, begins, joined, stays};
+ghost use Rattle.transact.specs.Plans.{keys_begun};
 ghost use Rattle.shards.specs.Devices.{IsReadAlone, StillServes};
-ghost use Rattle.plans.specs.Memory.{AreAtHand, NeedsNoMemoryOn};
-ghost use Rattle.plans.specs.Reading.{AreRead, HasMore, AreServed, IsServed, ServesEach};
+ghost use Rattle.plans.specs.Planning.{AreDue, AreMade, FoundFull, HasPlanned, HaveFailed, IsFullFor, IsReady, IsStillHeld, IsValueIn};
+ghost use Rattle.plans.specs.Planning.{MatchStop, MayLookUp, MayPlan, StillStands, TakesMemory, asks_call, asks_get};
+ghost use Rattle.plans.specs.Reading.{AfterReads, AreRead, CameOfReads, HasMore, MissesUnread};
+ghost use Rattle.plans.specs.Reading.{ReadsRight, ServesEach, StaysRight, StopsUnread};
 ghost use Rattle.shards.specs.Receipts.{kept_by};
-ghost use Rattle.shards.specs.Rooms.{AreRoomy, IsFullAt, LeaveFrames, MakesRoom, MeetsFull, ShedFew, share};
-ghost use Rattle.shards.specs.Shards.{SameLogs, SameWaits, logs_of, shard_meaning};
-ghost use Rattle.plans.specs.Sizes.{AllShort, IsPlaced};
-ghost use Rattle.plans.specs.Stops.{IfCold, IfFull, IfNoMemory, faults, keys_looked_up};
+ghost use Rattle.shards.specs.Shards.{SameLogs, SameWaits, logs_of};
+ghost use Rattle.plans.specs.Stops.{IfCold};
+ghost use Rattle.plans.specs.Holding.{AreMarkedFor, NeedsMemory};
 
-use crate::plan::{Planned, plan};
+use crate::plan::plan;
+use crate::planned::Planned;
 use crate::short::value_of;
 use crate::stop::{Receipts, Stop};
 use device::{Device, Shows};
 use gates::Parts;
-use hybrid::{ReadFault, Staged};
+use hybrid::Staged;
 use shards::shard::Shard;
 use std::alloc::Global;
 use transact::call::Call;
+use words::hash::Hashed;
 use words::word::Word;
+
+/// What is done about pages that are wanted while stripes are held.
+#[derive(Clone, Copy)]
+pub enum WhenCold {
+    /// They are read meanwhile.
+    Reads,
+    /// A plan stops that wants some.
+    Stops,
+}
 
 /// Reads the page of a receipt, and stages it. Where the device serves the receipt, what is staged stays right.
 ///
@@ -49,17 +53,11 @@ fn read_one<R: Shows, D: Device<Receipt = R>>(
     ensures still_served { (r : R) → D.serves device.old r → D.serves device.new r }
     ensures grows { HasMore staged.old staged.new }
     ensures device { IsReadAlone D.serves D.releases D.writes device.old device.new }
-    ensures never_cold { IfErr result (λ stop. IfCold stop (λ receipts. ⊥)) }
-    ensures never_full { IfErr result (λ stop. IfFull stop (λ stripe. ⊥)) }
-    ensures faults { IfErr result (λ stop. D.failures device.new ≡ D.failures device.old + faults stop) }
-    ensures no_fault { OnOk result (D.failures device.new ≡ D.failures device.old) }
+    ensures came { CameOfReads result (D.failures device.old) (D.failures device.new) }
     ensures once { D.reads device.new ≤ D.reads device.old + 1 }
 {
-    match staged.read(receipt, device) {
-        Ok(()) => Ok(()),
-        Err(ReadFault::DeviceFault) => Err(Stop::DeviceFault),
-        Err(ReadFault::OutOfMemory) => Err(Stop::OutOfMemory),
-    }
+    staged.read(receipt, device)?;
+    Ok(())
 }
 
 /// Reads the pages of receipts, each once, and stages them. Where the device serves the receipts, what is staged stays right.
@@ -77,10 +75,7 @@ pub fn read_all<R: Shows, D: Device<Receipt = R>>(
     ensures still_served { (r : R) → D.serves device.old r → D.serves device.new r }
     ensures grows { HasMore staged.old staged.new }
     ensures device { IsReadAlone D.serves D.releases D.writes device.old device.new }
-    ensures never_cold { IfErr result (λ stop. IfCold stop (λ receipts. ⊥)) }
-    ensures never_full { IfErr result (λ stop. IfFull stop (λ stripe. ⊥)) }
-    ensures faults { IfErr result (λ stop. D.failures device.new ≡ D.failures device.old + faults stop) }
-    ensures no_fault { OnOk result (D.failures device.new ≡ D.failures device.old) }
+    ensures came { CameOfReads result (D.failures device.old) (D.failures device.new) }
     ensures once { D.reads device.new ≤ D.reads device.old + length receipts }
 {
     let mut receipts = receipts;
@@ -100,30 +95,31 @@ pub fn read_all<R: Shows, D: Device<Receipt = R>>(
 pub fn read_value<R: Shows, D: Device<Receipt = R>, P: Parts<Shard<R>>>(
     alloc: Global,
     parts: &mut P,
-    stripes: usize,
-    key: &Word,
+    key: &Hashed,
     staged: &mut Staged<R>,
     device: &mut D,
 ) -> Result<Option<Word>, Stop<R>>
-    requires open { P.is_open parts.old }
-    requires some { 1 ≤ stripes }
-    requires there { AreThere stripes (P.part_of parts.old) (key.now ∷ []) }
-    ensures value { R.is_honest → AreRight staged.old → AreServed D.serves R.identity device.old (logs_of (P.part_of parts.old)) → IfOk result (λ value. value ≡ joined (shard_meaning R.is_steady) stripes (P.part_of parts.old) key.now) }
-    ensures due { R.is_honest → AreRight staged.old → AreServed D.serves R.identity device.old (logs_of (P.part_of parts.old)) → IfOk result (λ value. (seen : History) → AllRead (shard_meaning R.is_steady) stripes (P.part_of parts.old) (after seen) → IsPlan seen (Run (Get key.now)) (value_reply value) []) }
-    ensures right { AreRight staged.old → AreServed D.serves R.identity device.old (logs_of (P.part_of parts.old)) → AreRight staged.new }
+    requires may { MayLookUp (P.is_open parts.old) (P.stripes_of parts.old) (P.part_of parts.old) (key.now ∷ []) }
+    ensures value { IfOk result (IsValueIn R.is_steady P.stripes_of P.part_of parts.old
+        (ReadsRight D.serves R.identity R.is_honest staged.old device.old (P.part_of parts.old)) key.now) }
+    ensures right { StaysRight D.serves R.identity device.old (P.part_of parts.old) staged.old staged.new }
+    ensures stopped { IfErr result (λ stop. MatchStop stop (λ receipts. ⊤)
+        (TakesMemory R.lends (R.is_honest × AreRight staged.old) (P.stripes_of parts.old)
+        (asks_get R.is_steady P.stripes_of P.part_of parts.old key.now) staged.old (logs_of (P.part_of parts.old)))
+        ⊤ (λ stripe. ⊥)) }
     ensures never_cold { IfErr result (λ stop. IfCold stop (λ receipts. ⊥)) }
-    ensures never_full { IfErr result (λ stop. IfFull stop (λ stripe. ⊥)) }
-    ensures memory { R.is_honest → AreRight staged.old → AreAtHand R.lends stripes (logs_of (P.part_of parts.old)) (key.now ∷ []) staged.old → length (unwrap_or (joined (shard_meaning R.is_steady) stripes (P.part_of parts.old) key.now) []) ≤ WORD_INLINE → IfErr result (λ stop. IfNoMemory stop ⊥) }
     ensures same { P.part_of parts.new ≡ P.part_of parts.old }
-    ensures faults { IfErr result (λ stop. D.failures device.new ≡ D.failures device.old + faults stop) }
-    ensures no_fault { OnOk result (D.failures device.new ≡ D.failures device.old) }
-    ensures open { P.is_open parts.new }
-    ensures keeps { P.keeps parts.old parts.new }
+    ensures failed { HaveFailed result (D.failures device.old) (D.failures device.new) }
+    ensures held { IsStillHeld P.is_open P.keeps parts.old parts.new }
 {
     loop {
-        match value_of(alloc, parts, stripes, key, staged) {
+        match value_of(alloc, parts, key, staged) {
             Ok(value) => return Ok(value),
-            Err(Stop::Cold(receipts)) => read_all(receipts, staged, device)?,
+            Err(Stop::Cold(receipts)) => {
+                if let Err(stop) = read_all(receipts, staged, device) {
+                    return Err(stop);
+                }
+            }
             Err(stop) => return Err(stop),
         }
     }
@@ -138,52 +134,49 @@ pub fn read_value<R: Shows, D: Device<Receipt = R>, P: Parts<Shard<R>>>(
 pub fn plan_reading<R: Shows, D: Device<Receipt = R>, P: Parts<Shard<R>>>(
     alloc: Global,
     parts: &mut P,
-    stripes: usize,
-    seat: u64,
     call: &Call,
     staged: &mut Staged<R>,
     device: &mut D,
 ) -> Result<Planned, Stop<R>>
-    requires open { P.is_open parts.old }
-    requires some { 1 ≤ stripes }
-    requires most { stripes ≤ 64 }
-    requires entry { IsEntry call.now }
-    requires place { IsPlaced call.now }
-    requires there { AreThere stripes (P.part_of parts.old) (call_keys call.now) }
-    ensures plan { R.is_honest → AreRight staged.old → AreServed D.serves R.identity device.old (logs_of (P.part_of parts.old)) → AllShort (joined (shard_meaning R.is_steady) stripes (P.part_of parts.old)) → IfOk result (λ planned. (asked : Asked) (seen : History) (watched : List Pair) → asked_of call.now ≡ Some asked → Stand (shard_meaning R.is_steady) stripes (P.part_of parts.old) seen seat watched → EndsAll call.now watched → AreWatched watched watched → IsPlan seen (operation_of watched asked) planned.reply planned.writes) }
-    ensures right { AreRight staged.old → AreServed D.serves R.identity device.old (logs_of (P.part_of parts.old)) → AreRight staged.new }
+    requires may { MayPlan (P.is_open parts.old) (P.stripes_of parts.old) (P.part_of parts.old) call.now }
+    ensures planned { IfOk result (λ planned. AfterReads D.serves D.releases D.writes device.old
+        (λ read. HasPlanned D.wrote (kept_by R.identity R.shown)
+        (AreDue (ReadsRight D.serves R.identity R.is_honest staged.old device.old (P.part_of parts.old))
+        (asks_call R.is_steady P.stripes_of P.holder_of P.part_of parts.old call.now))
+        (P.stripes_of parts.old) (P.part_of parts.old, read) (P.part_of parts.new, device.new) planned)) }
+    ensures marks { AreMarkedFor R.is_steady P.stripes_of P.holder_of P.part_of parts.old parts.new (keys_begun call.now) result }
+    ensures stopped { IfErr result (λ stop. MatchStop stop (λ receipts. ⊤)
+        (TakesMemory R.lends (R.is_honest × AreRight staged.old) (P.stripes_of parts.old)
+        (asks_call R.is_steady P.stripes_of P.holder_of P.part_of parts.old call.now) staged.old (logs_of (P.part_of parts.old))
+        × SameLogs (P.part_of parts.old) (P.part_of parts.new))
+        ⊤
+        (λ stripe. AfterReads D.serves D.releases D.writes device.old
+        (λ read. FoundFull D.wrote (kept_by R.identity R.shown)
+        (AreMade (ReadsRight D.serves R.identity R.is_honest staged.old device.old (P.part_of parts.old))
+        (asks_call R.is_steady P.stripes_of P.holder_of P.part_of parts.old call.now))
+        (P.stripes_of parts.old) (P.part_of parts.old, read) (P.part_of parts.new, device.new) stripe))) }
     ensures never_cold { IfErr result (λ stop. IfCold stop (λ receipts. ⊥)) }
-    ensures room { IfOk result (λ planned. AreRoomy stripes (logs_of (P.part_of parts.new)) planned.writes) }
-    ensures fits { IfOk result (λ planned. AreFit planned.writes) }
-    ensures ok { OnOk result (Became (shard_meaning R.is_steady) stripes [] (begins seat (keys_begun call.now)) (P.part_of parts.old) (P.part_of parts.new)) }
-    ensures begun { IfOk result (λ planned. HasBegun (shard_meaning R.is_steady) stripes seat planned.begun (P.part_of parts.old) (P.part_of parts.new)) }
-    ensures err { OnErr result (Became (shard_meaning R.is_steady) stripes [] stays (P.part_of parts.old) (P.part_of parts.new)) }
-    ensures made { IfOk result (λ planned. (read : D) × ((r : R) → D.serves device.old r → D.serves read r) × MakesRoom D.wrote (kept_by R.identity R.shown) stripes stripes planned.writes (logs_of (P.part_of parts.old)) read (logs_of (P.part_of parts.new)) device.new) }
-    ensures full { IfErr result (λ stop. IfFull stop (λ stripe. (read : D) × IsReadAlone D.serves D.releases D.writes device.old read × MeetsFull D.wrote (kept_by R.identity R.shown) stripes stripe (λ writes. R.is_honest → AreRight staged.old → AreServed D.serves R.identity device.old (logs_of (P.part_of parts.old)) → AllShort (joined (shard_meaning R.is_steady) stripes (P.part_of parts.old)) → (asked : Asked) (seen : History) (watched : List Pair) → asked_of call.now ≡ Some asked → Stand (shard_meaning R.is_steady) stripes (P.part_of parts.old) seen seat watched → EndsAll call.now watched → AreWatched watched watched → writes ≡ made seen (operation_of watched asked)) (logs_of (P.part_of parts.old)) read (logs_of (P.part_of parts.new)) device.new)) }
-    ensures memory { R.is_honest → AreRight staged.old → AreAtHand R.lends stripes (logs_of (P.part_of parts.old)) (keys_looked_up call.now) staged.old → NeedsNoMemoryOn (joined (shard_meaning R.is_steady) stripes (P.part_of parts.old)) call.now → IfErr result (λ stop. IfNoMemory stop ⊥) }
-    ensures grows { HasMore staged.old staged.new }
-    ensures device { StillServes D.serves D.releases device.old device.new }
-    ensures few { IfOk result (λ planned. ShedFew stripes planned.writes (logs_of (P.part_of parts.old)) (logs_of (P.part_of parts.new))) }
-    ensures kept { IfOk result (λ planned. LeaveFrames stripes planned.writes (logs_of (P.part_of parts.old)) (logs_of (P.part_of parts.new))) }
-    ensures spared { IfErr result (λ stop. IfNoMemory stop (SameLogs (P.part_of parts.old) (P.part_of parts.new))) }
-    ensures reads { IfOk result (λ planned. (read : D) × IsReadAlone D.serves D.releases D.writes device.old read × MakesRoom D.wrote (kept_by R.identity R.shown) stripes stripes planned.writes (logs_of (P.part_of parts.old)) read (logs_of (P.part_of parts.new)) device.new) }
-    ensures faults { IfErr result (λ stop. D.failures device.new ≡ D.failures device.old + faults stop) }
-    ensures no_fault { OnOk result (D.failures device.new ≡ D.failures device.old) }
-    ensures waits { SameWaits (P.part_of parts.old) (P.part_of parts.new) }
-    ensures open { P.is_open parts.new }
-    ensures keeps { P.keeps parts.old parts.new }
+    ensures pages { HasMore staged.old staged.new
+        × StaysRight D.serves R.identity device.old (P.part_of parts.old) staged.old staged.new }
+    ensures stands { StillStands (StillServes D.serves D.releases) (P.part_of parts.old, device.old) (P.part_of parts.new, device.new) }
+    ensures failed { HaveFailed result (D.failures device.old) (D.failures device.new) }
+    ensures held { IsStillHeld P.is_open P.keeps parts.old parts.new }
 {
     loop {
-        match plan(alloc, parts, stripes, seat, call, staged, device) {
+        match plan(alloc, parts, call, staged, device) {
             Ok(planned) => return Ok(planned),
-            Err(Stop::Cold(receipts)) => read_all(receipts, staged, device)?,
+            Err(Stop::Cold(receipts)) => {
+                if let Err(stop) = read_all(receipts, staged, device) {
+                    return Err(stop);
+                }
+            }
             Err(stop) => return Err(stop),
         }
     }
 }
 
-/// Plans a call over a steady device. Where `reads`, the pages that it wants are read meanwhile, while the stripes are held;
-/// else it stops where it wants any.
+/// Plans a call over a steady device. The pages that it wants are read meanwhile, while the stripes are held, or it stops if it
+/// wants any.
 ///
 /// # Errors
 ///
@@ -191,46 +184,34 @@ pub fn plan_reading<R: Shows, D: Device<Receipt = R>, P: Parts<Shard<R>>>(
 pub fn plan_staged<R: Shows, D: Device<Receipt = R>, P: Parts<Shard<R>>>(
     alloc: Global,
     parts: &mut P,
-    stripes: usize,
-    seat: u64,
     call: &Call,
     staged: &mut Staged<R>,
-    reads: bool,
+    cold: WhenCold,
     device: &mut D,
 ) -> Result<Planned, Stop<R>>
-    requires open { P.is_open parts.old }
-    requires some { 1 ≤ stripes }
-    requires most { stripes ≤ 64 }
-    requires entry { IsEntry call.now }
-    requires place { IsPlaced call.now }
-    requires there { AreThere stripes (P.part_of parts.old) (call_keys call.now) }
-    requires right { R.is_steady → AreRight staged.old }
-    ensures right { R.is_steady → AreRight staged.new }
-    ensures plan { R.is_steady → AllShort (joined (shard_meaning R.is_steady) stripes (P.part_of parts.old)) → IfOk result (λ planned. (asked : Asked) (seen : History) (watched : List Pair) → asked_of call.now ≡ Some asked → Stand (shard_meaning R.is_steady) stripes (P.part_of parts.old) seen seat watched → EndsAll call.now watched → AreWatched watched watched → IsPlan seen (operation_of watched asked) planned.reply planned.writes) }
-    ensures cold { IfErr result (λ stop. IfCold stop (λ receipts. (reads ≡ false) × (R.lends → ⊥) × (P.part_of parts.new ≡ P.part_of parts.old) × (device.new ≡ device.old))) }
-    ensures room { IfOk result (λ planned. AreRoomy stripes (logs_of (P.part_of parts.new)) planned.writes) }
-    ensures fits { IfOk result (λ planned. AreFit planned.writes) }
-    ensures ok { OnOk result (Became (shard_meaning R.is_steady) stripes [] (begins seat (keys_begun call.now)) (P.part_of parts.old) (P.part_of parts.new)) }
-    ensures begun { IfOk result (λ planned. HasBegun (shard_meaning R.is_steady) stripes seat planned.begun (P.part_of parts.old) (P.part_of parts.new)) }
-    ensures err { OnErr result (Became (shard_meaning R.is_steady) stripes [] stays (P.part_of parts.old) (P.part_of parts.new)) }
-    ensures full { IfErr result (λ stop. IfFull stop (IsFullAt (logs_of (P.part_of parts.new)))) }
-    ensures below { IfErr result (λ stop. IfFull stop (λ stripe. stripe < stripes)) }
+    requires may { MayPlan (P.is_open parts.old) (P.stripes_of parts.old) (P.part_of parts.old) call.now }
+    ensures right { R.is_steady → AreRight staged.old → AreRight staged.new }
+    ensures ready { IfOk result (IsReady (AreDue (R.is_steady × AreRight staged.old)
+        (asks_call R.is_steady P.stripes_of P.holder_of P.part_of parts.old call.now)) (P.stripes_of parts.old) (P.part_of parts.new)) }
+    ensures marks { AreMarkedFor R.is_steady P.stripes_of P.holder_of P.part_of parts.old parts.new (keys_begun call.now) result }
+    ensures stopped { IfErr result (λ stop. MatchStop stop
+        (λ receipts. StopsUnread cold R.lends (P.part_of parts.old, device.old) (P.part_of parts.new, device.new))
+        (NeedsMemory R.is_steady P.stripes_of P.part_of parts.old (R.is_steady × AreRight staged.old) R.lends call.now)
+        ⊤
+        (IsFullFor (R.is_steady × AreRight staged.old) (asks_call R.is_steady P.stripes_of P.holder_of P.part_of parts.old call.now)
+        (P.stripes_of parts.old) (P.part_of parts.new))) }
     ensures waits { SameWaits (P.part_of parts.old) (P.part_of parts.new) }
-    ensures written { R.is_steady → AllShort (joined (shard_meaning R.is_steady) stripes (P.part_of parts.old)) → IfErr result (λ stop. IfFull stop (λ stripe. (asked : Asked) (seen : History) (watched : List Pair) → asked_of call.now ≡ Some asked → Stand (shard_meaning R.is_steady) stripes (P.part_of parts.old) seen seat watched → EndsAll call.now watched → AreWatched watched watched → 0 < share stripes stripe (made seen (operation_of watched asked)))) }
-    ensures memory { R.is_steady → R.lends → NeedsNoMemoryOn (joined (shard_meaning R.is_steady) stripes (P.part_of parts.old)) call.now → IfErr result (λ stop. IfNoMemory stop ⊥) }
-    ensures faults { IfErr result (λ stop. D.failures device.new ≡ D.failures device.old + faults stop) }
-    ensures no_fault { OnOk result (D.failures device.new ≡ D.failures device.old) }
-    ensures open { P.is_open parts.new }
-    ensures keeps { P.keeps parts.old parts.new }
+    ensures failed { HaveFailed result (D.failures device.old) (D.failures device.new) }
+    ensures held { IsStillHeld P.is_open P.keeps parts.old parts.new }
 {
-    if reads {
-        return plan_reading(alloc, parts, stripes, seat, call, staged, device);
+    match cold {
+        WhenCold::Reads => plan_reading(alloc, parts, call, staged, device),
+        WhenCold::Stops => plan(alloc, parts, call, staged, device),
     }
-    plan(alloc, parts, stripes, seat, call, staged, device)
 }
 
-/// A copy of the value of a key, over a steady device. Where `reads`, the pages that are wanted for it are read meanwhile,
-/// while the stripes are held; else it stops where one is wanted.
+/// A copy of the value of a key, over a steady device. The pages that are wanted for it are read meanwhile, while the stripes
+/// are held, or it stops if one is wanted.
 ///
 /// # Errors
 ///
@@ -238,29 +219,23 @@ pub fn plan_staged<R: Shows, D: Device<Receipt = R>, P: Parts<Shard<R>>>(
 pub fn value_staged<R: Shows, D: Device<Receipt = R>, P: Parts<Shard<R>>>(
     alloc: Global,
     parts: &mut P,
-    stripes: usize,
-    key: &Word,
+    key: &Hashed,
     staged: &mut Staged<R>,
-    reads: bool,
+    cold: WhenCold,
     device: &mut D,
 ) -> Result<Option<Word>, Stop<R>>
-    requires open { P.is_open parts.old }
-    requires some { 1 ≤ stripes }
-    requires there { AreThere stripes (P.part_of parts.old) (key.now ∷ []) }
-    requires right { R.is_steady → AreRight staged.old }
-    ensures right { R.is_steady → AreRight staged.new }
-    ensures due { R.is_steady → IfOk result (λ value. (seen : History) → AllRead (shard_meaning R.is_steady) stripes (P.part_of parts.old) (after seen) → IsPlan seen (Run (Get key.now)) (value_reply value) []) }
-    ensures cold { IfErr result (λ stop. IfCold stop (λ receipts. (reads ≡ false) × (R.lends → ⊥) × (device.new ≡ device.old))) }
-    ensures never_full { IfErr result (λ stop. IfFull stop (λ stripe. ⊥)) }
-    ensures memory { R.is_steady → R.lends → length (unwrap_or (joined (shard_meaning R.is_steady) stripes (P.part_of parts.old) key.now) []) ≤ WORD_INLINE → IfErr result (λ stop. IfNoMemory stop ⊥) }
+    requires may { MayLookUp (P.is_open parts.old) (P.stripes_of parts.old) (P.part_of parts.old) (key.now ∷ []) }
+    ensures right { R.is_steady → AreRight staged.old → AreRight staged.new }
+    ensures value { IfOk result (IsValueIn R.is_steady P.stripes_of P.part_of parts.old (R.is_steady × AreRight staged.old) key.now) }
+    ensures stopped { IfErr result (λ stop. MatchStop stop (λ receipts. MissesUnread cold R.lends device.old device.new)
+        (NeedsMemory R.is_steady P.stripes_of P.part_of parts.old (R.is_steady × AreRight staged.old) R.lends (One (Get key.now)))
+        ⊤ (λ stripe. ⊥)) }
     ensures same { P.part_of parts.new ≡ P.part_of parts.old }
-    ensures faults { IfErr result (λ stop. D.failures device.new ≡ D.failures device.old + faults stop) }
-    ensures no_fault { OnOk result (D.failures device.new ≡ D.failures device.old) }
-    ensures open { P.is_open parts.new }
-    ensures keeps { P.keeps parts.old parts.new }
+    ensures failed { HaveFailed result (D.failures device.old) (D.failures device.new) }
+    ensures held { IsStillHeld P.is_open P.keeps parts.old parts.new }
 {
-    if reads {
-        return read_value(alloc, parts, stripes, key, staged, device);
+    match cold {
+        WhenCold::Reads => read_value(alloc, parts, key, staged, device),
+        WhenCold::Stops => value_of(alloc, parts, key, staged),
     }
-    value_of(alloc, parts, stripes, key, staged)
 }

@@ -1,14 +1,17 @@
 //! Room for writes, stripe by stripe.
 
-ghost use Rattle.std.specs.Prelude.{◌≡◌, ◌≢◌, ◌+◌, ◌<◌, ◌≤◌, [], ℕ, IsSome, IfErr, OnErr, OnOk, slice_index, ◌∷◌, if◌then◌else◌};
+ghost use Rattle.std.specs.Prelude.{◌≡◌, ◌+◌, ◌<◌, ◌≤◌, [], ℕ, IsSome, IfErr, OnOk, slice_index, ◌∷◌, ⊤};
+ghost use Rattle.std.specs.Prelude.{if◌then◌else◌};
 ghost use Rattle.words.specs.Store.{weight, writes_key};
 ghost use Rattle.words.specs.declared.limits.TheConstants.{WEIGHT_MAX};
-ghost use Rattle.transact.specs.Tables.{AreThere, Became, keys_written, stays};
+ghost use Rattle.transact.specs.Tables.{keys_written, stays};
 ghost use Rattle.shards.specs.Devices.{StillServes};
 ghost use Rattle.shards.specs.Receipts.{kept_by};
-ghost use Rattle.shards.specs.Rooms.{AreRoomy, IsFullAt, IsRoomyAt, LacksRoomAt, LeaveFrames, LeavesFramesAt, MakesRoom, MeetsFull, ShedFew, ShedsAt, ShedsFewAt, purpose_of, share};
-ghost use Rattle.shards.specs.Shards.{SameWaits, logs_of, shard_meaning, weigh};
-ghost use Rattle.plans.specs.Stops.{IfCold, IfFull, IfNoMemory, faults};
+ghost use Rattle.shards.specs.Rooms.{ShedFew, purpose_of, share};
+ghost use Rattle.shards.specs.Shards.{logs_of, weigh};
+ghost use Rattle.plans.specs.Planning.{FoundFull, HaveFailed, IsStillHeld, MatchStop, MayLookUp, StillStands};
+ghost use Rattle.plans.specs.Reserving.{HasNoRoomAt, HasRoom, HasRoomAt, HasShedShare, ReservesAt};
+ghost use Rattle.plans.specs.Holding.{Becomes};
 
 use crate::cells::reserve_at;
 use crate::stop::Stop;
@@ -23,34 +26,28 @@ use words::limits::WEIGHT_OF_KEY;
 /// Makes room for writes in each stripe that they write, in rising order. What keys have and all marks stay.
 pub(crate) fn reserve_all<R: Shows, D: Device<Receipt = R>, P: Parts<Shard<R>>>(
     parts: &mut P,
-    stripes: usize,
     writes: &[Write],
     device: &mut D,
 ) -> Result<(), Stop<R>>
-    requires open { P.is_open parts.old }
-    requires some { 1 ≤ stripes }
-    requires most { stripes ≤ 64 }
+    requires may { MayLookUp (P.is_open parts.old) (P.stripes_of parts.old) (P.part_of parts.old) (keys_written writes.now) }
     requires light { weight writes.now ≤ WEIGHT_MAX }
-    requires there { AreThere stripes (P.part_of parts.old) (keys_written writes.now) }
-    ensures became { Became (shard_meaning R.is_steady) stripes [] stays (P.part_of parts.old) (P.part_of parts.new) }
-    ensures room { OnOk result (AreRoomy stripes (logs_of (P.part_of parts.new)) writes.now) }
-    ensures made { OnOk result (MakesRoom D.wrote (kept_by R.identity R.shown) stripes stripes writes.now (logs_of (P.part_of parts.old)) device.old (logs_of (P.part_of parts.new)) device.new) }
-    ensures full { IfErr result (λ stop. IfFull stop (λ stripe. MeetsFull D.wrote (kept_by R.identity R.shown) stripes stripe (λ due. due ≡ writes.now) (logs_of (P.part_of parts.old)) device.old (logs_of (P.part_of parts.new)) device.new)) }
-    ensures few { ShedFew stripes writes.now (logs_of (P.part_of parts.old)) (logs_of (P.part_of parts.new)) }
-    ensures kept { OnOk result (LeaveFrames stripes writes.now (logs_of (P.part_of parts.old)) (logs_of (P.part_of parts.new))) }
-    ensures device { StillServes D.serves D.releases device.old device.new }
-    ensures never_cold { IfErr result (λ stop. IfCold stop (λ receipts. ⊥)) }
-    ensures memory { IfErr result (λ stop. IfNoMemory stop ⊥) }
-    ensures faults { IfErr result (λ stop. D.failures device.new ≡ D.failures device.old + faults stop) }
-    ensures no_fault { OnOk result (D.failures device.new ≡ D.failures device.old) }
-    ensures waits { SameWaits (P.part_of parts.old) (P.part_of parts.new) }
-    ensures open { P.is_open parts.new }
-    ensures keeps { P.keeps parts.old parts.new }
+    ensures became { Becomes R.is_steady P.stripes_of P.part_of parts.old parts.new [] stays }
+    ensures room { OnOk result (HasRoom D.wrote (kept_by R.identity R.shown) (P.stripes_of parts.old) writes.now
+        (P.part_of parts.old, device.old) (P.part_of parts.new, device.new)) }
+    ensures stopped { IfErr result (λ stop. MatchStop stop (λ receipts. ⊥) ⊥ ⊤ (FoundFull D.wrote (kept_by R.identity R.shown)
+        (λ due. due ≡ writes.now) (P.stripes_of parts.old) (P.part_of parts.old, device.old) (P.part_of parts.new, device.new))) }
+    ensures few { ShedFew (P.stripes_of parts.old) writes.now (logs_of (P.part_of parts.old)) (logs_of (P.part_of parts.new)) }
+    ensures stands { StillStands (StillServes D.serves D.releases) (P.part_of parts.old, device.old) (P.part_of parts.new, device.new) }
+    ensures failed { HaveFailed result (D.failures device.old) (D.failures device.new) }
+    ensures held { IsStillHeld P.is_open P.keeps parts.old parts.new }
 {
+    let stripes = parts.stripes();
     let shares = shares_of(writes, stripes);
     let purpose = purpose_of(writes);
     for stripe in 0..stripes {
-        reserve_share(parts, stripes, stripe, shares[stripe], purpose, device)?;
+        if let Err(stop) = reserve_share(parts, stripe, shares[stripe], purpose, device) {
+            return Err(stop);
+        }
     }
     Ok(())
 }
@@ -110,7 +107,6 @@ fn purpose_of(writes: &[Write]) -> Purpose
 /// Makes room in a stripe for its share of writes, if it has one.
 fn reserve_share<R: Shows, D: Device<Receipt = R>, P: Parts<Shard<R>>>(
     parts: &mut P,
-    stripes: usize,
     stripe: usize,
     share: usize,
     purpose: Purpose,
@@ -119,28 +115,19 @@ fn reserve_share<R: Shows, D: Device<Receipt = R>, P: Parts<Shard<R>>>(
     requires open { P.is_open parts.old }
     requires there { 0 < share → IsSome (P.part_of parts.old stripe) }
     requires light { share ≤ WEIGHT_MAX }
-    ensures became { Became (shard_meaning R.is_steady) stripes [] stays (P.part_of parts.old) (P.part_of parts.new) }
-    ensures room { OnOk result (0 < share → IsRoomyAt (logs_of (P.part_of parts.new)) stripe share) }
-    ensures others { (other : ℕ) → other ≢ stripe → logs_of (P.part_of parts.new) other ≡ logs_of (P.part_of parts.old) other }
-    ensures needless { share ≡ 0 → (P.part_of parts.new ≡ P.part_of parts.old) × (device.new ≡ device.old) }
-    ensures shed { 0 < share → D.failures device.new ≡ D.failures device.old → ShedsAt D.wrote (kept_by R.identity R.shown) stripe (logs_of (P.part_of parts.old)) device.old (logs_of (P.part_of parts.new)) device.new }
-    ensures full { IfErr result (λ stop. IfFull stop (λ full. (full ≡ stripe) × (0 < share) × IsFullAt (logs_of (P.part_of parts.new)) full)) }
-    ensures few { ShedsFewAt stripe share purpose (logs_of (P.part_of parts.old)) (logs_of (P.part_of parts.new)) }
-    ensures lacks { OnErr result (LacksRoomAt stripe share purpose (logs_of (P.part_of parts.old)) (logs_of (P.part_of parts.new))) }
-    ensures kept { OnOk result (0 < share → LeavesFramesAt stripe share purpose (logs_of (P.part_of parts.old)) (logs_of (P.part_of parts.new))) }
-    ensures device { StillServes D.serves D.releases device.old device.new }
-    ensures never_cold { IfErr result (λ stop. IfCold stop (λ receipts. ⊥)) }
-    ensures memory { IfErr result (λ stop. IfNoMemory stop ⊥) }
-    ensures faults { IfErr result (λ stop. D.failures device.new ≡ D.failures device.old + faults stop) }
-    ensures no_fault { OnOk result (D.failures device.new ≡ D.failures device.old) }
-    ensures waits { SameWaits (P.part_of parts.old) (P.part_of parts.new) }
-    ensures open { P.is_open parts.new }
-    ensures keeps { P.keeps parts.old parts.new }
+    ensures reserved { ReservesAt R.is_steady P.stripes_of P.part_of (StillServes D.serves D.releases) stripe share purpose
+        (parts.old, device.old) (parts.new, device.new) }
+    ensures room { OnOk result (0 < share → HasRoomAt stripe share purpose (P.part_of parts.old) (P.part_of parts.new)) }
+    ensures shed { HasShedShare D.wrote (kept_by R.identity R.shown) (D.failures device.new ≡ D.failures device.old) stripe share
+        (P.part_of parts.old, device.old) (P.part_of parts.new, device.new) }
+    ensures stopped { IfErr result (HasNoRoomAt stripe share purpose (P.part_of parts.old) (P.part_of parts.new)) }
+    ensures failed { HaveFailed result (D.failures device.old) (D.failures device.new) }
+    ensures held { IsStillHeld P.is_open P.keeps parts.old parts.new }
 {
     if share == 0 {
         return Ok(());
     }
-    match reserve_at(parts, stripes, stripe, share, purpose, device) {
+    match reserve_at(parts, stripe, share, purpose, device) {
         Ok(()) => Ok(()),
         Err(Fault::DeviceFault) => Err(Stop::DeviceFault),
         Err(Fault::StoreFull) => Err(Stop::StoreFull(stripe)),

@@ -4,6 +4,7 @@ ghost use Rattle.std.specs.Prelude.{◌≡◌, [], ◌∷◌, ◌++◌, length, 
 ghost use Rattle.shards.specs.Receipts.{kept_by};
 
 use device::Shows;
+use hybrid::ReadFault;
 use std::alloc::Global;
 use std::marker::Model;
 use words::word::OutOfMemory;
@@ -20,6 +21,20 @@ pub enum Stop<R: Shows> {
     /// Pages are wanted that are neither resident nor staged: copies of their receipts, one at least. Nothing has
     /// changed at all. Where receipts lend their pages, none is wanted.
     Cold(Receipts<R>),
+}
+
+impl<R: Shows> From<ReadFault> for Stop<R> {
+    ghost use Rattle.hybrid.specs.Reading.{MatchReadFault};
+    ghost use Rattle.plans.specs.declared.stop.Stop.TheVariants as stop;
+
+    ghost from_gives = { λ fault made. MatchReadFault fault (made ≡ stop.OutOfMemory) (made ≡ stop.DeviceFault) };
+
+    fn from(fault: ReadFault) -> Stop<R> {
+        match fault {
+            ReadFault::OutOfMemory => Stop::OutOfMemory,
+            ReadFault::DeviceFault => Stop::DeviceFault,
+        }
+    }
 }
 
 /// Receipts of pages. Contracts see of each what it has in common with its copies, and the page that it shows.

@@ -5,8 +5,8 @@ use Rattle.std.specs.Fmt.{decimal}
 use Rattle.words.specs.declared.limits.TheConstants.{CLIENTS_MAX, STRIPES_MAX, FRAMES_MAX}
 use Rattle.words.specs.declared.limits.Limits.{Limits}
 use Rattle.words.specs.Store.{Bytes}
-use Rattle.world_events.specs.declared.event.Event.{Event}
-use Rattle.world_events.specs.declared.event.Event.TheVariants as event
+use Rattle.world_model.specs.declared.event.Event.{Event}
+use Rattle.world_model.specs.declared.event.Event.TheVariants as event
 use Rattle.schedules.specs.Schedules.{spaced, line, lines, words_of, first_words, IsFirst, IsWithin, AreWithin, HasNoEvent, HasNoFirst, BeginsWith, IsSchedule, GoesWrongAfter, IsBadLine, First, Later}
 use Rattle.schedules.specs.Lines.{has}
 use Rattle.schedules.proofs.Cuts.{cut_once}

@@ -8,9 +8,9 @@ use Rattle.words.specs.declared.limits.TheConstants.{CLIENTS_MAX, STRIPES_MAX, F
 use Rattle.words.specs.declared.limits.Limits.{Limits}
 use Rattle.words.specs.Sizes.{AreInRange, HasNumbers}
 use Rattle.words.specs.Store.{Bytes}
-use Rattle.world_events.specs.ShownPages.{page_of}
-use Rattle.world_events.specs.declared.event.Event.{Event}
-use Rattle.world_events.specs.declared.event.Event.TheVariants as event
+use Rattle.world_model.specs.ShownPages.{page_of}
+use Rattle.world_model.specs.declared.event.Event.{Event}
+use Rattle.world_model.specs.declared.event.Event.TheVariants as event
 use Rattle.schedules.specs.declared.lines.TheConstants.{PIECE_BYTES_MAX}
 use Rattle.schedules.specs.Schedules.{words_of, IsFirst, IsWithin}
 use Rattle.schedules.specs.Lines.{IsReading, AreFirst, IsFirstReading}

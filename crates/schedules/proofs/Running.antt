@@ -8,7 +8,7 @@ use Rattle.schedules.specs.declared.until.Until.{Until}
 use Rattle.schedules.specs.declared.run.Shown.{Shown}
 use Rattle.schedules.specs.declared.run.Shown.TheVariants.{Report, Trace}
 use Rattle.schedules.specs.Schedules.{IsSchedule}
-use Rattle.world_events.specs.declared.event.Event.{Event}
+use Rattle.world_model.specs.declared.event.Event.{Event}
 use Rattle.schedules.specs.Runs.{AreLinesOf, IsFault, IsRun, IsShown}
 
 -- where a text has no report nothing was written

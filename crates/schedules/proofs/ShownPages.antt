@@ -1,7 +1,7 @@
 -- The first byte of a page that is shown.
 use Rattle.std.proofs.Common.{◌≡◌, ℕ, List, [], ◌∷◌, take, replicate, ap, ◌∙◌, refl}
 use Rattle.words.specs.Store.{Bytes}
-use Rattle.world_events.specs.ShownPages.{page_of}
+use Rattle.world_model.specs.ShownPages.{page_of}
 
 first_of : (byte : ℕ) → take 1 (page_of byte) ≡ byte ∷ []
 unfolding page_of

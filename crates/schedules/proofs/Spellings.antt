@@ -5,8 +5,8 @@ use Rattle.hex.specs.Hex.{encode_lower, IsBytes}
 use Rattle.words.specs.declared.limits.TheConstants.{CLIENTS_MAX, STRIPES_MAX, FRAMES_MAX}
 use Rattle.words.specs.declared.limits.Limits.{Limits}
 use Rattle.words.specs.Store.{Bytes}
-use Rattle.world_events.specs.declared.event.Event.{Event}
-use Rattle.world_events.specs.declared.event.Event.TheVariants as event
+use Rattle.world_model.specs.declared.event.Event.{Event}
+use Rattle.world_model.specs.declared.event.Event.TheVariants as event
 use Rattle.schedules.specs.Schedules.{spaced, words_of, first_words, IsFirst, IsWithin}
 use Rattle.schedules.specs.Lines.{has, IsCut, IsLine, IsReading, IsFirstLine, IsFirstReading}
 use Rattle.schedules.proofs.Cuts.{cut_once, uncut, has-append}

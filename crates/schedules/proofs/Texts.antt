@@ -5,7 +5,7 @@ use Rattle.std.specs.Fmt.{decimal}
 use Rattle.words.specs.declared.limits.TheConstants.{CLIENTS_MAX, STRIPES_MAX, FRAMES_MAX, BUCKETS_DEFAULT, PLACES_DEFAULT}
 use Rattle.words.specs.declared.limits.Limits.{Limits}
 use Rattle.words.specs.Store.{Bytes}
-use Rattle.world_events.specs.declared.event.Event.{Event}
+use Rattle.world_model.specs.declared.event.Event.{Event}
 use Rattle.schedules.specs.Schedules.{spaced, line, lines, words_of, first_words, IsFirst, IsWithin, AreWithin, HasNoEvent, HasNoFirst, BeginsWith, GoesWrongAfter, IsBadLine, Later}
 use Rattle.schedules.specs.Lines.{has, IsCut, IsLine, IsFirstLine, AreEvents, HasBadEvent}
 use Rattle.schedules.proofs.Cuts.{cut_once, uncut, has-append}

@@ -1,7 +1,7 @@
 -- A trace, one line more; and what the parts of a line are in the words of the code.
 use Rattle.std.proofs.Common.{◌≡◌, ◌∙◌, ℕ, zero, suc, ◌+◌, ◌<◌, ◌≤◌, Bool, true, false, List, [], ◌∷◌, ◌++◌, length, drop, get_or, Option, Some, None, refl, sym, ap, subst, arith, append_assoc, append-nil}
 use Rattle.words.specs.Store.{Bytes}
-use Rattle.world_events.specs.declared.event.Event.{Event}
+use Rattle.world_model.specs.declared.event.Event.{Event}
 use Rattle.world_model.specs.States.{ClientState, State, client, fresh}
 use Rattle.world_model.specs.Turns.{Turn}
 use Rattle.schedules.specs.Traces.{IsTrace, output_of, trace_line}

@@ -5,8 +5,8 @@ use Rattle.std.specs.Fmt.{decimal}
 use Rattle.words.specs.declared.limits.TheConstants.{BUCKETS_DEFAULT, PLACES_DEFAULT}
 use Rattle.words.specs.declared.limits.Limits.{Limits}
 use Rattle.words.specs.Store.{Bytes}
-use Rattle.world_events.specs.declared.event.Event.{Event}
-use Rattle.world_events.specs.declared.event.Event.TheVariants as event
+use Rattle.world_model.specs.declared.event.Event.{Event}
+use Rattle.world_model.specs.declared.event.Event.TheVariants as event
 use Rattle.schedules.specs.declared.verbs.ClientVerb.{ClientVerb}
 use Rattle.schedules.specs.declared.verbs.ClientVerb.TheVariants as client_verb
 use Rattle.schedules.specs.declared.verbs.StripeVerb.{StripeVerb}

@@ -4,7 +4,7 @@ use Rattle.words.specs.declared.limits.Limits.{Limits}
 use Rattle.words.specs.Store.{Bytes}
 use Rattle.streams.specs.declared.observed.Told.{Told}
 use Rattle.streams.specs.declared.observed.Told.TheVariants as told
-use Rattle.world_events.specs.declared.event.Event.{Event}
+use Rattle.world_model.specs.declared.event.Event.{Event}
 use Rattle.world_model.specs.States.{State, start}
 use Rattle.world_model.specs.Resting.{AreOfCalls, Finishes, IsAtRest}
 use Rattle.world_model.specs.Turns.{Turns}

@@ -6,9 +6,9 @@ use Rattle.words.specs.declared.limits.TheConstants.{BUCKETS_DEFAULT, PLACES_DEF
 use Rattle.words.specs.declared.limits.Limits.{Limits}
 use Rattle.words.specs.Store.{Bytes}
 use Rattle.words.specs.Sizes.{AreInRange, HasNumbers}
-use Rattle.world_events.specs.ShownPages.{page_of}
-use Rattle.world_events.specs.declared.event.Event.{Event}
-use Rattle.world_events.specs.declared.event.Event.TheVariants as event
+use Rattle.world_model.specs.ShownPages.{page_of}
+use Rattle.world_model.specs.declared.event.Event.{Event}
+use Rattle.world_model.specs.declared.event.Event.TheVariants as event
 use Rattle.schedules.specs.declared.lines.TheConstants.{PIECE_BYTES_MAX}
 
 -- HOW A LINE IS SPELLED

@@ -4,8 +4,8 @@ use Rattle.std.specs.Fmt.{decimal}
 use Rattle.hex.specs.Hex.{encode_lower}
 use Rattle.words.specs.declared.limits.Limits.{Limits}
 use Rattle.words.specs.Store.{Bytes}
-use Rattle.world_events.specs.Actors.{actor}
-use Rattle.world_events.specs.declared.event.Event.{Event}
+use Rattle.world_model.specs.Actors.{actor}
+use Rattle.world_model.specs.declared.event.Event.{Event}
 use Rattle.world_model.specs.Enabled.{is_enabled}
 use Rattle.world_model.specs.States.{State, client, start}
 use Rattle.world_model.specs.Resting.{AreOfCalls, IsAtRest}

@@ -3,7 +3,7 @@
 ghost use Rattle.std.specs.Prelude.{ℕ, List};
 ghost use Rattle.words.specs.Store.{Bytes};
 ghost use Rattle.words.specs.declared.limits.Limits.{Limits};
-ghost use Rattle.world_events.specs.declared.event.Event.{Event};
+ghost use Rattle.world_model.specs.declared.event.Event.{Event};
 ghost use Rattle.schedules.specs.Schedules.{IsSchedule, IsBadLine};
 
 /// A text that is a schedule has no bad line. So [`parse`](crate::parse) answers a bad line only for a text that is

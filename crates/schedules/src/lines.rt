@@ -14,7 +14,7 @@ use words::limits::{
     BUCKETS_DEFAULT, CLIENTS_MAX, FRAMES_MAX, Limits, PLACES_DEFAULT, STRIPES_MAX,
 };
 use words::word::OutOfMemory;
-use world_events::Event;
+use world_model::Event;
 
 /// The most bytes that one event feeds to a client.
 pub const PIECE_BYTES_MAX: usize = 65_536;

@@ -1,12 +1,12 @@
 //! The pages that `release` lines show.
 
 ghost use Rattle.std.specs.Prelude.{◌≡◌, IfOk, IfSome};
-ghost use Rattle.world_events.specs.ShownPages.{page_of};
+ghost use Rattle.world_model.specs.ShownPages.{page_of};
 
 use std::alloc::Global;
 use std::marker::Model;
 use words::word::OutOfMemory;
-use world_events::ShownPage;
+use world_model::ShownPage;
 
 /// A page of which each byte is the same.
 #[derive(Drop)]
@@ -18,7 +18,7 @@ struct Filled {
 // To a contract it is that byte.
 impl Model for Filled {
     ghost use Rattle.std.specs.Prelude.{ℕ, ◌≡◌};
-    ghost use Rattle.world_events.specs.ShownPages.{page_of};
+    ghost use Rattle.world_model.specs.ShownPages.{page_of};
 
     ghost Value = { ℕ };
 

@@ -10,7 +10,7 @@ use crate::pages::Pages;
 use std::alloc::Global;
 use words::limits::Limits;
 use words::word::OutOfMemory;
-use world_events::Event;
+use world_model::Event;
 
 /// A schedule: the world's limits, and the events, in order.
 #[derive(Drop)]

@@ -7,7 +7,7 @@ ghost use Rattle.schedules.specs.Schedules.{spaced, words_of};
 use itoa::Buffer;
 use std::alloc::Global;
 use words::word::OutOfMemory;
-use world_events::Event;
+use world_model::Event;
 
 /// Adds a number to a text, in decimal.
 pub(crate) fn add_number(text: &mut Vec<u8>, number: usize) -> Result<(), OutOfMemory>

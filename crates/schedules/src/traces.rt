@@ -15,7 +15,7 @@ use crate::until::Until;
 use std::alloc::{AllocError, Global};
 use words::word::OutOfMemory;
 use world::World;
-use world_events::Event;
+use world_model::Event;
 use world_model::theorems::{calls_come_to_an_end, sound_worlds_tell_the_truth};
 
 /// What an event did.

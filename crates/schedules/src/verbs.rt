@@ -3,7 +3,7 @@
 ghost use Rattle.std.specs.Prelude.{◌≡◌};
 ghost use Rattle.schedules.specs.Lines.{client_verb_named, event_of_client, stripe_verb_named, event_of_stripe, hold_verb_named, event_of_hold};
 
-use world_events::Event;
+use world_model::Event;
 
 /// An event of a client.
 #[derive(Clone, Copy)]

@@ -19,8 +19,9 @@ const PIECES: u32 = 168;
 /// How many of them are deleted.
 const DELETED: u32 = 8;
 
-/// How many of them are deleted key by key.
-const DELETED_SINGLY: u32 = 1;
+/// How many of them are deleted key by key. What is stored in their place leaves the values of more than one page out, since a
+/// store whose flusher kept up while it was filled has no room for as much again.
+const DELETED_SINGLY: u32 = 4;
 
 /// How often a DEL is sent again that found the store full, after a rest of 10 milliseconds.
 const TRIES: u32 = 200;

@@ -10,7 +10,7 @@ use Rattle.gates.specs.Pages.{Place}
 use Rattle.hybrid.specs.HybridLog.{HybridLog, Kept}
 use Rattle.shards.specs.Counted.{Counted, HasReleased, HasRetired, HasTurned, IsCounted, places_of, waiting_of}
 use Rattle.shards.specs.declared.freeing.Freed.{Freed}
-use Rattle.shards.specs.Freeing.{HasDrainedAll, HasFreed, HasReleasedAll, HasRetiredAll, HasTriedAll}
+use Rattle.shards.specs.Freeing.{HasDrainedAll, HasFreed, HasReleasedAll, HasRetiredAll, HasTriedAll, ReleasesAll}
 use Rattle.std.specs.Bool.{OnFalse}
 use Rattle.hybrid.specs.HybridLog.{log_of}
 use Rattle.hybrid.specs.Log.{contents}
@@ -225,11 +225,15 @@ freed_steps a b c d count retire drain released one two three some none drained 
     (either_false (b.unlinked ≡ []) retire unlinked) (either_false (c.retired ≡ []) drain retired)
 
 -- nothing was drained any more
-pub released_end : {D : Type 0} (releases : D → ℕ) (old now next : Counted) (f0 : ℕ) (before after : D) (any : Bool) → next ≡ now → after ≡ before
-    → ((count : ℕ) × HasReleasedAll old count now × (any ≡ true → 0 < count) × (any ≡ false → count ≡ 0) × (releases before ≡ f0 + count))
-    → (count : ℕ) × HasReleasedAll old count next × (any ≡ true → 0 < count) × (any ≡ false → count ≡ 0) × (releases after ≡ f0 + count)
-released_end releases old now next f0 before after any same device released =
-    (released.0, subst (λ (c : Counted). HasReleasedAll old released.0 c) (sym same) released.1, released.2, released.3, ap releases device ∙ released.4)
+pub released_end : {D : Type 0} (releases : D → ℕ) (old now next : Counted) (first before after : D) (any : Bool) → next ≡ now → after ≡ before
+    → ReleasesAll releases any (old, first) (now, before) → ReleasesAll releases any (old, first) (next, after)
+released_end releases old now next first before after any same device all = record {
+  count = all.count;
+  released = subst (λ (c : Counted). HasReleasedAll old all.count c) (sym same) all.released;
+  any = all.any;
+  none = all.none;
+  given = ap releases device ∙ all.given;
+}
 
 -- what a log stands for, where places were counted off
 pub same_store : (old new : HybridLog) → new ≡ record old { unreleased = new.unreleased } → contents (log_of new) ≡ contents (log_of old)

@@ -1,12 +1,11 @@
 -- What the room that was made left as it was, and where there is none for what lives in the oldest page.
-use Rattle.std.proofs.Common.{◌≡◌, ◌∙◌, ◌+◌, ◌/◌, ◌-◌, ◌<◌, ◌≤◌, ◌⊎◌, ⊎_elim, inl, inr, ℕ, Bool, true, false, cond, List, None, Some, nat_lt, refl, sym, ap, subst, arith}
-use Rattle.frames.specs.Resident.{next_number}
+use Rattle.std.proofs.Common.{◌≡◌, ◌∙◌, ◌+◌, ◌/◌, ◌-◌, ◌≤◌, ⊎_elim, inl, inr, ℕ, Bool, true, false, cond, Some, Result, Ok, Err, OnErr, nat_lt, refl, sym, ap, subst, arith}
 use Rattle.records.specs.declared.pages.TheConstants.{PAGE_SIZE, HEADER_SIZE}
 use Rattle.records.specs.Records.{records_of}
-use Rattle.hybrid.specs.declared.stripe.TheConstants.{CLOSED_MIN, LAST_PAGE}
+use Rattle.hybrid.specs.declared.stripe.TheConstants.{CLOSED_MIN}
 use Rattle.hybrid.specs.declared.stripe.room.Purpose.{Purpose}
 use Rattle.hybrid.specs.declared.stripe.room.Purpose.TheVariants as purpose
-use Rattle.hybrid.specs.HybridLog.{HybridLog, Kept, available, expected, free, log_of, pages_for, receipt_of, shown_page, tail_bytes}
+use Rattle.hybrid.specs.HybridLog.{HybridLog, Kept, available, expected, log_of, pages_for, receipt_of, shown_page, tail_bytes}
 use Rattle.hybrid.specs.Log.{Log}
 use Rattle.hybrid.specs.Reserving.{frames_for}
 use Rattle.hybrid.specs.Weighing.{live_weight, oldest_weight}
@@ -69,3 +68,8 @@ no_room weight old new tail lacks =
       opens = ⊎_elim (λ some. omega (arith, some, same)) (λ none. absurd (omega (arith, none))) lacks.wanted;
       lacks = ⊎_elim (λ last. inl last) (λ none. inr (none.0, omega (arith, none.1, same, few))) lacks.lacks;
     }
+
+-- what is so whatever came of a call is so where it failed
+pub where_failed : {A E : Type 0} (r : Result A E) (T : Type 0) → T → OnErr r T
+where_failed (Ok a) T t = tt
+where_failed (Err e) T t = t

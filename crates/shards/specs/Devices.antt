@@ -12,3 +12,8 @@ module _ {D R : Type 0} (serves : D → R → Type 0) (releases : D → ℕ) whe
   pub record IsReadAlone (writes : D → ℕ) (before later : D) : Type 0 where
     pub serves_still : StillServes before later
     pub no_write : writes later ≡ writes before
+
+-- No call of the device has failed, and it was not asked to write.
+pub record HasRested {D : Type 0} (failures writes : D → ℕ) (before later : D) : Type 0 where
+  pub no_fault : failures later ≡ failures before
+  pub no_write : writes later ≡ writes before

@@ -51,6 +51,14 @@ pub record HasReleasedAll (old : Counted) (count : ℕ) (new : Counted) : Type 0
   pub worn : new.worn ≡ old.worn
   pub places : length new.drained + count ≡ length old.drained
 
+-- Drained receipts went back to the device, and were counted off; where there was one, at least one did.
+pub record ReleasesAll {D : Type 0} (releases : D → ℕ) (some : Bool) (before later : Counted × D) : Type 0 where
+  pub count : ℕ
+  pub released : HasReleasedAll before.0 count later.0
+  pub any : some ≡ true → 0 < count
+  pub none : some ≡ false → count ≡ 0
+  pub given : releases later.1 ≡ releases before.1 + count
+
 -- So many places were released, and counted off. None that waits can be released now, but for what the epochs refused: none is drained, each is
 -- retired, or a retirement was refused; and a word that was read blocked the drain of each one that is retired.
 pub record HasFreed (old : Counted) (freed : Freed) (new : Counted) : Type 0 where

@@ -7,3 +7,5 @@ pub mod Receipts
 pub mod Shards
 pub mod Rooms
 pub mod Devices
+pub mod Logs
+pub mod Stripes

@@ -1,11 +1,12 @@
 -- Receipts, as contracts see them.
-use Rattle.std.specs.Prelude.{ℕ, List, [], ◌∷◌, Option, None, Some, map}
+use Rattle.std.specs.Prelude.{ℕ, Bool, List, [], ◌∷◌, Option, None, Some, map}
 use Rattle.epoch.specs.Seats.{refusals, retired_value}
 use Rattle.epoch.specs.declared.epochs.Retired.{Retired}
 use Rattle.device.specs.Releases.{released_value}
 use Rattle.device.specs.declared.releasable.Releasable.{Releasable}
 use Rattle.gates.specs.Pages.{Place}
-use Rattle.hybrid.specs.HybridLog.{Kept}
+use Rattle.hybrid.specs.HybridLog.{HybridLog, Kept}
+use Rattle.shards.specs.Counted.{Counted}
 
 -- a receipt, by what it has in common with its copies and the page that it shows
 abbrev pub kept_by : {R : Type 0} → (identity shown : R → List ℕ) → R → Kept
@@ -31,3 +32,15 @@ refused_by identity retired = (identity (retired_value retired), refusals retire
 -- the same of each of these
 abbrev pub refused_of : {R : Type 0} → (identity : R → List ℕ) → List (Retired R) → List (Place × ℕ)
 refused_of identity retired = map (refused_by identity) retired
+
+-- a log, with what becomes of its places, by the lists of its receipts
+abbrev pub counted_in : {R : Type 0} → (identity shown : R → List ℕ) → HybridLog → (in_flight : ℕ) → (unlinked : List R) → (retired : List (Retired R)) → (drained : List (Releasable R)) → (worn : Bool) → Counted
+counted_in identity shown log in_flight unlinked retired drained worn = record {
+  log = log;
+  in_flight = in_flight;
+  unlinked = map (kept_by identity shown) unlinked;
+  retired = map (retired_by identity shown) retired;
+  drained = map (drained_by identity shown) drained;
+  refused = refused_of identity retired;
+  worn = worn;
+}

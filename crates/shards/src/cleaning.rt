@@ -1,20 +1,19 @@
 //! The cleaner's step at a stripe.
 
-ghost use Rattle.std.specs.Prelude.{◌≡◌, ◌⊎◌, ◌+◌, ◌<◌, ◌≤◌, ⊤, ℕ, List, [], Some, true, false, IfNone, IfOk, IfErr, IfSome, OnOk, OnErr, length};
+ghost use Rattle.std.specs.Prelude.{◌≡◌, ◌≤◌, true, IfNone, IfOk, IfErr, IfSome, OnOk, OnErr};
 ghost use Rattle.epoch.specs.Seats.{IsOutside, WasWorn, known};
-ghost use Rattle.gates.specs.Background.{AreRefused, IsIdle, IsSpent, IsStep};
-ghost use Rattle.gates.specs.Pages as pages;
+ghost use Rattle.gates.specs.Background.{IsStep};
 ghost use Rattle.gates.specs.declared.view.Refused.{Refused};
 ghost use Rattle.gates.specs.declared.view.Work.TheVariants.{Clean};
 ghost use Rattle.words.specs.declared.limits.TheConstants.{WEIGHT_MAX};
-ghost use Rattle.hybrid.specs.HybridLog.{HasRoom, Kept, receipt_of};
+ghost use Rattle.hybrid.specs.HybridLog.{HasRoom};
 ghost use Rattle.hybrid.specs.Staging.{AreRight, IsMissing};
-ghost use Rattle.hybrid.specs.Weighing.{MatchWeighed, oldest_weight};
-ghost use Rattle.hybrid.specs.declared.stripe.TheConstants.{CLEAN_WEIGHT};
-ghost use Rattle.shards.specs.Cleaning.{HasMadeRoom, HasUnlinkedPage, IsFetched, IsResidentStill, KeepsRecords, MatchFault, MatchMade, MatchStepped, SameWaiting, WasNotDrained, WasNotRetired};
-ghost use Rattle.shards.specs.Heard.{HasHeardWorn, HasTried};
-ghost use Rattle.shards.specs.Rooms.{HasNoRoom};
-ghost use Rattle.shards.specs.Counted.{HasUnlinked, MatchCleaning};
+ghost use Rattle.shards.specs.Cleaning.{FailsSo, HasCleaned, HasMade, HasMadeRoom, HasUnlinkedOldest, HasWeighed, IfCold, IsFetched};
+ghost use Rattle.shards.specs.Cleaning.{IsGivenBack, IsWanted, IsWeighed, KeepsMeaning, KeepsOldest, KeepsRecords, LacksPlaces, MayBeTold};
+ghost use Rattle.shards.specs.Cleaning.{PageWorn, ReadFailed, SameWaiting, SpentWorn, StepWorn, UnlinksOldest};
+ghost use Rattle.shards.specs.Cleaning.{WasNotDrained, WasNotRetired, WeighsOldest};
+ghost use Rattle.shards.specs.Heard.{HasTried, HasTriedOutside};
+ghost use Rattle.shards.specs.Logs.{HeavyIsOldest};
 ghost use Rattle.shards.specs.Shards.{shard_counted, shard_log, shard_marks, shard_pages, shard_store};
 
 use crate::counted::{Cleaning, Moved};
@@ -23,7 +22,7 @@ use device::{Device, Shows};
 use epoch::{EpochSeat, Epochs};
 use gates::Refused;
 use hybrid::laws::reading_ends;
-use hybrid::{CLEAN_WEIGHT, Purpose, ReadFault, Room, Staged, Stripe, Weighed};
+use hybrid::{CLEAN_WEIGHT, Purpose, Room, Staged, Stripe, Weighed};
 use words::reply::Fault;
 
 /// What the cleaner's step came to.
@@ -38,6 +37,24 @@ pub enum Stepped {
     Full(Refused),
     /// A page is needed that is neither resident, nor lent by its receipt, nor staged.
     Cold(u64),
+}
+
+/// A turn of the cleaner that comes to the oldest page.
+#[derive(Clone, Copy, Debug)]
+struct Turn {
+    /// Whether pages that are wanted are read meanwhile.
+    reads: bool,
+    /// What the epochs refused before: it is told where the page is resident.
+    refused: Refused,
+}
+
+/// The oldest page, as it is to leave the log.
+#[derive(Clone, Copy, Debug)]
+struct Oldest {
+    /// What its live records weigh.
+    weight: usize,
+    /// Whether pages that are wanted are read meanwhile.
+    reads: bool,
 }
 
 /// What came of room that was to be made.
@@ -68,18 +85,14 @@ impl<R: Shows> Shard<R> {
         device: &mut D,
     ) -> Result<Stepped, Fault>
         requires outside { IsOutside epochs.now seat.old }
-        ensures outside { IsOutside epochs.now seat.new }
-        ensures right { R.is_steady → AreRight staged.old → AreRight staged.new }
-        ensures store { R.is_steady → AreRight staged.old → (key : List ℕ) → shard_store self.new key ≡ shard_store self.old key }
-        ensures marks { shard_marks self.new ≡ shard_marks self.old }
-        ensures done { IfOk result (λ step. MatchStepped step ((refused : Refused) → IsStep (Clean refused) (shard_pages self.old) (shard_pages self.new)) (λ refused. IsIdle (Clean refused) (shard_pages self.new) × AreRefused (Clean refused) (shard_pages self.old) (shard_pages self.new)) (λ refused. pages.IsFull (shard_pages self.new) × IsSpent refused (shard_pages self.old) (shard_pages self.new)) (λ number. ⊤)) }
-        ensures worn { IfOk result (λ step. MatchStepped step ⊤ (λ refused. refused.retire ≡ true → WasWorn (known seat.old) (known seat.new)) (λ refused. refused.retire ≡ true → HasHeardWorn (known seat.old) (known seat.new)) (λ number. ⊤)) }
-        ensures tried { HasTried (known seat.old) (known seat.new) }
-        ensures cold { IfOk result (λ step. MatchStepped step ⊤ (λ refused. ⊤) (λ refused. ⊤) (λ number. (reads ≡ false) × (R.lends → ⊥) × IsMissing (shard_log self.new) staged.new number)) }
-        ensures lacks { R.is_steady → AreRight staged.old → IfOk result (λ step. MatchStepped step ⊤ (λ told. ⊤) (λ told. HasNoRoom (shard_log self.new) (oldest_weight (shard_log self.old))) (λ number. ⊤)) }
-        ensures given_back { length (shard_counted self.new).drained + 1 ≡ length (shard_counted self.old).drained → D.releases device.new ≡ D.releases device.old + 1 }
-        ensures fault { IfErr result (λ fault. MatchFault fault ((R.lends → ⊥) × (D.failures device.new ≡ D.failures device.old)) (D.failures device.new ≡ D.failures device.old + 1) ⊥) }
-        ensures no_fault { OnOk result (D.failures device.new ≡ D.failures device.old) }
+        ensures seat { HasTriedOutside epochs.now seat.old seat.new }
+        ensures meaning { KeepsMeaning R.is_steady (self.old, staged.old) (self.new, staged.new) }
+        ensures done { IfOk result (λ step. MayBeTold step (shard_pages self.old) (shard_pages self.new)) }
+        ensures worn { IfOk result (λ step. StepWorn step (known seat.old) (known seat.new)) }
+        ensures cold { IfOk result (λ step. IfCold step (IsWanted reads R.lends self.new staged.new)) }
+        ensures lacks { R.is_steady → AreRight staged.old → IfOk result (λ step. LacksPlaces step self.old self.new) }
+        ensures given_back { IsGivenBack (shard_counted self.old) (shard_counted self.new) (D.releases device.old) (D.releases device.new) }
+        ensures failed { FailsSo (R.lends → ⊥) result (D.failures device.old) (D.failures device.new) }
     {
         if self.release(device) {
             return Ok(Stepped::Done);
@@ -90,8 +103,11 @@ impl<R: Shows> Shard<R> {
         let Some(retire) = self.retires(epochs, seat) else {
             return Ok(Stepped::Done);
         };
-        let refused = Refused { retire, drain };
-        self.clean(epochs, seat, staged, reads, refused, device)
+        let turn = Turn {
+            reads,
+            refused: Refused { retire, drain },
+        };
+        self.clean(epochs, seat, staged, turn, device)
     }
 
     /// Drains the oldest retired receipt. Where it does not, it says whether that was refused.
@@ -128,42 +144,42 @@ impl<R: Shows> Shard<R> {
     }
 
     /// Makes room for what lives in the oldest page, copies it to the tail and takes the page out of the log, where it is not
-    /// resident. Where there is room for all that a page can hold, what lives is not weighed first. `refused` is what the
-    /// epochs refused before: it is told where the page is resident.
+    /// resident. Where there is room for all that a page can hold, what lives is not weighed first.
     fn clean<D: Device<Receipt = R>>(
         &mut self,
         epochs: &Epochs,
         seat: &mut EpochSeat,
         staged: &mut Staged<R>,
-        reads: bool,
-        refused: Refused,
+        turn: Turn,
         device: &mut D,
     ) -> Result<Stepped, Fault>
         requires outside { IsOutside epochs.now seat.old }
-        ensures outside { IsOutside epochs.now seat.new }
-        ensures right { R.is_steady → AreRight staged.old → AreRight staged.new }
-        ensures store { R.is_steady → AreRight staged.old → (key : List ℕ) → shard_store self.new key ≡ shard_store self.old key }
-        ensures marks { shard_marks self.new ≡ shard_marks self.old }
-        ensures cleaned { IfOk result (λ step. MatchStepped step (HasUnlinkedPage (shard_counted self.old) (shard_counted self.new)) (λ told. (told ≡ refused) × IsResidentStill (shard_counted self.old) (shard_counted self.new)) (λ told. pages.IsFull (shard_pages self.new) × IsSpent told (shard_pages self.old) (shard_pages self.new)) (λ number. (reads ≡ false) × (R.lends → ⊥) × IsMissing (shard_log self.new) staged.new number)) }
-        ensures worn { IfOk result (λ step. MatchStepped step ⊤ (λ told. seat.new ≡ seat.old) (λ told. told.retire ≡ true → HasHeardWorn (known seat.old) (known seat.new)) (λ number. ⊤)) }
-        ensures lacks { R.is_steady → AreRight staged.old → IfOk result (λ step. MatchStepped step ⊤ (λ told. ⊤) (λ told. HasNoRoom (shard_log self.new) (oldest_weight (shard_log self.old))) (λ number. ⊤)) }
-        ensures tried { HasTried (known seat.old) (known seat.new) }
-        ensures fault { IfErr result (λ fault. MatchFault fault ((R.lends → ⊥) × (D.failures device.new ≡ D.failures device.old)) (D.failures device.new ≡ D.failures device.old + 1) ⊥) }
-        ensures no_fault { OnOk result (D.failures device.new ≡ D.failures device.old) }
+        ensures seat { HasTriedOutside epochs.now seat.old seat.new }
+        ensures meaning { KeepsMeaning R.is_steady (self.old, staged.old) (self.new, staged.new) }
+        ensures cleaned { IfOk result (λ step. HasCleaned turn.reads R.lends step turn.refused staged.new self.old self.new) }
+        ensures worn { IfOk result (λ step. PageWorn step seat.old seat.new) }
+        ensures lacks { R.is_steady → AreRight staged.old → IfOk result (λ step. LacksPlaces step self.old self.new) }
+        ensures failed { FailsSo (R.lends → ⊥) result (D.failures device.old) (D.failures device.new) }
     {
         if self.log.stripe().has_room(CLEAN_WEIGHT) {
-            return match self.unlink(staged, reads, CLEAN_WEIGHT, device) {
+            return match self.unlink(staged, turn.reads, CLEAN_WEIGHT, device) {
                 Ok(Cleaning::Unlinked) => Ok(Stepped::Done),
                 Ok(Cleaning::Cold(number)) => Ok(Stepped::Cold(number)),
                 Ok(Cleaning::Heavy(_weight)) => unreachable!(),
-                Ok(Cleaning::Resident) => Ok(Stepped::Idle(refused)),
+                Ok(Cleaning::Resident) => Ok(Stepped::Idle(turn.refused)),
                 Err(fault) => Err(fault),
             };
         }
-        match self.weigh(staged, reads, device) {
-            Ok(Weighed::Live(weight)) => { self.leave(epochs, seat, staged, reads, weight, device) }
+        match self.weigh(staged, turn.reads, device) {
+            Ok(Weighed::Live(weight)) => {
+                let oldest = Oldest {
+                    weight,
+                    reads: turn.reads,
+                };
+                self.leave(epochs, seat, staged, oldest, device)
+            }
             Ok(Weighed::Cold(number)) => Ok(Stepped::Cold(number)),
-            Ok(Weighed::Resident) => Ok(Stepped::Idle(refused)),
+            Ok(Weighed::Resident) => Ok(Stepped::Idle(turn.refused)),
             Err(fault) => Err(fault),
         }
     }
@@ -174,34 +190,26 @@ impl<R: Shows> Shard<R> {
         epochs: &Epochs,
         seat: &mut EpochSeat,
         staged: &mut Staged<R>,
-        reads: bool,
-        weight: usize,
+        oldest: Oldest,
         device: &mut D,
     ) -> Result<Stepped, Fault>
         requires outside { IsOutside epochs.now seat.old }
-        requires weighed { weight ≤ CLEAN_WEIGHT }
-        requires weighs { R.is_steady → AreRight staged.old → weight ≡ oldest_weight (shard_log self.old) }
-        requires kept { (kept : Kept) × (receipt_of (shard_log self.old) (shard_log self.old).oldest ≡ Some kept) }
-        requires left { (shard_log self.old).oldest < (shard_log self.old).resident.oldest }
-        ensures outside { IsOutside epochs.now seat.new }
-        ensures right { R.is_steady → AreRight staged.old → AreRight staged.new }
-        ensures store { R.is_steady → AreRight staged.old → (key : List ℕ) → shard_store self.new key ≡ shard_store self.old key }
-        ensures marks { shard_marks self.new ≡ shard_marks self.old }
-        ensures cleaned { IfOk result (λ step. MatchStepped step (HasUnlinkedPage (shard_counted self.old) (shard_counted self.new)) (λ told. ⊥) (λ told. pages.IsFull (shard_pages self.new) × IsSpent told (shard_pages self.old) (shard_pages self.new)) (λ number. (reads ≡ false) × (R.lends → ⊥) × IsMissing (shard_log self.new) staged.new number)) }
-        ensures worn { IfOk result (λ step. MatchStepped step ⊤ (λ told. ⊤) (λ told. told.retire ≡ true → HasHeardWorn (known seat.old) (known seat.new)) (λ number. ⊤)) }
-        ensures lacks { R.is_steady → AreRight staged.old → IfOk result (λ step. MatchStepped step ⊤ (λ told. ⊤) (λ told. HasNoRoom (shard_log self.new) (oldest_weight (shard_log self.old))) (λ number. ⊤)) }
-        ensures tried { HasTried (known seat.old) (known seat.new) }
-        ensures fault { IfErr result (λ fault. MatchFault fault ((R.lends → ⊥) × (D.failures device.new ≡ D.failures device.old)) (D.failures device.new ≡ D.failures device.old + 1) ⊥) }
-        ensures no_fault { OnOk result (D.failures device.new ≡ D.failures device.old) }
+        requires weighed { IsWeighed R.is_steady staged.old oldest.weight (shard_log self.old) }
+        ensures seat { HasTriedOutside epochs.now seat.old seat.new }
+        ensures meaning { KeepsMeaning R.is_steady (self.old, staged.old) (self.new, staged.new) }
+        ensures cleaned { IfOk result (λ step. HasUnlinkedOldest oldest.reads R.lends step staged.new self.old self.new) }
+        ensures worn { IfOk result (λ step. SpentWorn step (known seat.old) (known seat.new)) }
+        ensures lacks { R.is_steady → AreRight staged.old → IfOk result (λ step. LacksPlaces step self.old self.new) }
+        ensures failed { FailsSo (R.lends → ⊥) result (D.failures device.old) (D.failures device.new) }
     {
-        let mut weight = weight;
+        let mut weight = oldest.weight;
         'leaving: loop {
             match self.make_room(epochs, seat, weight, device) {
                 Ok(Made::Room) => {}
                 Ok(Made::Full(refused)) => return Ok(Stepped::Full(refused)),
                 Err(fault) => return Err(fault),
             }
-            match self.unlink(staged, reads, weight, device) {
+            match self.unlink(staged, oldest.reads, weight, device) {
                 Ok(Cleaning::Unlinked) => return Ok(Stepped::Done),
                 Ok(Cleaning::Cold(number)) => return Ok(Stepped::Cold(number)),
                 // What a device lied of may weigh another time.
@@ -220,12 +228,11 @@ impl<R: Shows> Shard<R> {
         device: &mut D,
     ) -> Result<Weighed, Fault>
         ensures right { R.is_steady → AreRight staged.old → AreRight staged.new }
-        ensures weighed { IfOk result (λ weighed. MatchWeighed weighed (λ weight. (weight ≤ CLEAN_WEIGHT) × ((shard_log self.now).oldest < (shard_log self.now).resident.oldest)) (λ number. (reads ≡ false) × (R.lends → ⊥) × IsMissing (shard_log self.now) staged.new number) ((shard_log self.now).resident.oldest ≡ (shard_log self.now).oldest)) }
-        ensures weighs { R.is_steady → AreRight staged.new → IfOk result (λ weighed. MatchWeighed weighed (λ weight. weight ≡ oldest_weight (shard_log self.now)) (λ number. ⊤) ⊤) }
-        ensures kept { IfOk result (λ weighed. MatchWeighed weighed (λ weight. (kept : Kept) × (receipt_of (shard_log self.now) (shard_log self.now).oldest ≡ Some kept)) (λ number. ⊤) ⊤) }
+        ensures weighed { IfOk result (λ weighed. HasWeighed weighed (IsWanted reads R.lends self.now staged.new) (shard_log self.now)) }
+        ensures weighs { R.is_steady → AreRight staged.new → IfOk result (λ weighed. WeighsOldest weighed (shard_log self.now)) }
+        ensures kept { IfOk result (λ weighed. KeepsOldest weighed (shard_log self.now)) }
         ensures no_release { D.releases device.new ≡ D.releases device.old }
-        ensures fault { IfErr result (λ fault. MatchFault fault ((R.lends → ⊥) × (D.failures device.new ≡ D.failures device.old)) (D.failures device.new ≡ D.failures device.old + 1) ⊥) }
-        ensures no_fault { OnOk result (D.failures device.new ≡ D.failures device.old) }
+        ensures failed { FailsSo (R.lends → ⊥) result (D.failures device.old) (D.failures device.new) }
     {
         reading_ends();
         loop {
@@ -254,17 +261,13 @@ impl<R: Shows> Shard<R> {
     ) -> Result<Made, Fault>
         requires outside { IsOutside epochs.now seat.old }
         requires weight { weight ≤ WEIGHT_MAX }
-        ensures outside { IsOutside epochs.now seat.new }
-        ensures room { IfOk result (λ made. MatchMade made (HasRoom (shard_log self.new) weight) (λ refused. pages.IsFull (shard_pages self.new) × IsSpent refused (shard_pages self.old) (shard_pages self.new))) }
-        ensures worn { IfOk result (λ made. MatchMade made ⊤ (λ refused. refused.retire ≡ true → HasHeardWorn (known seat.old) (known seat.new))) }
+        ensures seat { HasTriedOutside epochs.now seat.old seat.new }
+        ensures room { IfOk result (λ made. HasMade made weight (known seat.old) (known seat.new) self.old self.new) }
         ensures store { shard_store self.new ≡ shard_store self.old }
         ensures marks { shard_marks self.new ≡ shard_marks self.old }
         ensures made { HasMadeRoom (shard_counted self.old) (shard_counted self.new) }
         ensures records { KeepsRecords (shard_log self.old) (shard_log self.new) }
-        ensures lacks { IfOk result (λ made. MatchMade made ⊤ (λ refused. HasNoRoom (shard_log self.new) weight)) }
-        ensures tried { HasTried (known seat.old) (known seat.new) }
-        ensures fault { IfErr result (λ fault. MatchFault fault ⊥ (D.failures device.new ≡ D.failures device.old + 1) ⊥) }
-        ensures no_fault { OnOk result (D.failures device.new ≡ D.failures device.old) }
+        ensures failed { FailsSo ⊥ result (D.failures device.old) (D.failures device.new) }
     {
         match self.reserve(weight, Purpose::Clean, device) {
             Ok(()) => return Ok(Made::Room),
@@ -288,16 +291,13 @@ impl<R: Shows> Shard<R> {
         device: &mut D,
     ) -> Result<Cleaning, Fault>
         requires room { HasRoom (shard_log self.old) weight }
-        ensures right { R.is_steady → AreRight staged.old → AreRight staged.new }
-        ensures store { R.is_steady → AreRight staged.old → (key : List ℕ) → shard_store self.new key ≡ shard_store self.old key }
-        ensures marks { shard_marks self.new ≡ shard_marks self.old }
-        ensures unlinked { IfOk result (λ cleaning. MatchCleaning cleaning (HasUnlinked (shard_counted self.old) (shard_counted self.new) weight) (λ number. (self.new ≡ self.old) × (reads ≡ false) × (R.lends → ⊥) × IsMissing (shard_log self.new) staged.new number) (λ heavy. (self.new ≡ self.old) × (weight < heavy) × (heavy ≤ CLEAN_WEIGHT)) ((self.new ≡ self.old) × ((shard_log self.new).resident.oldest ≡ (shard_log self.new).oldest))) }
-        ensures weighed { R.is_steady → AreRight staged.new → IfOk result (λ cleaning. MatchCleaning cleaning ⊤ (λ number. ⊤) (λ heavy. heavy ≡ oldest_weight (shard_log self.old)) ⊤) }
+        ensures meaning { KeepsMeaning R.is_steady (self.old, staged.old) (self.new, staged.new) }
+        ensures unlinked { IfOk result (λ cleaning. UnlinksOldest reads R.lends cleaning weight staged.new self.old self.new) }
+        ensures weighed { R.is_steady → AreRight staged.new → IfOk result (λ cleaning. HeavyIsOldest cleaning (shard_log self.old)) }
         ensures same { OnErr result (self.new ≡ self.old) }
         ensures waiting { SameWaiting (shard_counted self.old) (shard_counted self.new) }
         ensures no_release { D.releases device.new ≡ D.releases device.old }
-        ensures fault { IfErr result (λ fault. MatchFault fault ((R.lends → ⊥) × (D.failures device.new ≡ D.failures device.old)) (D.failures device.new ≡ D.failures device.old + 1) ⊥) }
-        ensures no_fault { OnOk result (D.failures device.new ≡ D.failures device.old) }
+        ensures failed { FailsSo (R.lends → ⊥) result (D.failures device.old) (D.failures device.new) }
     {
         reading_ends();
         loop {
@@ -327,7 +327,7 @@ fn fetch<R: Shows, D: Device<Receipt = R>>(
     ensures fetched { OnOk result (IsFetched log.now number staged.old staged.new) }
     ensures right { R.is_steady → AreRight staged.old → AreRight staged.new }
     ensures no_release { D.releases device.new ≡ D.releases device.old }
-    ensures fault { IfErr result (λ fault. MatchFault fault (D.failures device.new ≡ D.failures device.old) (D.failures device.new ≡ D.failures device.old + 1) ⊥) }
+    ensures fault { IfErr result (λ fault. ReadFailed fault (D.failures device.old) (D.failures device.new)) }
     ensures no_fault { OnOk result (D.failures device.new ≡ D.failures device.old) }
 {
     let Some(receipt) = log.receipt(number) else {
@@ -336,9 +336,6 @@ fn fetch<R: Shows, D: Device<Receipt = R>>(
     let Ok(receipt) = receipt.again() else {
         return Err(Fault::OutOfMemory);
     };
-    match staged.read(receipt, device) {
-        Ok(()) => Ok(()),
-        Err(ReadFault::DeviceFault) => Err(Fault::DeviceFault),
-        Err(ReadFault::OutOfMemory) => Err(Fault::OutOfMemory),
-    }
+    staged.read(receipt, device)?;
+    Ok(())
 }

@@ -1,24 +1,23 @@
 //! The log of a stripe, with what becomes of its places on the device.
 
-ghost use Rattle.std.specs.Prelude.{◌≡◌, ◌+◌, ◌-◌, ◌<◌, ◌≤◌, ◌⊎◌, ℕ, true, false, List, [], None, IsSome, IsTrue, ⊤, ◌↔◌, IfOk, IfErr, IfSome, IfNone, OnOk, OnErr, length};
-ghost use Rattle.std.specs.Map.{update};
+ghost use Rattle.std.specs.Prelude.{◌≡◌, ◌+◌, ◌<◌, ◌≤◌, ℕ, List, [], None, IsSome, IsTrue, ⊤, ◌↔◌, IfOk, IfSome, IfNone};
+ghost use Rattle.std.specs.Prelude.{OnOk, OnErr, length};
 ghost use Rattle.std.specs.Bool.{OnTrue, OnFalse};
-ghost use Rattle.std.specs.Str.{bytes_eq};
+ghost use Rattle.words.specs.Stripes.{hash_of};
 ghost use Rattle.words.specs.declared.limits.TheConstants.{WEIGHT_MAX};
-ghost use Rattle.frames.specs.Resident.{next_number};
-ghost use Rattle.hybrid.specs.declared.stripe.TheConstants.{CLEAN_WEIGHT, LAST_PAGE};
-ghost use Rattle.hybrid.specs.Weighing.{oldest_weight};
-ghost use Rattle.hybrid.specs.HybridLog.{HasRoom, IsGrown, IsSealed, empty_log, expected, free, log_of, pages_for, receipt_of, tail_bytes, with_dropped};
+ghost use Rattle.hybrid.specs.HybridLog.{HasRoom, IsGrown, IsHybridLog, log_of, receipt_of, with_dropped};
 ghost use Rattle.hybrid.specs.Log.{Fits, contents};
-ghost use Rattle.hybrid.specs.Reserving.{IsFull, IsReserved, KeepsBack, KeepsSpare, MatchFault, beside, frames_for, spare};
-ghost use Rattle.hybrid.specs.Shedding.{HasShed};
+ghost use Rattle.hybrid.specs.Reserving.{IsFull};
 ghost use Rattle.hybrid.specs.Writing.{IsWritten, write_weight};
-ghost use Rattle.hybrid.specs.Staging.{AreRight, IsCleaned, IsMissing, IsUnlinked};
-ghost use Rattle.hybrid.specs.HybridLog.{SameContents};
-ghost use Rattle.epoch.specs.Seats.{AdvancedPast, WasWorn};
+ghost use Rattle.hybrid.specs.Staging.{AreRight, IsMissing};
 ghost use Rattle.gates.specs.Pages.{total};
-ghost use Rattle.shards.specs.Counted.{HasDrained, HasLanded, HasReleased, HasRetired, HasTaken, HasTurned, HasUnlinked, IsCounted, IsFirstSealed, MatchBegun, MatchCleaning, MatchMoved, WasRefused, claimed, with_flight, without_flight};
+ghost use Rattle.shards.specs.Counted.{HasLanded, HasReleased, HasTaken, HasTurned, HasUnlinked, IsCounted, MatchBegun, MatchCleaning};
+ghost use Rattle.shards.specs.Counted.{MatchMoved, claimed, waiting_of, with_flight, without_flight};
+ghost use Rattle.shards.specs.Devices.{StillServes};
+ghost use Rattle.shards.specs.Logs.{BeginsAt, CleansRightly, DrainsOldest, FailsToReserve, HasShedSo, IsTooHeavy, KeepsContent, OldestLies};
+ghost use Rattle.shards.specs.Logs.{RetiresAs, RetiresOldest, SetsKey, TakesRoom, counted_alone, log_by};
 ghost use Rattle.shards.specs.Receipts.{kept_by};
+ghost use Rattle.shards.specs.Rooms.{LacksRoom, LeavesFrames, ShedsFew};
 
 use crate::retires::Retires;
 use device::{Device, Releasable, Shows};
@@ -55,6 +54,15 @@ pub enum Cleaning {
     Resident,
 }
 
+/// The log is laid out as a hybrid log is, and its places keep to their limit. It does nothing.
+#[inline]
+pub(crate) fn is_laid_out<R: Shows>(log: &Stripe<R>)
+    ensures log { IsHybridLog log.now }
+    ensures limit { log.now.unreleased ≤ log.now.places }
+{
+    let (_oldest, _limit) = (log.oldest(), log.unreleased());
+}
+
 /// What a step at the oldest place of a list came to.
 #[derive(Clone, Copy, Debug, PartialEq, Eq)]
 pub enum Moved {
@@ -88,16 +96,19 @@ pub struct CountedLog<R: Shows> {
 }
 
 impl<R: Shows> Model for CountedLog<R> {
-    ghost use Rattle.std.specs.Prelude.{map, ◌≤◌};
+    ghost use Rattle.std.specs.Prelude.{◌≤◌};
     ghost use Rattle.std.specs.VecDeque.{deque_capacity};
     ghost use Rattle.shards.specs.Counted.{Counted, IsCounted};
-    ghost use Rattle.shards.specs.Receipts.{drained_by, kept_by, refused_of, retired_by};
+    ghost use Rattle.shards.specs.Receipts.{counted_in};
 
     ghost Value = { Counted };
 
-    ghost view = { λ c. record { log = c.stripe; in_flight = c.in_flight; unlinked = map (kept_by R.identity R.shown) c.unlinked.items; retired = map (retired_by R.identity R.shown) c.retired.items; drained = map (drained_by R.identity R.shown) c.drained.items; refused = refused_of R.identity c.retired.items; worn = c.worn } };
+    ghost view = { λ c. counted_in R.identity R.shown c.stripe c.in_flight c.unlinked.items c.retired.items c.drained.items c.worn };
 
-    ghost invariant = { λ c. IsCounted (record { log = c.stripe; in_flight = c.in_flight; unlinked = map (kept_by R.identity R.shown) c.unlinked.items; retired = map (retired_by R.identity R.shown) c.retired.items; drained = map (drained_by R.identity R.shown) c.drained.items; refused = refused_of R.identity c.retired.items; worn = c.worn }) × (c.stripe.places ≤ deque_capacity c.unlinked) × (c.stripe.places ≤ deque_capacity c.retired) × (c.stripe.places ≤ deque_capacity c.drained) };
+    ghost invariant = { λ c.
+        IsCounted (counted_in R.identity R.shown c.stripe c.in_flight c.unlinked.items c.retired.items c.drained.items c.worn)
+        × (c.stripe.places ≤ deque_capacity c.unlinked) × (c.stripe.places ≤ deque_capacity c.retired)
+        × (c.stripe.places ≤ deque_capacity c.drained) };
 }
 
 impl<R: Shows> CountedLog<R> {
@@ -107,7 +118,7 @@ impl<R: Shows> CountedLog<R> {
     ///
     /// [`OutOfMemory`] where there is no memory for its frames, its buckets, its lists or a page.
     pub fn new(alloc: Global, limits: &Limits) -> Result<CountedLog<R>, OutOfMemory>
-        ensures empty { IfOk result (λ made. made ≡ record { log = empty_log limits.now.stripes limits.now.buckets limits.now.frames limits.now.places; in_flight = 0; unlinked = []; retired = []; drained = []; refused = []; worn = false }) }
+        ensures empty { IfOk result (λ made. made ≡ counted_alone (log_by limits.now)) }
         ensures contents { IfOk result (λ made. (key : List ℕ) → contents (log_of made.log) key ≡ None) }
     {
         let stripe = Stripe::new(alloc, limits)?;
@@ -135,6 +146,14 @@ impl<R: Shows> CountedLog<R> {
         &self.stripe
     }
 
+    /// What is counted of it agrees with its log. It does nothing.
+    #[inline]
+    pub(crate) fn is_counted(&self)
+        ensures { IsCounted self.now }
+    {
+        let _counted = self.stripe();
+    }
+
     /// Makes room for writes of this weight, as [`Stripe::reserve`] does.
     ///
     /// # Errors
@@ -148,46 +167,31 @@ impl<R: Shows> CountedLog<R> {
     ) -> Result<(), Fault>
         requires light { weight ≤ WEIGHT_MAX }
         ensures room { OnOk result (HasRoom self.new.log weight) }
-        ensures log { log_of self.new.log ≡ log_of self.old.log }
-        ensures tail { tail_bytes self.new.log ≡ tail_bytes self.old.log }
-        ensures in_flight { self.new.in_flight ≡ self.old.in_flight }
-        ensures unlinked { self.new.unlinked ≡ self.old.unlinked }
-        ensures retired { self.new.retired ≡ self.old.retired }
-        ensures drained { self.new.drained ≡ self.old.drained }
-        ensures refused { self.new.refused ≡ self.old.refused }
-        ensures worn { self.new.worn ≡ self.old.worn }
-        ensures shed { D.failures device.new ≡ D.failures device.old → HasShed D.wrote (kept_by R.identity R.shown) self.old.log device.old self.new.log device.new }
-        ensures reserved { (count : ℕ) × IsReserved self.old.log self.new.log count × (count ≤ frames_for self.old.log weight purpose - free self.old.log) }
-        ensures fault { IfErr result (λ fault. MatchFault fault (D.failures device.new ≡ D.failures device.old + 1) (IsFull self.new.log × (D.failures device.new ≡ D.failures device.old))) }
-        ensures no_fault { OnOk result (D.failures device.new ≡ D.failures device.old) }
-        ensures needed { OnErr result ((0 < pages_for self.old.log weight) ⊎ (expected self.old.log < spare purpose)) }
-        ensures needful { OnErr result ((LAST_PAGE < next_number self.new.log.resident) ⊎ ((receipt_of self.new.log self.new.log.resident.oldest ≡ None) × (free self.new.log < frames_for self.old.log weight purpose))) }
-        ensures kept { OnOk result (0 < pages_for self.old.log weight → KeepsBack self.new.log (pages_for self.old.log weight) (beside purpose)) }
-        ensures spared { OnOk result (pages_for self.old.log weight ≡ 0 → KeepsSpare self.new.log (spare purpose)) }
-        ensures no_release { D.releases device.new ≡ D.releases device.old }
-        ensures still_served { (r : R) → D.serves device.old r → D.serves device.new r }
+        ensures same { KeepsContent self.old self.new }
+        ensures shed { HasShedSo D.failures D.wrote R.identity R.shown (self.old.log, device.old) (self.new.log, device.new) }
+        ensures few { ShedsFew weight purpose self.old.log self.new.log }
+        ensures lacks { OnErr result (LacksRoom weight purpose self.old.log self.new.log) }
+        ensures kept { OnOk result (LeavesFrames weight purpose self.old.log self.new.log) }
+        ensures device { StillServes D.serves D.releases device.old device.new }
+        ensures failed { FailsToReserve result self.new.log (D.failures device.old) (D.failures device.new) }
     {
         self.stripe.reserve(weight, purpose, device)?;
         Ok(())
     }
 
-    /// Makes one write, for which there is room. It takes no memory.
+    /// Makes one write, for which there is room, by the hash of its key. It takes no memory.
     #[inline]
-    pub fn install_one<W: Write>(&mut self, write: &W)
+    pub fn install_one<W: Write>(&mut self, hash: u64, write: &W)
+        requires hash { hash ≡ hash_of (W.key write.now) }
         requires room { HasRoom self.old.log (write_weight (W.key write.now) (W.value write.now)) }
         requires fits { Fits (W.key write.now) (W.value write.now) }
         ensures written { IsWritten self.old.log (W.key write.now) (W.value write.now) self.new.log }
-        ensures contents { (other : List ℕ) → contents (log_of self.new.log) other ≡ update bytes_eq (contents (log_of self.old.log)) (W.key write.now) (W.value write.now) other }
-        ensures room { (more : ℕ) → write_weight (W.key write.now) (W.value write.now) ≤ more → HasRoom self.old.log more → HasRoom self.new.log (more - write_weight (W.key write.now) (W.value write.now)) }
+        ensures contents { SetsKey (W.key write.now) (W.value write.now) self.old.log self.new.log }
+        ensures room { TakesRoom (write_weight (W.key write.now) (W.value write.now)) self.old.log self.new.log }
         ensures grown { IsGrown self.old.log self.new.log (write_weight (W.key write.now) (W.value write.now)) }
-        ensures in_flight { self.new.in_flight ≡ self.old.in_flight }
-        ensures unlinked { self.new.unlinked ≡ self.old.unlinked }
-        ensures retired { self.new.retired ≡ self.old.retired }
-        ensures drained { self.new.drained ≡ self.old.drained }
-        ensures refused { self.new.refused ≡ self.old.refused }
-        ensures worn { self.new.worn ≡ self.old.worn }
+        ensures waits { waiting_of self.new ≡ waiting_of self.old }
     {
-        self.stripe.install_one(write);
+        self.stripe.install_one_hashed(hash, write);
     }
 
     /// Drops the oldest resident page from its frame, where its receipt is kept, and says whether it did.
@@ -202,11 +206,11 @@ impl<R: Shows> CountedLog<R> {
 
     /// Copies the oldest page that waits to be written, and counts a place for it.
     pub fn begin_flush(&mut self, page: &mut Page) -> Begun
-        ensures begun { MatchBegun result ((number : ℕ) → IsSealed self.old.log number → ⊥) (IsFull self.old.log) (λ number. IsFirstSealed self.old.log number page.new) }
+        ensures begun { BeginsAt result self.old.log page.new }
         ensures counted { MatchBegun result (self.new ≡ self.old) (self.new ≡ self.old) (λ number. self.new ≡ with_flight self.old) }
         ensures log { log_of self.new.log ≡ log_of self.old.log }
     {
-        let _oldest = self.stripe.oldest();
+        is_laid_out(&self.stripe);
         let Some(number) = self.stripe.sealed() else {
             return Begun::Idle;
         };
@@ -217,7 +221,7 @@ impl<R: Shows> CountedLog<R> {
         if !self.stripe.take_place() {
             return Begun::Full;
         }
-        let _limit = self.stripe.unreleased();
+        is_laid_out(&self.stripe);
         self.in_flight += 1; // of the page that is to be written
         Begun::Sealed(number)
     }
@@ -250,7 +254,7 @@ impl<R: Shows> CountedLog<R> {
         ensures landed { HasLanded self.old number page.now (kept_by R.identity R.shown receipt) self.new }
         ensures log { log_of self.new.log ≡ log_of self.old.log }
     {
-        let _limit = self.stripe.unreleased();
+        is_laid_out(&self.stripe);
         self.in_flight -= 1;
         match self.stripe.mark_flushed(number, page, receipt) {
             Ok(()) => {}
@@ -274,20 +278,18 @@ impl<R: Shows> CountedLog<R> {
     /// receipt is then unlinked. It takes no memory.
     pub fn clean_oldest(&mut self, staged: &Staged<R>, room: Room) -> Cleaning
         requires room { HasRoom self.old.log room.weight }
-        ensures same { R.is_honest → AreRight staged.now → SameContents self.old.log self.new.log }
+        ensures right { R.is_honest → AreRight staged.now → CleansRightly result self.old.log self.new.log }
         ensures unlinked { MatchCleaning result (HasUnlinked self.old self.new room.weight) (λ number. ⊤) (λ weight. ⊤) ⊤ }
-        ensures added { R.is_honest → AreRight staged.now → MatchCleaning result (IsCleaned self.old.log self.new.log) (λ number. ⊤) (λ weight. ⊤) ⊤ }
         ensures unchanged { MatchCleaning result ⊤ (λ number. self.new ≡ self.old) (λ weight. self.new ≡ self.old) (self.new ≡ self.old) }
         ensures cold { MatchCleaning result ⊤ (λ number. IsMissing self.old.log staged.now number) (λ weight. ⊤) ⊤ }
         ensures lent { R.lends → MatchCleaning result ⊤ (λ number. ⊥) (λ weight. ⊤) ⊤ }
-        ensures heavy { MatchCleaning result ⊤ (λ number. ⊤) (λ weight. (room.weight < weight) × (weight ≤ CLEAN_WEIGHT)) ⊤ }
-        ensures weighed { R.is_honest → AreRight staged.now → MatchCleaning result ⊤ (λ number. ⊤) (λ weight. weight ≡ oldest_weight self.old.log) ⊤ }
-        ensures resident { MatchCleaning result ⊤ (λ number. self.old.log.oldest < self.old.log.resident.oldest) (λ weight. self.old.log.oldest < self.old.log.resident.oldest) (self.old.log.resident.oldest ≡ self.old.log.oldest) }
+        ensures heavy { MatchCleaning result ⊤ (λ number. ⊤) (λ weight. IsTooHeavy room.weight weight) ⊤ }
+        ensures resident { OldestLies result self.old.log }
     {
-        let _limit = self.stripe.unreleased();
+        is_laid_out(&self.stripe);
         match self.stripe.clean_oldest(staged, room, &mut self.copy) {
             Cleaned::Unlinked(receipt) => {
-                let _limit = self.stripe.unreleased();
+                is_laid_out(&self.stripe);
                 self.unlinked.push_back_reserved(receipt);
                 Cleaning::Unlinked
             }
@@ -303,7 +305,7 @@ impl<R: Shows> CountedLog<R> {
         ensures taken { IfSome result (λ receipt. HasTaken self.old (kept_by R.identity R.shown receipt) self.new) }
         ensures none { IfNone result ((self.old.unlinked ≡ []) × (self.new ≡ self.old)) }
     {
-        let _limit = self.stripe.unreleased();
+        is_laid_out(&self.stripe);
         let receipt = self.unlinked.pop_front()?;
         self.in_flight += 1;
         Some(receipt)
@@ -313,10 +315,10 @@ impl<R: Shows> CountedLog<R> {
     pub fn retire<S: Retires>(&mut self, epochs: &Epochs, own: &mut S) -> Moved
         requires is { S.is_of epochs.now own.old }
         ensures is { S.is_of epochs.now own.new }
-        ensures retired { MatchMoved result (HasRetired self.old self.new) ((self.old.unlinked ≡ []) × (self.new ≡ self.old)) (self.new ≡ record self.old { worn = true }) }
-        ensures told { MatchMoved result ((e : ℕ) × AdvancedPast e (S.knows own.old) (S.knows own.new)) (own.new ≡ own.old) (WasWorn (S.knows own.old) (S.knows own.new)) }
+        ensures retired { RetiresOldest result self.old self.new }
+        ensures told { RetiresAs S.knows result own.old own.new }
     {
-        let _limit = self.stripe.unreleased();
+        is_laid_out(&self.stripe);
         let Some(receipt) = self.unlinked.pop_front() else {
             return Moved::Nothing;
         };
@@ -335,10 +337,10 @@ impl<R: Shows> CountedLog<R> {
 
     /// Drains the oldest retired receipt: looks whether a stay is left that may have begun before it was retired.
     pub fn drain(&mut self) -> Moved
-        ensures drained { MatchMoved result (HasDrained self.old self.new) ((self.old.retired ≡ []) × (self.new ≡ self.old)) (WasRefused self.old self.new) }
+        ensures drained { DrainsOldest result self.old self.new }
         ensures more { MatchMoved result ⊤ ⊤ (total self.old.refused < total self.new.refused) }
     {
-        let _limit = self.stripe.unreleased();
+        is_laid_out(&self.stripe);
         let Some(retired) = self.retired.pop_front() else {
             return Moved::Nothing;
         };
@@ -368,7 +370,7 @@ impl<R: Shows> CountedLog<R> {
         requires some { 0 < length self.old.retired }
         ensures { HasTurned self.old self.new }
     {
-        let _limit = self.stripe.unreleased();
+        is_laid_out(&self.stripe);
         let Some(retired) = self.retired.pop_front() else {
             unreachable!()
         };
@@ -386,7 +388,7 @@ impl<R: Shows> CountedLog<R> {
         ensures no_fault { D.failures device.new ≡ D.failures device.old }
         ensures no_write { D.writes device.new ≡ D.writes device.old }
     {
-        let _limit = self.stripe.unreleased();
+        is_laid_out(&self.stripe);
         let Some(receipt) = self.drained.pop_front() else {
             return false;
         };

@@ -1,18 +1,13 @@
 //! The flusher's step at a stripe: its oldest page that waits is written to the device. Where no place may be taken for it, each
 //! place of the stripe that can be released is released first.
 
-ghost use Rattle.std.specs.Prelude.{◌≡◌, ◌+◌, ◌<◌, ⊤, ℕ, true, IfErr, IfOk, OnErr, OnOk};
-ghost use Rattle.std.specs.Bool.{OnTrue, OnFalse};
+ghost use Rattle.std.specs.Prelude.{◌≡◌, ⊤, IfErr, OnOk};
 ghost use Rattle.epoch.specs.Seats.{IsOutside, known};
-ghost use Rattle.gates.specs.Background.{IsIdle, IsSpent, IsStep};
-ghost use Rattle.gates.specs.Pages.{IsFull};
-ghost use Rattle.gates.specs.declared.view.Work.TheVariants.{Flush};
-ghost use Rattle.hybrid.specs.HybridLog.{IsSealed};
-ghost use Rattle.shards.specs.Counted.{Counted, HasFlushed, HasLanded, IsFirstSealed, claimed, with_flight};
-ghost use Rattle.shards.specs.Flushing.{HasFreedFirst, HasRefreed, HasWritten, MatchBeginning, MatchEnding, MatchUnflushed};
-ghost use Rattle.shards.specs.Heard.{HasHeardWorn, HasTried};
-ghost use Rattle.shards.specs.Receipts.{kept_by};
-ghost use Rattle.shards.specs.Shards.{shard_counted, shard_log, shard_marks, shard_pages, shard_store};
+ghost use Rattle.shards.specs.Devices.{HasRested};
+ghost use Rattle.shards.specs.Flushing.{BeganAt, BeganTold, EndedTold, EndsAt, FlushFailed, Flushes, HasWritten, MatchBeginning};
+ghost use Rattle.shards.specs.Flushing.{MatchEnding};
+ghost use Rattle.shards.specs.Heard.{HasTriedOutside, ToldWorn};
+ghost use Rattle.shards.specs.Shards.{shard_counted, shard_marks, shard_pages, shard_store};
 
 use crate::counted::Begun;
 use crate::shard::Shard;
@@ -30,6 +25,17 @@ pub enum Beginning {
     Full(Refused),
     /// The page of this number was copied, and a place is counted for it.
     Sealed(u64),
+}
+
+/// A page that was written to the device.
+#[derive(Drop)]
+pub struct Flown<'a, R: Shows> {
+    /// Its number.
+    pub number: u64,
+    /// What was written.
+    pub page: &'a Page,
+    /// What the device answered.
+    pub receipt: R,
 }
 
 /// How a flush ends that released what it could.
@@ -63,15 +69,13 @@ impl<R: Shows> Shard<R> {
         device: &mut D,
     ) -> Beginning
         requires outside { IsOutside epochs.now seat.old }
-        ensures outside { IsOutside epochs.now seat.new }
+        ensures seat { HasTriedOutside epochs.now seat.old seat.new }
         ensures store { shard_store self.new ≡ shard_store self.old }
         ensures marks { shard_marks self.new ≡ shard_marks self.old }
-        ensures begun { MatchBeginning result (HasFreedFirst (shard_counted self.old) (shard_counted self.new)) (λ refused. HasFreedFirst (shard_counted self.old) (shard_counted self.new)) (λ number. (mid : Counted) × HasFreedFirst (shard_counted self.old) mid × IsFirstSealed mid.log number page.new × (shard_counted self.new ≡ with_flight mid)) }
-        ensures told { MatchBeginning result (IsIdle Flush (shard_pages self.new)) (λ refused. IsFull (shard_pages self.new) × IsSpent refused (shard_pages self.old) (shard_pages self.new)) (λ number. ⊤) }
-        ensures worn { MatchBeginning result ⊤ (λ refused. refused.retire ≡ true → HasHeardWorn (known seat.old) (known seat.new)) (λ number. ⊤) }
-        ensures tried { HasTried (known seat.old) (known seat.new) }
-        ensures no_fault { D.failures device.new ≡ D.failures device.old }
-        ensures no_write { D.writes device.new ≡ D.writes device.old }
+        ensures begun { BeganAt result page.new (shard_counted self.old) (shard_counted self.new) }
+        ensures told { BeganTold result (shard_pages self.old) (shard_pages self.new) }
+        ensures worn { MatchBeginning result ⊤ (λ refused. ToldWorn refused (known seat.old) (known seat.new)) (λ number. ⊤) }
+        ensures rested { HasRested D.failures D.writes device.old device.new }
     {
         match self.begin_flush(page) {
             Begun::Idle => return Beginning::Idle,
@@ -91,25 +95,26 @@ impl<R: Shows> Shard<R> {
     /// another hold: in this one a place that is unlinked could not be told from those that were retired.
     pub fn end_freeing<D: Device<Receipt = R>>(
         &mut self,
-        number: u64,
-        page: &Page,
-        receipt: R,
+        flown: Flown<R>,
         epochs: &Epochs,
         seat: &mut EpochSeat,
         device: &mut D,
     ) -> Ending<R>
-        requires shown { R.shown receipt ≡ page.now }
+        requires shown { R.shown flown.receipt ≡ flown.page.now }
         requires outside { IsOutside epochs.now seat.old }
-        ensures outside { IsOutside epochs.now seat.new }
+        ensures seat { HasTriedOutside epochs.now seat.old seat.new }
         ensures store { shard_store self.new ≡ shard_store self.old }
         ensures marks { shard_marks self.new ≡ shard_marks self.old }
-        ensures ended { MatchEnding result (HasLanded (claimed (shard_counted self.old)) number page.now (kept_by R.identity R.shown receipt) (shard_counted self.new)) (λ again. (again ≡ receipt) × ((mid : Counted) × HasRefreed (shard_counted self.old) mid × (shard_counted self.new ≡ claimed mid))) (λ refused. HasRefreed (shard_counted self.old) (shard_counted self.new)) }
-        ensures told { MatchEnding result (IsStep Flush (shard_pages self.old) (shard_pages self.new)) (λ again. ⊤) (λ refused. IsFull (shard_pages self.new) × IsSpent refused (shard_pages self.old) (shard_pages self.new)) }
-        ensures worn { MatchEnding result ⊤ (λ again. ⊤) (λ refused. refused.retire ≡ true → HasHeardWorn (known seat.old) (known seat.new)) }
-        ensures tried { HasTried (known seat.old) (known seat.new) }
-        ensures no_fault { D.failures device.new ≡ D.failures device.old }
-        ensures no_write { D.writes device.new ≡ D.writes device.old }
+        ensures ended { EndsAt R.identity R.shown result flown.entry (shard_counted self.old) (shard_counted self.new) }
+        ensures told { EndedTold result (shard_pages self.old) (shard_pages self.new) }
+        ensures worn { MatchEnding result ⊤ (λ again. ⊤) (λ refused. ToldWorn refused (known seat.old) (known seat.new)) }
+        ensures rested { HasRested D.failures D.writes device.old device.new }
     {
+        let Flown {
+            number,
+            page,
+            receipt,
+        } = flown;
         if self.claim() {
             self.land(number, page, receipt);
             return Ending::Landed;
@@ -138,16 +143,11 @@ impl<R: Shows> Shard<R> {
         device: &mut D,
     ) -> Result<bool, Unflushed>
         requires outside { IsOutside epochs.now seat.old }
-        ensures outside { IsOutside epochs.now seat.new }
+        ensures seat { HasTriedOutside epochs.now seat.old seat.new }
         ensures store { shard_store self.new ≡ shard_store self.old }
         ensures marks { shard_marks self.new ≡ shard_marks self.old }
-        ensures flushed { IfOk result (λ done. OnTrue done ((mid : Counted) × HasFreedFirst (shard_counted self.old) mid × HasFlushed mid (shard_counted self.new))) }
-        ensures waited { IfOk result (λ done. OnFalse done (HasFreedFirst (shard_counted self.old) (shard_counted self.new))) }
-        ensures failed { OnErr result (HasFreedFirst (shard_counted self.old) (shard_counted self.new)) }
-        ensures done { IfOk result (λ done. OnTrue done (IsStep Flush (shard_pages self.old) (shard_pages self.new))) }
-        ensures idle { IfOk result (λ done. OnFalse done (IsIdle Flush (shard_pages self.new))) }
-        ensures fault { IfErr result (λ fault. MatchUnflushed fault (D.failures device.new ≡ D.failures device.old + 1) (λ refused. IsFull (shard_pages self.new) × IsSpent refused (shard_pages self.old) (shard_pages self.new) × (refused.retire ≡ true → HasHeardWorn (known seat.old) (known seat.new)) × (D.failures device.new ≡ D.failures device.old))) }
-        ensures tried { HasTried (known seat.old) (known seat.new) }
+        ensures flushed { Flushes result self.old self.new }
+        ensures fault { IfErr result (λ why. FlushFailed D.failures why (self.old, device.old, seat.old) (self.new, device.new, seat.new)) }
         ensures no_fault { OnOk result (D.failures device.new ≡ D.failures device.old) }
         ensures writes { HasWritten result (D.writes device.old) (D.writes device.new) }
     {

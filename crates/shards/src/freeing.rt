@@ -1,9 +1,10 @@
 //! The release of each place of a stripe that can be released.
 
-ghost use Rattle.std.specs.Prelude.{◌≡◌, ◌+◌, ◌<◌, ℕ, [], true, false};
+ghost use Rattle.std.specs.Prelude.{◌≡◌, []};
 ghost use Rattle.std.specs.Bool.{OnFalse};
-ghost use Rattle.shards.specs.Freeing.{HasDrainedAll, HasFreed, HasReleasedAll, HasRetiredAll, HasTriedAll};
+ghost use Rattle.shards.specs.Freeing.{HasDrainedAll, HasFreed, HasRetiredAll, HasTriedAll, ReleasesAll};
 ghost use Rattle.shards.specs.Shards.{shard_counted, shard_marks, shard_store};
+ghost use Rattle.shards.specs.Stripes.{AreCountedOff};
 
 use crate::counted::{CountedLog, Moved};
 use crate::retires::Retires;
@@ -36,7 +37,7 @@ impl<R: Shows> Shard<R> {
         ensures marks { shard_marks self.new ≡ shard_marks self.old }
         ensures freed { HasFreed (shard_counted self.old) result (shard_counted self.new) }
         ensures told { HasTriedAll result.refused.retire (S.knows own.old) (S.knows own.new) }
-        ensures counted { D.releases device.new + (shard_counted self.new).log.unreleased ≡ D.releases device.old + (shard_counted self.old).log.unreleased }
+        ensures counted { AreCountedOff (D.releases device.old) (D.releases device.new) self.old self.new }
         ensures no_fault { D.failures device.new ≡ D.failures device.old }
         ensures no_write { D.writes device.new ≡ D.writes device.old }
     {
@@ -82,14 +83,14 @@ fn drain_all<R: Shows>(log: &mut CountedLog<R>) -> bool
 
 /// Gives each drained receipt back to the device, and says whether there was one.
 fn release_all<R: Shows, D: Device<Receipt = R>>(log: &mut CountedLog<R>, device: &mut D) -> bool
-    ensures released { (count : ℕ) × HasReleasedAll log.old count log.new × (result ≡ true → 0 < count) × (result ≡ false → count ≡ 0) × (D.releases device.new ≡ D.releases device.old + count) }
+    ensures released { ReleasesAll D.releases result (log.old, device.old) (log.new, device.new) }
     ensures all { log.new.drained ≡ [] }
     ensures no_fault { D.failures device.new ≡ D.failures device.old }
     ensures no_write { D.writes device.new ≡ D.writes device.old }
 {
     let mut any = false;
     'all: loop {
-        let _counted = log.stripe();
+        log.is_counted();
         if !log.release(device) {
             return any;
         }

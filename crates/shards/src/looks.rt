@@ -6,6 +6,7 @@ ghost use Rattle.gates.specs.declared.view.Look.TheVariants.{FewerExpected, Fewe
 ghost use Rattle.hybrid.specs.declared.stripe.TheConstants.{CALL_PAGES, CLEAN_PAGES};
 ghost use Rattle.shards.specs.Shards.{shard_pages};
 
+use crate::counted::is_laid_out;
 use crate::shard::Shard;
 use device::Shows;
 
@@ -28,7 +29,7 @@ impl<R: Shows> Shard<R> {
     pub fn is_short_of_frames(&self) -> bool
         ensures { IsSeen (FewerFree CALL_PAGES result) (shard_pages self.now) }
     {
-        let _oldest = self.log.stripe().oldest();
+        is_laid_out(self.log.stripe());
         self.log.stripe().is_short_of_frames()
     }
 
@@ -37,7 +38,7 @@ impl<R: Shows> Shard<R> {
     pub fn lacks_spare_frames(&self) -> bool
         ensures { IsSeen (FewerExpected (CLEAN_PAGES + 1) result) (shard_pages self.now) }
     {
-        let _oldest = self.log.stripe().oldest();
+        is_laid_out(self.log.stripe());
         self.log.stripe().lacks_spare_frames()
     }
 }

@@ -1,12 +1,14 @@
 //! What one stripe has: the log of its keys with its places on the device, and the marks of the keys that are watched.
 
-ghost use Rattle.std.specs.Prelude.{◌≡◌, ◌+◌, ◌-◌, ◌<◌, ◌≤◌, ⊤, ℕ, List, None, Some, IfOk, IfErr, OnOk, OnErr, IsSome, option_map, is_none, length, ◌↔◌, [], true, false, IsTrue};
+ghost use Rattle.std.specs.Prelude.{◌≡◌, ◌+◌, ◌<◌, ◌≤◌, ⊤, ℕ, List, None, Some, IfOk, OnOk, OnErr, IsSome, option_map, is_none, length};
+ghost use Rattle.std.specs.Prelude.{◌↔◌, [], IsTrue};
 ghost use Rattle.std.specs.Bool.{OnTrue, OnFalse};
 ghost use Rattle.std.specs.Borrow.{sem, Lends};
 ghost use Rattle.std.specs.Map.{update};
 ghost use Rattle.shards.specs.contracts.counted.CountedLog.{the_row as log_row};
 ghost use Rattle.shards.specs.contracts.shard.Shard.{the_row};
 ghost use Rattle.std.specs.Str.{bytes_eq};
+ghost use Rattle.words.specs.Stripes.{hash_of};
 ghost use Rattle.words.specs.Watches.{touched};
 ghost use Rattle.words.specs.declared.limits.TheConstants.{VALUE_BYTES_MAX, WEIGHT_MAX};
 ghost use Rattle.gates.specs.Background.{IsIdle, IsStep};
@@ -14,21 +16,23 @@ ghost use Rattle.gates.specs.Pages as pages;
 ghost use Rattle.gates.specs.Pages.{total};
 ghost use Rattle.gates.specs.declared.view.Work.TheVariants.{Clean, Evict, Flush};
 ghost use Rattle.gates.specs.declared.view.Refused.{Refused};
-ghost use Rattle.watch.specs.Marked.{are_these, begun_if, cleared};
-ghost use Rattle.hybrid.specs.HybridLog.{HasRoom, IsGrown, empty_log, log_of, receipt_at, IsSealed, receipt_of, tail_bytes, with_dropped};
-ghost use Rattle.hybrid.specs.Lookups.{Leads, MatchLookup};
-ghost use Rattle.hybrid.specs.Reserving.{IsFull, MatchFault};
-ghost use Rattle.hybrid.specs.Shedding.{HasShed};
+ghost use Rattle.watch.specs.Marked.{are_these, cleared};
+ghost use Rattle.hybrid.specs.HybridLog.{HasRoom, IsGrown, receipt_at, receipt_of};
+ghost use Rattle.hybrid.specs.Lookups.{MatchLookup};
+ghost use Rattle.hybrid.specs.Reserving.{IsFull};
 ghost use Rattle.hybrid.specs.Staging.{AreRight, IsMissing};
 ghost use Rattle.hybrid.specs.Log.{Fits};
 ghost use Rattle.shards.specs.Devices.{StillServes};
-ghost use Rattle.shards.specs.Counted.{HasDrained, HasFlushed, HasLanded, HasReleased, HasRetired, IsFirstSealed, MatchBegun, MatchMoved, WasRefused, claimed, with_flight, without_flight};
-ghost use Rattle.epoch.specs.Seats.{AdvancedPast, IsOutside, WasWorn, known};
+ghost use Rattle.shards.specs.Counted.{HasLanded, MatchBegun, MatchMoved, claimed, without_flight};
+ghost use Rattle.epoch.specs.Seats.{IsOutside, known};
 ghost use Rattle.shards.specs.Receipts.{kept_by};
 ghost use Rattle.shards.specs.Rooms.{LacksRoom, LeavesFrames, ShedsFew};
-ghost use Rattle.shards.specs.Shards.{shard_log, shard_marks, shard_store, weigh, shard_counted, shard_pages, shard_waiting, with_counted};
+ghost use Rattle.shards.specs.Shards.{shard_counted, shard_log, shard_marks, shard_pages, shard_store, shard_waiting, weigh, with_counted};
+ghost use Rattle.shards.specs.Logs.{BeginsAt, FailsToReserve, HasShedSo, RetiresAs, TakesRoom, counted_alone, log_by};
+ghost use Rattle.shards.specs.Stripes.{BeginsWith, DrainsFirst, DropsOldest, Finds, KeepsAll, LandsIn, MarksKey, ReleasesOne, RetiresFirst};
+ghost use Rattle.shards.specs.Stripes.{TouchesKey};
 
-use crate::counted::{Begun, CountedLog, Moved};
+use crate::counted::{Begun, CountedLog, Moved, is_laid_out};
 use device::{Device, Shows};
 use epoch::{EpochSeat, Epochs};
 use gates::Part;
@@ -37,6 +41,7 @@ use records::Page;
 use std::alloc::Global;
 use strings::writes::Write;
 use watch::Marks;
+use words::hash::Hashed;
 use words::limits::{Limits, VALUE_BYTES_MAX};
 use words::word::{OutOfMemory, Word};
 
@@ -86,9 +91,9 @@ impl<R: Shows> Shard<R> {
     ///
     /// [`OutOfMemory`] where there is no memory for its frames, its buckets or the lists of its places.
     pub fn new(alloc: Global, limits: &Limits) -> Result<Shard<R>, OutOfMemory>
-        ensures log { IfOk result (λ made. shard_log made ≡ empty_log limits.now.stripes limits.now.buckets limits.now.frames limits.now.places) }
+        ensures log { IfOk result (λ made. shard_log made ≡ log_by limits.now) }
         ensures empty { IfOk result (λ made. (key : List ℕ) → shard_store made key ≡ None) }
-        ensures counted { IfOk result (λ made. shard_counted made ≡ record { log = shard_log made; in_flight = 0; unlinked = []; retired = []; drained = []; refused = []; worn = false }) }
+        ensures counted { IfOk result (λ made. shard_counted made ≡ counted_alone (shard_log made)) }
         ensures unmarked { IfOk result (λ made. (key : List ℕ) (number : ℕ) → shard_marks made key number ≡ None) }
     {
         let log = CountedLog::new(alloc, limits)?;
@@ -101,8 +106,8 @@ impl<R: Shows> Shard<R> {
     /// What a key has. The answer is right over an honest device, where each staged page is the one that its
     /// receipt shows. A device that is not honest may show a value that is too long: the key then has none. Where
     /// receipts lend their pages, no lookup is cold.
-    pub fn find<'a>(&'a self, key: &Word, staged: &'a Staged<R>) -> Lookup<'a>
-        ensures contents { R.is_honest → AreRight staged.now → MatchLookup result (λ value. shard_store self.now key.now ≡ Some value) (shard_store self.now key.now ≡ None) (λ number. Leads (shard_log self.now) key.now number) }
+    pub fn find<'a>(&'a self, key: &Hashed, staged: &'a Staged<R>) -> Lookup<'a>
+        ensures contents { R.is_honest → AreRight staged.now → Finds result key.now self.now }
         ensures short { MatchLookup result (λ value. length value ≤ VALUE_BYTES_MAX) ⊤ (λ number. ⊤) }
         ensures cold { MatchLookup result (λ value. ⊤) ⊤ (λ number. IsMissing (shard_log self.now) staged.now number) }
         ensures left { MatchLookup result (λ value. ⊤) ⊤ (λ number. number < (shard_log self.now).resident.oldest) }
@@ -110,8 +115,8 @@ impl<R: Shows> Shard<R> {
     {
         // By the log's invariant no record has a longer value.
         let log = self.log.stripe();
-        let _ = log.oldest();
-        match log.find(key.as_slice(), staged) {
+        is_laid_out(log);
+        match log.find_hashed(key.hash(), key.key().as_slice(), staged) {
             Lookup::Found(value) => {
                 if value.len() <= VALUE_BYTES_MAX {
                     Lookup::Found(value)
@@ -159,56 +164,53 @@ impl<R: Shows> Shard<R> {
         device: &mut D,
     ) -> Result<(), Fault>
         requires light { weight ≤ WEIGHT_MAX }
-        ensures store { shard_store self.new ≡ shard_store self.old }
-        ensures marks { shard_marks self.new ≡ shard_marks self.old }
-        ensures waits { shard_waiting self.new ≡ shard_waiting self.old }
+        ensures same { KeepsAll self.old self.new }
         ensures room { OnOk result (HasRoom (shard_log self.new) weight) }
-        ensures records { log_of (shard_log self.new) ≡ log_of (shard_log self.old) }
-        ensures tail { tail_bytes (shard_log self.new) ≡ tail_bytes (shard_log self.old) }
-        ensures shed { D.failures device.new ≡ D.failures device.old → HasShed D.wrote (kept_by R.identity R.shown) (shard_log self.old) device.old (shard_log self.new) device.new }
-        ensures fault { IfErr result (λ fault. MatchFault fault (D.failures device.new ≡ D.failures device.old + 1) (IsFull (shard_log self.new) × (D.failures device.new ≡ D.failures device.old))) }
+        ensures shed { HasShedSo D.failures D.wrote R.identity R.shown (shard_log self.old, device.old) (shard_log self.new, device.new) }
         ensures few { ShedsFew weight purpose (shard_log self.old) (shard_log self.new) }
         ensures lacks { OnErr result (LacksRoom weight purpose (shard_log self.old) (shard_log self.new)) }
         ensures kept { OnOk result (LeavesFrames weight purpose (shard_log self.old) (shard_log self.new)) }
         ensures device { StillServes D.serves D.releases device.old device.new }
-        ensures no_fault { OnOk result (D.failures device.new ≡ D.failures device.old) }
+        ensures failed { FailsToReserve result (shard_log self.new) (D.failures device.old) (D.failures device.new) }
     {
         self.log.reserve(weight, purpose, device)
     }
 
     /// Writes a key, for which there is room: its value is this, or none, and its marks are touched. It takes no
-    /// memory.
-    pub fn write(&mut self, write: &Write)
+    /// memory. The hash is that of the key.
+    pub fn write(&mut self, hash: u64, write: &Write)
+        requires hash { hash ≡ hash_of write.now.0 }
         requires room { HasRoom (shard_log self.old) (weigh write.now) }
         requires fits { Fits write.now.0 write.now.1 }
         ensures waits { shard_waiting self.new ≡ shard_waiting self.old }
         ensures value { (k : List ℕ) → shard_store self.new k ≡ update bytes_eq (shard_store self.old) write.now.0 write.now.1 k }
-        ensures marks { (k : List ℕ) (number : ℕ) → shard_marks self.new k number ≡ touched (bytes_eq write.now.0 k) (shard_marks self.old k number) }
-        ensures room { (weight : ℕ) → weigh write.now ≤ weight → HasRoom (shard_log self.old) weight → HasRoom (shard_log self.new) (weight - weigh write.now) }
+        ensures marks { TouchesKey write.now.0 self.old self.new }
+        ensures room { TakesRoom (weigh write.now) (shard_log self.old) (shard_log self.new) }
         ensures grown { IsGrown (shard_log self.old) (shard_log self.new) (weigh write.now) }
     {
-        let key = write.key();
-        self.log.install_one(&Put {
-            key,
+        let put = Put {
+            key: write.key(),
             value: write.value(),
-        });
-        self.marks.touch(key);
+        };
+        self.log.install_one(hash, &put);
+        self.marks.touch(write.key());
     }
 
     /// Gives a key, for which there is room, a value, and touches its marks. It takes no memory.
-    pub fn set(&mut self, key: &Word, value: &Word)
+    pub fn set(&mut self, key: &Hashed, value: &Word)
         requires room { HasRoom (shard_log self.old) (weigh (key.now, Some value.now)) }
         requires fits { Fits key.now (Some value.now) }
         ensures waits { shard_waiting self.new ≡ shard_waiting self.old }
         ensures value { (k : List ℕ) → shard_store self.new k ≡ update bytes_eq (shard_store self.old) key.now (Some value.now) k }
-        ensures marks { (k : List ℕ) (number : ℕ) → shard_marks self.new k number ≡ touched (bytes_eq key.now k) (shard_marks self.old k number) }
+        ensures marks { TouchesKey key.now self.old self.new }
         ensures grown { IsGrown (shard_log self.old) (shard_log self.new) (weigh (key.now, Some value.now)) }
     {
-        self.log.install_one(&Put {
-            key,
+        let put = Put {
+            key: key.key(),
             value: Some(value),
-        });
-        self.marks.touch(key);
+        };
+        self.log.install_one(key.hash(), &put);
+        self.marks.touch(put.key);
     }
 
     /// The mark that a session has of a key, if it watches the key: whether the key was written since.
@@ -226,7 +228,7 @@ impl<R: Shows> Shard<R> {
     pub fn begin(&mut self, key: &Word, seat: u64) -> Result<bool, OutOfMemory>
         ensures waits { shard_waiting self.new ≡ shard_waiting self.old }
         ensures log { shard_log self.new ≡ shard_log self.old }
-        ensures ok { OnOk result ((k : List ℕ) (s : ℕ) → shard_marks self.new k s ≡ begun_if (are_these key.now seat k s) (shard_marks self.old k s)) }
+        ensures ok { OnOk result (MarksKey key.now seat self.old self.new) }
         ensures begun { IfOk result (λ begun. begun ≡ is_none (shard_marks self.old key.now seat)) }
         ensures err { OnErr result ((k : List ℕ) (s : ℕ) → shard_marks self.new k s ≡ shard_marks self.old k s) }
     {
@@ -248,7 +250,7 @@ impl<R: Shows> Shard<R> {
         ensures store { shard_store self.new ≡ shard_store self.old }
         ensures marks { shard_marks self.new ≡ shard_marks self.old }
         ensures exact { IsTrue result ↔ IsSome (receipt_of (shard_log self.old) (shard_log self.old).resident.oldest) }
-        ensures dropped { OnTrue result (shard_counted self.new ≡ record (shard_counted self.old) { log = with_dropped (shard_log self.old) }) }
+        ensures dropped { OnTrue result (DropsOldest self.old self.new) }
         ensures same { OnFalse result (self.new ≡ self.old) }
         ensures done { OnTrue result (IsStep Evict (shard_pages self.old) (shard_pages self.new)) }
         ensures idle { OnFalse result (IsIdle Evict (shard_pages self.new)) }
@@ -260,11 +262,11 @@ impl<R: Shows> Shard<R> {
     pub fn begin_flush(&mut self, page: &mut Page) -> Begun
         ensures store { shard_store self.new ≡ shard_store self.old }
         ensures marks { shard_marks self.new ≡ shard_marks self.old }
-        ensures begun { MatchBegun result ((number : ℕ) → IsSealed (shard_log self.old) number → ⊥) (IsFull (shard_log self.old)) (λ number. IsFirstSealed (shard_log self.old) number page.new) }
-        ensures counted { MatchBegun result (self.new ≡ self.old) (self.new ≡ self.old) (λ number. shard_counted self.new ≡ with_flight (shard_counted self.old)) }
+        ensures begun { BeginsAt result (shard_log self.old) page.new }
+        ensures counted { BeginsWith result self.old self.new }
         ensures told { MatchBegun result (IsIdle Flush (shard_pages self.new)) (pages.IsFull (shard_pages self.new)) (λ number. ⊤) }
     {
-        let _oldest = self.log.stripe().oldest();
+        is_laid_out(self.log.stripe());
         self.log.begin_flush(page)
     }
 
@@ -275,7 +277,7 @@ impl<R: Shows> Shard<R> {
         requires shown { R.shown receipt ≡ page.now }
         ensures store { shard_store self.new ≡ shard_store self.old }
         ensures marks { shard_marks self.new ≡ shard_marks self.old }
-        ensures landed { OnTrue result (HasLanded (claimed (shard_counted self.old)) number page.now (kept_by R.identity R.shown receipt) (shard_counted self.new)) }
+        ensures landed { OnTrue result (LandsIn R.identity R.shown number page.now receipt self.old self.new) }
         ensures same { OnFalse result (self.new ≡ self.old) }
         ensures none { OnFalse result ((shard_counted self.old).in_flight ≡ 0) }
         ensures done { OnTrue result (IsStep Flush (shard_pages self.old) (shard_pages self.new)) }
@@ -300,7 +302,7 @@ impl<R: Shows> Shard<R> {
         ensures none { OnFalse result ((shard_counted self.old).in_flight ≡ 0) }
         ensures same { OnFalse result (self.new ≡ self.old) }
     {
-        let _oldest = self.log.stripe().oldest();
+        is_laid_out(self.log.stripe());
         self.log.claim()
     }
 
@@ -313,7 +315,7 @@ impl<R: Shows> Shard<R> {
         ensures landed { HasLanded (shard_counted self.old) number page.now (kept_by R.identity R.shown receipt) (shard_counted self.new) }
         ensures done { IsStep Flush (shard_pages self.old) (shard_pages self.new) }
     {
-        let _oldest = self.log.stripe().oldest();
+        is_laid_out(self.log.stripe());
         self.log.land(number, page, receipt);
     }
 
@@ -330,13 +332,13 @@ impl<R: Shows> Shard<R> {
     pub fn release<D: Device<Receipt = R>>(&mut self, device: &mut D) -> bool
         ensures store { shard_store self.new ≡ shard_store self.old }
         ensures marks { shard_marks self.new ≡ shard_marks self.old }
-        ensures released { OnTrue result (HasReleased D.serves R.identity (shard_counted self.old) device.old (shard_counted self.new) device.new) }
+        ensures released { OnTrue result (ReleasesOne D.serves R.identity (self.old, device.old) (self.new, device.new)) }
         ensures counted { OnTrue result (D.releases device.new ≡ D.releases device.old + 1) }
         ensures none { OnFalse result (((shard_counted self.old).drained ≡ []) × (self.new ≡ self.old) × (device.new ≡ device.old)) }
         ensures done { (refused : Refused) → OnTrue result (IsStep (Clean refused) (shard_pages self.old) (shard_pages self.new)) }
         ensures no_fault { D.failures device.new ≡ D.failures device.old }
     {
-        let _counted = self.log.stripe();
+        self.log.is_counted();
         self.log.release(device)
     }
 
@@ -346,8 +348,8 @@ impl<R: Shows> Shard<R> {
         ensures outside { IsOutside epochs.now seat.new }
         ensures store { shard_store self.new ≡ shard_store self.old }
         ensures marks { shard_marks self.new ≡ shard_marks self.old }
-        ensures retired { MatchMoved result (HasRetired (shard_counted self.old) (shard_counted self.new)) (((shard_counted self.old).unlinked ≡ []) × (self.new ≡ self.old)) (self.new ≡ with_counted self.old (record (shard_counted self.old) { worn = true })) }
-        ensures told { MatchMoved result ((e : ℕ) × AdvancedPast e (known seat.old) (known seat.new)) (seat.new ≡ seat.old) (WasWorn (known seat.old) (known seat.new)) }
+        ensures retired { RetiresFirst result self.old self.new }
+        ensures told { RetiresAs known result seat.old seat.new }
         ensures done { (refused : Refused) → MatchMoved result (IsStep (Clean refused) (shard_pages self.old) (shard_pages self.new)) ⊤ ⊤ }
     {
         self.log.retire(epochs, seat)
@@ -357,7 +359,7 @@ impl<R: Shows> Shard<R> {
     pub fn drain(&mut self) -> Moved
         ensures store { shard_store self.new ≡ shard_store self.old }
         ensures marks { shard_marks self.new ≡ shard_marks self.old }
-        ensures drained { MatchMoved result (HasDrained (shard_counted self.old) (shard_counted self.new)) (((shard_counted self.old).retired ≡ []) × (self.new ≡ self.old)) (WasRefused (shard_counted self.old) (shard_counted self.new)) }
+        ensures drained { DrainsFirst result self.old self.new }
         ensures more { MatchMoved result ⊤ ⊤ (total (shard_counted self.old).refused < total (shard_counted self.new).refused) }
         ensures done { (refused : Refused) → MatchMoved result (IsStep (Clean refused) (shard_pages self.old) (shard_pages self.new)) ⊤ ⊤ }
     {

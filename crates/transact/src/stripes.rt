@@ -10,7 +10,7 @@ use crate::call::Call;
 use gates::Sorted;
 use strings::keys::{key_at, key_count};
 use words::command::Command;
-use words::hash::stripe_of;
+use words::hash::{Hashed, stripe_of};
 use words::word::Word;
 
 /// The stripes of the keys that a call names, those that its session watches among them where it ends
@@ -44,13 +44,13 @@ pub fn stripes_of_keys(keys: &[Word], stripes: usize) -> Sorted
 }
 
 /// The stripe of a key alone.
-pub fn stripe_of_key(key: &Word, stripes: usize) -> Sorted
+pub fn stripe_of_key(key: &Hashed, stripes: usize) -> Sorted
     requires some { 1 ≤ stripes }
     requires most { stripes ≤ 64 }
     ensures exact { result ≡ stripes_with stripes [] (key.now ∷ []) }
     ensures below { AreBelow stripes result }
 {
-    with_key(Sorted::none(), key, stripes)
+    Sorted::none().with(key.stripe_of(stripes))
 }
 
 /// The set with the stripe of a key.

@@ -12,7 +12,7 @@ use Rattle.transact.specs.declared.call.Call.{Call}
 use Rattle.transact.specs.Calls.{asked_of}
 use Rattle.transact.specs.Plans.{EndsAll, IsPlan, keys_begun, made}
 use Rattle.transact.specs.Tables.{Became, Stand, begins, joined, stays}
-use Rattle.plans.specs.declared.plan.Planned.{Planned}
+use Rattle.plans.specs.declared.planned.Planned.{Planned}
 use Rattle.plans.specs.declared.stop.Stop.{Stop}
 use Rattle.plans.specs.declared.stop.Stop.TheVariants as stop
 use Rattle.shards.specs.Devices.{IsReadAlone}
@@ -20,6 +20,7 @@ use Rattle.shards.specs.Rooms.{AreRoomy, MakesRoom, MeetsFull}
 use Rattle.shards.specs.Shards.{shard_meaning}
 use Rattle.plans.specs.Sizes.{AllShort}
 use Rattle.plans.specs.Reading.{AreServed}
+use Rattle.plans.specs.Planning.{MatchStop}
 use Rattle.plans.specs.Stops.{AreCold, IfCold, IfFull, faults, keys_looked_up}
 use Rattle.world_log.specs.Places.{Receipt, Shelves, Serves, Wrote, SamePlaces, identity, view, writes_of}
 use Rattle.world_log.specs.PlanLaws.{ReadLaws, logs_lent, with_parts}
@@ -49,6 +50,13 @@ full_as stop.OutOfMemory P Q turn is = tt
 full_as stop.DeviceFault P Q turn is = tt
 full_as (stop.StoreFull i) P Q turn is = turn i is
 full_as (stop.Cold receipts) P Q turn is = tt
+
+-- where a stripe is full, by what is said of a stop
+pub full_of : (s : Stop Receipt) (Cold : List Kept → Type 0) (Memory Fault : Type 0) (Full : ℕ → Type 0) → MatchStop s Cold Memory Fault Full → IfFull s Full
+full_of stop.OutOfMemory Cold Memory Fault Full is = tt
+full_of stop.DeviceFault Cold Memory Fault Full is = tt
+full_of (stop.StoreFull i) Cold Memory Fault Full is = is
+full_of (stop.Cold receipts) Cold Memory Fault Full is = tt
 
 -- READS
 

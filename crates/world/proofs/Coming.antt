@@ -19,7 +19,7 @@ use Rattle.transact.specs.Calls.{asked_of, call_keys}
 use Rattle.transact.specs.Plans.{IsEntry, IsPlan, keys_begun, made}
 use Rattle.transact.specs.Submits.{stripes_asked}
 use Rattle.transact.specs.Tables.{Became, Stand, begins, stays}
-use Rattle.plans.specs.declared.plan.Planned.{Planned}
+use Rattle.plans.specs.declared.planned.Planned.{Planned}
 use Rattle.shards.specs.declared.shard.Shard.{Shard}
 use Rattle.shards.specs.Rooms.{AreRoomy, MakesRoom}
 use Rattle.shards.specs.Rooms as rooms

@@ -21,10 +21,10 @@ use Rattle.transact.specs.Submits.{stripes_asked}
 use Rattle.transact.specs.Tables.{AreThere, Change, clears}
 use Rattle.hybrid.specs.HybridLog.{HybridLog}
 use Rattle.hybrid.specs.Staging.{AreRight}
-use Rattle.plans.specs.declared.plan.Planned.{Planned}
+use Rattle.plans.specs.declared.planned.Planned.{Planned}
 use Rattle.shards.specs.Rooms.{AreRoomy, HaveGrown}
 use Rattle.connection.specs.Clients.{Progress}
-use Rattle.world_events.specs.declared.event.Event.TheVariants as event
+use Rattle.world_model.specs.declared.event.Event.TheVariants as event
 use Rattle.world_log.specs.Places.{Receipt, Shelves}
 use Rattle.world_log.specs.Given.{IsGiven, StaysGiven}
 use Rattle.world_log.specs.PlanLaws.{logs_lent, with_parts}

@@ -4,9 +4,9 @@ use Rattle.std.proofs.lemmas.Bool.{eqb-true, ltb-true}
 use Rattle.std.proofs.lemmas.List.{length-map}
 use mathlib.Core.Logic.{dite}
 use native.Mathlib.Decide.{ℕ_discrete}
-use Rattle.world_events.specs.Actors.{actor}
-use Rattle.world_events.specs.declared.event.Event.{Event}
-use Rattle.world_events.specs.declared.event.Event.TheVariants as event
+use Rattle.world_model.specs.Actors.{actor}
+use Rattle.world_model.specs.declared.event.Event.{Event}
+use Rattle.world_model.specs.declared.event.Event.TheVariants as event
 use Rattle.world_model.specs.Enabled.{holds, is_enabled, is_enabled_for, is_enabled_of, is_free, is_number, are_none, next_stripe}
 use Rattle.world_model.specs.Resting.{AreOfCalls, Finishes, IsAtRest, IsOfCall, IsOrderly, rests}
 use Rattle.world_model.specs.States.{ClientState, State, client, open_call}

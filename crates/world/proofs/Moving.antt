@@ -12,8 +12,8 @@ use Rattle.words.specs.Session.{Asked}
 use Rattle.hybrid.specs.Staging.{AreRight}
 use Rattle.transact.specs.declared.call.Call.{Call}
 use Rattle.shards.specs.Shards.{logs_of}
-use Rattle.world_events.specs.declared.event.Event.{Event}
-use Rattle.world_events.specs.declared.event.Event.TheVariants as event
+use Rattle.world_model.specs.declared.event.Event.{Event}
+use Rattle.world_model.specs.declared.event.Event.TheVariants as event
 use Rattle.world_log.specs.Places.{Receipt, Shelves, places_of}
 use Rattle.world_log.specs.Given.{IsGiven, StaysGiven}
 use Rattle.world_log.specs.Stripes.{acts_for, lent, marks_in, with_holder}

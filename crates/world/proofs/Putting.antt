@@ -1,5 +1,5 @@
 -- What a call that is planned makes of the stripes when it is installed, and what watches leave that end.
-use Rattle.std.proofs.Common.{◌≡◌, ◌∙◌, ℕ, zero, suc, ◌<◌, Bool, true, false, List, [], ◌∷◌, length, Option, None, refl, sym, ap, subst, nat_eq, if◌then◌else◌, ⊎_elim, arith, ne_eqb}
+use Rattle.std.proofs.Common.{◌≡◌, ◌∙◌, ℕ, zero, suc, ◌<◌, ◌≤◌, Bool, true, false, List, [], ◌∷◌, length, Option, None, refl, sym, ap, subst, nat_eq, if◌then◌else◌, ⊎_elim, arith, ne_eqb}
 use Rattle.std.specs.Bool.{◌==◌}
 use mathlib.Core.Path.{fun_ext}
 use Rattle.words.specs.declared.reply.Reply.{Reply}
@@ -11,17 +11,18 @@ use Rattle.hybrid.specs.HybridLog.{HybridLog}
 use Rattle.transact.specs.declared.call.Call.{Call}
 use Rattle.transact.specs.declared.call.Call.TheVariants.{One, Watch, Exec, Forget}
 use Rattle.transact.specs.Calls.{call_keys}
-use Rattle.transact.specs.Plans.{IsPlan, keys_begun, keys_ended}
+use Rattle.transact.specs.Plans.{IsEntry, IsPlan, keys_begun, keys_ended}
 use Rattle.transact.specs.Submits.{stripes_asked}
 use Rattle.transact.specs.Tables.{AreThere, Became, begins, clears, joined, touches_and_clears}
-use Rattle.plans.specs.declared.plan.Planned.{Planned}
+use Rattle.plans.specs.declared.planned.Planned.{Planned}
 use Rattle.shards.specs.declared.shard.Shard.{Shard}
 use Rattle.shards.specs.Rooms.{AreRoomy, HaveGrown, MakesRoom}
 use Rattle.shards.specs.Shards.{SameLogs, shard_marks, shard_meaning}
-use Rattle.plans.specs.Sizes.{AllShort}
+use Rattle.plans.specs.Planning.{MayPlan}
+use Rattle.plans.specs.Sizes.{AllShort, IsPlaced}
 use Rattle.world_log.specs.Places.{Receipt, Shelves, Wrote, view}
 use Rattle.world_log.specs.PlanLaws.{logs_lent, with_parts}
-use Rattle.world_log.specs.Stripes.{IsEven, KeepsOthers, acts_for, lent, marks_of, stores_of}
+use Rattle.world_log.specs.Stripes.{IsEven, IsFew, KeepsOthers, acts_for, lent, marks_of, stores_of}
 use Rattle.world_log.specs.Types.{Stripes}
 use Rattle.world_log.specs.declared.logs.WorldLog.{WorldLog}
 use Rattle.world_model.specs.Commits.{marks_changed}
@@ -48,6 +49,19 @@ there_of stripes acting n c keys acts count there =
 
 pub some_of_them : (stripes acting : Stripes) (n c : ℕ) → acting ≡ acts_for stripes c → n ≡ length acting.holders.items → n ≡ length stripes.holders.items
 some_of_them stripes acting n c acts count = count ∙ ap (λ (s : Stripes). length s.holders.items) acts
+
+pub few_of : (stripes acting : Stripes) (c : ℕ) → acting ≡ acts_for stripes c → IsEven stripes → IsFew acting
+few_of stripes acting c acts even = subst (λ (s : Stripes). IsFew s) (sym acts) (even.some, even.most)
+
+-- so its client may plan the call
+pub may_plan : (stripes acting : Stripes) (n c : ℕ) (call : Call) → acting ≡ acts_for stripes c → n ≡ length acting.holders.items → IsEven stripes
+    → first_missing stripes.holders.items c (stripes_asked (length stripes.holders.items) call) ≡ None → IsEntry call → IsPlaced call
+    → MayPlan (IsFew acting) n (lent acting) call
+may_plan stripes acting n c call acts count even none entry place = record {
+  may = record { can_lend = few_of stripes acting c acts even; there = there_of stripes acting n c (call_keys call) acts count (lent_all stripes c call even none) };
+  entry = entry;
+  place = place;
+}
 
 roomy_of : (stripes acting : Stripes) (n c : ℕ) (writes : List Write) → acting ≡ acts_for stripes c → n ≡ length acting.holders.items
     → AreRoomy (length stripes.holders.items) (logs_lent (acts_for stripes c)) writes → AreRoomy n (logs_lent acting) writes
@@ -93,6 +107,11 @@ pub record Put (n : ℕ) (acting : Stripes) (c : ℕ) (call : Call) (writes : Li
   pub became : Became (shard_meaning ⊥) n writes (touches_and_clears writes c (keys_ended call)) (lent acting) (lent later)
   pub grown : HaveGrown n writes (logs_lent acting) (logs_lent later)
   pub keeps : KeepsOthers acting later
+
+-- the same of as many stripes, by the same client
+pub put_as : (acting : Stripes) (n m a b : ℕ) (call : Call) (writes : List Write) (later : Stripes) → n ≡ m → a ≡ b → Put n acting a call writes later → Put m acting b call writes later
+put_as acting n m a b call writes later count same put =
+    subst (λ (k : ℕ). Put k acting b call writes later) count (subst (λ (k : ℕ). Put n acting k call writes later) same put)
 
 put_acts : (stripes acting : Stripes) (n c : ℕ) (call : Call) (writes : List Write) (later : Stripes) → acting ≡ acts_for stripes c
     → n ≡ length acting.holders.items → Put n acting c call writes later → Put (length stripes.holders.items) (acts_for stripes c) c call writes later

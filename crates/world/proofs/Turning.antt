@@ -10,8 +10,8 @@ use Rattle.shards.specs.Shards.{logs_of}
 use Rattle.connection.specs.Clients.{Progress}
 use Rattle.world_log.specs.Stripes.{acts_for, lent}
 use Rattle.world_log.specs.Types.{Stripes}
-use Rattle.world_events.specs.declared.event.Event.{Event}
-use Rattle.world_events.specs.Actors.{actor}
+use Rattle.world_model.specs.declared.event.Event.{Event}
+use Rattle.world_model.specs.Actors.{actor}
 use Rattle.world_model.specs.States.{Phase, Calling, State, client, stripe_count}
 use Rattle.world_model.specs.Enabled.{holds_none, is_enabled, is_enabled_for, is_enabled_of}
 use Rattle.world_model.specs.Advancing.{When, Goes, is_idle}

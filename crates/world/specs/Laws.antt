@@ -9,7 +9,7 @@ use Rattle.words.specs.History.{History, Legal, after, keys_named, writes_of}
 use Rattle.words.specs.Session.{Asked}
 use Rattle.hybrid.specs.Growth.{GrowthLaws}
 use Rattle.transact.specs.declared.call.Call.{Call}
-use Rattle.world_events.specs.declared.event.Event.{Event}
+use Rattle.world_model.specs.declared.event.Event.{Event}
 use Rattle.world_log.specs.Given.{GivenLaws}
 use Rattle.world_log.specs.PlanLaws.{ColdLaw, OpeningLaw, ReadLaws, RoomLaws, ValueLaw, WaitLaw}
 use Rattle.world_model.specs.Planning.{taken}

@@ -13,7 +13,7 @@ use Rattle.transact.specs.declared.call.Call.TheVariants.{One, Watch, Exec, Forg
 use Rattle.transact.specs.Calls.{asked_of}
 use Rattle.transact.specs.Plans.{EndsAll, IsPlan, keys_begun, made}
 use Rattle.transact.specs.Tables.{Became, Stand, begins, clears, joined, stays}
-use Rattle.plans.specs.declared.plan.Planned.{Planned}
+use Rattle.plans.specs.declared.planned.Planned.{Planned}
 use Rattle.shards.specs.Rooms.{AreRoomy, HaveGrown, MakesRoom, MeetsFull}
 use Rattle.shards.specs.Shards.{shard_meaning}
 use Rattle.plans.specs.Sizes.{AllShort}

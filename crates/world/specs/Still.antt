@@ -1,8 +1,8 @@
 -- A client without an enabled event of its call.
 use Rattle.std.specs.Prelude.{ℕ, ◌≡◌, false, Some}
-use Rattle.world_events.specs.Actors.{actor}
-use Rattle.world_events.specs.declared.event.Event.{Event}
-use Rattle.world_events.specs.declared.event.Event.TheVariants.{Give, Take}
+use Rattle.world_model.specs.Actors.{actor}
+use Rattle.world_model.specs.declared.event.Event.{Event}
+use Rattle.world_model.specs.declared.event.Event.TheVariants.{Give, Take}
 use Rattle.world_model.specs.States.{State, client}
 use Rattle.world_model.specs.Enabled.{is_enabled_for}
 use Rattle.world_model.specs.Resting.{IsOfCall}

@@ -8,7 +8,7 @@ use Rattle.words.specs.Session.{Asked}
 use Rattle.transact.specs.declared.call.Call.{Call}
 use Rattle.hybrid.specs.HybridLog.{HybridLog, HasRoom}
 use Rattle.hybrid.specs.Writing.{AreFit}
-use Rattle.plans.specs.declared.plan.Planned.{Planned}
+use Rattle.plans.specs.declared.planned.Planned.{Planned}
 use Rattle.shards.specs.Rooms.{AreRoomy}
 use Rattle.shards.specs.Shards.{logs_of}
 use Rattle.world_log.specs.Given.{StaysGiven}
@@ -16,9 +16,9 @@ use Rattle.world_log.specs.Stripes.{acts_for, lent, with_holder}
 use Rattle.world_log.specs.WorldLogs.{IsWorldLog, KeepsHeld, Took, epoch_of}
 use Rattle.world_log.specs.WorldLogs as logs
 use Rattle.world_log.specs.Types.{Stripes}
-use Rattle.world_events.specs.declared.event.Event.{Event}
-use Rattle.world_events.specs.declared.event.Event.TheVariants.{Commit}
-use Rattle.world_events.specs.Actors.{actor}
+use Rattle.world_model.specs.declared.event.Event.{Event}
+use Rattle.world_model.specs.declared.event.Event.TheVariants.{Commit}
+use Rattle.world_model.specs.Actors.{actor}
 use Rattle.world_model.specs.States.{ClientState, State, client, fresh, open_call, start, stripe_count}
 use Rattle.world_model.specs.Enabled.{is_enabled_for}
 use Rattle.world_model.specs.Planning.{PlansFor, asked_by, stay_begun, taken}

@@ -10,7 +10,7 @@ ghost use Rattle.world_log.specs.WorldLogs.{IsWorldLog};
 ghost use Rattle.world.specs.Desks.{HasFetched, IsDone, IsNew, IsRight, IsStage};
 
 use hybrid::Staged;
-use plans::plan::Planned;
+use plans::planned::Planned;
 use std::alloc::Global;
 use std::mem;
 use world_log::{Stopped, WorldLog, WorldReceipt};

@@ -27,7 +27,8 @@ use crate::desk::{Desk, Plan};
 use crate::laws::plan_laws;
 use hybrid::Staged;
 use plans::marks::forget;
-use plans::plan::{Planned, plan};
+use plans::plan::plan;
+use plans::planned::Planned;
 use plans::reading::plan_reading;
 use plans::stop::{Receipts, Stop};
 use std::alloc::Global;
@@ -68,16 +69,7 @@ fn plan_naming(
     ensures full { IfErr result (λ stop. IfFull stop (λ stripe. HasMet log.old client call.now stripe log.new)) }
 {
     log.stripes.act_for(client);
-    let count = log.stripes.count();
-    match plan(
-        alloc,
-        &mut log.stripes,
-        count,
-        client as u64,
-        call,
-        staged,
-        &mut log.device,
-    ) {
+    match plan(alloc, &mut log.stripes, call, staged, &mut log.device) {
         Ok(planned) => Ok(planned),
         Err(stop) => Err(stop),
     }
@@ -104,16 +96,7 @@ fn plan_with_reads(
 {
     plan_laws();
     log.stripes.act_for(client);
-    let count = log.stripes.count();
-    match plan_reading(
-        alloc,
-        &mut log.stripes,
-        count,
-        client as u64,
-        call,
-        staged,
-        &mut log.device,
-    ) {
+    match plan_reading(alloc, &mut log.stripes, call, staged, &mut log.device) {
         Ok(planned) => Ok(planned),
         Err(stop) => Err(stop),
     }
@@ -264,24 +247,14 @@ pub(crate) fn run(
     ensures run { IfOk result (λ reply. HasRun log.old client call.now reply log.new) }
 {
     log.stripes.act_for(client);
-    let count = log.stripes.count();
-    let seat = client as u64;
     let staged = Staged::new(alloc);
-    let Ok(planned) = plan(
-        alloc,
-        &mut log.stripes,
-        count,
-        seat,
-        call,
-        &staged,
-        &mut log.device,
-    ) else {
+    let Ok(planned) = plan(alloc, &mut log.stripes, call, &staged, &mut log.device) else {
         return Err(Stopped);
     };
     if !planned.writes.as_slice().is_empty() {
         return Err(Stopped);
     }
-    Ok(planned.install(&mut log.stripes, count, seat, call))
+    Ok(planned.install(&mut log.stripes, call))
 }
 
 /// Installs a plan of a client that holds all stripes of its call.
@@ -295,8 +268,7 @@ pub(crate) fn install(log: &mut WorldLog, client: usize, call: &Call, planned: P
     ensures put { HasPut log.old client call.now planned log.new }
 {
     log.stripes.act_for(client);
-    let count = log.stripes.count();
-    planned.install(&mut log.stripes, count, client as u64, call)
+    planned.install(&mut log.stripes, call)
 }
 
 /// Ends the watches that a call ends, whose client holds all of its stripes.
@@ -320,6 +292,5 @@ pub(crate) fn forget_watched(log: &mut WorldLog, client: usize, watching: &Watch
     ensures { HasCleared log.old client watching.now log.new }
 {
     log.stripes.act_for(client);
-    let count = log.stripes.count();
-    forget(&mut log.stripes, count, client as u64, watching);
+    forget(&mut log.stripes, watching);
 }

@@ -1,10 +1,10 @@
 //! The world: clients, stripes on logs, a device and a history.
 
 ghost use Rattle.std.specs.Prelude.{ℕ, ◌≡◌, ◌<◌, ◌++◌, ◌∷◌, ◌&&◌, List, [], true, is_none, IfNone, IfOk, OnOk, IfSome, None, Some, length, reverse, vec_len};
-ghost use Rattle.world_events.specs.Actors.{actor};
-ghost use Rattle.world_events.specs.declared.event.Event.TheVariants.{Piece, Close, Take, Commit, Fetch, Give};
-ghost use Rattle.world_events.specs.declared.event.Event.TheVariants as event;
-ghost use Rattle.world_events.specs.declared.event.Event.{Event};
+ghost use Rattle.world_model.specs.Actors.{actor};
+ghost use Rattle.world_model.specs.declared.event.Event.TheVariants.{Piece, Close, Take, Commit, Fetch, Give};
+ghost use Rattle.world_model.specs.declared.event.Event.TheVariants as event;
+ghost use Rattle.world_model.specs.declared.event.Event.{Event};
 ghost use Rattle.world_model.specs.States.{open_call, start};
 ghost use Rattle.world_model.specs.States as states;
 ghost use Rattle.world_model.specs.Advancing.{Goes, is_idle};
@@ -31,8 +31,8 @@ use words::history::Entry;
 use words::limits::Limits;
 use words::reply::Reply;
 use words::word::OutOfMemory;
-use world_events::Event;
 use world_log::{Stopped, WorldLog};
+use world_model::Event;
 
 /// Clients, stripes and a history, driven by events. It cannot be dropped, since what its clients watch
 /// cannot: [`end`](World::end) ends it.

@@ -5,7 +5,7 @@ use Rattle.std.specs.Bool.{OnFalse, OnTrue}
 use Rattle.std.proofs.lemmas.Bool.{ltb-true}
 use Rattle.std.proofs.lemmas.List.{get_or-set_same, length-map}
 use Rattle.words.specs.Store.{Bytes}
-use Rattle.world_events.specs.declared.event.Event.TheVariants as event
+use Rattle.world_model.specs.declared.event.Event.TheVariants as event
 use Rattle.world_model.specs.Logs.{LogState, Stamped, LAST_PAGE, new_log, next_page, is_full, with_retired, retired_from, with_drained, drained_from, with_released, released_from, dropped, with_receipt}
 use Rattle.world_model.specs.States.{ClientState, State, fresh, log_at, log_of, start}
 use Rattle.world_model.specs.Advancing.{When}

@@ -5,8 +5,8 @@ use Rattle.std.specs.Vec.{with_item}
 use Rattle.std.proofs.lemmas.List.{map-set, map-append, length-map, set-get_or}
 use Rattle.std.proofs.lemmas.Option.{slice_get_within, get_or_from_slice_get}
 use Rattle.hybrid.specs.HybridLog.{HybridLog, Kept}
-use Rattle.world_events.specs.declared.event.Event.{Event}
-use Rattle.world_events.specs.declared.event.Event.TheVariants as event
+use Rattle.world_model.specs.declared.event.Event.{Event}
+use Rattle.world_model.specs.declared.event.Event.TheVariants as event
 use Rattle.world_model.specs.Logs as logs
 use Rattle.world_model.specs.Logs.{LogState, Stamped, places_stamped, place_written, count_copied, places_kept, unreleased, with_written, written_to, with_retired, retired_from, with_drained, drained_from, oldest_sealed, is_full, with_copy, with_installed, dropped, place_at}
 use Rattle.world_model.specs.States.{ClientState, State, log_at, log_of}

@@ -4,7 +4,7 @@ use Rattle.std.specs.Prelude.{slice_get}
 use Rattle.std.specs.Vec.{with_item}
 use Rattle.std.proofs.lemmas.Bool.{cases_eq}
 use Rattle.world_model.specs.Enabled.{holds}
-use Rattle.world_log.specs.Stripes.{KeepsLanes, lent, part_in, queues_in, with_part, with_part_in}
+use Rattle.world_log.specs.Stripes.{IsFew, KeepsLanes, lent, part_in, queues_in, with_part, with_part_in}
 use Rattle.world_log.specs.declared.lanes.Lane.{Lane}
 use Rattle.world_log.specs.declared.stripes.Stripes.{Stripes}
 use Rattle.world_log.proofs.GivenSteps.{get_other, get_set}
@@ -50,6 +50,9 @@ module _ {S : Type 0} (stripes : Stripes S) (i : ℕ) (lane : Lane S) (held : ho
   others_are part other away = subst (λ (s : Stripes S). lent s other ≡ lent stripes other) (writes part)
       (ap (λ (o : Option (Lane S)). if holds stripes.holders.items stripes.acting other then part_in o else None)
       (get_other stripes.lanes.items i other (record { shard = part; queues = lane.queues }) away))
+
+  pub few_is : IsFew stripes → (part : S) → IsFew (with_part stripes i part)
+  few_is few part = subst IsFew (writes part) few
 
   pub keeps_is : (part : S) → KeepsLanes stripes (with_part stripes i part)
   keeps_is part = subst (KeepsLanes stripes) (writes part) (record {

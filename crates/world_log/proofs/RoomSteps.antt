@@ -7,7 +7,7 @@ use Rattle.std.proofs.lemmas.Bool.{ltb-true}
 use Rattle.words.specs.Store.{Bytes}
 use Rattle.hybrid.specs.HybridLog.{HybridLog}
 use Rattle.hybrid.specs.Reserving.{IsFull}
-use Rattle.world_events.specs.declared.event.Event.TheVariants as event
+use Rattle.world_model.specs.declared.event.Event.TheVariants as event
 use Rattle.world_model.specs.Logs.{LogState, Stamped, LAST_PAGE, new_log, next_page, place_at, unreleased, is_full, first_mutable, dropped, with_receipt, with_opened, without_oldest, with_released, released_from}
 use Rattle.world_model.specs.Releasing.{places_released}
 use Rattle.world_model.specs.States.{State, log_at, log_of, stripe_count}

@@ -7,7 +7,7 @@ use Rattle.words.specs.Stripes.{stripe_of}
 use Rattle.shards.specs.declared.shard.Shard.{Shard}
 use Rattle.shards.specs.Shards.{shard_marks, shard_meaning, shard_store}
 use Rattle.transact.specs.Tables.{Became, PartBecame, Change}
-use Rattle.world_events.specs.declared.event.Event.{Event}
+use Rattle.world_model.specs.declared.event.Event.{Event}
 use Rattle.world_model.specs.Advancing.{When}
 use Rattle.world_model.specs.Effects.{Works}
 use Rattle.world_model.specs.Enabled.{holds, is_enabled_in}

@@ -1,7 +1,13 @@
 -- What two steps on parts keep.
-use Rattle.std.proofs.Common.{◌∙◌, refl}
-use Rattle.world_log.specs.Stripes.{KeepsLanes}
+use Rattle.std.proofs.Common.{◌≡◌, ◌∙◌, ap, length, refl}
+use Rattle.world_log.specs.Stripes.{KeepsLanes, acting_in, count_in}
 use Rattle.world_log.specs.declared.stripes.Stripes.{Stripes}
+
+pub count_stays : {S : Type 0} (before later : Stripes S) → KeepsLanes before later → count_in later ≡ count_in before
+count_stays before later keeps = ap (λ holders. length holders.items) keeps.holders
+
+pub actor_stays : {S : Type 0} (before later : Stripes S) → KeepsLanes before later → acting_in later ≡ acting_in before
+actor_stays before later keeps = keeps.acting
 
 pub keeps_itself : {S : Type 0} (stripes : Stripes S) → KeepsLanes stripes stripes
 keeps_itself stripes = record { holders = refl; acting = refl; count = refl; queues = λ i. refl; others = λ i away. refl }

@@ -19,6 +19,18 @@ use Rattle.world_log.specs.declared.stripes.Stripes as any_lanes
 -- PARTS OF ANY TYPE
 
 module _ {S : Type 0} where
+  -- how many stripes there are
+  abbrev pub count_in : any_lanes.Stripes S → ℕ
+  count_in stripes = length stripes.holders.items
+
+  -- the client that acts
+  abbrev pub acting_in : any_lanes.Stripes S → ℕ
+  acting_in stripes = stripes.acting
+
+  -- there is one stripe at least, and there are 64 at most
+  abbrev pub IsFew : any_lanes.Stripes S → Type 0
+  IsFew stripes = (1 ≤ count_in stripes) × (count_in stripes ≤ 64)
+
   -- the part of a stripe
   abbrev pub part_in : Option (any.Lane S) → Option S
   part_in None = None

@@ -1,7 +1,7 @@
 -- All stripes of the world on their logs, as the plain state that they stand for.
 use Rattle.std.specs.Prelude.{ℕ, ◌≡◌, ◌<◌, Bool, true, ◌&&◌, List, [], ◌∷◌, map, get_or, Option, None, Some, slice_get}
 use Rattle.hybrid.specs.HybridLog.{HasRoom}
-use Rattle.world_events.specs.declared.event.Event.{Event}
+use Rattle.world_model.specs.declared.event.Event.{Event}
 use Rattle.world_model.specs.Logs.{Stamped, place_at}
 use Rattle.world_model.specs.Places.{Each, standing}
 use Rattle.world_model.specs.States.{ClientState, State, log_at, start}

@@ -12,7 +12,7 @@ ghost use Rattle.world_log.specs.WorldLogs.{IsWorldLog, stays_of};
 use crate::logs::WorldLog;
 use crate::stopped::Stopped;
 use std::alloc::Global;
-use world_events::ShownPage;
+use world_model::ShownPage;
 
 impl WorldLog {
     /// Brings each place of a stripe that waits as near to its release as it may come while clients have these

@@ -4,7 +4,7 @@ ghost use Rattle.std.specs.Prelude.{◌≡◌, ◌<◌, ℕ, [], IfOk, OnOk, IfS
 ghost use Rattle.hybrid.specs.Reading.{HasStaged};
 ghost use Rattle.hybrid.specs.Staging.{AreRight};
 ghost use Rattle.shards.specs.Receipts.{kept_by};
-ghost use Rattle.world_events.specs.declared.event.Event.TheVariants as event;
+ghost use Rattle.world_model.specs.declared.event.Event.TheVariants as event;
 ghost use Rattle.world_model.specs.Enabled.{is_enabled_in};
 ghost use Rattle.world_model.specs.Places.{standing};
 ghost use Rattle.world_model.specs.States.{State};
@@ -26,7 +26,7 @@ use hybrid::Staged;
 use shards::shard::Shard;
 use std::alloc::Global;
 use words::limits::Limits;
-use world_events::ShownPage;
+use world_model::ShownPage;
 
 /// The stripes, the device, and the epoch. An event that is not enabled changes nothing.
 #[derive(Drop)]

@@ -28,16 +28,34 @@ pub struct Stripes<S> {
 }
 
 impl<S> Parts<S> for Stripes<S> {
-    ghost use Rattle.world_log.specs.Stripes.{lent, with_part, KeepsLanes};
-    ghost use Rattle.world_log.specs.KeepLaws.{keeps_itself, keeps_both};
+    ghost use Rattle.world_log.specs.Stripes.{acting_in, count_in, lent, with_part, IsFew, KeepsLanes};
+    ghost use Rattle.world_log.specs.KeepLaws.{count_stays, actor_stays, keeps_itself, keeps_both};
+
+    ghost stripes_of = { count_in };
+
+    ghost holder_of = { acting_in };
 
     ghost part_of = { lent };
 
     ghost with_part = { with_part };
 
-    ghost is_open = { λ stripes. Unit {0} };
+    ghost is_open = { IsFew };
 
     ghost keeps = { KeepsLanes };
+
+    fn stripes(&self) -> usize {
+        self.holders.len()
+    }
+
+    fn holder(&self) -> u64 {
+        self.acting as u64
+    }
+
+    ghost are_few = { λ stripes few. few };
+
+    ghost same_stripes = { count_stays };
+
+    ghost same_holder = { actor_stays };
 
     ghost keeps_same = { keeps_itself };
 

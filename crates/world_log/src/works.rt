@@ -20,7 +20,7 @@ use shards::counted::{Begun, CountedLog};
 use std::alloc::Global;
 use std::mem;
 use std::sync::Arc;
-use world_events::ShownPage;
+use world_model::ShownPage;
 
 /// The flusher copies the oldest page that waits for it, where one does.
 pub(crate) fn copy(

@@ -1,7 +1,7 @@
 -- What leaves clients, holders and the history as they are: room that is made, and the events of stripes.
 use Rattle.std.proofs.Common.{◌≡◌, ◌∙◌, ℕ, List, [], ◌∷◌, replicate, Option, Some, None, refl}
-use Rattle.world_events.specs.declared.event.Event.{Event}
-use Rattle.world_events.specs.declared.event.Event.TheVariants.{Copy, Write as WriteIt, Install, Drop, Unlink, Retire, Drain, Release}
+use Rattle.world_model.specs.declared.event.Event.{Event}
+use Rattle.world_model.specs.declared.event.Event.TheVariants.{Copy, Write as WriteIt, Install, Drop, Unlink, Retire, Drain, Release}
 use Rattle.world_model.specs.Logs.{place_at}
 use Rattle.world_model.specs.States.{State, log_of}
 use Rattle.world_model.specs.Rooms.{Leaves, Sheds, Frees, Retires, Drains, Releases, Steps, ByPage, ByPlace, StepsAll}

@@ -1,6 +1,6 @@
 -- Rows of events of stripes, each computed: a world of one stripe of 12 frames and 64 places, whose log has ten pages, and two clients.
 use Rattle.std.proofs.Common.{◌≡◌, true, false, [], ◌∷◌, Some, None, replicate, refl, lit<, lit≤}
-use Rattle.world_events.specs.declared.event.Event.TheVariants.{Fetch, Copy, Write, Install, Drop, Unlink, Retire, Drain, Release}
+use Rattle.world_model.specs.declared.event.Event.TheVariants.{Fetch, Copy, Write, Install, Drop, Unlink, Retire, Drain, Release}
 use Rattle.world_model.specs.Logs.{new_log, with_opened, without_oldest, with_copy, with_written, with_installed, dropped}
 use Rattle.world_model.specs.States.{State, start, fresh, log_of, with_log, with_log_and_place}
 use Rattle.world_model.specs.Enabled.{is_enabled}

@@ -9,8 +9,8 @@ use Rattle.words.specs.Encoding.{encoding}
 use Rattle.words.specs.History.{Pair}
 use Rattle.words.specs.Session.{Asked}
 use Rattle.connection.specs.Clients.{Progress, TakesOff}
-use Rattle.world_events.specs.declared.event.Event.{Event}
-use Rattle.world_events.specs.declared.event.Event.TheVariants.{Take, Commit, Give, Fetch}
+use Rattle.world_model.specs.declared.event.Event.{Event}
+use Rattle.world_model.specs.declared.event.Event.TheVariants.{Take, Commit, Give, Fetch}
 use Rattle.world_model.specs.States.{Phase, Serving, Calling, Leaving, Left, Ended, Due, ClientState, State, fresh, client, stripe_count, open_call, with_client}
 use Rattle.world_model.specs.Enabled.{is_number, holds, holds_none, are_none, next_stripe, is_enabled, is_enabled_for, is_enabled_of}
 use Rattle.world_model.specs.Advancing.{When, Goes, is_idle, Pauses, Waits, Finishes, Quits, Fails, Opens, Answers, Here, Says, Advances, leave_for}

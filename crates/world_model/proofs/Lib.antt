@@ -17,3 +17,4 @@ pub mod Waiting
 pub mod Falling
 mod EventRows
 mod LogRows
+pub mod Filling

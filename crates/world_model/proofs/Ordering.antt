@@ -11,9 +11,9 @@ use Rattle.transact.specs.declared.call.Call.{Call}
 use Rattle.transact.specs.Calls.{asked_of, call_keys}
 use Rattle.transact.specs.Submits.{stripes_asked}
 use Rattle.connection.specs.Clients.{Progress}
-use Rattle.world_events.specs.Actors.{actor}
-use Rattle.world_events.specs.declared.event.Event.{Event}
-use Rattle.world_events.specs.declared.event.Event.TheVariants.{Piece, Close, Take, Commit, Give, Fetch}
+use Rattle.world_model.specs.Actors.{actor}
+use Rattle.world_model.specs.declared.event.Event.{Event}
+use Rattle.world_model.specs.declared.event.Event.TheVariants.{Piece, Close, Take, Commit, Give, Fetch}
 use Rattle.world_model.specs.States.{Phase, Serving, Calling, Leaving, Left, Ended, ClientState, State, fresh, start, client, stripe_count, open_call, with_client}
 use Rattle.world_model.specs.Enabled.{is_number, holds, holds_none, are_none, first_missing, next_stripe, is_enabled_for, is_enabled_of}
 use Rattle.world_model.specs.Advancing.{When, Goes, is_idle}

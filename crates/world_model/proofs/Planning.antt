@@ -19,10 +19,10 @@ use Rattle.transact.specs.declared.call.Call.{Call}
 use Rattle.transact.specs.Calls.{asked_of, call_of, call_keys}
 use Rattle.transact.specs.Plans.{IsPlan, stripes_with}
 use Rattle.connection.specs.Clients.{Progress}
-use Rattle.world_events.specs.declared.event.Event.{Event}
-use Rattle.world_events.specs.declared.event.Event.TheVariants.{Piece, Close, Take, Commit, Give, Fetch}
+use Rattle.world_model.specs.declared.event.Event.{Event}
+use Rattle.world_model.specs.declared.event.Event.TheVariants.{Piece, Close, Take, Commit, Give, Fetch}
 use Rattle.world_model.specs.States.{Phase, Serving, Calling, Leaving, Left, Ended, Due, ClientState, State, fresh, client, stripe_count, open_call, with_client}
-use Rattle.world_events.specs.Actors.{actor}
+use Rattle.world_model.specs.Actors.{actor}
 use Rattle.world_model.specs.Enabled.{is_number, holds, holds_none, first_missing, next_stripe, are_none, is_enabled_for, is_enabled_of}
 use Rattle.world_model.specs.Advancing.{is_idle, When, Goes}
 use Rattle.world_model.specs.Planning.{Plans, Names, MakesRoom, MeetsFull, PlansFor, asked_by, taken, Takes, reply_now}

@@ -5,11 +5,11 @@ use Rattle.std.proofs.lemmas.List.{get_or-set_same}
 use Rattle.words.specs.Store.{Bytes, Write}
 use Rattle.words.specs.History.{Pair}
 use Rattle.words.specs.Session.{Asked}
-use Rattle.world_events.specs.declared.event.Event.{Event}
-use Rattle.world_events.specs.declared.event.Event.TheVariants.{Piece, Close, Take, Commit, Give, Fetch, Copy, Write as WriteIt, Install, Drop, Unlink, Retire, Drain, Release}
+use Rattle.world_model.specs.declared.event.Event.{Event}
+use Rattle.world_model.specs.declared.event.Event.TheVariants.{Piece, Close, Take, Commit, Give, Fetch, Copy, Write as WriteIt, Install, Drop, Unlink, Retire, Drain, Release}
 use Rattle.world_model.specs.Logs.{LogState, place_at}
 use Rattle.world_model.specs.States.{Phase, Serving, Calling, Leaving, Left, Ended, Due, ClientState, State, fresh, client, log_of, stripe_count, open_call}
-use Rattle.world_events.specs.Actors.{actor}
+use Rattle.world_model.specs.Actors.{actor}
 use Rattle.world_model.specs.Enabled.{is_number, holds, holds_none, are_none, is_enabled_for, is_enabled_in, is_enabled_of, next_stripe}
 use Rattle.world_model.specs.Advancing.{When}
 use Rattle.world_model.specs.Rooms.{Leaves, Sheds, Frees, Retires, Drains, Releases, Steps, ByPage, ByPlace, StepsAll}

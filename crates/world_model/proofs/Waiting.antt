@@ -1,9 +1,9 @@
 -- No client waits for good: where one does not rest, an event of a call is enabled.
 use Rattle.std.proofs.Common.{◌≡◌, ◌⊎◌, ℕ, zero, suc, ◌-◌, ◌<◌, ◌≤◌, Bool, true, false, ◌&&◌, ◌||◌, not, List, [], ◌∷◌, length, get_or, Option, Some, None, is_none, is_some, refl, sym, ap, ap₂, ◌∙◌, inl, inr, arith, eq-eqb}
 use Rattle.std.proofs.lemmas.Bool.{lt-ltb}
-use Rattle.world_events.specs.Actors.{actor}
-use Rattle.world_events.specs.declared.event.Event.{Event}
-use Rattle.world_events.specs.declared.event.Event.TheVariants.{Take, Commit, Give, Fetch}
+use Rattle.world_model.specs.Actors.{actor}
+use Rattle.world_model.specs.declared.event.Event.{Event}
+use Rattle.world_model.specs.declared.event.Event.TheVariants.{Take, Commit, Give, Fetch}
 use Rattle.world_model.specs.States.{State, client, stripe_count, open_call}
 use Rattle.world_model.specs.Enabled.{is_number, holds, holds_none, are_none, next_stripe, is_enabled, is_enabled_for, is_enabled_of}
 use Rattle.world_model.specs.Resting.{IsOrderly, IsOfCall, rests}

@@ -9,8 +9,8 @@ use Rattle.world_model.specs.Releasing.{after_retire, after_drain, after_release
 use Rattle.world_model.specs.Rooms.{StepsAll, IsFull}
 use Rattle.world_model.specs.Planning.{Takes}
 use Rattle.world_model.specs.Commits.{OPENED_MAX, Commits}
-use Rattle.world_events.specs.declared.event.Event.{Event}
-use Rattle.world_events.specs.declared.event.Event.TheVariants as event
+use Rattle.world_model.specs.declared.event.Event.{Event}
+use Rattle.world_model.specs.declared.event.Event.TheVariants as event
 
 -- A CLIENT'S EVENTS, BEFORE IT ADVANCES
 

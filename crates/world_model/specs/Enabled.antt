@@ -5,9 +5,9 @@ use Rattle.transact.specs.declared.call.Call.{Call}
 use Rattle.transact.specs.Submits.{stripes_asked}
 use Rattle.world_model.specs.Logs.{Flushing, Nothing, Copied, Wrote, Stamped, place_at, oldest_sealed, is_full}
 use Rattle.world_model.specs.States.{Phase, Ended, ClientState, State, client, log_of, stripe_count, open_call}
-use Rattle.world_events.specs.Actors.{actor}
-use Rattle.world_events.specs.declared.event.Event.{Event}
-use Rattle.world_events.specs.declared.event.Event.TheVariants as event
+use Rattle.world_model.specs.Actors.{actor}
+use Rattle.world_model.specs.declared.event.Event.{Event}
+use Rattle.world_model.specs.declared.event.Event.TheVariants as event
 
 -- WHO HOLDS WHICH STRIPE
 

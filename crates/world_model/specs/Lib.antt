@@ -1,3 +1,5 @@
+pub mod Actors
+pub mod ShownPages
 pub mod Logs
 pub mod States
 pub mod Enabled

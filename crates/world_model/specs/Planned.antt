@@ -12,8 +12,8 @@ use Rattle.transact.specs.Plans.{IsPlan}
 use Rattle.connection.specs.Clients.{Progress}
 use Rattle.world_model.specs.States.{Phase, Calling, State, client}
 use Rattle.world_model.specs.Enabled.{next_stripe}
-use Rattle.world_events.specs.declared.event.Event.{Event}
-use Rattle.world_events.specs.declared.event.Event.TheVariants as event
+use Rattle.world_model.specs.declared.event.Event.{Event}
+use Rattle.world_model.specs.declared.event.Event.TheVariants as event
 
 -- What an operation depends on, as `words` states its laws.
 pub record LocalLaws : Type 0 where

@@ -1,7 +1,7 @@
 -- How clients come to rest by events of their calls: in which order they hold stripes, and how many events they have left at most.
 use Rattle.std.specs.Prelude.{ℕ, ◌≡◌, ◌+◌, ◌*◌, ◌-◌, ◌<◌, ◌≤◌, Bool, true, ◌&&◌, cond, List, [], ◌∷◌, length, get_or, Option, Some, None, is_none, if◌then◌else◌}
-use Rattle.world_events.specs.declared.event.Event.{Event}
-use Rattle.world_events.specs.declared.event.Event.TheVariants as event
+use Rattle.world_model.specs.declared.event.Event.{Event}
+use Rattle.world_model.specs.declared.event.Event.TheVariants as event
 use Rattle.world_model.specs.States.{Phase, Serving, Calling, Leaving, Left, Ended, ClientState, State, client, stripe_count, open_call}
 use Rattle.world_model.specs.Enabled.{is_number, holds, holds_none, next_stripe, are_none}
 use Rattle.world_model.specs.Planning.{ROUNDS}

@@ -1,11 +1,11 @@
 -- What an event does to the world, as a relation of the states before and after it.
 use Rattle.std.specs.Prelude.{ℕ, ◌≡◌, List, [], ◌∷◌, Option, Some, None}
 use Rattle.world_model.specs.States.{State, client}
-use Rattle.world_events.specs.Actors.{actor}
+use Rattle.world_model.specs.Actors.{actor}
 use Rattle.world_model.specs.Enabled.{is_enabled}
 use Rattle.world_model.specs.Advancing.{When, Goes}
 use Rattle.world_model.specs.Effects.{Does, Works}
-use Rattle.world_events.specs.declared.event.Event.{Event}
+use Rattle.world_model.specs.declared.event.Event.{Event}
 
 -- what is done by an event that is enabled: by a client, which then advances; or in a stripe
 abbrev pub DoesAndGoes : State → Event → Option ℕ → State → Type 0

@@ -15,7 +15,7 @@ ghost use Rattle.world_model.specs.Told.{Headline};
 ghost use Rattle.world_model.specs.Places.{NoneReleased};
 ghost use Rattle.world_model.specs.Soundness.{IsSound};
 ghost use Rattle.world_model.specs.Planned.{IsNoCommitOf, IsPlanned};
-ghost use Rattle.world_events.specs.declared.event.Event.{Event};
+ghost use Rattle.world_model.specs.declared.event.Event.{Event};
 
 use crate::laws::laws;
 

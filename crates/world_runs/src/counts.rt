@@ -2,7 +2,7 @@
 
 use std::fmt;
 use std::fmt::{Display, Formatter};
-use world_events::Event;
+use world_model::Event;
 
 /// How often each kind of event was enabled.
 #[derive(Clone, Copy)]

@@ -4,6 +4,8 @@
 //! reply. A line is printed for each seed, and how often each kind of event was enabled. It ends with status 1 where
 //! anything is not as the map has it, where a kind of event was never enabled, and where a stripe is full that has room,
 //! or none is full of those that are filled.
+//!
+//! Before it ends it runs the program `replay` on schedules of each ending (`replays`).
 #![tactic(auto)]
 
 mod compare;
@@ -11,6 +13,7 @@ mod counts;
 mod dice;
 mod plain;
 mod random;
+mod replays;
 mod requests;
 mod told;
 mod watches;
@@ -22,6 +25,7 @@ use anyhow::Result;
 use compare::{Sums, compared};
 use counts::Counts;
 use random::schedule;
+use replays::replay_each;
 use std::alloc::Global;
 use std::fmt;
 use std::fmt::{Display, Formatter};
@@ -29,7 +33,7 @@ use std::process::ExitCode;
 use told::Waits;
 use words::limits::Limits;
 use world::World;
-use world_events::Event;
+use world_model::Event;
 
 /// How many clients and stripes a world has.
 const CLIENTS: usize = 3;
@@ -111,6 +115,7 @@ fn main(rt: HostRuntime) -> Result<ExitCode> {
         due = due && verdict.is_due(places);
     }
     println!(rt; "enabled: {counts}")?;
+    replay_each(&rt)?;
     if due && counts.are_all_there() {
         Ok(ExitCode::SUCCESS)
     } else {

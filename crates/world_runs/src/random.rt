@@ -5,7 +5,7 @@ ghost use Rattle.std.specs.Prelude.{◌<◌};
 use crate::dice::Dice;
 use crate::requests::request;
 use std::alloc::Global;
-use world_events::{Event, ShownPage};
+use world_model::{Event, ShownPage};
 
 /// How many times events are drawn in the same mood.
 const MOOD: usize = 1_250;

@@ -11,7 +11,7 @@ use std::alloc::Global;
 use std::process::Abort;
 use words::limits::Limits;
 use world::World;
-use world_events::Event;
+use world_model::Event;
 
 /// How many keys are set.
 const KEYS: usize = 630;

@@ -24,7 +24,7 @@ use words::history::Entry;
 use words::limits::Limits;
 use words::word::OutOfMemory;
 use world::World;
-use world_events::{Event, ShownPage};
+use world_model::{Event, ShownPage};
 
 /// Adds bytes to a text. `None` where there was no memory.
 pub(crate) fn add(text: &mut Vec<u8>, bytes: &[u8]) -> Option<()> {

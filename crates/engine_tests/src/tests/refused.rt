@@ -32,14 +32,19 @@ fn warm_store<R: Wait>(rt: &R, alloc: Global) -> Option<(Engine<Opening>, Pass<O
     }
 }
 
+/// Whether a pass that has read a cold page reads it twice more. `None` where there was no memory for the store.
+fn reads_again<R: Wait>(rt: &R, alloc: Global) -> Option<bool> {
+    let (engine, mut pass) = warm_store(rt, alloc)?;
+    let once = has(rt, alloc, &engine, &mut pass, &SHORT);
+    Some(once && has(rt, alloc, &engine, &mut pass, &SHORT))
+}
+
 /// Meant for runs in which one allocation is refused (`rt try --test --fail-alloc`): a pass that has read a cold page
 /// takes no memory to read it again, so none is refused.
 #[test]
 fn a_cold_key_is_read_again_without_memory(rt: HostRuntime) -> Result<(), Fail> {
     let alloc = rt.alloc();
-    let store = warm_store(&rt, alloc).or_else(|| warm_store(&rt, alloc));
-    let (engine, mut pass) = store.ok_or("no store")?;
-    assert!(rt; has(&rt, alloc, &engine, &mut pass, &SHORT));
-    assert!(rt; has(&rt, alloc, &engine, &mut pass, &SHORT));
+    let again = reads_again(&rt, alloc).or_else(|| reads_again(&rt, alloc));
+    assert!(rt; again == Some(true));
     Ok(())
 }

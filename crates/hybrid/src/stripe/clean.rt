@@ -10,6 +10,7 @@ ghost use Rattle.hybrid.specs.HybridLog.{count_kept, log_of, HasRoom, IsCut, IsG
 ghost use Rattle.hybrid.specs.Staging.{AreRight, AreShort, IsMissing, AreMarked, IsCleaned, IsCopied, IsNeeded, IsUnlinked, MatchCleaned};
 ghost use Rattle.hybrid.specs.Weighing.{live_weight, oldest_weight, MatchWeighed};
 
+use crate::address::Address;
 use crate::staged::Staged;
 use crate::stripe::room::Room;
 use crate::stripe::{CLEAN_WEIGHT, Stripe};
@@ -144,9 +145,10 @@ impl<R: Shows> Stripe<R> {
         let mut live = [false; SLOTS];
         let mut weight = 0;
         let mut at = HEADER_SIZE;
-        let base = self.oldest() * PAGE_SIZE as u64;
+        let number = self.oldest();
         while let Ok(record) = record_at(page, at) {
-            let marked = self.is_live(record.key, record.value, base + at as u64, staged)?;
+            let address = Address::of(number, at);
+            let marked = self.is_live(record.key, record.value, address, staged)?;
             live[at / 8] = marked;
             weight += weight_if(marked, record.key, record.value);
             at += RECORD_HEADER + record.key.len() + record.capacity;
@@ -160,7 +162,7 @@ impl<R: Shows> Stripe<R> {
         &self,
         key: &[u8],
         value: Option<&[u8]>,
-        address: u64,
+        address: Address,
         staged: &Staged<R>,
     ) -> Result<bool, u64>
         ensures live { R.is_honest → AreRight staged.now → IfOk result (λ live. IsTrue live ↔ ((option_map (λ e. e.0) (newest (log_of self.now) key.now) ≡ Some address) × IsSome (option_copied value.entry))) }

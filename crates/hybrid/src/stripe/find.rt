@@ -12,10 +12,11 @@ ghost use Rattle.hybrid.specs.Lookups.{Leads, MatchLookup, IsInPlace, IsResident
 ghost use Rattle.hybrid.specs.Staging.{AreRight, IsMissing};
 ghost use Rattle.hybrid.specs.Ways.{AreNear, IsFirstFar, IsNear, way_of};
 
+use crate::address::Address;
 use crate::staged::Staged;
 use crate::stripe::Stripe;
 use device::Shows;
-use records::{HEADER_SIZE, PAGE_SIZE, Page, Record, record_at};
+use records::{HEADER_SIZE, Page, Record, record_at};
 use words::hash::hash_of;
 use words::limits::VALUE_BYTES_MAX;
 
@@ -78,7 +79,7 @@ impl<R: Shows> Stripe<R> {
         hash: u64,
         key: &[u8],
         staged: &'a Staged<R>,
-    ) -> Result<Option<(u64, Record<'a>)>, u64>
+    ) -> Result<Option<(Address, Record<'a>)>, u64>
         requires hash { hash ≡ hash_of key.now }
         ensures found { R.is_honest → AreRight staged.now → IfOk result (λ o. option_map (λ x. (x.0, shown x.1)) o ≡ newest (log_of self.now) key.now) }
         ensures leads { R.is_honest → AreRight staged.now → IfErr result (λ number. Leads self.now key.now number) }
@@ -87,37 +88,43 @@ impl<R: Shows> Stripe<R> {
         ensures way { R.is_honest → AreRight staged.now → IfOk result (λ _. AreNear R.lends self.now staged.now (way_of self.now key.now)) }
         ensures far { R.is_honest → AreRight staged.now → IfErr result (λ number. IsFirstFar R.lends self.now staged.now key.now number) }
     {
-        let begin = self.oldest * PAGE_SIZE as u64 + HEADER_SIZE as u64;
-        let mut address = self.index.head(hash / self.stripes);
+        let begin = Address::of(self.oldest, HEADER_SIZE);
+        let mut address = Address::from_number(self.index.head(hash / self.stripes));
         while begin <= address {
-            let number = address / PAGE_SIZE as u64;
+            let number = address.page();
             let Some(page) = self.live_page(number, staged) else {
                 return Err(number);
             };
-            let Ok(record) = record_at(page, (address % PAGE_SIZE as u64) as usize) else {
+            let Ok(record) = record_at(page, address.offset()) else {
                 return Ok(None);
             };
             if record.has_key(key) {
                 return Ok(Some((address, record)));
             }
-            if address <= record.link {
+            let link = Address::from_number(record.link);
+            if address <= link {
                 return Ok(None);
             }
-            address = record.link;
+            address = link;
         }
         Ok(None)
     }
 
     // The address of the newest record of a key.
-    pub(crate) fn newest_address(&self, key: &[u8], staged: &Staged<R>) -> Result<Option<u64>, u64>
+    pub(crate) fn newest_address<'a>(
+        &'a self,
+        key: &[u8],
+        staged: &'a Staged<R>,
+    ) -> Result<Option<Address>, u64>
         ensures found { R.is_honest → AreRight staged.now → IfOk result (λ o. o ≡ option_map (λ e. e.0) (newest (log_of self.now) key.now)) }
         ensures leads { R.is_honest → AreRight staged.now → IfErr result (λ number. Leads self.now key.now number) }
         ensures cold { IfErr result (λ number. IsMissing self.now staged.now number) }
         ensures lent { R.lends → IsOk result }
     {
-        match self.newest(hash_of(key), key, staged)? {
-            Some((address, _)) => Ok(Some(address)),
-            None => Ok(None),
+        match self.newest(hash_of(key), key, staged) {
+            Ok(Some((address, _))) => Ok(Some(address)),
+            Ok(None) => Ok(None),
+            Err(number) => Err(number),
         }
     }
 
@@ -143,12 +150,12 @@ impl<R: Shows> Stripe<R> {
     // The address of the newest record of a key with this hash, if it lies in the mutable part and has
     // room for a value of this length.
     #[inline]
-    pub(crate) fn place(&self, hash: u64, key: &[u8], size: usize) -> Option<u64>
+    pub(crate) fn place(&self, hash: u64, key: &[u8], size: usize) -> Option<Address>
         requires { hash ≡ hash_of key.now }
         ensures { MatchOption result ((address : ℕ) → IsInPlace self.now key.now size address → ⊥) (λ address. IsInPlace self.now key.now size address) }
     {
-        let begin = self.frames.first_mutable() * PAGE_SIZE as u64 + HEADER_SIZE as u64;
-        let mut address = self.index.head(hash / self.stripes);
+        let begin = Address::of(self.frames.first_mutable(), HEADER_SIZE);
+        let mut address = Address::from_number(self.index.head(hash / self.stripes));
         while begin <= address {
             let Some(record) = self.resident_record(address) else {
                 unreachable!()
@@ -160,18 +167,18 @@ impl<R: Shows> Stripe<R> {
                     None
                 };
             }
-            address = record.link;
+            address = Address::from_number(record.link);
         }
         None
     }
 
     // The record at an address of a resident page.
     #[inline]
-    fn resident_record(&self, address: u64) -> Option<Record<'_>>
+    fn resident_record(&self, address: Address) -> Option<Record<'_>>
         ensures { (r : Stored) → IsResidentAt self.now address r → IsSomeAnd result (λ x. shown x ≡ r) }
     {
-        match self.frames.page(address / PAGE_SIZE as u64) {
-            Some(page) => record_at(page, (address % PAGE_SIZE as u64) as usize).ok(),
+        match self.frames.page(address.page()) {
+            Some(page) => record_at(page, address.offset()).ok(),
             None => None,
         }
     }

@@ -12,6 +12,7 @@ ghost use Rattle.hybrid.specs.HybridLog.{HasRoom, IsGrown, IsPut, bucket_of, fre
 ghost use Rattle.hybrid.specs.Lookups.{IsInPlace, IsRoomy};
 ghost use Rattle.hybrid.specs.Writing.{IsAdded, IsWritten, write_weight};
 
+use crate::address::Address;
 use crate::stripe::{LAST_PAGE, Stripe};
 use crate::write::{Write, length_of};
 use device::Shows;
@@ -71,7 +72,7 @@ impl<R: Shows> Stripe<R> {
     }
 
     // Puts another value into the record at an address.
-    fn overwrite(&mut self, address: u64, value: Option<&[u8]>)
+    fn overwrite(&mut self, address: Address, value: Option<&[u8]>)
         requires room { IsRoomy self.old address (length (value_bytes (option_copied value))) }
         requires fits { length (value_bytes (option_copied value)) ≤ VALUE_BYTES_MAX }
         ensures log { log_of self.new ≡ map (with_value address (option_copied value.entry)) (log_of self.old) }
@@ -80,10 +81,10 @@ impl<R: Shows> Stripe<R> {
         ensures heads { self.new.heads ≡ self.old.heads }
         ensures bytes { tail_bytes self.new ≡ tail_bytes self.old }
     {
-        let Some(page) = self.frames.page_mut(address / PAGE_SIZE as u64) else {
+        let Some(page) = self.frames.page_mut(address.page()) else {
             unreachable!()
         };
-        overwrite(page, (address % PAGE_SIZE as u64) as usize, value);
+        overwrite(page, address.offset(), value);
     }
 
     // Puts a record of the key at the tail, and opens a page for it where the tail page is full.
@@ -94,7 +95,7 @@ impl<R: Shows> Stripe<R> {
         key: &[u8],
         value: Option<&[u8]>,
         weight: usize,
-    ) -> u64
+    ) -> Address
         requires hash { hash ≡ hash_of key.now }
         requires room { HasRoom self.old weight }
         requires within { write_weight key.now (option_copied value) ≤ weight }
@@ -128,7 +129,7 @@ impl<R: Shows> Stripe<R> {
     }
 
     // Puts a record of the key into the tail page, and gives its address.
-    fn put(&mut self, hash: u64, key: &[u8], value: Option<&[u8]>) -> u64
+    fn put(&mut self, hash: u64, key: &[u8], value: Option<&[u8]>) -> Address
         requires hash { hash ≡ hash_of key.now }
         requires fits { Fits key.now (option_copied value) }
         requires room { tail_bytes self.old + size_for (length key.now) (length (value_bytes (option_copied value))) ≤ PAGE_SIZE - HEADER_SIZE }
@@ -147,8 +148,8 @@ impl<R: Shows> Stripe<R> {
         let Ok(offset) = put_record(page, link, hash, key, value) else {
             unreachable!()
         };
-        let address = number * PAGE_SIZE as u64 + offset as u64;
-        self.index.set_head(hash / self.stripes, address);
+        let address = Address::of(number, offset);
+        self.index.set_head(hash / self.stripes, address.number());
         address
     }
 }

@@ -6,11 +6,11 @@ pub returns-in-Idle-clause-stepped : goal.returns-in-Idle-clause-stepped
 returns-in-Idle-clause-stepped g c =
     let new = c.begin_freeing.new.self in
     record {
-      old = c.part.result.now;
+      old = c.part-part.result.now;
       new = new;
-      was = c.part.ensures.value;
-      is = c.part.ensures.written new;
-      others = c.part.ensures.others new;
+      was = c.part-part.ensures.value;
+      is = c.part-part.ensures.written new;
+      others = c.part-part.ensures.others new;
       store = λ t key. ap (λ (s : Store). s key) c.begin_freeing.ensures.store;
       marks = c.begin_freeing.ensures.marks;
       says = (c.in-Idle.ensures.told, c.in-Idle.ensures.begun);
@@ -20,26 +20,26 @@ pub returns-in-Full-clause-stepped : goal.returns-in-Full-clause-stepped
 returns-in-Full-clause-stepped g c =
     let new = c.begin_freeing.new.self in
     record {
-      old = c.part.result.now;
+      old = c.part-part.result.now;
       new = new;
-      was = c.part.ensures.value;
-      is = c.part.ensures.written new;
-      others = c.part.ensures.others new;
+      was = c.part-part.ensures.value;
+      is = c.part-part.ensures.written new;
+      others = c.part-part.ensures.others new;
       store = λ t key. ap (λ (s : Store). s key) c.begin_freeing.ensures.store;
       marks = c.begin_freeing.ensures.marks;
-      says = (c.in-Full.ensures.told, c.in-Full.ensures.begun);
+      says = (record { full = c.in-Full.ensures.told.0; spent = c.in-Full.ensures.told.1 }, c.in-Full.ensures.begun);
     }
 
 pub returns-in-Sealed-clause-stepped : goal.returns-in-Sealed-clause-stepped
 returns-in-Sealed-clause-stepped g c =
     let new = c.begin_freeing.new.self in
     record {
-      old = c.part.result.now;
+      old = c.part-part.result.now;
       new = new;
-      was = c.part.ensures.value;
-      is = c.part.ensures.written new;
-      others = c.part.ensures.others new;
+      was = c.part-part.ensures.value;
+      is = c.part-part.ensures.written new;
+      others = c.part-part.ensures.others new;
       store = λ t key. ap (λ (s : Store). s key) c.begin_freeing.ensures.store;
       marks = c.begin_freeing.ensures.marks;
-      says = (tt, c.in-Sealed.ensures.begun);
+      says = c.in-Sealed.ensures.begun;
     }

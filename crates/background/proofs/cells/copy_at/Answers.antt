@@ -3,7 +3,7 @@ use Rattle.hybrid.specs.HybridLog.{Kept, receipt_at}
 use Rattle.shards.specs.declared.shard.Shard.{Shard}
 use Rattle.shards.specs.Receipts.{kept_by}
 use Rattle.shards.specs.Shards.{shard_log}
-use Rattle.background.specs.Visits.{Keeps}
+use Rattle.background.specs.Steps.{Keeps}
 use Rattle.background.proofs.Settling.{ok_as}
 use Rattle.background.proofs.Visiting.{some_same}
 use Rattle.background.proofs.cells.copy_at.Goals as goal

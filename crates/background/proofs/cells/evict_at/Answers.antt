@@ -13,5 +13,10 @@ returns-clause-stepped g c =
       others = c.part.ensures.others new;
       store = λ t key. ap (λ (s : Store). s key) c.drop_oldest.ensures.store;
       marks = c.drop_oldest.ensures.marks;
-      says = (c.drop_oldest.ensures.done, c.drop_oldest.ensures.idle, c.drop_oldest.ensures.dropped, c.drop_oldest.ensures.same);
+      says = record {
+        step = c.drop_oldest.ensures.done;
+        idle = c.drop_oldest.ensures.idle;
+        dropped = c.drop_oldest.ensures.dropped;
+        same = c.drop_oldest.ensures.same;
+      };
     }

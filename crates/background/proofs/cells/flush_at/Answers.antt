@@ -1,8 +1,6 @@
 use Rattle.std.proofs.Common.{ap}
 use Rattle.words.specs.Store.{Store}
-use Rattle.gates.specs.Background.{IsSpent}
-use Rattle.gates.specs.Pages.{IsFull}
-use Rattle.shards.specs.Shards.{shard_pages}
+use Rattle.background.specs.Steps.{IsSpentFull}
 use Rattle.background.proofs.Settling.{unflushed_as}
 use Rattle.background.proofs.cells.flush_at.Goals as goal
 
@@ -17,15 +15,16 @@ returns-clause-stepped g c =
       others = c.part.ensures.others new;
       store = λ t key. ap (λ (s : Store). s key) c.flush.ensures.store;
       marks = c.flush.ensures.marks;
-      says = (
-        c.flush.ensures.done,
-        c.flush.ensures.idle,
-        unflushed_as c.flush.result _ _ _ (λ refused. IsFull (shard_pages new) × IsSpent refused (shard_pages c.part.result.now) (shard_pages new)) (λ failed. tt) (λ refused full. (full.0, full.1)) c.flush.ensures.fault,
-        c.flush.ensures.flushed,
-        c.flush.ensures.waited,
-        c.flush.ensures.failed,
-      );
+      says = record {
+        step = c.flush.ensures.flushed.done;
+        idle = c.flush.ensures.flushed.idle;
+        full = unflushed_as c.flush.result _ _ _ (λ refused. IsSpentFull refused c.part.result.now new) (λ failed. tt) (λ refused full. record { full = full.full; spent = full.spent })
+            c.flush.ensures.fault;
+        flushed = c.flush.ensures.flushed.flushed;
+        waited = c.flush.ensures.flushed.waited;
+        failed = c.flush.ensures.flushed.failed;
+      };
     }
 
 pub returns-clause-fault : goal.returns-clause-fault
-returns-clause-fault g c = unflushed_as c.flush.result _ _ _ _ (λ failed. failed) (λ refused full. (full.2, full.3)) c.flush.ensures.fault
+returns-clause-fault g c = unflushed_as c.flush.result _ _ _ _ (λ failed. failed) (λ refused full. (full.worn, full.no_fault)) c.flush.ensures.fault

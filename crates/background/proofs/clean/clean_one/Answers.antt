@@ -13,14 +13,14 @@ few n not below = grind (arith, nat_tests)
 pub returns-in-Ok-Ended-clause-cleaned : goal.returns-in-Ok-Ended-clause-cleaned
 returns-in-Ok-Ended-clause-cleaned g c =
     let is : c.clean_round-came.result.0 ≡ Ok (round.Ended c.in-Ok-Ended.done) = ok_is c.clean_round-came.result.0 c.in-Ok-Ended.field-0 (round.Ended c.in-Ok-Ended.done) c.in-Ok-Ended.is (rw c.in-Ok-Ended.is at c.in-Ok-Ended.field-0-is) in
-    cleaned_later g.R.Shows.lends (c.args.stripe ∷ []) c.args.stripe (Ok c.in-Ok-Ended.done) (g.D.Device.failures c.args.device.now) (g.D.Device.failures c.rounds.device) (g.D.Device.failures c.clean_round-came.new.device)
+    cleaned_later g.R.Shows.lends (c.args.at.now.stripe ∷ []) c.args.at.now.stripe (Ok c.in-Ok-Ended.done) (g.D.Device.failures c.args.device.now) (g.D.Device.failures c.rounds.device) (g.D.Device.failures c.clean_round-came.new.device)
     (known c.args.pass.now) (known c.rounds.pass) (known c.clean_round-came.new.pass) (seats.known c.args.seat) (seats.known c.rounds.seat) (seats.known c.clean_round-came.result.1) c.rounds.invariant.looked
     (round_is c.clean_round-came.result.0 (Ok (round.Ended c.in-Ok-Ended.done)) _ _ is c.clean_round-came.ensures.came)
 
 pub returns-in-Err-clause-cleaned : goal.returns-in-Err-clause-cleaned
 returns-in-Err-clause-cleaned g c =
     let is : c.clean_round-came.result.0 ≡ Err c.in-Err.fault = cc in
-    cleaned_later g.R.Shows.lends (c.args.stripe ∷ []) c.args.stripe (Err c.in-Err.fault) (g.D.Device.failures c.args.device.now) (g.D.Device.failures c.rounds.device) (g.D.Device.failures c.clean_round-came.new.device)
+    cleaned_later g.R.Shows.lends (c.args.at.now.stripe ∷ []) c.args.at.now.stripe (Err c.in-Err.fault) (g.D.Device.failures c.args.device.now) (g.D.Device.failures c.rounds.device) (g.D.Device.failures c.clean_round-came.new.device)
     (known c.args.pass.now) (known c.rounds.pass) (known c.clean_round-came.new.pass) (seats.known c.args.seat) (seats.known c.rounds.seat) (seats.known c.clean_round-came.result.1) c.rounds.invariant.looked
     (round_is c.clean_round-came.result.0 (Err c.in-Err.fault) _ _ is c.clean_round-came.ensures.came)
 
@@ -33,7 +33,7 @@ rounds-preserved g c =
       outside = c.clean_round-came.ensures.outside;
       right = c.clean_round-came.ensures.right;
       few = few c.rounds.round again.0 c.rounds.invariant.few;
-      looked = looked_twice (c.args.stripe ∷ []) (g.D.Device.failures c.args.device.now) (g.D.Device.failures c.rounds.device) (g.D.Device.failures c.clean_round-came.new.device)
+      looked = looked_twice (c.args.at.now.stripe ∷ []) (g.D.Device.failures c.args.device.now) (g.D.Device.failures c.rounds.device) (g.D.Device.failures c.clean_round-came.new.device)
           (known c.args.pass.now) (known c.rounds.pass) (known c.clean_round-came.new.pass) (seats.known c.args.seat) (seats.known c.rounds.seat) (seats.known c.clean_round-came.result.1)
           c.rounds.invariant.looked again.1;
     }

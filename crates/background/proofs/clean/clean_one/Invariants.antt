@@ -9,11 +9,11 @@ use Rattle.background.proofs.clean.clean_one.Given as goal
 
 abbrev pub invariant-rounds : goal.invariant-rounds
 invariant-rounds g l = record {
-  resting : IsResting g.R.Shows.is_steady l.gates l.pass;
-  outside : IsOutside l.epochs l.seat;
+  resting : IsResting g.R.Shows.is_steady l.at.gates.now l.pass;
+  outside : IsOutside l.at.epochs.now l.seat;
   right : g.R.Shows.is_steady → AreRight l.staged;
   few : l.round ≤ ROUNDS;
-  looked : HasLooked (l.stripe ∷ []) (g.D.Device.failures l.fn.device) (g.D.Device.failures l.device) (known l.fn.pass) (known l.pass) (seats.known l.fn.seat) (seats.known l.seat);
+  looked : HasLooked (l.at.stripe ∷ []) (g.D.Device.failures l.fn.device) (g.D.Device.failures l.device) (known l.fn.pass) (known l.pass) (seats.known l.fn.seat) (seats.known l.seat);
 }
 
 abbrev pub decreases-rounds : goal.decreases-rounds

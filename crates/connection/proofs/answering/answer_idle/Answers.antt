@@ -14,7 +14,7 @@ returns-in-Ok-clause-due g c =
     let get = c.in-Get.ensures.get refl in
     let same : c.index-as_slice-1.result ≡ get.key = search (rules, get.words_are) in
     turned_get _ _ _ c.args.words.now (answer_with (Ok c.in-Ok.value)) (value_reply c.in-Ok.value) _ c.watches_follow_entries.ensures.entry c.watches_follow_entries.ensures.fault
-    c.requires.attends c.requires.idle c.requires.request get (get_bounded c.commands_are_bounded.ensures c.args.words.now c.requires.request get) (rw same at c.in-Ok.ensures.done) tt refl
+    c.requires.attends c.requires.idle c.requires.request get (get_bounded c.commands_are_bounded.ensures c.args.words.now c.requires.request get) (rw same at c.in-Ok.ensures.answered.done) tt refl
 
 pub returns-in-Ok-clause-attends : goal.returns-in-Ok-clause-attends
 returns-in-Ok-clause-attends g c = attends_turned _ _ _ _ _ (returns-in-Ok-clause-due g c)
@@ -24,7 +24,7 @@ returns-in-Err-clause-due g c =
     let get = c.in-Get.ensures.get refl in
     let same : c.index-as_slice-1.result ≡ get.key = search (rules, get.words_are) in
     turned_get _ _ _ c.args.words.now (answer_with (Err c.in-Err.fault)) (line_reply (Faulty c.in-Err.fault)) _ c.watches_follow_entries.ensures.entry c.watches_follow_entries.ensures.fault
-    c.requires.attends c.requires.idle c.requires.request get (get_bounded c.commands_are_bounded.ensures c.args.words.now c.requires.request get) tt (rw same at c.in-Err.ensures.undone) refl
+    c.requires.attends c.requires.idle c.requires.request get (get_bounded c.commands_are_bounded.ensures c.args.words.now c.requires.request get) tt (rw same at c.in-Err.ensures.answered.undone) refl
 
 pub returns-in-Err-clause-attends : goal.returns-in-Err-clause-attends
 returns-in-Err-clause-attends g c = attends_turned _ _ _ _ _ (returns-in-Err-clause-due g c)
@@ -35,7 +35,7 @@ returns-in-Set-clause-due g c =
     let same : c.index-as_slice-1-in-Set.result ≡ set.key = search (rules, set.words_are) in
     let value : c.index-as_slice-2.result ≡ set.value = search (rules, set.words_are) in
     turned_set _ _ _ c.args.words.now (answer_of c.set.result) (line_reply c.line_of.result) _ c.watches_follow_entries-in-Set.ensures.entry c.watches_follow_entries-in-Set.ensures.fault
-    c.requires.attends c.requires.idle c.requires.request set (set_bounded c.commands_are_bounded-in-Set.ensures c.args.words.now c.requires.request set) (rw (same, value) at c.set.ensures.done) (rw (same, value) at c.set.ensures.undone) c.line_of.ensures
+    c.requires.attends c.requires.idle c.requires.request set (set_bounded c.commands_are_bounded-in-Set.ensures c.args.words.now c.requires.request set) (rw (same, value) at c.set.ensures.answered.done) (rw (same, value) at c.set.ensures.answered.undone) c.line_of.ensures
 
 pub returns-in-Set-clause-attends : goal.returns-in-Set-clause-attends
 returns-in-Set-clause-attends g c = attends_turned _ _ _ _ _ (returns-in-Set-clause-due g c)

@@ -23,7 +23,7 @@ returns-in-SaysOutOfMemory-clause-attends g c = attends_turned _ _ _ _ _ (return
 pub returns-in-Calls-clause-due : goal.returns-in-Calls-clause-due
 returns-in-Calls-clause-due g c =
     turned_called _ _ _ c.in-Calls.call c.submit_with-answer.result _ _ _ _ c.watches_follow_entries.ensures.entry c.watches_follow_entries.ensures.fault
-    (attends_before _ _ _ c.requires.attends) c.in-Calls.ensures c.submit_with-answer.ensures.done c.submit_with-answer.ensures.undone c.resume.ensures.unread c.resume.ensures.resumes
+    (attends_before _ _ _ c.requires.attends) c.in-Calls.ensures c.submit_with-answer.ensures.answered.done c.submit_with-answer.ensures.answered.undone c.resume.ensures.unread c.resume.ensures.resumes
 
 pub returns-in-Calls-clause-attends : goal.returns-in-Calls-clause-attends
 returns-in-Calls-clause-attends g c = attends_turned _ _ _ _ _ (returns-in-Calls-clause-due g c)

@@ -8,14 +8,14 @@ returns-in_default-clause-watches g c = watches_none _ _ c.requires.attends (for
 
 pub returns-in-Some-clause-went : goal.returns-in-Some-clause-went
 returns-in-Some-clause-went g c =
-    went_forgot _ _ _ _ _ _ _ (sym c.close.ensures ∙ c.in-Some.is) c.submit_with.ensures.done c.submit_with.ensures.undone
+    went_forgot _ _ _ _ _ _ _ (sym c.close.ensures ∙ c.in-Some.is) c.submit_with.ensures.answered.done c.submit_with.ensures.answered.undone
 
 pub returns-in_default-clause-went : goal.returns-in_default-clause-went
 returns-in_default-clause-went g c = went_none _
 
 pub returns-in-Some-clause-no_failure : goal.returns-in-Some-clause-no_failure
 returns-in-Some-clause-no_failure g c =
-    calm_forgot _ _ _ _ _ _ _ (sym c.close.ensures ∙ c.in-Some.is) c.submit_with.ensures.done c.submit_with.ensures.undone
+    calm_forgot _ _ _ _ _ _ _ (sym c.close.ensures ∙ c.in-Some.is) c.submit_with.ensures.answered.done c.submit_with.ensures.answered.undone
 
 pub returns-in_default-clause-no_failure : goal.returns-in_default-clause-no_failure
 returns-in_default-clause-no_failure g c = refl

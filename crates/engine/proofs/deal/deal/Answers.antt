@@ -35,6 +35,6 @@ loop-gates-preserved g c =
         inv.dealt.1 ∙ ap (λ l. l ++ inv.dealt.0) c.in-Some-pop.ensures.items ∙ append_assoc c.pop-in-Some.new.self.items (c.in-Some-pop.device ∷ []) inv.dealt.0,
         subst (λ l. AreDealt s gates epochs left l (c.in-Some-pop.device ∷ inv.dealt.0)) (sym c.in_ok-insert.ensures.items)
             (dealt_before s gates epochs left (vec_len c.loop-gates.passes) c.in_ok-pass.pass c.in-Some-pop.device c.loop-gates.dealt.items inv.dealt.0
-            (omega (arith, c.in-Some.ensures.cases)) (record { rests = record { rests = subst (IsResting s gates) (sym c.in_ok-pass.ensures.gates) last.1; seated = (c.in-Some-pop-2.seat, c.in_ok-pass.ensures.seat, all_last (IsOutside epochs) c.pop-in-Some-2.new.self.items c.in-Some-pop-2.seat (subst (All (IsOutside epochs)) c.in-Some-pop-2.ensures.items inv.outside)); none_staged = c.in_ok-pass.ensures.staged }; nothing = ap known c.in_ok-pass.ensures.gates ∙ last.2 ∙ ap newcomer number; device = c.in_ok-pass.ensures.device }) inv.dealt.2),
+            (omega (arith, c.in-Some.ensures.cases)) (record { rests = record { rests = subst (IsResting s gates) (sym c.in_ok-pass.ensures.gates) last.1; has_hands = (c.in_ok-pass.ensures.hands.0, c.in_ok-pass.ensures.hands.1, record { outside = subst (IsOutside epochs) (sym c.in_ok-pass.ensures.hands.2) (all_last (IsOutside epochs) c.pop-in-Some-2.new.self.items c.in-Some-pop-2.seat (subst (All (IsOutside epochs)) c.in-Some-pop-2.ensures.items inv.outside)); none = c.in_ok-pass.ensures.hands.3 }) }; nothing = ap known c.in_ok-pass.ensures.gates ∙ last.2 ∙ ap newcomer number; device = c.in_ok-pass.ensures.device }) inv.dealt.2),
       );
     }

@@ -1,20 +1,16 @@
-use Rattle.std.proofs.Common.{◌≡◌, ◌-◌, ◌≤◌}
-use Rattle.gates.specs.Passes.{IsResting, Learned, ToldBusy, known}
-use Rattle.hybrid.specs.Staging.{AreRight}
-use Rattle.engine.specs.declared.outside.TheConstants.{ROUNDS}
-use Rattle.engine.specs.Stays.{IsReading}
+use Rattle.std.proofs.Common.{◌-◌}
+use Rattle.gates.specs.Passes.{IsResting, known}
+use Rattle.engine.specs.declared.visit.TheConstants.{ROUNDS}
+use Rattle.engine.specs.Entering.{HasWaited}
+use Rattle.engine.specs.Visits.{IsVisit}
 use Rattle.engine.proofs.rounds.later_rounds.Given as goal
 
 abbrev pub invariant-rounds : goal.invariant-rounds
 invariant-rounds g l = record {
   rests : IsResting g.R.Shows.is_steady l.site.gates.now l.pass;
-  stay : IsReading l.site.epochs.now l.reading;
-  right : g.R.Shows.is_steady → AreRight l.staged;
-  few : l.round ≤ ROUNDS;
-  learned : Learned (known l.fn.pass) (known l.pass);
-  told : ToldBusy l.wanted (known l.fn.pass) (known l.pass);
-  failures : g.D.Device.failures l.device ≡ g.D.Device.failures l.fn.device;
+  visit : IsVisit g.R.Shows.is_steady l.site.epochs.now l.visit;
+  waited : HasWaited l.asking.wanted.now (known l.fn.pass, g.D.Device.failures l.fn.device) (known l.pass, g.D.Device.failures l.device);
 }
 
 abbrev pub decreases-rounds : goal.decreases-rounds
-decreases-rounds g l = ROUNDS - l.round
+decreases-rounds g l = ROUNDS - l.visit.rounds

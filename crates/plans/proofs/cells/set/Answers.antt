@@ -11,24 +11,24 @@ pub set-requires-clause-room : goal.set-requires-clause-room
 set-requires-clause-room g c =
     let w : Write = (c.args.key.now, Some c.args.value.now) in
     let logs = logs_of (g.P.Parts.part_of c.args.parts.now) in
-    room_of logs (stripe_of c.args.stripes w.0) (weigh w) (shard_log c.part.result.now) c.requires.room
-    (ap logs (sym c.stripe_in-stripe.ensures) ∙ log_at (g.P.Parts.part_of c.args.parts.now) c.stripe_in-stripe.result c.part.result.now c.part.ensures.value)
+    room_of logs (stripe_of (g.P.Parts.stripes_of c.args.parts.now) w.0) (weigh w) (shard_log c.part.result.now) c.requires.room
+    (ap logs (sym c.stripe_at-stripe.ensures) ∙ log_at (g.P.Parts.part_of c.args.parts.now) c.stripe_at-stripe.result c.part.result.now c.part.ensures.value)
 
 pub returns-clause-became : goal.returns-clause-became
 returns-clause-became g c =
-    let i : ℕ = c.stripe_in-stripe.result in
+    let i : ℕ = c.stripe_at-stripe.result in
     let new = c.set.new.self in
     let w : Write = (c.args.key.now, Some c.args.value.now) in
-    wrote_one (shard_meaning g.R.Shows.is_steady) c.args.stripes i w (g.P.Parts.part_of c.args.parts.now) (g.P.Parts.part_of (g.P.Parts.with_part c.args.parts.now i new)) c.part.result.now new
-    c.part.ensures.value (c.part.ensures.written new) (c.part.ensures.others new) (sym c.stripe_in-stripe.ensures) c.set.ensures.value c.set.ensures.marks
+    wrote_one (shard_meaning g.R.Shows.is_steady) (g.P.Parts.stripes_of c.args.parts.now) i w (g.P.Parts.part_of c.args.parts.now) (g.P.Parts.part_of (g.P.Parts.with_part c.args.parts.now i new)) c.part.result.now new
+    c.part.ensures.value (c.part.ensures.written new) (c.part.ensures.others new) (sym c.stripe_at-stripe.ensures) c.set.ensures.value c.set.ensures.marks
 
 pub returns-clause-grown : goal.returns-clause-grown
 returns-clause-grown g c =
-    let i : ℕ = c.stripe_in-stripe.result in
+    let i : ℕ = c.stripe_at-stripe.result in
     let new = c.set.new.self in
     let before = g.P.Parts.part_of c.args.parts.now in
     let later = g.P.Parts.part_of (g.P.Parts.with_part c.args.parts.now i new) in
-    let at : stripe_of c.args.stripes c.args.key.now ≡ i = sym c.stripe_in-stripe.ensures in
+    let at : stripe_of (g.P.Parts.stripes_of c.args.parts.now) c.args.key.now ≡ i = sym c.stripe_at-stripe.ensures in
     record {
       old = shard_log c.part.result.now;
       was = ap (logs_of before) at ∙ log_at before i c.part.result.now c.part.ensures.value;

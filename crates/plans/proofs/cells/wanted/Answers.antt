@@ -12,5 +12,5 @@ returns-clause-ok g c =
     ap (λ (x : List ℕ). record { identity = x; shown = g.R.Shows.shown c.in-Some.receipt.now }) (sym c.in_ok-again.ensures.identity)
     ∙ ap (λ (x : List ℕ). record { identity = g.R.Shows.identity copy; shown = x }) (sym c.in_ok-again.ensures.shown) in
     ok_then c.push.result
-    (λ is. (kept, is, record { number = c.args.number; missing = c.requires.missing; receipt = sym c.in-Some.ensures ∙ ap (λ (k : Kept). Some k) same; left = c.requires.left }, refl))
+    (λ is. record { kept = kept; joins = is; wanted = record { number = c.args.number; missing = c.requires.missing; receipt = sym c.in-Some.ensures ∙ ap (λ (k : Kept). Some k) same; left = c.requires.left }; number_is = refl })
     c.push.ensures.ok

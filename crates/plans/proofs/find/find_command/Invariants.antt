@@ -13,5 +13,5 @@ invariant-loop-place g l = record {
   same : g.P.Parts.part_of l.parts ≡ g.P.Parts.part_of l.fn.parts;
   lent : g.R.Shows.lends → l.cold ≡ l.fn.cold;
   start : l.place ≡ 0 → l.found ≡ l.fn.found;
-  found : HasFound (IsNeeded (g.R.Shows.is_honest × AreRight l.staged) l.stripes (logs_of (g.P.Parts.part_of l.fn.parts)) (keys_of l.command) l.staged) (g.R.Shows.is_honest × AreRight l.staged) (joined (shard_meaning g.R.Shows.is_steady) l.stripes (g.P.Parts.part_of l.fn.parts)) (take l.place (keys_of l.command)) l.fn.cold l.cold l.fn.found l.found;
+  found : HasFound (IsNeeded (g.R.Shows.is_honest × AreRight l.staged) (g.P.Parts.stripes_of l.fn.parts) (logs_of (g.P.Parts.part_of l.fn.parts)) (keys_of l.command) l.staged) (g.R.Shows.is_honest × AreRight l.staged) (joined (shard_meaning g.R.Shows.is_steady) (g.P.Parts.stripes_of l.fn.parts) (g.P.Parts.part_of l.fn.parts)) (take l.place (keys_of l.command)) l.fn.cold l.cold l.fn.found l.found;
 }

@@ -15,30 +15,33 @@ use Rattle.plans.proofs.find.find_commands.Goals as goal
 
 pub loop-command-init : goal.loop-command-init
 loop-command-init g c = record {
-  is_open = c.requires.open;
+  is_open = c.requires.may.can_lend;
   keeps = g.met.P.Parts.keeps_same c.args.parts.now;
   same = refl;
   lent = λ lent. refl;
-  there = c.requires.there;
+  there = c.requires.may.there;
   within = λ key e. e;
   found = λ cold found has. has;
 }
 
-pub find_command-requires-clause-open : goal.find_command-requires-clause-open
-find_command-requires-clause-open g c = c.loop-command.invariant.is_open
-
-pub find_command-requires-clause-there : goal.find_command-requires-clause-there
-find_command-requires-clause-there g c =
-    let n : ℕ = c.args.stripes in
+pub find_command-requires : goal.find_command-requires
+find_command-requires g c =
+    let n : ℕ = (g.P.Parts.stripes_of c.args.parts.now) in
     let first : Command = c.in-Some.command.now in
     let others : List Command = c.in-Some.others.now in
     let parts = g.P.Parts.part_of c.args.parts.now in
     let all : AreThere n parts (keys_of first ++ keys_of_all others) = subst (λ (l : List Command). AreThere n parts (keys_of_all l)) c.in-Some.ensures.cases.0 c.loop-command.invariant.there in
-    subst (λ p. AreThere n p (keys_of first)) (sym c.loop-command.invariant.same) (there_append (shard_meaning g.R.Shows.is_steady) n parts (keys_of first) (keys_of_all others) all).0
+    let count = g.met.P.Parts.same_stripes c.args.parts.now c.loop-command.parts c.loop-command.invariant.keeps in
+    record {
+      may = record {
+        can_lend = c.loop-command.invariant.is_open;
+        there = rw count (subst (λ p. AreThere n p (keys_of first)) (sym c.loop-command.invariant.same) (there_append (shard_meaning g.R.Shows.is_steady) n parts (keys_of first) (keys_of_all others) all).0);
+      };
+    }
 
 pub loop-command-preserved : goal.loop-command-preserved
 loop-command-preserved g c =
-    let n : ℕ = c.args.stripes in
+    let n : ℕ = (g.P.Parts.stripes_of c.args.parts.now) in
     let inv = c.loop-command.invariant in
     let first : Command = c.in-Some.command.now in
     let others : List Command = c.in-Some.others.now in
@@ -49,13 +52,15 @@ loop-command-preserved g c =
     let store : Store = joined (shard_meaning g.R.Shows.is_steady) n parts in
     let W : Kept → Type 0 = IsNeeded (g.R.Shows.is_honest × AreRight c.args.staged.now) n (logs_of parts) all c.args.staged.now in
     let there : AreThere n parts (keys_of first ++ keys_of_all others) = subst (λ (l : List Command). AreThere n parts (keys_of_all l)) is inv.there in
+    let count = g.met.P.Parts.same_stripes c.args.parts.now c.loop-command.parts inv.keeps in
+    let here = rw count at c.in_ok-find_command.ensures.found in
     let one : HasFound (IsNeeded (g.R.Shows.is_honest × AreRight c.args.staged.now) n (logs_of parts) (keys_of first) c.args.staged.now) Right store (keys_of first) c.loop-command.cold c.find_command.new.cold c.loop-command.found c.find_command.new.found =
     subst (λ p. HasFound (IsNeeded (g.R.Shows.is_honest × AreRight c.args.staged.now) n (logs_of p) (keys_of first) c.args.staged.now) (g.R.Shows.is_honest × AreRight c.args.staged.now) (joined (shard_meaning g.R.Shows.is_steady) n p) (keys_of first) c.loop-command.cold c.find_command.new.cold c.loop-command.found c.find_command.new.found)
-    inv.same c.in_ok-find_command.ensures.found in
+    inv.same here in
     let whole = subst (λ (l : List Command). (k : Bytes) → is_among (keys_of_all l) k ≡ true → is_among all k ≡ true) is inv.within in
     record {
-      is_open = c.find_command.ensures.open;
-      keeps = g.met.P.Parts.keeps_both c.args.parts.now c.loop-command.parts c.find_command.new.parts inv.keeps c.find_command.ensures.keeps;
+      is_open = c.find_command.ensures.held.open_still;
+      keeps = g.met.P.Parts.keeps_both c.args.parts.now c.loop-command.parts c.find_command.new.parts inv.keeps c.find_command.ensures.held.kept;
       same = c.find_command.ensures.same ∙ inv.same;
       lent = λ lent. c.find_command.ensures.lent lent ∙ inv.lent lent;
       there = (there_append (shard_meaning g.R.Shows.is_steady) n parts (keys_of first) (keys_of_all others) there).1;
@@ -70,7 +75,7 @@ loop-command-preserved g c =
 
 pub returns-clause-found : goal.returns-clause-found
 returns-clause-found g c =
-    let n : ℕ = c.args.stripes in
+    let n : ℕ = (g.P.Parts.stripes_of c.args.parts.now) in
     let parts = g.P.Parts.part_of c.args.parts.now in
     let Right : Type 0 = g.R.Shows.is_honest × AreRight c.args.staged.now in
     let store : Store = joined (shard_meaning g.R.Shows.is_steady) n parts in

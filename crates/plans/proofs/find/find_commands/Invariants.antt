@@ -15,11 +15,11 @@ invariant-loop-command g l = record {
   keeps : g.P.Parts.keeps l.fn.parts l.parts;
   same : g.P.Parts.part_of l.parts ≡ g.P.Parts.part_of l.fn.parts;
   lent : g.R.Shows.lends → l.cold ≡ l.fn.cold;
-  there : AreThere l.stripes (g.P.Parts.part_of l.fn.parts) (keys_of_all l.left);
+  there : AreThere (g.P.Parts.stripes_of l.fn.parts) (g.P.Parts.part_of l.fn.parts) (keys_of_all l.left);
   within : (key : Bytes) → is_among (keys_of_all l.left) key ≡ true → is_among (keys_of_all l.commands) key ≡ true;
   found : (cold : List Kept) (found : List Write)
-      → HasFound (IsNeeded (g.R.Shows.is_honest × AreRight l.staged) l.stripes (logs_of (g.P.Parts.part_of l.fn.parts)) (keys_of_all l.commands) l.staged) (g.R.Shows.is_honest × AreRight l.staged) (joined (shard_meaning g.R.Shows.is_steady) l.stripes (g.P.Parts.part_of l.fn.parts)) (keys_of_all l.left) l.cold cold l.found found
-      → HasFound (IsNeeded (g.R.Shows.is_honest × AreRight l.staged) l.stripes (logs_of (g.P.Parts.part_of l.fn.parts)) (keys_of_all l.commands) l.staged) (g.R.Shows.is_honest × AreRight l.staged) (joined (shard_meaning g.R.Shows.is_steady) l.stripes (g.P.Parts.part_of l.fn.parts)) (keys_of_all l.commands) l.fn.cold cold l.fn.found found;
+      → HasFound (IsNeeded (g.R.Shows.is_honest × AreRight l.staged) (g.P.Parts.stripes_of l.fn.parts) (logs_of (g.P.Parts.part_of l.fn.parts)) (keys_of_all l.commands) l.staged) (g.R.Shows.is_honest × AreRight l.staged) (joined (shard_meaning g.R.Shows.is_steady) (g.P.Parts.stripes_of l.fn.parts) (g.P.Parts.part_of l.fn.parts)) (keys_of_all l.left) l.cold cold l.found found
+      → HasFound (IsNeeded (g.R.Shows.is_honest × AreRight l.staged) (g.P.Parts.stripes_of l.fn.parts) (logs_of (g.P.Parts.part_of l.fn.parts)) (keys_of_all l.commands) l.staged) (g.R.Shows.is_honest × AreRight l.staged) (joined (shard_meaning g.R.Shows.is_steady) (g.P.Parts.stripes_of l.fn.parts) (g.P.Parts.part_of l.fn.parts)) (keys_of_all l.commands) l.fn.cold cold l.fn.found found;
 }
 
 abbrev pub decreases-loop-command : goal.decreases-loop-command

@@ -8,7 +8,7 @@ use Rattle.plans.proofs.freeing.free_at.Goals as goal
 pub returns-clause-became : goal.returns-clause-became
 returns-clause-became g c =
     let new = c.free_places.new.self in
-    same_one (shard_meaning g.R.Shows.is_steady) c.args.stripes c.args.stripe (g.P.Parts.part_of c.args.parts.now) (g.P.Parts.part_of (g.P.Parts.with_part c.args.parts.now c.args.stripe new)) c.part.result.now new
+    same_one (shard_meaning g.R.Shows.is_steady) (g.P.Parts.stripes_of c.args.parts.now) c.args.stripe (g.P.Parts.part_of c.args.parts.now) (g.P.Parts.part_of (g.P.Parts.with_part c.args.parts.now c.args.stripe new)) c.part.result.now new
     c.part.ensures.value (c.part.ensures.written new) (c.part.ensures.others new) (λ k. ap (λ (s : Store). s k) c.free_places.ensures.store) (λ k number. ap (λ (m : Marks). m k number) c.free_places.ensures.marks)
 
 pub returns-clause-freed : goal.returns-clause-freed

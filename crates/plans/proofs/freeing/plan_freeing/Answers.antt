@@ -5,145 +5,190 @@ use Rattle.transact.specs.Plans.{keys_begun}
 use Rattle.transact.specs.Tables.{joined}
 use Rattle.shards.specs.Shards.{shard_meaning}
 use Rattle.plans.specs.Stops.{faults}
+use Rattle.hybrid.specs.Staging.{AreRight}
+use Rattle.plans.proofs.Questions.{stop_then}
 use Rattle.plans.proofs.Become.{became_same, became_twice, there_after}
-use Rattle.plans.proofs.Freed.{begins_after, begun_after, full_still, full_there, heard_more, heard_none, heard_worn, joined_same, lasts_freed, lasts_none, lasts_still, needs_same, short_same, spent_at, stand_same, waits_fewer}
+use Rattle.plans.proofs.Freed.{asks_after, begins_after, begun_after, full_still, full_there, heard_more, heard_none, heard_worn, joined_same, lasts_freed, lasts_none, lasts_still, needs_same, spent_at, waits_fewer}
 use Rattle.plans.proofs.freeing.plan_freeing.Goals as goal
 
 pub freed-init : goal.freed-init
 freed-init g c =
     let parts = g.P.Parts.part_of c.args.parts.now in
     record {
-      is_open = c.requires.open;
+      is_open = c.requires.may.may.can_lend;
       keeps = g.met.P.Parts.keeps_same c.args.parts.now;
       is = c.requires.is;
-      right = c.requires.right;
-      became = became_same (shard_meaning g.R.Shows.is_steady) c.args.stripes parts parts refl;
+      right = λ steady right. right;
+      became = became_same (shard_meaning g.R.Shows.is_steady) (g.P.Parts.stripes_of c.args.parts.now) parts parts refl;
       lasts = lasts_none parts;
-      heard = heard_none (g.S.Retires.knows c.args.own.now);
+      heard = heard_none (g.S.Retires.knows c.args.hands.now.own);
       same = refl;
     }
 
-pub plan_staged-requires-clause-open : goal.plan_staged-requires-clause-open
-plan_staged-requires-clause-open g c = c.freed.invariant.is_open
-
-pub plan_staged-requires-clause-there : goal.plan_staged-requires-clause-there
-plan_staged-requires-clause-there g c =
-    there_after (shard_meaning g.R.Shows.is_steady) c.args.stripes (call_keys c.args.call.now) (g.P.Parts.part_of c.args.parts.now) (g.P.Parts.part_of c.freed.parts) c.freed.invariant.became.there c.requires.there
+pub plan_staged-requires : goal.plan_staged-requires
+plan_staged-requires g c = record {
+  may = record {
+    may = record {
+      can_lend = c.freed.invariant.is_open;
+      there = rw (g.met.P.Parts.same_stripes c.args.parts.now c.freed.parts c.freed.invariant.keeps) (there_after (shard_meaning g.R.Shows.is_steady) (g.P.Parts.stripes_of c.args.parts.now) (call_keys c.args.call.now) (g.P.Parts.part_of c.args.parts.now) (g.P.Parts.part_of c.freed.parts) c.freed.invariant.became.there c.requires.may.may.there);
+    };
+    entry = c.requires.may.entry;
+    place = c.requires.may.place;
+  };
+}
 
 pub free_at-freed-requires-clause-there : goal.free_at-freed-requires-clause-there
 free_at-freed-requires-clause-there g c =
-    full_there (g.P.Parts.part_of c.plan_staged.new.parts) c.in-Err-StoreFull.stripe (rw c.in-Err-StoreFull.field-0-is at c.in-Err-StoreFull.ensures.full)
+    let stop = rw (c.in-Err-StoreFull.field-0-is, g.met.P.Parts.same_stripes c.args.parts.now c.freed.parts c.freed.invariant.keeps, g.met.P.Parts.same_holder c.args.parts.now c.freed.parts c.freed.invariant.keeps) at c.in-Err-StoreFull.ensures.stopped in
+    full_there (g.P.Parts.part_of c.plan_staged.new.parts) c.in-Err-StoreFull.stripe stop.full
 
 pub freed-preserved : goal.freed-preserved
 freed-preserved g c =
     let m = shard_meaning g.R.Shows.is_steady in
-    let n : ℕ = c.args.stripes in
+    let n : ℕ = (g.P.Parts.stripes_of c.args.parts.now) in
     let inv = c.freed.invariant in
     let start = g.P.Parts.part_of c.args.parts.now in
     let now = g.P.Parts.part_of c.freed.parts in
     let mid = g.P.Parts.part_of c.plan_staged.new.parts in
     let last = g.P.Parts.part_of c.free_at-freed.new.parts in
-    let faulty = rw c.in-Err-StoreFull.field-0-is at c.in-Err-StoreFull.ensures.faults in
+    let faulty = rw c.in-Err-StoreFull.field-0-is at c.in-Err-StoreFull.ensures.failed in
     record {
-      is_open = c.free_at-freed.ensures.open;
+      is_open = c.free_at-freed.ensures.held.open_still;
       keeps = g.met.P.Parts.keeps_both c.args.parts.now c.plan_staged.new.parts c.free_at-freed.new.parts
-          (g.met.P.Parts.keeps_both c.args.parts.now c.freed.parts c.plan_staged.new.parts inv.keeps c.plan_staged.ensures.keeps) c.free_at-freed.ensures.keeps;
+          (g.met.P.Parts.keeps_both c.args.parts.now c.freed.parts c.plan_staged.new.parts inv.keeps c.plan_staged.ensures.held.kept) c.free_at-freed.ensures.held.kept;
       is = c.free_at-freed.ensures.is;
-      right = c.plan_staged.ensures.right;
-      became = became_twice m n start mid last (became_twice m n start now mid inv.became c.in-Err-StoreFull.ensures.err) c.free_at-freed.ensures.became;
+      right = λ steady right. c.plan_staged.ensures.right steady (inv.right steady right);
+      became = became_twice m n start mid last (became_twice m n start now mid inv.became (rw (g.met.P.Parts.same_stripes c.args.parts.now c.freed.parts c.freed.invariant.keeps) at c.in-Err-StoreFull.ensures.marks)) (rw (g.met.P.Parts.same_stripes c.args.parts.now c.plan_staged.new.parts (g.met.P.Parts.keeps_both c.args.parts.now c.freed.parts c.plan_staged.new.parts c.freed.invariant.keeps c.plan_staged.ensures.held.kept)) at c.free_at-freed.ensures.became);
       lasts = lasts_freed start mid last c.in-Err-StoreFull.stripe c.free_at-freed.result (lasts_still start now mid inv.lasts c.plan_staged.ensures.waits) c.free_at-freed.ensures.freed;
-      heard = heard_more c.free_at-freed.result.refused.retire (g.S.Retires.knows c.args.own.now) (g.S.Retires.knows c.freed.own) (g.S.Retires.knows c.free_at-freed.new.own) inv.heard c.free_at-freed.ensures.told;
+      heard = heard_more c.free_at-freed.result.refused.retire (g.S.Retires.knows c.args.hands.now.own) (g.S.Retires.knows c.freed.hands.own) (g.S.Retires.knows c.free_at-freed.new.own) inv.heard c.free_at-freed.ensures.told;
       same = omega (arith, c.free_at-freed.ensures.no_fault, faulty, inv.same);
     }
 
 pub freed-smaller : goal.freed-smaller
 freed-smaller g c =
-    waits_fewer c.args.stripes c.in-Err-StoreFull.stripe (g.P.Parts.part_of c.freed.parts) (g.P.Parts.part_of c.plan_staged.new.parts) (g.P.Parts.part_of c.free_at-freed.new.parts) c.free_at-freed.result
-    (rw c.in-Err-StoreFull.field-0-is at c.in-Err-StoreFull.ensures.below) (not-false c.free_at-freed.result.released c.if-not-freed.false) c.plan_staged.ensures.waits c.free_at-freed.ensures.freed
+    let stop = rw (c.in-Err-StoreFull.field-0-is, g.met.P.Parts.same_stripes c.args.parts.now c.freed.parts c.freed.invariant.keeps, g.met.P.Parts.same_holder c.args.parts.now c.freed.parts c.freed.invariant.keeps) at c.in-Err-StoreFull.ensures.stopped in
+    waits_fewer (g.P.Parts.stripes_of c.args.parts.now) c.in-Err-StoreFull.stripe (g.P.Parts.part_of c.freed.parts) (g.P.Parts.part_of c.plan_staged.new.parts) (g.P.Parts.part_of c.free_at-freed.new.parts) c.free_at-freed.result
+    stop.below (not-false c.free_at-freed.result.released c.if-not-freed.false) c.plan_staged.ensures.waits c.free_at-freed.ensures.freed
 
-pub returns-in-Ok-clause-plan : goal.returns-in-Ok-clause-plan
-returns-in-Ok-clause-plan g c = λ steady short asked seen watched asks stand ends once.
+pub returns-in-Ok-clause-works : goal.returns-in-Ok-clause-works
+returns-in-Ok-clause-works g c = record {
+  retires = record { is = c.freed.invariant.is; heard = c.freed.invariant.heard };
+  right = λ steady right. c.plan_staged.ensures.right steady (c.freed.invariant.right steady right);
+}
+
+pub returns-in-Ok-clause-ready : goal.returns-in-Ok-clause-ready
+returns-in-Ok-clause-ready g c =
+    let inv = c.freed.invariant in
+    let n : ℕ = g.P.Parts.stripes_of c.args.parts.now in
+    let holder : ℕ = g.P.Parts.holder_of c.args.parts.now in
+    let due = rw (g.met.P.Parts.same_stripes c.args.parts.now c.freed.parts c.freed.invariant.keeps, g.met.P.Parts.same_holder c.args.parts.now c.freed.parts c.freed.invariant.keeps) at c.in-Ok.ensures.ready.due in
+    record {
+      due = λ right seen operation asks. due (right.0, inv.right right.0 right.1) seen operation
+          (asks_after (shard_meaning g.R.Shows.is_steady) n (g.P.Parts.part_of c.args.parts.now) (g.P.Parts.part_of c.freed.parts) holder c.args.call.now seen operation inv.became asks);
+      fits = c.in-Ok.ensures.ready.fits;
+      room = rw (g.met.P.Parts.same_stripes c.args.parts.now c.freed.parts c.freed.invariant.keeps) at c.in-Ok.ensures.ready.room;
+    }
+
+pub returns-in-Ok-clause-marks : goal.returns-in-Ok-clause-marks
+returns-in-Ok-clause-marks g c =
     let m = shard_meaning g.R.Shows.is_steady in
+    let n : ℕ = g.P.Parts.stripes_of c.args.parts.now in
+    let holder : ℕ = g.P.Parts.holder_of c.args.parts.now in
     let start = g.P.Parts.part_of c.args.parts.now in
     let now = g.P.Parts.part_of c.freed.parts in
-    c.in-Ok.ensures.plan steady (short_same m c.args.stripes start now c.freed.invariant.became short) asked seen watched asks
-    (stand_same m c.args.stripes start now seen c.args.seat watched c.freed.invariant.became stand) ends once
+    let later = g.P.Parts.part_of c.plan_staged.new.parts in
+    record {
+      became = begins_after m n holder (keys_begun c.args.call.now) start now later c.freed.invariant.became (rw (g.met.P.Parts.same_stripes c.args.parts.now c.freed.parts c.freed.invariant.keeps, g.met.P.Parts.same_holder c.args.parts.now c.freed.parts c.freed.invariant.keeps) at c.in-Ok.ensures.marks.became);
+      begun = begun_after m n holder c.in-Ok.planned.begun start now later c.freed.invariant.became (rw (g.met.P.Parts.same_stripes c.args.parts.now c.freed.parts c.freed.invariant.keeps, g.met.P.Parts.same_holder c.args.parts.now c.freed.parts c.freed.invariant.keeps) at c.in-Ok.ensures.marks.begun);
+    }
 
-pub returns-in-Ok-clause-ok : goal.returns-in-Ok-clause-ok
-returns-in-Ok-clause-ok g c =
-    begins_after (shard_meaning g.R.Shows.is_steady) c.args.stripes c.args.seat (keys_begun c.args.call.now) (g.P.Parts.part_of c.args.parts.now) (g.P.Parts.part_of c.freed.parts) (g.P.Parts.part_of c.plan_staged.new.parts)
-    c.freed.invariant.became c.in-Ok.ensures.ok
+pub returns-in-Ok-clause-failed : goal.returns-in-Ok-clause-failed
+returns-in-Ok-clause-failed g c = c.in-Ok.ensures.failed ∙ c.freed.invariant.same
 
-pub returns-in-Ok-clause-begun : goal.returns-in-Ok-clause-begun
-returns-in-Ok-clause-begun g c =
-    begun_after (shard_meaning g.R.Shows.is_steady) c.args.stripes c.args.seat c.in-Ok.planned.begun (g.P.Parts.part_of c.args.parts.now) (g.P.Parts.part_of c.freed.parts) (g.P.Parts.part_of c.plan_staged.new.parts)
-    c.freed.invariant.became c.in-Ok.ensures.begun
+pub returns-in-Ok-clause-held : goal.returns-in-Ok-clause-held
+returns-in-Ok-clause-held g c = record {
+  open_still = c.plan_staged.ensures.held.open_still;
+  kept = g.met.P.Parts.keeps_both c.args.parts.now c.freed.parts c.plan_staged.new.parts c.freed.invariant.keeps c.plan_staged.ensures.held.kept;
+}
 
-pub returns-in-Ok-clause-no_fault : goal.returns-in-Ok-clause-no_fault
-returns-in-Ok-clause-no_fault g c = c.in-Ok.ensures.no_fault ∙ c.freed.invariant.same
+pub returns-then-not-freed-clause-works : goal.returns-then-not-freed-clause-works
+returns-then-not-freed-clause-works g c = record {
+  retires = record {
+    is = c.free_at-freed.ensures.is;
+    heard = heard_more c.free_at-freed.result.refused.retire (g.S.Retires.knows c.args.hands.now.own) (g.S.Retires.knows c.freed.hands.own) (g.S.Retires.knows c.free_at-freed.new.own) c.freed.invariant.heard c.free_at-freed.ensures.told;
+  };
+  right = λ steady right. c.plan_staged.ensures.right steady (c.freed.invariant.right steady right);
+}
 
-pub returns-in-Ok-clause-keeps : goal.returns-in-Ok-clause-keeps
-returns-in-Ok-clause-keeps g c = g.met.P.Parts.keeps_both c.args.parts.now c.freed.parts c.plan_staged.new.parts c.freed.invariant.keeps c.plan_staged.ensures.keeps
-
-pub returns-then-not-freed-clause-err : goal.returns-then-not-freed-clause-err
-returns-then-not-freed-clause-err g c =
+pub returns-then-not-freed-clause-marks : goal.returns-then-not-freed-clause-marks
+returns-then-not-freed-clause-marks g c =
     let m = shard_meaning g.R.Shows.is_steady in
-    let n : ℕ = c.args.stripes in
+    let n : ℕ = g.P.Parts.stripes_of c.args.parts.now in
     let start = g.P.Parts.part_of c.args.parts.now in
     let mid = g.P.Parts.part_of c.plan_staged.new.parts in
-    became_twice m n start mid (g.P.Parts.part_of c.free_at-freed.new.parts) (became_twice m n start (g.P.Parts.part_of c.freed.parts) mid c.freed.invariant.became c.in-Err-StoreFull.ensures.err) c.free_at-freed.ensures.became
+    became_twice m n start mid (g.P.Parts.part_of c.free_at-freed.new.parts)
+    (became_twice m n start (g.P.Parts.part_of c.freed.parts) mid c.freed.invariant.became (rw (g.met.P.Parts.same_stripes c.args.parts.now c.freed.parts c.freed.invariant.keeps) at c.in-Err-StoreFull.ensures.marks)) (rw (g.met.P.Parts.same_stripes c.args.parts.now c.plan_staged.new.parts (g.met.P.Parts.keeps_both c.args.parts.now c.freed.parts c.plan_staged.new.parts c.freed.invariant.keeps c.plan_staged.ensures.held.kept)) at c.free_at-freed.ensures.became)
 
 pub returns-then-not-freed-clause-full : goal.returns-then-not-freed-clause-full
 returns-then-not-freed-clause-full g c =
+    let inv = c.freed.invariant in
+    let n : ℕ = g.P.Parts.stripes_of c.args.parts.now in
+    let holder : ℕ = g.P.Parts.holder_of c.args.parts.now in
     let start = g.P.Parts.part_of c.args.parts.now in
     let mid = g.P.Parts.part_of c.plan_staged.new.parts in
     let last = g.P.Parts.part_of c.free_at-freed.new.parts in
-    let full = rw c.in-Err-StoreFull.field-0-is at c.in-Err-StoreFull.ensures.full in (
-      full_still mid last c.in-Err-StoreFull.stripe c.free_at-freed.result (not-true c.free_at-freed.result.released c.if-not-freed.true) c.free_at-freed.ensures.freed full,
-      spent_at start mid last c.in-Err-StoreFull.stripe c.free_at-freed.result (lasts_still start (g.P.Parts.part_of c.freed.parts) mid c.freed.invariant.lasts c.plan_staged.ensures.waits) c.free_at-freed.ensures.freed,
-    )
+    let stop = rw (c.in-Err-StoreFull.field-0-is, g.met.P.Parts.same_stripes c.args.parts.now c.freed.parts c.freed.invariant.keeps, g.met.P.Parts.same_holder c.args.parts.now c.freed.parts c.freed.invariant.keeps) at c.in-Err-StoreFull.ensures.stopped in
+    record {
+      stuck = record {
+        full = full_still mid last c.in-Err-StoreFull.stripe c.free_at-freed.result (not-true c.free_at-freed.result.released c.if-not-freed.true) c.free_at-freed.ensures.freed stop.full;
+        spent = spent_at start mid last c.in-Err-StoreFull.stripe c.free_at-freed.result (lasts_still start (g.P.Parts.part_of c.freed.parts) mid inv.lasts c.plan_staged.ensures.waits) c.free_at-freed.ensures.freed;
+        worn = λ worn. heard_worn c.free_at-freed.result.refused.retire (g.S.Retires.knows c.args.hands.now.own) (g.S.Retires.knows c.freed.hands.own) (g.S.Retires.knows c.free_at-freed.new.own) inv.heard c.free_at-freed.ensures.told worn;
+      };
+      written = λ right seen operation asks. stop.written (right.0, inv.right right.0 right.1) seen operation
+          (asks_after (shard_meaning g.R.Shows.is_steady) n start (g.P.Parts.part_of c.freed.parts) holder c.args.call.now seen operation inv.became asks);
+    }
 
-pub returns-then-not-freed-clause-worn : goal.returns-then-not-freed-clause-worn
-returns-then-not-freed-clause-worn g c = λ worn.
-    heard_worn c.free_at-freed.result.refused.retire (g.S.Retires.knows c.args.own.now) (g.S.Retires.knows c.freed.own) (g.S.Retires.knows c.free_at-freed.new.own) c.freed.invariant.heard c.free_at-freed.ensures.told worn
-
-pub returns-then-not-freed-clause-heard : goal.returns-then-not-freed-clause-heard
-returns-then-not-freed-clause-heard g c =
-    heard_more c.free_at-freed.result.refused.retire (g.S.Retires.knows c.args.own.now) (g.S.Retires.knows c.freed.own) (g.S.Retires.knows c.free_at-freed.new.own) c.freed.invariant.heard c.free_at-freed.ensures.told
-
-pub returns-then-not-freed-clause-written : goal.returns-then-not-freed-clause-written
-returns-then-not-freed-clause-written g c = λ steady short.
-    let m = shard_meaning g.R.Shows.is_steady in
-    let start = g.P.Parts.part_of c.args.parts.now in
-    let now = g.P.Parts.part_of c.freed.parts in
-    let written = rw c.in-Err-StoreFull.field-0-is at (c.in-Err-StoreFull.ensures.written steady (short_same m c.args.stripes start now c.freed.invariant.became short)) in
-    λ asked seen watched asks stand ends once.
-    written asked seen watched asks (stand_same m c.args.stripes start now seen c.args.seat watched c.freed.invariant.became stand) ends once
-
-pub returns-then-not-freed-clause-faults : goal.returns-then-not-freed-clause-faults
-returns-then-not-freed-clause-faults g c =
-    let faulty = rw c.in-Err-StoreFull.field-0-is at c.in-Err-StoreFull.ensures.faults in
+pub returns-then-not-freed-clause-failed : goal.returns-then-not-freed-clause-failed
+returns-then-not-freed-clause-failed g c =
+    let faulty = rw c.in-Err-StoreFull.field-0-is at c.in-Err-StoreFull.ensures.failed in
     omega (arith, c.free_at-freed.ensures.no_fault, faulty, c.freed.invariant.same)
 
-pub returns-then-not-freed-clause-keeps : goal.returns-then-not-freed-clause-keeps
-returns-then-not-freed-clause-keeps g c =
-    g.met.P.Parts.keeps_both c.args.parts.now c.plan_staged.new.parts c.free_at-freed.new.parts
-    (g.met.P.Parts.keeps_both c.args.parts.now c.freed.parts c.plan_staged.new.parts c.freed.invariant.keeps c.plan_staged.ensures.keeps) c.free_at-freed.ensures.keeps
+pub returns-then-not-freed-clause-held : goal.returns-then-not-freed-clause-held
+returns-then-not-freed-clause-held g c = record {
+  open_still = c.free_at-freed.ensures.held.open_still;
+  kept = g.met.P.Parts.keeps_both c.args.parts.now c.plan_staged.new.parts c.free_at-freed.new.parts
+      (g.met.P.Parts.keeps_both c.args.parts.now c.freed.parts c.plan_staged.new.parts c.freed.invariant.keeps c.plan_staged.ensures.held.kept) c.free_at-freed.ensures.held.kept;
+}
 
-pub returns-in-Err-clause-err : goal.returns-in-Err-clause-err
-returns-in-Err-clause-err g c =
-    became_twice (shard_meaning g.R.Shows.is_steady) c.args.stripes (g.P.Parts.part_of c.args.parts.now) (g.P.Parts.part_of c.freed.parts) (g.P.Parts.part_of c.plan_staged.new.parts) c.freed.invariant.became c.in-Err.ensures.err
+pub returns-in-Err-clause-works : goal.returns-in-Err-clause-works
+returns-in-Err-clause-works g c = record {
+  retires = record { is = c.freed.invariant.is; heard = c.freed.invariant.heard };
+  right = λ steady right. c.plan_staged.ensures.right steady (c.freed.invariant.right steady right);
+}
 
-pub returns-in-Err-clause-memory : goal.returns-in-Err-clause-memory
-returns-in-Err-clause-memory g c = λ steady lends needs.
+pub returns-in-Err-clause-marks : goal.returns-in-Err-clause-marks
+returns-in-Err-clause-marks g c =
+    became_twice (shard_meaning g.R.Shows.is_steady) (g.P.Parts.stripes_of c.args.parts.now) (g.P.Parts.part_of c.args.parts.now) (g.P.Parts.part_of c.freed.parts) (g.P.Parts.part_of c.plan_staged.new.parts)
+    c.freed.invariant.became (rw (g.met.P.Parts.same_stripes c.args.parts.now c.freed.parts c.freed.invariant.keeps) at c.in-Err.ensures.marks)
+
+pub returns-in-Err-clause-halted : goal.returns-in-Err-clause-halted
+returns-in-Err-clause-halted g c =
+    let inv = c.freed.invariant in
     let m = shard_meaning g.R.Shows.is_steady in
+    let n : ℕ = g.P.Parts.stripes_of c.args.parts.now in
     let start = g.P.Parts.part_of c.args.parts.now in
     let now = g.P.Parts.part_of c.freed.parts in
-    c.in-Err.ensures.memory steady lends
-    (needs_same (joined m c.args.stripes start) (joined m c.args.stripes now) c.args.call.now (λ key. joined_same m c.args.stripes start now key c.freed.invariant.became) needs)
+    let stopped = rw (g.met.P.Parts.same_stripes c.args.parts.now c.freed.parts c.freed.invariant.keeps, g.met.P.Parts.same_holder c.args.parts.now c.freed.parts c.freed.invariant.keeps) at c.in-Err.ensures.stopped in
+    stop_then c.in-Err.stop _ _ _ _ _ _ _ _ (λ receipts cold. (cold.unread, cold.unlent))
+    (λ takes (right : g.R.Shows.is_steady × AreRight c.args.hands.now.staged) lends needs. takes (right.0, inv.right right.0 right.1) lends
+    (needs_same (joined m n start) (joined m n now) c.args.call.now (λ key. joined_same m n start now key inv.became) needs))
+    (λ fault. tt) (λ stripe full. tt) stopped
 
-pub returns-in-Err-clause-faults : goal.returns-in-Err-clause-faults
-returns-in-Err-clause-faults g c = c.in-Err.ensures.faults ∙ ap (λ (k : ℕ). k + faults c.in-Err.stop) c.freed.invariant.same
+pub returns-in-Err-clause-failed : goal.returns-in-Err-clause-failed
+returns-in-Err-clause-failed g c = c.in-Err.ensures.failed ∙ ap (λ (k : ℕ). k + faults c.in-Err.stop) c.freed.invariant.same
 
-pub returns-in-Err-clause-keeps : goal.returns-in-Err-clause-keeps
-returns-in-Err-clause-keeps g c = g.met.P.Parts.keeps_both c.args.parts.now c.freed.parts c.plan_staged.new.parts c.freed.invariant.keeps c.plan_staged.ensures.keeps
+pub returns-in-Err-clause-held : goal.returns-in-Err-clause-held
+returns-in-Err-clause-held g c = record {
+  open_still = c.plan_staged.ensures.held.open_still;
+  kept = g.met.P.Parts.keeps_both c.args.parts.now c.freed.parts c.plan_staged.new.parts c.freed.invariant.keeps c.plan_staged.ensures.held.kept;
+}

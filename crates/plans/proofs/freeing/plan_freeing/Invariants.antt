@@ -11,13 +11,13 @@ abbrev pub invariant-freed : goal.invariant-freed
 invariant-freed g l = record {
   is_open : g.P.Parts.is_open l.parts;
   keeps : g.P.Parts.keeps l.fn.parts l.parts;
-  is : g.S.Retires.is_of l.epochs l.own;
-  right : g.R.Shows.is_steady → AreRight l.staged;
-  became : Became (shard_meaning g.R.Shows.is_steady) l.stripes [] stays (g.P.Parts.part_of l.fn.parts) (g.P.Parts.part_of l.parts);
+  is : g.S.Retires.is_of l.epochs l.hands.own;
+  right : g.R.Shows.is_steady → AreRight l.fn.hands.staged → AreRight l.hands.staged;
+  became : Became (shard_meaning g.R.Shows.is_steady) (g.P.Parts.stripes_of l.fn.parts) [] stays (g.P.Parts.part_of l.fn.parts) (g.P.Parts.part_of l.parts);
   lasts : Lasts (g.P.Parts.part_of l.fn.parts) (g.P.Parts.part_of l.parts);
-  heard : HasHeard (g.S.Retires.knows l.fn.own) (g.S.Retires.knows l.own);
+  heard : HasHeard (g.S.Retires.knows l.fn.hands.own) (g.S.Retires.knows l.hands.own);
   same : g.D.Device.failures l.device ≡ g.D.Device.failures l.fn.device;
 }
 
 abbrev pub decreases-freed : goal.decreases-freed
-decreases-freed g l = all_waiting l.stripes (waits_of (g.P.Parts.part_of l.parts))
+decreases-freed g l = all_waiting (g.P.Parts.stripes_of l.fn.parts) (waits_of (g.P.Parts.part_of l.parts))

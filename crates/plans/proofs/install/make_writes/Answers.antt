@@ -25,7 +25,9 @@ pub write_before-requires-clause-open : goal.write_before-requires-clause-open
 write_before-requires-clause-open g c = c.loop-first.invariant.is_open
 
 pub write_before-requires-clause-room : goal.write_before-requires-clause-room
-write_before-requires-clause-room g c = subst (AreRoomy c.args.stripes (logs_of (g.P.Parts.part_of c.loop-first.parts))) c.in-Some.ensures.cases.0 c.loop-first.invariant.room
+write_before-requires-clause-room g c =
+    let count = g.met.P.Parts.same_stripes c.args.parts.now c.loop-first.parts c.loop-first.invariant.keeps in
+    subst (λ (m : ℕ). AreRoomy m (logs_of (g.P.Parts.part_of c.loop-first.parts)) (c.in-Some.first.now ∷ c.in-Some.others.now)) (sym count) (subst (AreRoomy (g.P.Parts.stripes_of c.args.parts.now) (logs_of (g.P.Parts.part_of c.loop-first.parts))) c.in-Some.ensures.cases.0 c.loop-first.invariant.room)
 
 pub write_before-requires-clause-fits : goal.write_before-requires-clause-fits
 write_before-requires-clause-fits g c =
@@ -33,27 +35,31 @@ write_before-requires-clause-fits g c =
 
 pub loop-first-preserved : goal.loop-first-preserved
 loop-first-preserved g c =
-    let n : ℕ = c.args.stripes in
+    let n : ℕ = (g.P.Parts.stripes_of c.args.parts.now) in
     let inv = c.loop-first.invariant in
     let first : Write = c.in-Some.first.now in
     let others : List Write = c.in-Some.others.now in
     let is : c.loop-first.left.now ≡ first ∷ others = c.in-Some.ensures.cases.0 in
     let before = g.P.Parts.part_of c.loop-first.parts in
     let all : AreFit (first ∷ others) = subst AreFit is inv.fits in
+    let count = g.met.P.Parts.same_stripes c.args.parts.now c.loop-first.parts inv.keeps in
+    let room = rw count at c.write_before.ensures.room in
+    let step = rw count at c.write_before.ensures.became in
+    let growth = rw count at c.write_before.ensures.grown in
     record {
-      is_open = c.write_before.ensures.open;
-      keeps = g.met.P.Parts.keeps_both c.args.parts.now c.loop-first.parts c.write_before.new.parts inv.keeps c.write_before.ensures.keeps;
+      is_open = c.write_before.ensures.held.open_still;
+      keeps = g.met.P.Parts.keeps_both c.args.parts.now c.loop-first.parts c.write_before.new.parts inv.keeps c.write_before.ensures.held.kept;
       waits = waits_both (g.P.Parts.part_of c.args.parts.now) before (g.P.Parts.part_of c.write_before.new.parts) inv.waits c.write_before.ensures.waits;
-      room = c.write_before.ensures.room;
+      room = room;
       fits = all.1;
       became = λ later became. inv.became later
-          (subst (λ (l : List Write). Became (shard_meaning g.R.Shows.is_steady) n l (touches l) before later) (sym is) (c.write_before.ensures.became later became));
-      grown = λ later grown. inv.grown later (subst (λ (l : List Write). HaveGrown n l (logs_of before) later) (sym is) (c.write_before.ensures.grown later grown));
+          (subst (λ (l : List Write). Became (shard_meaning g.R.Shows.is_steady) n l (touches l) before later) (sym is) (step later became));
+      grown = λ later grown. inv.grown later (subst (λ (l : List Write). HaveGrown n l (logs_of before) later) (sym is) (growth later grown));
     }
 
 pub returns-clause-became : goal.returns-clause-became
 returns-clause-became g c =
-    let n : ℕ = c.args.stripes in
+    let n : ℕ = (g.P.Parts.stripes_of c.args.parts.now) in
     let parts = g.P.Parts.part_of c.loop-first.parts in
     let none : c.loop-first.left.now ≡ [] = no_share c.loop-first.left.now c.in_default.ensures.cases in
     c.loop-first.invariant.became parts
@@ -61,7 +67,7 @@ returns-clause-became g c =
 
 pub returns-clause-grown : goal.returns-clause-grown
 returns-clause-grown g c =
-    let n : ℕ = c.args.stripes in
+    let n : ℕ = (g.P.Parts.stripes_of c.args.parts.now) in
     let logs = logs_of (g.P.Parts.part_of c.loop-first.parts) in
     let none : c.loop-first.left.now ≡ [] = no_share c.loop-first.left.now c.in_default.ensures.cases in
     c.loop-first.invariant.grown logs (subst (λ (l : List Write). HaveGrown n l logs logs) (sym none) (grown_none c.growth_adds_up.ensures n logs))

@@ -13,12 +13,12 @@ invariant-loop-first g l = record {
   is_open : g.P.Parts.is_open l.parts;
   keeps : g.P.Parts.keeps l.fn.parts l.parts;
   waits : SameWaits (g.P.Parts.part_of l.fn.parts) (g.P.Parts.part_of l.parts);
-  room : AreRoomy l.stripes (logs_of (g.P.Parts.part_of l.parts)) l.left;
+  room : AreRoomy (g.P.Parts.stripes_of l.fn.parts) (logs_of (g.P.Parts.part_of l.parts)) l.left;
   fits : AreFit l.left;
-  became : (later : ℕ → Option (Shard _)) → Became (shard_meaning g.R.Shows.is_steady) l.stripes l.left (touches l.left) (g.P.Parts.part_of l.parts) later
-      → Became (shard_meaning g.R.Shows.is_steady) l.stripes l.writes (touches l.writes) (g.P.Parts.part_of l.fn.parts) later;
-  grown : (later : ℕ → Option HybridLog) → HaveGrown l.stripes l.left (logs_of (g.P.Parts.part_of l.parts)) later
-      → HaveGrown l.stripes l.writes (logs_of (g.P.Parts.part_of l.fn.parts)) later;
+  became : (later : ℕ → Option (Shard _)) → Became (shard_meaning g.R.Shows.is_steady) (g.P.Parts.stripes_of l.fn.parts) l.left (touches l.left) (g.P.Parts.part_of l.parts) later
+      → Became (shard_meaning g.R.Shows.is_steady) (g.P.Parts.stripes_of l.fn.parts) l.writes (touches l.writes) (g.P.Parts.part_of l.fn.parts) later;
+  grown : (later : ℕ → Option HybridLog) → HaveGrown (g.P.Parts.stripes_of l.fn.parts) l.left (logs_of (g.P.Parts.part_of l.parts)) later
+      → HaveGrown (g.P.Parts.stripes_of l.fn.parts) l.writes (logs_of (g.P.Parts.part_of l.fn.parts)) later;
 }
 
 abbrev pub decreases-loop-first : goal.decreases-loop-first

@@ -14,25 +14,25 @@ returns-then-writes_to-clause-room g c =
     let next : Write = c.args.next.now in
     let others : List Write = c.args.others.now in
     let hidden : writes_key others next.0 ≡ true = ap (writes_key others) (sym c.key.ensures) ∙ sym c.writes_to.ensures ∙ c.if-writes_to.true in
-    roomy_hidden c.args.stripes next others (logs_of (g.P.Parts.part_of c.args.parts.now)) hidden c.requires.room
+    roomy_hidden (g.P.Parts.stripes_of c.args.parts.now) next others (logs_of (g.P.Parts.part_of c.args.parts.now)) hidden c.requires.room
 
 pub returns-then-writes_to-clause-became : goal.returns-then-writes_to-clause-became
 returns-then-writes_to-clause-became g c = λ later became.
     let next : Write = c.args.next.now in
     let others : List Write = c.args.others.now in
     let hidden : writes_key others next.0 ≡ true = ap (writes_key others) (sym c.key.ensures) ∙ sym c.writes_to.ensures ∙ c.if-writes_to.true in
-    became_hidden (shard_meaning g.R.Shows.is_steady) c.args.stripes next others (g.P.Parts.part_of c.args.parts.now) later hidden became
+    became_hidden (shard_meaning g.R.Shows.is_steady) (g.P.Parts.stripes_of c.args.parts.now) next others (g.P.Parts.part_of c.args.parts.now) later hidden became
 
 pub returns-then-writes_to-clause-grown : goal.returns-then-writes_to-clause-grown
 returns-then-writes_to-clause-grown g c = λ later grown.
     let next : Write = c.args.next.now in
     let others : List Write = c.args.others.now in
     let hidden : writes_key others next.0 ≡ true = ap (writes_key others) (sym c.key.ensures) ∙ sym c.writes_to.ensures ∙ c.if-writes_to.true in
-    grown_hidden c.args.stripes next others (logs_of (g.P.Parts.part_of c.args.parts.now)) later hidden grown
+    grown_hidden (g.P.Parts.stripes_of c.args.parts.now) next others (logs_of (g.P.Parts.part_of c.args.parts.now)) later hidden grown
 
 pub write-requires-clause-room : goal.write-requires-clause-room
 write-requires-clause-room g c =
-    let n : ℕ = c.args.stripes in
+    let n : ℕ = (g.P.Parts.stripes_of c.args.parts.now) in
     let logs = logs_of (g.P.Parts.part_of c.args.parts.now) in
     let next : Write = c.args.next.now in
     let others : List Write = c.args.others.now in
@@ -42,7 +42,7 @@ write-requires-clause-room g c =
 
 pub returns-clause-room : goal.returns-clause-room
 returns-clause-room g c =
-    let n : ℕ = c.args.stripes in
+    let n : ℕ = (g.P.Parts.stripes_of c.args.parts.now) in
     let next : Write = c.args.next.now in
     let others : List Write = c.args.others.now in
     let last : writes_key others next.0 ≡ false = ap (writes_key others) (sym c.key.ensures) ∙ sym c.writes_to.ensures ∙ c.if-writes_to.false in
@@ -50,11 +50,11 @@ returns-clause-room g c =
 
 pub returns-clause-became : goal.returns-clause-became
 returns-clause-became g c = λ later became.
-    became_touches (shard_meaning g.R.Shows.is_steady) c.args.stripes c.args.next.now c.args.others.now (g.P.Parts.part_of c.args.parts.now) (g.P.Parts.part_of c.write.new.parts) later c.write.ensures.became became
+    became_touches (shard_meaning g.R.Shows.is_steady) (g.P.Parts.stripes_of c.args.parts.now) c.args.next.now c.args.others.now (g.P.Parts.part_of c.args.parts.now) (g.P.Parts.part_of c.write.new.parts) later c.write.ensures.became became
 
 pub returns-clause-grown : goal.returns-clause-grown
 returns-clause-grown g c = λ later grown.
     let next : Write = c.args.next.now in
     let others : List Write = c.args.others.now in
     let last : writes_key others next.0 ≡ false = ap (writes_key others) (sym c.key.ensures) ∙ sym c.writes_to.ensures ∙ c.if-writes_to.false in
-    grown_more c.growth_adds_up.ensures c.args.stripes next others (logs_of (g.P.Parts.part_of c.args.parts.now)) (logs_of (g.P.Parts.part_of c.write.new.parts)) later last c.write.ensures.grown grown
+    grown_more c.growth_adds_up.ensures (g.P.Parts.stripes_of c.args.parts.now) next others (logs_of (g.P.Parts.part_of c.args.parts.now)) (logs_of (g.P.Parts.part_of c.write.new.parts)) later last c.write.ensures.grown grown

@@ -11,24 +11,28 @@ use Rattle.plans.proofs.marks.+begin_all.Goals as goal
 
 pub begin_all-requires : goal.begin_all-requires
 begin_all-requires g t c κs within =
-    let n : ℕ = c.args.stripes in
+    let n : ℕ = (g.P.Parts.stripes_of c.args.parts.now) in
     let before = g.P.Parts.part_of c.args.parts.now in
     let later = g.P.Parts.part_of c.begin_one.new.parts in
     let all : AreThere n before (c.in-Some.key.now ∷ c.in-Some.others.now) = subst (AreThere n before) c.in-Some.ensures.cases.0 c.requires.there in
     let rest : AreThere n later c.in-Some.others.now = there_after (shard_meaning g.R.Shows.is_steady) n c.in-Some.others.now before later c.in_ok-begin_one.ensures.ok.there all.1 in
-    search (rules, rest)
+    let count = g.met.P.Parts.same_stripes c.args.parts.now c.begin_one.new.parts c.begin_one.ensures.held.kept in
+    search (rules, rest, count)
 
 pub returns-clause-ok : goal.returns-clause-ok
 returns-clause-ok g t c =
-    let n : ℕ = c.args.stripes in
-    let own : ℕ = c.args.seat in
+    let n : ℕ = (g.P.Parts.stripes_of c.args.parts.now) in
+    let own : ℕ = (g.P.Parts.holder_of c.args.parts.now) in
     let a = g.P.Parts.part_of c.args.parts.now in
     let b = g.P.Parts.part_of c.begin_one.new.parts in
     let d = g.P.Parts.part_of c.begin_all.new.parts in
+    let count = g.met.P.Parts.same_stripes c.args.parts.now c.begin_one.new.parts c.begin_one.ensures.held.kept in
+    let holder = g.met.P.Parts.same_holder c.args.parts.now c.begin_one.new.parts c.begin_one.ensures.held.kept in
+    let others = rw (count, holder) at c.begin_all.ensures.ok in
     ok_then c.begin_all.result
     (λ e. subst (λ (l : List Bytes). Became (shard_meaning g.R.Shows.is_steady) n [] (begins own l) a d) (sym c.in-Some.ensures.cases.0)
     (begun_more (shard_meaning g.R.Shows.is_steady) n own c.in-Some.key.now c.in-Some.others.now a b d c.in_ok-begin_one.ensures.ok e))
-    c.begin_all.ensures.ok
+    others
 
 pub returns-clause-logs : goal.returns-clause-logs
 returns-clause-logs g t c =

@@ -10,22 +10,26 @@ use Rattle.plans.proofs.marks.+clear_all.Goals as goal
 
 pub clear_all-requires : goal.clear_all-requires
 clear_all-requires g t c κs within =
-    let n : ℕ = c.args.stripes in
+    let n : ℕ = (g.P.Parts.stripes_of c.args.parts.now) in
     let before = g.P.Parts.part_of c.args.parts.now in
     let later = g.P.Parts.part_of c.clear.new.parts in
     let all : AreThere n before (c.in-Some.key.now ∷ c.in-Some.others.now) = subst (AreThere n before) c.in-Some.ensures.cases.0 c.requires.there in
     let rest : AreThere n later c.in-Some.others.now = there_after (shard_meaning g.R.Shows.is_steady) n c.in-Some.others.now before later c.clear.ensures.became.there all.1 in
-    search (rules, rest)
+    let count = g.met.P.Parts.same_stripes c.args.parts.now c.clear.new.parts c.clear.ensures.held.kept in
+    search (rules, rest, count)
 
 pub returns-in-Some-clause-became : goal.returns-in-Some-clause-became
 returns-in-Some-clause-became g t c =
-    let n : ℕ = c.args.stripes in
-    let own : ℕ = c.args.seat in
+    let n : ℕ = (g.P.Parts.stripes_of c.args.parts.now) in
+    let own : ℕ = (g.P.Parts.holder_of c.args.parts.now) in
     let a = g.P.Parts.part_of c.args.parts.now in
     let b = g.P.Parts.part_of c.clear.new.parts in
     let d = g.P.Parts.part_of c.clear_all.new.parts in
+    let count = g.met.P.Parts.same_stripes c.args.parts.now c.clear.new.parts c.clear.ensures.held.kept in
+    let holder = g.met.P.Parts.same_holder c.args.parts.now c.clear.new.parts c.clear.ensures.held.kept in
+    let others = rw (count, holder) at c.clear_all.ensures.became in
     subst (λ (l : List Bytes). Became (shard_meaning g.R.Shows.is_steady) n [] (clears own l) a d) (sym c.in-Some.ensures.cases.0)
-    (cleared_more (shard_meaning g.R.Shows.is_steady) n own c.in-Some.key.now c.in-Some.others.now a b d c.clear.ensures.became c.clear_all.ensures.became)
+    (cleared_more (shard_meaning g.R.Shows.is_steady) n own c.in-Some.key.now c.in-Some.others.now a b d c.clear.ensures.became others)
 
 pub returns-in-Some-clause-logs : goal.returns-in-Some-clause-logs
 returns-in-Some-clause-logs g t c =

@@ -7,8 +7,8 @@ use Rattle.plans.proofs.marks.begin_one.Goals as goal
 
 pub returns-then-branch-clause-begun : goal.returns-then-branch-clause-begun
 returns-then-branch-clause-begun g c = λ before has.
-    let n : ℕ = c.args.stripes in
-    let own : ℕ = c.args.seat in
+    let n : ℕ = (g.P.Parts.stripes_of c.args.parts.now) in
+    let own : ℕ = (g.P.Parts.holder_of c.args.parts.now) in
     let b = g.P.Parts.part_of c.args.parts.now in
     let d = g.P.Parts.part_of c.begin.new.parts in
     let items : c.push_reserved.new.self.items ≡ c.args.begun.now.items ++ c.args.key.now ∷ [] =
@@ -18,8 +18,8 @@ returns-then-branch-clause-begun g c = λ before has.
 
 pub returns-else-branch-clause-begun : goal.returns-else-branch-clause-begun
 returns-else-branch-clause-begun g c = λ before has.
-    let n : ℕ = c.args.stripes in
-    let own : ℕ = c.args.seat in
+    let n : ℕ = (g.P.Parts.stripes_of c.args.parts.now) in
+    let own : ℕ = (g.P.Parts.holder_of c.args.parts.now) in
     let b = g.P.Parts.part_of c.args.parts.now in
     let d = g.P.Parts.part_of c.begin.new.parts in
     subst (λ (l : List Bytes). HasBegun (shard_meaning g.R.Shows.is_steady) n own l before d) (sym c.reserve.ensures.items)

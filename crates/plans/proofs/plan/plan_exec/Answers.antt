@@ -1,98 +1,99 @@
-use Rattle.std.proofs.Common.{◌∙◌, ℕ, refl, sym, subst}
+use Rattle.std.proofs.Common.{◌∙◌, ℕ, sym, subst, refl}
+use Rattle.words.specs.declared.history.Operation.{Operation}
 use Rattle.words.specs.History.{after}
-use Rattle.transact.specs.Tables.{AllRead}
+use Rattle.hybrid.specs.Staging.{AreRight}
+use Rattle.transact.specs.Plans.{IsPlan}
+use Rattle.transact.specs.Tables.{AllRead, AreThere}
 use Rattle.shards.specs.Receipts.{kept_by}
-use Rattle.shards.specs.Shards.{logs_of, shard_meaning}
-use Rattle.plans.proofs.Few.{few_from, few_none, left_from, left_none, refused_as}
-use Rattle.plans.proofs.Logs.{logs_same}
-use Rattle.plans.proofs.Making.{full_as, made_from, made_nothing}
+use Rattle.shards.specs.Shards.{shard_meaning}
+use Rattle.plans.specs.Planning.{AreDue, ExecsOn, ExecsWatching, of_commands, of_exec}
+use Rattle.words.specs.Commands.{keys_of_all}
 use Rattle.plans.proofs.Become.{became_same, became_twice}
-use Rattle.plans.proofs.Stores.{ok_then_all}
+use Rattle.plans.proofs.Logs.{logs_same}
 use Rattle.plans.proofs.Plans.{null_plan, dirty_is}
-use Rattle.plans.proofs.Waits.{waits_both, waits_same}
+use Rattle.plans.proofs.Questions.{planned_from, planned_nothing, stands_from, stands_same, stopped_from}
 use Rattle.plans.proofs.plan.plan_exec.Goals as goal
 
-pub returns-then-any_marked-clause-plan : goal.returns-then-any_marked-clause-plan
-returns-then-any_marked-clause-plan g c = λ honest right seen watched stand keys_are once.
-    let n : ℕ = c.args.stripes in
-    null_plan seen c.args.commands.now watched c.answered.result.reply c.answered.result.writes
-    (dirty_is (shard_meaning g.R.Shows.is_steady) n (g.P.Parts.part_of c.args.parts.now) seen c.args.seat watched c.args.watching.now c.any_marked.result keys_are c.any_marked.ensures.marks stand.marked c.requires.watching once ∙ c.if-any_marked.true)
-    c.answered.ensures.reply c.answered.ensures.writes
+pub plan_all-requires-clause-may : goal.plan_all-requires-clause-may
+plan_all-requires-clause-may g c = record {
+  can_lend = c.any_marked.ensures.held.open_still;
+  there = rw (g.met.P.Parts.same_stripes c.args.parts.now c.any_marked.new.parts c.any_marked.ensures.held.kept) (subst (λ p. AreThere (g.P.Parts.stripes_of c.args.parts.now) p (keys_of_all c.args.commands.now)) (sym c.any_marked.ensures.same) c.requires.may.there);
+}
 
-pub returns-then-any_marked-clause-became : goal.returns-then-any_marked-clause-became
-returns-then-any_marked-clause-became g c =
-    became_same (shard_meaning g.R.Shows.is_steady) c.args.stripes (g.P.Parts.part_of c.args.parts.now) (g.P.Parts.part_of c.any_marked.new.parts) c.any_marked.ensures.same
-
-pub returns-clause-plan : goal.returns-clause-plan
-returns-clause-plan g c = λ honest right.
-    let n : ℕ = c.args.stripes in
-    ok_then_all c.plan_all.result
-    (λ planned plan seen watched stand keys_are once.
-    plan seen watched (subst (λ p. AllRead (shard_meaning g.R.Shows.is_steady) n p (after seen)) (sym c.any_marked.ensures.same) stand.read)
-    (dirty_is (shard_meaning g.R.Shows.is_steady) n (g.P.Parts.part_of c.args.parts.now) seen c.args.seat watched c.args.watching.now c.any_marked.result keys_are c.any_marked.ensures.marks stand.marked c.requires.watching once ∙ c.if-any_marked.false))
-    (c.plan_all.ensures.plan honest right)
-
-pub returns-then-any_marked-clause-made : goal.returns-then-any_marked-clause-made
-returns-then-any_marked-clause-made g c =
-    made_nothing g.D.Device.wrote (kept_by g.R.Shows.identity g.R.Shows.shown) c.args.stripes c.args.stripes c.answered.result.writes
-    (logs_of (g.P.Parts.part_of c.args.parts.now)) (logs_of (g.P.Parts.part_of c.any_marked.new.parts)) c.args.device.now c.args.device.now c.answered.ensures.writes
-    (logs_same (g.P.Parts.part_of c.args.parts.now) (g.P.Parts.part_of c.any_marked.new.parts) c.any_marked.ensures.same) refl
-
-pub returns-clause-became : goal.returns-clause-became
-returns-clause-became g c =
-    became_twice (shard_meaning g.R.Shows.is_steady) c.args.stripes (g.P.Parts.part_of c.args.parts.now) (g.P.Parts.part_of c.any_marked.new.parts) (g.P.Parts.part_of c.plan_all.new.parts)
-    (became_same (shard_meaning g.R.Shows.is_steady) c.args.stripes (g.P.Parts.part_of c.args.parts.now) (g.P.Parts.part_of c.any_marked.new.parts) c.any_marked.ensures.same) c.plan_all.ensures.became
-
-pub returns-clause-made : goal.returns-clause-made
-returns-clause-made g c =
-    ok_then_all c.plan_all.result
-    (λ planned made. made_from g.D.Device.wrote (kept_by g.R.Shows.identity g.R.Shows.shown) c.args.stripes c.args.stripes planned.writes (logs_of (g.P.Parts.part_of c.args.parts.now))
-    (logs_of (g.P.Parts.part_of c.any_marked.new.parts)) (logs_of (g.P.Parts.part_of c.plan_all.new.parts)) c.args.device.now c.plan_all.new.device
-    (logs_same (g.P.Parts.part_of c.args.parts.now) (g.P.Parts.part_of c.any_marked.new.parts) c.any_marked.ensures.same) made)
-    c.plan_all.ensures.made
-
-pub returns-clause-full : goal.returns-clause-full
-returns-clause-full g c =
-    let n : ℕ = c.args.stripes in
+pub returns-then-any_marked-clause-planned : goal.returns-then-any_marked-clause-planned
+returns-then-any_marked-clause-planned g c =
+    let n : ℕ = (g.P.Parts.stripes_of c.args.parts.now) in
     let parts = g.P.Parts.part_of c.args.parts.now in
-    full_as g.D.Device.wrote (kept_by g.R.Shows.identity g.R.Shows.shown) n c.plan_all.result _ _
-    (logs_of parts) (logs_of (g.P.Parts.part_of c.any_marked.new.parts)) (logs_of (g.P.Parts.part_of c.plan_all.new.parts)) c.args.device.now c.plan_all.new.device
-    (logs_same parts (g.P.Parts.part_of c.any_marked.new.parts) c.any_marked.ensures.same)
-    (λ ws light due honest right seen watched stand keys_are once.
-    due honest right seen watched (subst (λ p. AllRead (shard_meaning g.R.Shows.is_steady) n p (after seen)) (sym c.any_marked.ensures.same) stand.read)
-    (dirty_is (shard_meaning g.R.Shows.is_steady) n parts seen c.args.seat watched c.args.watching.now c.any_marked.result keys_are c.any_marked.ensures.marks stand.marked c.requires.watching once ∙ c.if-any_marked.false))
-    c.plan_all.ensures.full
+    let later = g.P.Parts.part_of c.any_marked.new.parts in
+    let right = g.R.Shows.is_honest × AreRight c.args.staged.now in
+    let planned = c.answered.result in
+    planned_nothing g.D.Device.wrote (kept_by g.R.Shows.identity g.R.Shows.shown) (AreDue right (of_exec (shard_meaning g.R.Shows.is_steady) n parts (g.P.Parts.holder_of c.args.parts.now) c.args.watching.now c.args.commands.now)) n
+    (parts, c.args.device.now) (later, c.args.device.now) planned
+    (λ is_right seen operation asks. subst (λ (o : Operation). IsPlan seen o planned.reply planned.writes) (sym asks.is)
+    (null_plan seen c.args.commands.now asks.watched planned.reply planned.writes
+    (dirty_is (shard_meaning g.R.Shows.is_steady) n parts seen (g.P.Parts.holder_of c.args.parts.now) asks.watched c.args.watching.now c.any_marked.result asks.ends c.any_marked.ensures.marks asks.stand.marked c.requires.watching asks.once ∙ c.if-any_marked.true)
+    c.answered.ensures.reply c.answered.ensures.writes))
+    c.answered.ensures.writes (logs_same parts later c.any_marked.ensures.same) refl
 
-pub returns-then-any_marked-clause-few : goal.returns-then-any_marked-clause-few
-returns-then-any_marked-clause-few g c =
-    few_none c.args.stripes c.answered.result.writes (logs_of (g.P.Parts.part_of c.args.parts.now)) (logs_of (g.P.Parts.part_of c.any_marked.new.parts))
-    (logs_same (g.P.Parts.part_of c.args.parts.now) (g.P.Parts.part_of c.any_marked.new.parts) c.any_marked.ensures.same)
+pub returns-then-any_marked-clause-unmarked : goal.returns-then-any_marked-clause-unmarked
+returns-then-any_marked-clause-unmarked g c = record {
+  begun = c.answered.ensures.begun;
+  became =
+      became_same (shard_meaning g.R.Shows.is_steady) (g.P.Parts.stripes_of c.args.parts.now) (g.P.Parts.part_of c.args.parts.now) (g.P.Parts.part_of c.any_marked.new.parts) c.any_marked.ensures.same;
+}
 
-pub returns-clause-few : goal.returns-clause-few
-returns-clause-few g c =
-    ok_then_all c.plan_all.result
-    (λ planned few. few_from c.args.stripes planned.writes (logs_of (g.P.Parts.part_of c.args.parts.now)) (logs_of (g.P.Parts.part_of c.any_marked.new.parts)) (logs_of (g.P.Parts.part_of c.plan_all.new.parts))
-    (logs_same (g.P.Parts.part_of c.args.parts.now) (g.P.Parts.part_of c.any_marked.new.parts) c.any_marked.ensures.same) few)
-    c.plan_all.ensures.few
+pub returns-then-any_marked-clause-stands : goal.returns-then-any_marked-clause-stands
+returns-then-any_marked-clause-stands g c =
+    stands_same g.D.Device.serves g.D.Device.releases (g.P.Parts.part_of c.args.parts.now) (g.P.Parts.part_of c.any_marked.new.parts) c.args.device.now c.any_marked.ensures.same
 
-pub returns-clause-spared : goal.returns-clause-spared
-returns-clause-spared g c = refused_as c.plan_all.result _ _ (λ spared. (spared.0 ∙ c.any_marked.ensures.same, spared.1)) c.plan_all.ensures.spared
+pub returns-clause-planned : goal.returns-clause-planned
+returns-clause-planned g c =
+    let n : ℕ = (g.P.Parts.stripes_of c.args.parts.now) in
+    let parts = g.P.Parts.part_of c.args.parts.now in
+    let mid = g.P.Parts.part_of c.any_marked.new.parts in
+    let right = g.R.Shows.is_honest × AreRight c.args.staged.now in
+    let contents = shard_meaning g.R.Shows.is_steady in
+    let count = g.met.P.Parts.same_stripes c.args.parts.now c.any_marked.new.parts c.any_marked.ensures.held.kept in
+    let planned = rw count at c.plan_all.ensures.planned in
+    planned_from g.D.Device.wrote (kept_by g.R.Shows.identity g.R.Shows.shown) c.plan_all.result (AreDue right (of_commands contents n mid c.args.commands.now))
+    (AreDue right (of_exec contents n parts (g.P.Parts.holder_of c.args.parts.now) c.args.watching.now c.args.commands.now)) n parts mid c.args.device.now (g.P.Parts.part_of c.plan_all.new.parts, c.plan_all.new.device) c.any_marked.ensures.same
+    (λ said writes due is_right seen operation asks. due is_right seen operation (record {
+      watched = asks.watched;
+      read = subst (λ p. AllRead contents n p (after seen)) (sym c.any_marked.ensures.same) asks.stand.read;
+      clean = dirty_is contents n parts seen (g.P.Parts.holder_of c.args.parts.now) asks.watched c.args.watching.now c.any_marked.result asks.ends c.any_marked.ensures.marks asks.stand.marked c.requires.watching asks.once ∙ c.if-any_marked.false;
+      is = asks.is;
+    }))
+    planned
 
-pub returns-then-any_marked-clause-waits : goal.returns-then-any_marked-clause-waits
-returns-then-any_marked-clause-waits g c = waits_same (g.P.Parts.part_of c.args.parts.now) (g.P.Parts.part_of c.any_marked.new.parts) c.any_marked.ensures.same
+pub returns-clause-stopped : goal.returns-clause-stopped
+returns-clause-stopped g c =
+    let n : ℕ = (g.P.Parts.stripes_of c.args.parts.now) in
+    let parts = g.P.Parts.part_of c.args.parts.now in
+    let mid = g.P.Parts.part_of c.any_marked.new.parts in
+    let right = g.R.Shows.is_honest × AreRight c.args.staged.now in
+    let contents = shard_meaning g.R.Shows.is_steady in
+    let count = g.met.P.Parts.same_stripes c.args.parts.now c.any_marked.new.parts c.any_marked.ensures.held.kept in
+    let stopped = rw count at c.plan_all.ensures.stopped in
+    stopped_from g.D.Device.wrote (kept_by g.R.Shows.identity g.R.Shows.shown) c.plan_all.result g.R.Shows.lends right (ExecsOn contents n mid c.args.commands.now)
+    (ExecsWatching contents n parts (g.P.Parts.holder_of c.args.parts.now) c.args.watching.now c.args.commands.now) (keys_of_all c.args.commands.now) ⊥ n c.args.staged.now parts mid c.args.device.now
+    (g.P.Parts.part_of c.plan_all.new.parts, c.plan_all.new.device) c.any_marked.ensures.same
+    (λ seen operation asks. record {
+      watched = asks.watched;
+      read = subst (λ p. AllRead contents n p (after seen)) (sym c.any_marked.ensures.same) asks.stand.read;
+      clean = dirty_is contents n parts seen (g.P.Parts.holder_of c.args.parts.now) asks.watched c.args.watching.now c.any_marked.result asks.ends c.any_marked.ensures.marks asks.stand.marked c.requires.watching asks.once ∙ c.if-any_marked.false;
+      is = asks.is;
+    })
+    stopped
 
-pub returns-clause-waits : goal.returns-clause-waits
-returns-clause-waits g c =
-    waits_both (g.P.Parts.part_of c.args.parts.now) (g.P.Parts.part_of c.any_marked.new.parts) (g.P.Parts.part_of c.plan_all.new.parts)
-    (waits_same (g.P.Parts.part_of c.args.parts.now) (g.P.Parts.part_of c.any_marked.new.parts) c.any_marked.ensures.same) c.plan_all.ensures.waits
+pub returns-clause-unmarked : goal.returns-clause-unmarked
+returns-clause-unmarked g c = record {
+  begun = c.plan_all.ensures.unmarked.begun;
+  became =
+      became_twice (shard_meaning g.R.Shows.is_steady) (g.P.Parts.stripes_of c.args.parts.now) (g.P.Parts.part_of c.args.parts.now) (g.P.Parts.part_of c.any_marked.new.parts) (g.P.Parts.part_of c.plan_all.new.parts)
+      (became_same (shard_meaning g.R.Shows.is_steady) (g.P.Parts.stripes_of c.args.parts.now) (g.P.Parts.part_of c.args.parts.now) (g.P.Parts.part_of c.any_marked.new.parts) c.any_marked.ensures.same) (rw (g.met.P.Parts.same_stripes c.args.parts.now c.any_marked.new.parts c.any_marked.ensures.held.kept) at c.plan_all.ensures.unmarked.became);
+}
 
-pub returns-clause-kept : goal.returns-clause-kept
-returns-clause-kept g c =
-    ok_then_all c.plan_all.result
-    (λ planned left. left_from c.args.stripes planned.writes (logs_of (g.P.Parts.part_of c.args.parts.now)) (logs_of (g.P.Parts.part_of c.any_marked.new.parts)) (logs_of (g.P.Parts.part_of c.plan_all.new.parts))
-    (logs_same (g.P.Parts.part_of c.args.parts.now) (g.P.Parts.part_of c.any_marked.new.parts) c.any_marked.ensures.same) left)
-    c.plan_all.ensures.kept
-
-pub returns-then-any_marked-clause-kept : goal.returns-then-any_marked-clause-kept
-returns-then-any_marked-clause-kept g c =
-    left_none c.args.stripes c.answered.result.writes (logs_of (g.P.Parts.part_of c.args.parts.now)) (logs_of (g.P.Parts.part_of c.any_marked.new.parts)) c.answered.ensures.writes
+pub returns-clause-stands : goal.returns-clause-stands
+returns-clause-stands g c =
+    stands_from g.D.Device.serves g.D.Device.releases (g.P.Parts.part_of c.args.parts.now) (g.P.Parts.part_of c.any_marked.new.parts) c.args.device.now (g.P.Parts.part_of c.plan_all.new.parts, c.plan_all.new.device)
+    c.any_marked.ensures.same c.plan_all.ensures.stands

@@ -17,8 +17,8 @@ invariant-loop-planned g l = record {
   alone : IsReadAlone g.D.Device.serves g.D.Device.releases g.D.Device.writes l.fn.device l.device;
   still : (r : _) → g.D.Device.serves l.fn.device r → g.D.Device.serves l.device r;
   right : AreRight l.fn.staged → AreServed g.D.Device.serves g.R.Shows.identity l.fn.device (logs_of (g.P.Parts.part_of l.fn.parts)) → AreRight l.staged;
-  first : AreAtHand g.R.Shows.lends l.stripes (logs_of (g.P.Parts.part_of l.fn.parts)) (keys_looked_up l.call) l.fn.staged → l.staged ≡ l.fn.staged;
+  first : AreAtHand g.R.Shows.lends (g.P.Parts.stripes_of l.fn.parts) (logs_of (g.P.Parts.part_of l.fn.parts)) (keys_looked_up l.call) l.fn.staged → l.staged ≡ l.fn.staged;
 }
 
 abbrev pub decreases-loop-planned : goal.decreases-loop-planned
-decreases-loop-planned g l = unread l.stripes (logs_of (g.P.Parts.part_of l.parts)) l.staged
+decreases-loop-planned g l = unread (g.P.Parts.stripes_of l.fn.parts) (logs_of (g.P.Parts.part_of l.parts)) l.staged

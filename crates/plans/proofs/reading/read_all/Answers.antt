@@ -23,7 +23,7 @@ loop-receipt-preserved g c =
     let k : Kept = kept_by g.R.Shows.identity g.R.Shows.shown c.in-Some.receipt in
     let one_less : length c.loop-receipt.receipts ≡ length c.pop.new.self + 1 = ap length c.in-Some.ensures.some ∙ length-append c.pop.new.self (k ∷ []) in
     record {
-      same = c.in_ok-read_one.ensures.no_fault ∙ inv.same;
+      same = c.in_ok-read_one.ensures.came.no_fault ∙ inv.same;
       grows = more_both c.args.staged.now c.loop-receipt.staged c.read_one.new.staged inv.grows c.read_one.ensures.grows;
       once = omega (arith, inv.once, c.read_one.ensures.once, one_less);
       alone = read_both g.D.Device.serves g.D.Device.releases g.D.Device.writes c.args.device.now c.loop-receipt.device c.read_one.new.device inv.alone c.read_one.ensures.device;

@@ -13,8 +13,8 @@ invariant-loop-value g l = record {
   failures : g.D.Device.failures l.device ≡ g.D.Device.failures l.fn.device;
   still : (r : _) → g.D.Device.serves l.fn.device r → g.D.Device.serves l.device r;
   right : AreRight l.fn.staged → AreServed g.D.Device.serves g.R.Shows.identity l.fn.device (logs_of (g.P.Parts.part_of l.fn.parts)) → AreRight l.staged;
-  first : AreAtHand g.R.Shows.lends l.stripes (logs_of (g.P.Parts.part_of l.fn.parts)) (l.key ∷ []) l.fn.staged → l.staged ≡ l.fn.staged;
+  first : AreAtHand g.R.Shows.lends (g.P.Parts.stripes_of l.fn.parts) (logs_of (g.P.Parts.part_of l.fn.parts)) (l.key ∷ []) l.fn.staged → l.staged ≡ l.fn.staged;
 }
 
 abbrev pub decreases-loop-value : goal.decreases-loop-value
-decreases-loop-value g l = unread l.stripes (logs_of (g.P.Parts.part_of l.parts)) l.staged
+decreases-loop-value g l = unread (g.P.Parts.stripes_of l.fn.parts) (logs_of (g.P.Parts.part_of l.parts)) l.staged

@@ -11,13 +11,14 @@ abbrev pub invariant-loop-stripe : goal.invariant-loop-stripe
 invariant-loop-stripe g l = record {
   is_open : g.P.Parts.is_open l.parts;
   keeps : g.P.Parts.keeps l.fn.parts l.parts;
-  became : Became (shard_meaning g.R.Shows.is_steady) l.stripes [] stays (g.P.Parts.part_of l.fn.parts) (g.P.Parts.part_of l.parts);
+  became : Became (shard_meaning g.R.Shows.is_steady) (g.P.Parts.stripes_of l.fn.parts) [] stays (g.P.Parts.part_of l.fn.parts) (g.P.Parts.part_of l.parts);
   waits : SameWaits (g.P.Parts.part_of l.fn.parts) (g.P.Parts.part_of l.parts);
+  below : l.stripe ≤ g.P.Parts.stripes_of l.fn.parts;
   same : g.D.Device.failures l.device ≡ g.D.Device.failures l.fn.device;
   device : StillServes g.D.Device.serves g.D.Device.releases l.fn.device l.device;
   ahead : (j : ℕ) → l.stripe ≤ j → logs_of (g.P.Parts.part_of l.parts) j ≡ logs_of (g.P.Parts.part_of l.fn.parts) j;
-  few : ShedFew l.stripes l.writes (logs_of (g.P.Parts.part_of l.fn.parts)) (logs_of (g.P.Parts.part_of l.parts));
-  left : LeftBelow l.stripes l.stripe l.writes (logs_of (g.P.Parts.part_of l.fn.parts)) (logs_of (g.P.Parts.part_of l.parts));
-  made : MakesRoom g.D.Device.wrote (kept_by g.R.Shows.identity g.R.Shows.shown) l.stripes l.stripe l.writes (logs_of (g.P.Parts.part_of l.fn.parts)) l.fn.device (logs_of (g.P.Parts.part_of l.parts)) l.device;
-  roomy : (j : ℕ) → j < l.stripe → 0 < share l.stripes j l.writes → IsRoomyAt (logs_of (g.P.Parts.part_of l.parts)) j (share l.stripes j l.writes);
+  few : ShedFew (g.P.Parts.stripes_of l.fn.parts) l.writes (logs_of (g.P.Parts.part_of l.fn.parts)) (logs_of (g.P.Parts.part_of l.parts));
+  left : LeftBelow (g.P.Parts.stripes_of l.fn.parts) l.stripe l.writes (logs_of (g.P.Parts.part_of l.fn.parts)) (logs_of (g.P.Parts.part_of l.parts));
+  made : MakesRoom g.D.Device.wrote (kept_by g.R.Shows.identity g.R.Shows.shown) (g.P.Parts.stripes_of l.fn.parts) l.stripe l.writes (logs_of (g.P.Parts.part_of l.fn.parts)) l.fn.device (logs_of (g.P.Parts.part_of l.parts)) l.device;
+  roomy : (j : ℕ) → j < l.stripe → 0 < share (g.P.Parts.stripes_of l.fn.parts) j l.writes → IsRoomyAt (logs_of (g.P.Parts.part_of l.parts)) j (share (g.P.Parts.stripes_of l.fn.parts) j l.writes);
 }

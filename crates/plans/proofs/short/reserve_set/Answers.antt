@@ -1,16 +1,24 @@
-use Rattle.std.proofs.Common.{arith}
-use Rattle.shards.specs.Shards.{logs_of}
-use Rattle.plans.proofs.Few.{lacks_as, left_as}
+use Rattle.std.proofs.Common.{ap, arith, length, refl}
+use Rattle.hybrid.specs.declared.stripe.room.Purpose.TheVariants as purpose
+use Rattle.plans.proofs.Reserved.{no_room_as, reserved_as, room_as}
 use Rattle.plans.proofs.short.reserve_set.Goals as goal
 
-pub returns-in-Err-DeviceFault-clause-lacks : goal.returns-in-Err-DeviceFault-clause-lacks
-returns-in-Err-DeviceFault-clause-lacks g c =
-    lacks_as _ _ _ _ _ (logs_of (g.P.Parts.part_of c.args.parts.now)) (logs_of (g.P.Parts.part_of c.reserve_at.new.parts)) c.stripe_in-stripe.ensures (omega (arith, c.len.ensures, c.len-2.ensures)) c.in-Err-DeviceFault.ensures.lacks
+pub returns-in-Ok-clause-reserved : goal.returns-in-Ok-clause-reserved
+returns-in-Ok-clause-reserved g c = reserved_as _ _ _ _ c.stripe_at-stripe.ensures (omega (arith, c.len.ensures, c.len-2.ensures, ap length c.key.ensures)) purpose.Write _ _ _ _ _ c.reserve_at.ensures.reserved
 
-pub returns-in-Err-StoreFull-clause-lacks : goal.returns-in-Err-StoreFull-clause-lacks
-returns-in-Err-StoreFull-clause-lacks g c =
-    lacks_as _ _ _ _ _ (logs_of (g.P.Parts.part_of c.args.parts.now)) (logs_of (g.P.Parts.part_of c.reserve_at.new.parts)) c.stripe_in-stripe.ensures (omega (arith, c.len.ensures, c.len-2.ensures)) c.in-Err-StoreFull.ensures.lacks
+pub returns-in-Err-DeviceFault-clause-reserved : goal.returns-in-Err-DeviceFault-clause-reserved
+returns-in-Err-DeviceFault-clause-reserved g c = reserved_as _ _ _ _ c.stripe_at-stripe.ensures (omega (arith, c.len.ensures, c.len-2.ensures, ap length c.key.ensures)) purpose.Write _ _ _ _ _ c.reserve_at.ensures.reserved
 
-pub returns-in-Ok-clause-kept : goal.returns-in-Ok-clause-kept
-returns-in-Ok-clause-kept g c =
-    left_as _ _ _ _ _ (logs_of (g.P.Parts.part_of c.args.parts.now)) (logs_of (g.P.Parts.part_of c.reserve_at.new.parts)) c.stripe_in-stripe.ensures (omega (arith, c.len.ensures, c.len-2.ensures)) c.in-Ok.ensures.kept
+pub returns-in-Err-StoreFull-clause-reserved : goal.returns-in-Err-StoreFull-clause-reserved
+returns-in-Err-StoreFull-clause-reserved g c = reserved_as _ _ _ _ c.stripe_at-stripe.ensures (omega (arith, c.len.ensures, c.len-2.ensures, ap length c.key.ensures)) purpose.Write _ _ _ _ _ c.reserve_at.ensures.reserved
+
+pub returns-in-Ok-clause-room : goal.returns-in-Ok-clause-room
+returns-in-Ok-clause-room g c = room_as _ _ _ _ c.stripe_at-stripe.ensures (omega (arith, c.len.ensures, c.len-2.ensures, ap length c.key.ensures)) purpose.Write _ _ c.in-Ok.ensures.room
+
+pub returns-in-Err-DeviceFault-clause-stopped : goal.returns-in-Err-DeviceFault-clause-stopped
+returns-in-Err-DeviceFault-clause-stopped g c = no_room_as _ _ _ _ c.stripe_at-stripe.ensures (omega (arith, c.len.ensures, c.len-2.ensures, ap length c.key.ensures)) purpose.Write _ _ _ (record { lacks = c.in-Err-DeviceFault.ensures.lacks; why = tt })
+
+pub returns-in-Err-StoreFull-clause-stopped : goal.returns-in-Err-StoreFull-clause-stopped
+returns-in-Err-StoreFull-clause-stopped g c =
+    let full = rw c.in-Err-StoreFull.field-0-is at c.in-Err-StoreFull.ensures.refused in
+    no_room_as _ _ _ _ c.stripe_at-stripe.ensures (omega (arith, c.len.ensures, c.len-2.ensures, ap length c.key.ensures)) purpose.Write _ _ _ (record { lacks = c.in-Err-StoreFull.ensures.lacks; why = (refl, omega arith, full.0) })

@@ -1,6 +1,6 @@
 use Rattle.std.proofs.Common.{◌≡◌, List, subst}
 use Rattle.std.proofs.lemmas.Result.{IfOk-weaker}
-use Rattle.world_events.specs.declared.event.Event.{Event}
+use Rattle.world_model.specs.declared.event.Event.{Event}
 use Rattle.world_model.specs.States.{State}
 use Rattle.world_model.specs.Turns.{Turns}
 use Rattle.world.specs.Tables.{state_of}

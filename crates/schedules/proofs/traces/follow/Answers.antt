@@ -1,5 +1,5 @@
 use Rattle.std.proofs.Common.{◌≡◌, ◌∙◌, ◌+◌, ◌-◌, List, ◌∷◌, length, ap, arith, subst, sym}
-use Rattle.world_events.specs.declared.event.Event.{Event}
+use Rattle.world_model.specs.declared.event.Event.{Event}
 use Rattle.world.specs.Tables.{state_of}
 use Rattle.schedules.specs.Traces.{IsTrace}
 use Rattle.schedules.proofs.Tracing.{line_before, no_more, none_left}

@@ -3,19 +3,23 @@ use Rattle.shards.proofs.Freed.{released_end, released_fewer, released_more, rel
 use Rattle.shards.proofs.freeing.release_all.Goals as goal
 
 pub all-init : goal.all-init
-all-init g c = record { released = (0, released_none c.args.log.now, λ e. absurd (cc e), λ e. refl, omega arith); same = refl; writes = refl }
+all-init g c = record {
+  released = record { count = 0; released = released_none c.args.log.now; any = λ e. absurd (cc e); none = λ e. refl; given = omega arith };
+  same = refl;
+  writes = refl;
+}
 
 pub all-preserved : goal.all-preserved
 all-preserved g c =
     let r = c.all.invariant.released in
     record {
-      released = (
-        r.0 + 1,
-        released_more g.D.Device.serves g.R.Shows.identity c.args.log.now c.all.log c.release.new.self r.0 c.all.device c.release.new.device r.1 c.stripe-counted.ensures.counted c.if-not-release.ensures.released,
-        λ e. omega arith,
-        λ e. absurd (cc e),
-        omega (arith, c.if-not-release.ensures.counted, r.4),
-      );
+      released = record {
+        count = r.count + 1;
+        released = released_more g.D.Device.serves g.R.Shows.identity c.args.log.now c.all.log c.release.new.self r.count c.all.device c.release.new.device r.released c.is_counted.ensures c.if-not-release.ensures.released;
+        any = λ e. omega arith;
+        none = λ e. absurd (cc e);
+        given = omega (arith, c.if-not-release.ensures.counted, r.given);
+      };
       same = c.release.ensures.no_fault ∙ c.all.invariant.same;
       writes = c.release.ensures.no_write ∙ c.all.invariant.writes;
     }
@@ -26,4 +30,4 @@ all-smaller g c = released_fewer g.D.Device.serves g.R.Shows.identity c.all.log 
 pub returns-then-not-release-clause-released : goal.returns-then-not-release-clause-released
 returns-then-not-release-clause-released g c =
     let none = c.if-not-release.ensures.none in
-    released_end g.D.Device.releases c.args.log.now c.all.log c.release.new.self (g.D.Device.releases c.args.device.now) c.all.device c.release.new.device c.all.any none.1 none.2 c.all.invariant.released
+    released_end g.D.Device.releases c.args.log.now c.all.log c.release.new.self c.args.device.now c.all.device c.release.new.device c.all.any none.1 none.2 c.all.invariant.released

@@ -11,6 +11,6 @@ returns c =
     record {
       log =
           set_right c.args.log.now 0 c.index_mut-lane.result.now (record { shard = c.set.new.self; queues = c.index_mut-lane.result.now.queues })
-          (shard_log c.reserve.new.self) c.reserve.new.device _ c.requires.log there (c.reserve.ensures.shed c.in-Ok.ensures.no_fault) c.set.ensures.grown refl
-          (c.set.ensures.waits ∙ c.reserve.ensures.waits);
+          (shard_log c.reserve.new.self) c.reserve.new.device _ c.requires.log there (c.reserve.ensures.shed c.in-Ok.ensures.failed.no_fault) c.set.ensures.grown refl
+          (c.set.ensures.waits ∙ c.reserve.ensures.same.waits);
     }

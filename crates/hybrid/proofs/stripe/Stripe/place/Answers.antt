@@ -4,57 +4,58 @@ use Rattle.records.specs.Read.{shown}
 use Rattle.frames.specs.Resident.{first_mutable}
 use Rattle.hybrid.specs.Log.{begin_of}
 use Rattle.hybrid.specs.HybridLog.{HybridLog, bucket_of, log_of}
+use Rattle.hybrid.proofs.Addresses.{at_most, beyond}
 use Rattle.hybrid.proofs.Walk.{here-link}
 use Rattle.hybrid.proofs.Finding.{start-from, now-is}
 use Rattle.hybrid.proofs.Placing.{reached, place-here, place-small, place-below}
 use Rattle.hybrid.proofs.stripe.Stripe.place.Goals as goal
 
-pub loop-address-init : goal.loop-address-init
-loop-address-init g c =
-    (start-from _ _ c.args.key.now (λ _. ⊤) c.args.hash c.head-address.result c.self.view_is c.self.invariant.0 c.requires c.head-address.ensures.head).walk
+pub loop-begin-init : goal.loop-begin-init
+loop-begin-init g c =
+    (start-from _ _ c.args.key.now (λ _. ⊤) c.args.hash c.from_number-address.result c.self.view_is c.self.invariant.0 c.requires (c.from_number-address.ensures ∙ c.head.ensures.head)).walk
 
 pub unreachable-requires : goal.unreachable-requires
 unreachable-requires g c =
     let first : c.first_mutable.result ≡ first_mutable c.args.self.now.resident = c.first_mutable.ensures ∙ ap (λ (q : HybridLog). first_mutable q.resident) c.self.view_is in
-    let low : begin_of (first_mutable c.args.self.now.resident) ≤ c.loop-address.address = omega (arith, c.loop-address-test.true, first) in
-    let r = reached c.args.self.now c.args.key.now c.loop-address.address (now-is _ _ c.self.view_is c.self.invariant.0) low c.loop-address.invariant in
+    let low : begin_of (first_mutable c.args.self.now.resident) ≤ c.loop-begin.address = omega (arith, at_most c.of-begin.result c.loop-begin.address c.loop-begin-test.ensures, c.of-begin.ensures, first) in
+    let r = reached c.args.self.now c.args.key.now c.loop-begin.address (now-is _ _ c.self.view_is c.self.invariant.0) low c.loop-begin.invariant in
     c.in_default.ensures r.found.stored r.there
 
 pub returns-then-size-record : goal.returns-then-size-record
 returns-then-size-record g c =
     let first : c.first_mutable.result ≡ first_mutable c.args.self.now.resident = c.first_mutable.ensures ∙ ap (λ (q : HybridLog). first_mutable q.resident) c.self.view_is in
-    let low : begin_of (first_mutable c.args.self.now.resident) ≤ c.loop-address.address = omega (arith, c.loop-address-test.true, first) in
-    let r = reached c.args.self.now c.args.key.now c.loop-address.address (now-is _ _ c.self.view_is c.self.invariant.0) low c.loop-address.invariant in
+    let low : begin_of (first_mutable c.args.self.now.resident) ≤ c.loop-begin.address = omega (arith, at_most c.of-begin.result c.loop-begin.address c.loop-begin-test.ensures, c.of-begin.ensures, first) in
+    let r = reached c.args.self.now c.args.key.now c.loop-begin.address (now-is _ _ c.self.view_is c.self.invariant.0) low c.loop-begin.invariant in
     let same : shown c.in-Some.record ≡ r.found.stored = c.in-Some.ensures r.found.stored r.there in
-    place-here c.args.self.now c.args.key.now c.args.size c.loop-address.address low r.found (ap (λ x. x.key) (sym same) ∙ c.if-has_key.ensures.0 refl) (omega (arith, c.if-size-record.true, ap (λ x. x.capacity) same))
+    place-here c.args.self.now c.args.key.now c.args.size c.loop-begin.address low r.found (ap (λ x. x.key) (sym same) ∙ c.if-has_key.ensures.0 refl) (omega (arith, c.if-size-record.true, ap (λ x. x.capacity) same))
 
 pub returns-else-size-record : goal.returns-else-size-record
 returns-else-size-record g c =
     let first : c.first_mutable.result ≡ first_mutable c.args.self.now.resident = c.first_mutable.ensures ∙ ap (λ (q : HybridLog). first_mutable q.resident) c.self.view_is in
-    let low : begin_of (first_mutable c.args.self.now.resident) ≤ c.loop-address.address = omega (arith, c.loop-address-test.true, first) in
-    let r = reached c.args.self.now c.args.key.now c.loop-address.address (now-is _ _ c.self.view_is c.self.invariant.0) low c.loop-address.invariant in
+    let low : begin_of (first_mutable c.args.self.now.resident) ≤ c.loop-begin.address = omega (arith, at_most c.of-begin.result c.loop-begin.address c.loop-begin-test.ensures, c.of-begin.ensures, first) in
+    let r = reached c.args.self.now c.args.key.now c.loop-begin.address (now-is _ _ c.self.view_is c.self.invariant.0) low c.loop-begin.invariant in
     let same : shown c.in-Some.record ≡ r.found.stored = c.in-Some.ensures r.found.stored r.there in
-    place-small c.args.self.now c.args.key.now c.args.size c.loop-address.address r.found (ap (λ x. x.key) (sym same) ∙ c.if-has_key.ensures.0 refl) (omega (arith, c.if-size-record.false, ap (λ x. x.capacity) same))
+    place-small c.args.self.now c.args.key.now c.args.size c.loop-begin.address r.found (ap (λ x. x.key) (sym same) ∙ c.if-has_key.ensures.0 refl) (omega (arith, c.if-size-record.false, ap (λ x. x.capacity) same))
 
-pub loop-address-smaller : goal.loop-address-smaller
-loop-address-smaller g c =
+pub loop-begin-smaller : goal.loop-begin-smaller
+loop-begin-smaller g c =
     let first : c.first_mutable.result ≡ first_mutable c.args.self.now.resident = c.first_mutable.ensures ∙ ap (λ (q : HybridLog). first_mutable q.resident) c.self.view_is in
-    let low : begin_of (first_mutable c.args.self.now.resident) ≤ c.loop-address.address = omega (arith, c.loop-address-test.true, first) in
-    let r = reached c.args.self.now c.args.key.now c.loop-address.address (now-is _ _ c.self.view_is c.self.invariant.0) low c.loop-address.invariant in
+    let low : begin_of (first_mutable c.args.self.now.resident) ≤ c.loop-begin.address = omega (arith, at_most c.of-begin.result c.loop-begin.address c.loop-begin-test.ensures, c.of-begin.ensures, first) in
+    let r = reached c.args.self.now c.args.key.now c.loop-begin.address (now-is _ _ c.self.view_is c.self.invariant.0) low c.loop-begin.invariant in
     let same : shown c.in-Some.record ≡ r.found.stored = c.in-Some.ensures r.found.stored r.there in
-    omega (arith, r.falls, ap (λ x. x.link) same)
+    omega (arith, r.falls, ap (λ x. x.link) same, c.from_number-address-in-loop-begin.ensures)
 
-pub loop-address-preserved : goal.loop-address-preserved
-loop-address-preserved g c =
+pub loop-begin-preserved : goal.loop-begin-preserved
+loop-begin-preserved g c =
     let first : c.first_mutable.result ≡ first_mutable c.args.self.now.resident = c.first_mutable.ensures ∙ ap (λ (q : HybridLog). first_mutable q.resident) c.self.view_is in
-    let low : begin_of (first_mutable c.args.self.now.resident) ≤ c.loop-address.address = omega (arith, c.loop-address-test.true, first) in
-    let r = reached c.args.self.now c.args.key.now c.loop-address.address (now-is _ _ c.self.view_is c.self.invariant.0) low c.loop-address.invariant in
+    let low : begin_of (first_mutable c.args.self.now.resident) ≤ c.loop-begin.address = omega (arith, at_most c.of-begin.result c.loop-begin.address c.loop-begin-test.ensures, c.of-begin.ensures, first) in
+    let r = reached c.args.self.now c.args.key.now c.loop-begin.address (now-is _ _ c.self.view_is c.self.invariant.0) low c.loop-begin.invariant in
     let same : shown c.in-Some.record ≡ r.found.stored = c.in-Some.ensures r.found.stored r.there in
-    let linked = here-link (bucket_of c.args.self.now) (begin_of c.args.self.now.oldest) (log_of c.args.self.now) c.args.key.now (λ _. ⊤) c.loop-address.address r.found
+    let linked = here-link (bucket_of c.args.self.now) (begin_of c.args.self.now.oldest) (log_of c.args.self.now) c.args.key.now (λ _. ⊤) c.loop-begin.address r.found
     (λ key. let bad = c.if-has_key.ensures.1 (ap (λ x. x.key) same ∙ key) in absurd cc) tt in
-    rw (sym (ap (λ x. x.link) same)) at linked
+    rw (sym (c.from_number-address-in-loop-begin.ensures ∙ ap (λ x. x.link) same)) at linked
 
 pub returns : goal.returns
 returns g c =
     let first : c.first_mutable.result ≡ first_mutable c.args.self.now.resident = c.first_mutable.ensures ∙ ap (λ (q : HybridLog). first_mutable q.resident) c.self.view_is in
-    place-below c.args.self.now c.args.key.now c.args.size c.loop-address.address (omega (arith, c.loop-address-test.false, first)) c.loop-address.invariant
+    place-below c.args.self.now c.args.key.now c.args.size c.loop-begin.address (omega (arith, beyond c.of-begin.result c.loop-begin.address c.loop-begin-test.ensures, c.of-begin.ensures, first)) c.loop-begin.invariant

@@ -4,8 +4,8 @@ use Rattle.hybrid.specs.HybridLog.{bucket_of, log_of}
 use Rattle.hybrid.proofs.Walk.{IsWalk}
 use Rattle.hybrid.proofs.stripe.Stripe.place.Given as goal
 
-abbrev pub invariant-loop-address : goal.invariant-loop-address
-invariant-loop-address g l = IsWalk (bucket_of l.self) (begin_of l.self.oldest) (log_of l.self) l.key (λ _. ⊤) l.address
+abbrev pub invariant-loop-begin : goal.invariant-loop-begin
+invariant-loop-begin g l = IsWalk (bucket_of l.self) (begin_of l.self.oldest) (log_of l.self) l.key (λ _. ⊤) l.address
 
-abbrev pub decreases-loop-address : goal.decreases-loop-address
-decreases-loop-address g l = l.address
+abbrev pub decreases-loop-begin : goal.decreases-loop-begin
+decreases-loop-begin g l = l.address

@@ -18,11 +18,11 @@ IsSomeAnd-ok (Err e) P holds = absurd holds
 pub returns-in-Some : goal.returns-in-Some
 returns-in-Some g c = λ r at.
     let t = resident-there c.args.self.now c.args.address r (now-is _ _ c.self.view_is c.self.invariant.0) at in
-    let page = c.in-Some.ensures.bytes ∙ ap (λ (q : HybridLog). page_of q.resident (c.args.address / PAGE_SIZE)) c.self.view_is in
-    rw c.ok.ensures.value (IsSomeAnd-ok c.record_at.result (λ (x : Record). shown x ≡ r) (c.record_at.ensures.found (rw page t.laid) r (rw page t.listed)))
+    let page = c.in-Some.ensures.bytes ∙ ap (page_of c.self.inside.frames) c.page.ensures ∙ ap (λ (q : HybridLog). page_of q.resident (c.args.address / PAGE_SIZE)) c.self.view_is in
+    rw c.ok.ensures.value (IsSomeAnd-ok c.record_at.result (λ (x : Record). shown x ≡ r) (c.record_at.ensures.found (rw page t.laid) r (rw (page, c.offset.ensures) t.listed)))
 
 pub returns-in-None : goal.returns-in-None
 returns-in-None g c = λ r at.
     let t = resident-there c.args.self.now c.args.address r (now-is _ _ c.self.view_is c.self.invariant.0) at in
-    let there : IsResident c.self.inside.frames (c.args.address / PAGE_SIZE) = subst (λ (q : HybridLog). IsResident q.resident (c.args.address / PAGE_SIZE)) (sym c.self.view_is) t.resident in
+    let there : IsResident c.self.inside.frames c.page.result = rw c.page.ensures (subst (λ (q : HybridLog). IsResident q.resident (c.args.address / PAGE_SIZE)) (sym c.self.view_is) t.resident) in
     absurd (let bad = c.in-None.ensures.resident.1 there in cc)

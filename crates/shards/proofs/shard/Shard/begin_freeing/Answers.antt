@@ -6,14 +6,23 @@ use Rattle.shards.specs.declared.shard.Shard.{Shard}
 use Rattle.shards.proofs.Refreed.{spent_now, tried_all}
 use Rattle.shards.proofs.shard.Shard.begin_freeing.Goals as goal
 
-pub returns-in-Idle-begin_flush-clause-tried : goal.returns-in-Idle-begin_flush-clause-tried
-returns-in-Idle-begin_flush-clause-tried g c = tried_all c.free_places-freed.result.refused.retire (known c.args.seat.now) (known c.free_places-freed.new.own) c.free_places-freed.ensures.told
+pub returns-in-Idle-begin_flush-clause-seat : goal.returns-in-Idle-begin_flush-clause-seat
+returns-in-Idle-begin_flush-clause-seat g c = record {
+  outside = c.free_places-freed.ensures.is;
+  tried = tried_all c.free_places-freed.result.refused.retire (known c.args.seat.now) (known c.free_places-freed.new.own) c.free_places-freed.ensures.told;
+}
 
-pub returns-in-Full-begin_flush-clause-tried : goal.returns-in-Full-begin_flush-clause-tried
-returns-in-Full-begin_flush-clause-tried g c = tried_all c.free_places-freed.result.refused.retire (known c.args.seat.now) (known c.free_places-freed.new.own) c.free_places-freed.ensures.told
+pub returns-in-Full-begin_flush-clause-seat : goal.returns-in-Full-begin_flush-clause-seat
+returns-in-Full-begin_flush-clause-seat g c = record {
+  outside = c.free_places-freed.ensures.is;
+  tried = tried_all c.free_places-freed.result.refused.retire (known c.args.seat.now) (known c.free_places-freed.new.own) c.free_places-freed.ensures.told;
+}
 
-pub returns-in-Sealed-begin_flush-clause-tried : goal.returns-in-Sealed-begin_flush-clause-tried
-returns-in-Sealed-begin_flush-clause-tried g c = tried_all c.free_places-freed.result.refused.retire (known c.args.seat.now) (known c.free_places-freed.new.own) c.free_places-freed.ensures.told
+pub returns-in-Sealed-begin_flush-clause-seat : goal.returns-in-Sealed-begin_flush-clause-seat
+returns-in-Sealed-begin_flush-clause-seat g c = record {
+  outside = c.free_places-freed.ensures.is;
+  tried = tried_all c.free_places-freed.result.refused.retire (known c.args.seat.now) (known c.free_places-freed.new.own) c.free_places-freed.ensures.told;
+}
 
 pub returns-in-Full-begin_flush-clause-told : goal.returns-in-Full-begin_flush-clause-told
 returns-in-Full-begin_flush-clause-told g c =

@@ -29,8 +29,11 @@ returns-clause-lacks g c = λ t right.
     ap (λ (x : Counted). x.log) c.in-Some-retires.ensures.left.same ∙ ap (λ (x : Counted). x.log) c.in-Some.ensures.left.same ∙ ap (λ (s : Shard _). shard_log s) c.if-release.ensures.none.1 in
     subst (λ (p : HybridLog). IfOk c.clean.result (λ step. MatchStepped step ⊤ (λ told. ⊤) (λ told. HasNoRoom (shard_log c.clean.new.self) (oldest_weight p)) (λ number. ⊤))) still (c.clean.ensures.lacks t right)
 
-pub returns-clause-tried : goal.returns-clause-tried
-returns-clause-tried g c = tried_both (known c.args.seat.now) (known c.retires.new.seat) (known c.clean.new.seat) c.retires.ensures.tried c.clean.ensures.tried
+pub returns-clause-seat : goal.returns-clause-seat
+returns-clause-seat g c = record {
+  outside = c.clean.ensures.seat.outside;
+  tried = tried_both (known c.args.seat.now) (known c.retires.new.seat) (known c.clean.new.seat) c.retires.ensures.tried c.clean.ensures.seat.tried;
+}
 
 pub returns-clause-done : goal.returns-clause-done
 returns-clause-done g c =

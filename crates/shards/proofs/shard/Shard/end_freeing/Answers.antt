@@ -6,11 +6,17 @@ use Rattle.shards.specs.declared.shard.Shard.{Shard}
 use Rattle.shards.proofs.Refreed.{spent_now, tried_all}
 use Rattle.shards.proofs.shard.Shard.end_freeing.Goals as goal
 
-pub returns-then-claim-2-clause-tried : goal.returns-then-claim-2-clause-tried
-returns-then-claim-2-clause-tried g c = tried_all c.free_places-freed.result.refused.retire (known c.args.seat.now) (known c.free_places-freed.new.own) c.free_places-freed.ensures.told
+pub returns-then-claim-2-clause-seat : goal.returns-then-claim-2-clause-seat
+returns-then-claim-2-clause-seat g c = record {
+  outside = c.free_places-freed.ensures.is;
+  tried = tried_all c.free_places-freed.result.refused.retire (known c.args.seat.now) (known c.free_places-freed.new.own) c.free_places-freed.ensures.told;
+}
 
-pub returns-else-claim-2-clause-tried : goal.returns-else-claim-2-clause-tried
-returns-else-claim-2-clause-tried g c = tried_all c.free_places-freed.result.refused.retire (known c.args.seat.now) (known c.free_places-freed.new.own) c.free_places-freed.ensures.told
+pub returns-else-claim-2-clause-seat : goal.returns-else-claim-2-clause-seat
+returns-else-claim-2-clause-seat g c = record {
+  outside = c.free_places-freed.ensures.is;
+  tried = tried_all c.free_places-freed.result.refused.retire (known c.args.seat.now) (known c.free_places-freed.new.own) c.free_places-freed.ensures.told;
+}
 
 pub returns-else-claim-2-clause-told : goal.returns-else-claim-2-clause-told
 returns-else-claim-2-clause-told g c =

@@ -13,14 +13,14 @@ use Rattle.shards.proofs.shard.Shard.leave.Goals as goal
 pub leaving-init : goal.leaving-init
 leaving-init g c = record {
   outside = c.requires.outside;
-  weighed = c.requires.weighed;
-  left = c.requires.left;
+  weighed = c.requires.weighed.light;
+  left = c.requires.weighed.left;
   right = λ t right. right;
   store = λ t right key. refl;
   marks = refl;
   made = made_none (shard_counted c.args.self.now);
   tried = tried_never (known c.args.seat.now);
-  weighs = c.requires.weighs;
+  weighs = c.requires.weighed.weighs;
   records = keeps_none (shard_log c.args.self.now);
   failures = refl;
 }
@@ -28,30 +28,90 @@ leaving-init g c = record {
 pub returns-in-Ok-Full-clause-cleaned : goal.returns-in-Ok-Full-clause-cleaned
 returns-in-Ok-Full-clause-cleaned g c =
     let full = rw c.in-Ok-Full.field-0-is at c.in-Ok-Full.ensures.room in
-    (full.0, spent_since c.in-Ok-Full.refused c.args.self.now c.leaving.self c.make_room.new.self c.leaving.invariant.made.waited full.1)
+    (full.full, spent_since c.in-Ok-Full.refused c.args.self.now c.leaving.self c.make_room.new.self c.leaving.invariant.made.waited full.spent)
 
 pub returns-in-Ok-Full-clause-worn : goal.returns-in-Ok-Full-clause-worn
 returns-in-Ok-Full-clause-worn g c = λ retire.
-    heard_since (known c.args.seat.now) (known c.leaving.seat) (known c.make_room.new.seat) c.leaving.invariant.tried ((rw c.in-Ok-Full.field-0-is at c.in-Ok-Full.ensures.worn) retire)
+    heard_since (known c.args.seat.now) (known c.leaving.seat) (known c.make_room.new.seat) c.leaving.invariant.tried ((rw c.in-Ok-Full.field-0-is at c.in-Ok-Full.ensures.room).worn retire)
 
 pub returns-in-Ok-Full-clause-lacks : goal.returns-in-Ok-Full-clause-lacks
 returns-in-Ok-Full-clause-lacks g c = λ t right.
-    subst (λ (w : ℕ). HasNoRoom (shard_log c.make_room.new.self) w) (c.leaving.invariant.weighs t right) (rw c.in-Ok-Full.field-0-is at c.in-Ok-Full.ensures.lacks)
+    subst (λ (w : ℕ). HasNoRoom (shard_log c.make_room.new.self) w) (c.leaving.invariant.weighs t right) (rw c.in-Ok-Full.field-0-is at c.in-Ok-Full.ensures.room).lacks
 
-pub returns-in-Ok-Full-clause-tried : goal.returns-in-Ok-Full-clause-tried
-returns-in-Ok-Full-clause-tried g c = tried_both (known c.args.seat.now) (known c.leaving.seat) (known c.make_room.new.seat) c.leaving.invariant.tried c.make_room.ensures.tried
+pub returns-in-Ok-Full-clause-seat : goal.returns-in-Ok-Full-clause-seat
+returns-in-Ok-Full-clause-seat g c = record {
+  outside = c.make_room.ensures.seat.outside;
+  tried = tried_both (known c.args.seat.now) (known c.leaving.seat) (known c.make_room.new.seat) c.leaving.invariant.tried c.make_room.ensures.seat.tried;
+}
 
-pub returns-in-Err-clause-tried : goal.returns-in-Err-clause-tried
-returns-in-Err-clause-tried g c = tried_both (known c.args.seat.now) (known c.leaving.seat) (known c.make_room.new.seat) c.leaving.invariant.tried c.make_room.ensures.tried
+pub returns-in-Ok-Full-clause-meaning : goal.returns-in-Ok-Full-clause-meaning
+returns-in-Ok-Full-clause-meaning g c =
+    let inv = c.leaving.invariant in
+    record {
+      right = inv.right;
+      store = λ t right key. ap (λ (s : Store). s key) c.make_room.ensures.store ∙ inv.store t right key;
+      marks = c.make_room.ensures.marks ∙ inv.marks;
+    }
 
-pub returns-in-Ok-Unlinked-clause-tried : goal.returns-in-Ok-Unlinked-clause-tried
-returns-in-Ok-Unlinked-clause-tried g c = tried_both (known c.args.seat.now) (known c.leaving.seat) (known c.make_room.new.seat) c.leaving.invariant.tried c.make_room.ensures.tried
+pub returns-in-Err-clause-seat : goal.returns-in-Err-clause-seat
+returns-in-Err-clause-seat g c = record {
+  outside = c.make_room.ensures.seat.outside;
+  tried = tried_both (known c.args.seat.now) (known c.leaving.seat) (known c.make_room.new.seat) c.leaving.invariant.tried c.make_room.ensures.seat.tried;
+}
 
-pub returns-in-Ok-Cold-clause-tried : goal.returns-in-Ok-Cold-clause-tried
-returns-in-Ok-Cold-clause-tried g c = tried_both (known c.args.seat.now) (known c.leaving.seat) (known c.make_room.new.seat) c.leaving.invariant.tried c.make_room.ensures.tried
+pub returns-in-Err-clause-meaning : goal.returns-in-Err-clause-meaning
+returns-in-Err-clause-meaning g c =
+    let inv = c.leaving.invariant in
+    record {
+      right = inv.right;
+      store = λ t right key. ap (λ (s : Store). s key) c.make_room.ensures.store ∙ inv.store t right key;
+      marks = c.make_room.ensures.marks ∙ inv.marks;
+    }
 
-pub returns-in-Err-unlink-clause-tried : goal.returns-in-Err-unlink-clause-tried
-returns-in-Err-unlink-clause-tried g c = tried_both (known c.args.seat.now) (known c.leaving.seat) (known c.make_room.new.seat) c.leaving.invariant.tried c.make_room.ensures.tried
+pub returns-in-Ok-Unlinked-clause-seat : goal.returns-in-Ok-Unlinked-clause-seat
+returns-in-Ok-Unlinked-clause-seat g c = record {
+  outside = c.make_room.ensures.seat.outside;
+  tried = tried_both (known c.args.seat.now) (known c.leaving.seat) (known c.make_room.new.seat) c.leaving.invariant.tried c.make_room.ensures.seat.tried;
+}
+
+pub returns-in-Ok-Unlinked-clause-meaning : goal.returns-in-Ok-Unlinked-clause-meaning
+returns-in-Ok-Unlinked-clause-meaning g c =
+    let inv = c.leaving.invariant in
+    record {
+      right = λ t right. c.unlink.ensures.meaning.right t (inv.right t right);
+      store = λ t right key. c.unlink.ensures.meaning.store t (inv.right t right) key ∙ ap (λ (s : Store). s key) c.make_room.ensures.store ∙ inv.store t right key;
+      marks = c.unlink.ensures.meaning.marks ∙ c.make_room.ensures.marks ∙ inv.marks;
+    }
+
+pub returns-in-Ok-Cold-clause-seat : goal.returns-in-Ok-Cold-clause-seat
+returns-in-Ok-Cold-clause-seat g c = record {
+  outside = c.make_room.ensures.seat.outside;
+  tried = tried_both (known c.args.seat.now) (known c.leaving.seat) (known c.make_room.new.seat) c.leaving.invariant.tried c.make_room.ensures.seat.tried;
+}
+
+pub returns-in-Ok-Cold-clause-meaning : goal.returns-in-Ok-Cold-clause-meaning
+returns-in-Ok-Cold-clause-meaning g c =
+    let inv = c.leaving.invariant in
+    record {
+      right = λ t right. c.unlink.ensures.meaning.right t (inv.right t right);
+      store = λ t right key. c.unlink.ensures.meaning.store t (inv.right t right) key ∙ ap (λ (s : Store). s key) c.make_room.ensures.store ∙ inv.store t right key;
+      marks = c.unlink.ensures.meaning.marks ∙ c.make_room.ensures.marks ∙ inv.marks;
+    }
+
+pub returns-in-Err-unlink-clause-seat : goal.returns-in-Err-unlink-clause-seat
+returns-in-Err-unlink-clause-seat g c = record {
+  outside = c.make_room.ensures.seat.outside;
+  tried = tried_both (known c.args.seat.now) (known c.leaving.seat) (known c.make_room.new.seat) c.leaving.invariant.tried c.make_room.ensures.seat.tried;
+}
+
+pub returns-in-Err-unlink-clause-meaning : goal.returns-in-Err-unlink-clause-meaning
+returns-in-Err-unlink-clause-meaning g c =
+    let inv = c.leaving.invariant in
+    record {
+      right = λ t right. c.unlink.ensures.meaning.right t (inv.right t right);
+      store = λ t right key. c.unlink.ensures.meaning.store t (inv.right t right) key ∙ ap (λ (s : Store). s key) c.make_room.ensures.store ∙ inv.store t right key;
+      marks = c.unlink.ensures.meaning.marks ∙ c.make_room.ensures.marks ∙ inv.marks;
+    }
 
 pub leaving-preserved : goal.leaving-preserved
 leaving-preserved g c =
@@ -59,22 +119,22 @@ leaving-preserved g c =
     let made = c.make_room.ensures.made in
     let same : c.unlink.new.self ≡ c.make_room.new.self = (rw c.in-Ok-Heavy.field-0-is at c.in-Ok-Heavy.ensures.unlinked).0 in
     record {
-      outside = c.make_room.ensures.outside;
+      outside = c.make_room.ensures.seat.outside;
       weighed = omega arith;
       left = omega (arith, inv.left, made.oldest, made.first, ap (λ (s : Shard _). (shard_log s).oldest) same, ap (λ (s : Shard _). (shard_log s).resident.oldest) same);
-      right = λ t right. c.unlink.ensures.right t (inv.right t right);
-      store = λ t right key. c.unlink.ensures.store t (inv.right t right) key ∙ ap (λ (s : Store). s key) c.make_room.ensures.store ∙ inv.store t right key;
-      marks = c.unlink.ensures.marks ∙ c.make_room.ensures.marks ∙ inv.marks;
+      right = λ t right. c.unlink.ensures.meaning.right t (inv.right t right);
+      store = λ t right key. c.unlink.ensures.meaning.store t (inv.right t right) key ∙ ap (λ (s : Store). s key) c.make_room.ensures.store ∙ inv.store t right key;
+      marks = c.unlink.ensures.meaning.marks ∙ c.make_room.ensures.marks ∙ inv.marks;
       made = subst (λ (s : Shard _). HasMadeRoom (shard_counted c.args.self.now) (shard_counted s)) (sym same)
           (made_both (shard_counted c.args.self.now) (shard_counted c.leaving.self) (shard_counted c.make_room.new.self) inv.made made);
-      tried = tried_both (known c.args.seat.now) (known c.leaving.seat) (known c.make_room.new.seat) inv.tried c.make_room.ensures.tried;
+      tried = tried_both (known c.args.seat.now) (known c.leaving.seat) (known c.make_room.new.seat) inv.tried c.make_room.ensures.seat.tried;
       weighs = λ t right.
-          let heavy : c.in-Ok-Heavy._weight ≡ oldest_weight (shard_log c.make_room.new.self) = (rw c.in-Ok-Heavy.field-0-is at c.in-Ok-Heavy.ensures.weighed) t (c.unlink.ensures.right t (inv.right t right)) in
-          let more : c.leaving.weight < c.in-Ok-Heavy._weight = (rw c.in-Ok-Heavy.field-0-is at c.in-Ok-Heavy.ensures.unlinked).1 in
-          let same = weighs_same (shard_log c.args.self.now) (shard_log c.make_room.new.self) c.requires.kept.0 c.requires.kept.1
+          let heavy : c.in-Ok-Heavy._weight ≡ oldest_weight (shard_log c.make_room.new.self) = (rw c.in-Ok-Heavy.field-0-is at c.in-Ok-Heavy.ensures.weighed) t (c.unlink.ensures.meaning.right t (inv.right t right)) in
+          let more : c.leaving.weight < c.in-Ok-Heavy._weight = (rw c.in-Ok-Heavy.field-0-is at c.in-Ok-Heavy.ensures.unlinked).1.0 in
+          let same = weighs_same (shard_log c.args.self.now) (shard_log c.make_room.new.self) c.requires.weighed.kept c.requires.weighed.has
           (keeps_both (shard_log c.args.self.now) (shard_log c.leaving.self) (shard_log c.make_room.new.self) inv.records c.make_room.ensures.records) in
           absurd (omega (arith, more, heavy, same, inv.weighs t right));
       records = subst (λ (s : Shard _). KeepsRecords (shard_log c.args.self.now) (shard_log s)) (sym same)
           (keeps_both (shard_log c.args.self.now) (shard_log c.leaving.self) (shard_log c.make_room.new.self) inv.records c.make_room.ensures.records);
-      failures = c.in-Ok-Heavy.ensures.no_fault ∙ c.in-Ok-Room.ensures.no_fault ∙ inv.failures;
+      failures = c.in-Ok-Heavy.ensures.failed.no_fault ∙ c.in-Ok-Room.ensures.failed.no_fault ∙ inv.failures;
     }

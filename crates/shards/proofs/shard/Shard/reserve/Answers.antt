@@ -1,11 +1,8 @@
+use Rattle.std.proofs.Common.{refl, ap}
+use Rattle.hybrid.specs.Log.{Log, contents}
 use Rattle.shards.proofs.shard.Shard.reserve.Goals as goal
 
-pub returns-clause-waits : goal.returns-clause-waits
-returns-clause-waits g c = λ i. record {
-  in_flight = c.reserve.ensures.in_flight i;
-  unlinked = c.reserve.ensures.unlinked i;
-  retired = c.reserve.ensures.retired i;
-  drained = c.reserve.ensures.drained i;
-  refused = c.reserve.ensures.refused i;
-  worn = c.reserve.ensures.worn i;
-}
+pub returns-clause-same : goal.returns-clause-same
+returns-clause-same g c =
+    let same = c.reserve.ensures.same in
+    record { store = ap (λ (l : Log). contents l) same.records; marks = refl; waits = same.waits; records = same.records; tail = same.tail }

@@ -1,10 +1,10 @@
-use Rattle.std.proofs.Common.{◌≡◌, ◌≤◌, ◌<◌, ◌∙◌, ◌+◌, Some, false, refl, ap, subst}
+use Rattle.std.proofs.Common.{◌≡◌, ◌≤◌, ◌<◌, ◌∙◌, ◌+◌, Some, refl, ap, subst}
 use Rattle.std.specs.Prelude.{⊤}
 use Rattle.hybrid.specs.HybridLog.{HybridLog, Kept, receipt_of}
 use Rattle.hybrid.specs.Staging.{IsMissing}
 use Rattle.hybrid.specs.Weighing.{MatchWeighed, oldest_weight}
 use Rattle.hybrid.specs.declared.stripe.TheConstants.{CLEAN_WEIGHT}
-use Rattle.shards.specs.Cleaning.{IsFetched}
+use Rattle.shards.specs.Cleaning.{IsFetched, IsWanted}
 use Rattle.shards.specs.Shards.{shard_log}
 use Rattle.shards.proofs.Cleaned.{fault_more, fetched_less, weighed_by}
 use Rattle.shards.proofs.shard.Shard.weigh.Goals as goal
@@ -18,8 +18,15 @@ returns-then-not-reads-clause-right g c = c.loop-number.invariant.right
 pub returns-then-not-reads-clause-no_release : goal.returns-then-not-reads-clause-no_release
 returns-then-not-reads-clause-no_release g c = c.loop-number.invariant.releases
 
-pub returns-then-not-reads-clause-no_fault : goal.returns-then-not-reads-clause-no_fault
-returns-then-not-reads-clause-no_fault g c = c.loop-number.invariant.failures
+pub returns-then-not-reads-clause-failed : goal.returns-then-not-reads-clause-failed
+returns-then-not-reads-clause-failed g c = record { fault = tt; no_fault = c.loop-number.invariant.failures }
+
+pub returns-then-not-reads-clause-weighed : goal.returns-then-not-reads-clause-weighed
+returns-then-not-reads-clause-weighed g c = record {
+  unread = c.if-not-reads.true;
+  unlent = c.in-Cold.ensures.lent;
+  missing = subst (λ (p : HybridLog). IsMissing p c.loop-number.staged c.in-Cold.number) c.stripe.ensures.log c.in-Cold.ensures.cold;
+}
 
 pub loop-number-smaller : goal.loop-number-smaller
 loop-number-smaller g c =
@@ -42,9 +49,11 @@ returns-in-Err-clause-right g c = λ t right. c.fetch.ensures.right t (c.loop-nu
 pub returns-in-Err-clause-no_release : goal.returns-in-Err-clause-no_release
 returns-in-Err-clause-no_release g c = c.fetch.ensures.no_release ∙ c.loop-number.invariant.releases
 
-pub returns-in-Err-clause-fault : goal.returns-in-Err-clause-fault
-returns-in-Err-clause-fault g c =
-    fault_more c.in-Err.fault _ _ _ _ (λ same. (c.in-Cold.ensures.lent, same ∙ c.loop-number.invariant.failures)) (λ more. more ∙ ap (λ n. n + 1) c.loop-number.invariant.failures) c.in-Err.ensures.fault
+pub returns-in-Err-clause-failed : goal.returns-in-Err-clause-failed
+returns-in-Err-clause-failed g c = record {
+  fault = fault_more c.in-Err.fault _ _ _ _ (λ same. (c.in-Cold.ensures.lent, same ∙ c.loop-number.invariant.failures)) (λ more. more ∙ ap (λ n. n + 1) c.loop-number.invariant.failures) c.in-Err.ensures.fault;
+  no_fault = tt;
+}
 
 pub returns-in_default : goal.returns-in_default
 returns-in_default g c =
@@ -52,12 +61,11 @@ returns-in_default g c =
     record {
       right = inv.right;
       weighed = subst (λ (p : HybridLog). MatchWeighed c.weigh_oldest.result (λ weight. (weight ≤ CLEAN_WEIGHT) × (p.oldest < p.resident.oldest))
-          (λ number. (c.args.reads ≡ false) × (g.R.Shows.lends → ⊥) × IsMissing (shard_log c.args.self.now) c.loop-number.staged number) (p.resident.oldest ≡ p.oldest)) c.stripe.ensures.log
+          (IsWanted c.args.reads g.R.Shows.lends c.args.self.now c.loop-number.staged) (p.resident.oldest ≡ p.oldest)) c.stripe.ensures.log
           (weighed_by c.weigh_oldest.result _ _ _ _ c.in_default.not-Cold c.weigh_oldest.ensures.most c.weigh_oldest.ensures.resident);
       weighs = λ t right. subst (λ (p : HybridLog). MatchWeighed c.weigh_oldest.result (λ weight. weight ≡ oldest_weight p) (λ number. ⊤) ⊤) c.stripe.ensures.log
           (c.weigh_oldest.ensures.weight (g.met.R.Shows.steady_is_honest t) right);
       kept = subst (λ (p : HybridLog). MatchWeighed c.weigh_oldest.result (λ weight. (kept : Kept) × (receipt_of p p.oldest ≡ Some kept)) (λ number. ⊤) ⊤) c.stripe.ensures.log c.weigh_oldest.ensures.kept;
       no_release = inv.releases;
-      fault = tt;
-      no_fault = inv.failures;
+      failed = record { fault = tt; no_fault = inv.failures };
     }

@@ -1,5 +1,5 @@
 use Rattle.std.proofs.Common.{◌∙◌}
-use Rattle.world_events.specs.declared.event.Event.TheVariants as event
+use Rattle.world_model.specs.declared.event.Event.TheVariants as event
 use Rattle.world.proofs.Acting.{ok_stayed, ok_told_drained}
 use Rattle.world.proofs.world.World.drain.Goals as goal
 

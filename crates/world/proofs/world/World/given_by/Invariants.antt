@@ -1,5 +1,5 @@
 use Rattle.std.proofs.Common.{◌≡◌, ℕ, ◌<◌, false}
-use Rattle.world_events.specs.declared.event.Event.TheVariants.{Give}
+use Rattle.world_model.specs.declared.event.Event.TheVariants.{Give}
 use Rattle.world_model.specs.Enabled.{is_enabled_for}
 use Rattle.world_model.specs.States.{client}
 use Rattle.world.specs.Tables.{state_of}

@@ -1,5 +1,5 @@
 use Rattle.std.proofs.Common.{◌∙◌, refl}
-use Rattle.world_events.specs.declared.event.Event.TheVariants as event
+use Rattle.world_model.specs.declared.event.Event.TheVariants as event
 use Rattle.world.proofs.Acting.{none_stepped, ok_stayed, ok_told}
 use Rattle.world.proofs.world.World.unlink.Goals as goal
 

@@ -1,5 +1,5 @@
 use Rattle.std.proofs.Common.{refl}
-use Rattle.world_events.specs.declared.event.Event.TheVariants as event
+use Rattle.world_model.specs.declared.event.Event.TheVariants as event
 use Rattle.world.proofs.Acting.{ok_told, ok_worked, told_by, turn_of, worked_by, world_of, worked_world}
 use Rattle.world.proofs.Worlds.{ok_then}
 use Rattle.world.specs.Tables.{rest_of}

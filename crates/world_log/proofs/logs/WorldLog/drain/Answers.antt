@@ -4,7 +4,7 @@ use Rattle.world_log.specs.WorldLogs.{IsOldest, with_values}
 use Rattle.world_log.specs.Types.{Lane}
 use Rattle.world_log.proofs.LaneSteps.{reached, same_lane, took_drain_by, took_drain_held, store_drained_by, with_lane, told_drain_by, told_drain_held, told_drain_none}
 use Rattle.world_log.proofs.Values.{beside_values, no_values, took_values_with}
-use Rattle.world_events.specs.declared.event.Event.TheVariants as event
+use Rattle.world_model.specs.declared.event.Event.TheVariants as event
 use Rattle.world_log.proofs.Held.{held_with}
 use Rattle.world_log.proofs.logs.WorldLog.drain.Goals as goal
 

@@ -2,7 +2,7 @@ use Rattle.std.proofs.Common.{length, refl, arith, subst, sym}
 use Rattle.std.proofs.lemmas.Option.{slice_get_read}
 use Rattle.world_log.proofs.LaneSteps.{lane_of, reached, free_is, took_drop, store_with, with_lane, told_drop}
 use Rattle.world_log.proofs.Values.{lane_values, took_values}
-use Rattle.world_events.specs.declared.event.Event.TheVariants as event
+use Rattle.world_model.specs.declared.event.Event.TheVariants as event
 use Rattle.world_log.proofs.Held.{held_free}
 use Rattle.world_log.proofs.Rising.{drop_stamps}
 use Rattle.world_log.specs.Stripes.{lane_beside, lane_log}

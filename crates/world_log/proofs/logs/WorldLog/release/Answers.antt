@@ -7,7 +7,7 @@ use Rattle.world_log.proofs.LaneSteps.{lane_of, reached, store_with, store_devic
 use Rattle.world_log.proofs.RoomSteps.{took_release, drained_there, told_release}
 use Rattle.world_log.proofs.AllGiven.{release_stays, release_given}
 use Rattle.world_log.proofs.Values.{both_values, took_values}
-use Rattle.world_events.specs.declared.event.Event.TheVariants as event
+use Rattle.world_model.specs.declared.event.Event.TheVariants as event
 use Rattle.world_log.proofs.Held.{held_release, held_with}
 use Rattle.world_log.proofs.Rising.{release_stamps}
 use Rattle.world_log.specs.WorldLogs.{AreRising, with_values}

@@ -3,7 +3,7 @@ use Rattle.std.proofs.lemmas.Option.{slice_get_read}
 use Rattle.hybrid.specs.HybridLog.{HasRoom, HybridLog}
 use Rattle.world_log.proofs.LaneSteps.{lane_of, reached, took_retire, took_retire_not, store_retired, store_same, with_epoch, with_lane, told_retire}
 use Rattle.world_log.proofs.Values.{lane_values, took_values}
-use Rattle.world_events.specs.declared.event.Event.TheVariants as event
+use Rattle.world_model.specs.declared.event.Event.TheVariants as event
 use Rattle.world_log.proofs.Held.{held_with}
 use Rattle.world_log.specs.WorldLogs.{with_values}
 use Rattle.world_log.proofs.logs.WorldLog.retire.Goals as goal

@@ -3,7 +3,7 @@ use Rattle.std.proofs.lemmas.Option.{slice_get_read}
 use Rattle.world_log.proofs.AllGiven.{write_stays}
 use Rattle.world_log.proofs.LaneSteps.{reached, took_write, store_written, with_both, told_write}
 use Rattle.world_log.proofs.Values.{beside_values, took_values}
-use Rattle.world_events.specs.declared.event.Event.TheVariants as event
+use Rattle.world_model.specs.declared.event.Event.TheVariants as event
 use Rattle.world_log.proofs.Held.{held_with}
 use Rattle.world_log.specs.WorldLogs.{with_values}
 use Rattle.world_log.proofs.logs.WorldLog.write.Goals as goal

@@ -1,6 +1,6 @@
 use Rattle.std.proofs.Common.{length, refl}
 use Rattle.std.proofs.lemmas.Option.{slice_get_read, slice_get_within}
-use Rattle.world_log.proofs.Lending.{IsThere, is_there, keeps_is, others_are, value_is, writes, written_is}
+use Rattle.world_log.proofs.Lending.{IsThere, few_is, is_there, keeps_is, others_are, value_is, writes, written_is}
 use Rattle.world_log.proofs.stripes.StripesParts.part.Goals as goal
 
 pub returns : goal.returns
@@ -12,7 +12,7 @@ returns g c =
       record {
         writes_back = tt;
         value = value_is c.args.self.now c.args.stripe c.index_mut-lane.result.now at.held there;
-        stays = λ part. tt;
+        stays = few_is c.args.self.now c.args.stripe c.index_mut-lane.result.now at.held there c.requires.open;
         written = written_is c.args.self.now c.args.stripe c.index_mut-lane.result.now at.held there;
         others = others_are c.args.self.now c.args.stripe c.index_mut-lane.result.now at.held there;
         keeps = keeps_is c.args.self.now c.args.stripe c.index_mut-lane.result.now at.held there;

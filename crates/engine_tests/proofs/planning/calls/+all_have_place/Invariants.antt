@@ -1,5 +1,0 @@
-use Rattle.std.proofs.Common.{length}
-use Rattle.engine_tests.proofs.planning.calls.+all_have_place.Given as goal
-
-abbrev pub decreases-all_have_place : goal.decreases-all_have_place
-decreases-all_have_place l = length l.commands.now

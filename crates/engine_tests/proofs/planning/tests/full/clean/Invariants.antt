@@ -1,5 +1,0 @@
-use Rattle.epoch.specs.Seats.{IsOutside}
-use Rattle.engine_tests.proofs.planning.tests.full.clean.Given as goal
-
-abbrev pub invariant-loop : goal.invariant-loop
-invariant-loop g l = IsOutside l.epochs l.seat

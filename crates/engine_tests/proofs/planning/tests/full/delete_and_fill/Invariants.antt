@@ -1,5 +1,0 @@
-use Rattle.epoch.specs.Seats.{IsOutside}
-use Rattle.engine_tests.proofs.planning.tests.full.delete_and_fill.Given as goal
-
-abbrev pub invariant-loop-time : goal.invariant-loop-time
-invariant-loop-time l = IsOutside l.epochs l.seat

@@ -1,4 +1,0 @@
-use Rattle.world_events.proofs.shown_page.ShownPage.filled.Goals as goal
-
-pub returns : goal.returns
-returns c = rw c.in_ok-page_filled.ensures at c.new.ensures
