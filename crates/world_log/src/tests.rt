@@ -13,6 +13,7 @@ use std::alloc::Global;
 use std::process::Abort;
 use std::sync::Arc;
 use std::test::Fail;
+use words::hash::Hashed;
 use words::limits::{Limits, VALUE_BYTES_MAX, WEIGHT_OF_KEY};
 use words::word::Word;
 
@@ -40,7 +41,7 @@ fn set(log: &mut WorldLog, key: &Word, value: &Word) -> Result<(), Stopped>
     let Ok(()) = lane.shard.reserve(weight, Purpose::Clean, &mut log.device) else {
         return Err(Stopped);
     };
-    lane.shard.set(key, value);
+    lane.shard.set(&Hashed::new(key), value);
     Ok(())
 }
 
@@ -79,7 +80,8 @@ fn look(
     let Some(lane) = log.stripes.lanes.first() else {
         return Err(Stopped);
     };
-    let number = match lane.shard.find(key, staged) {
+    let key = Hashed::new(key);
+    let number = match lane.shard.find(&key, staged) {
         Lookup::Found(found) => return Ok(Seen::Value(found == value)),
         Lookup::Absent => return Ok(Seen::Value(false)),
         Lookup::Cold(number) => number,
