@@ -6,7 +6,8 @@ use Rattle.words.specs.declared.limits.TheConstants.{WEIGHT_MAX, VALUE_BYTES_MAX
 use Rattle.words.specs.declared.command.Command.{Command}
 use Rattle.words.specs.declared.command.Command.TheVariants.{Ping, Echo, Get, Set, SetGet, SetNx, GetSet, GetDel, StrLen, Exists, Del, Append, SetRange, GetRange, Add, Subtract, MGet, MSet, MSetNx, Rename, Session, Bad}
 use Rattle.words.specs.declared.reply.CommandReply.{CommandReply}
-use Rattle.words.specs.declared.reply.CommandReply.TheVariants.{One}
+use Rattle.words.specs.declared.reply.CommandReply.TheVariants.{One, Array}
+use Rattle.words.specs.declared.reply.Item.{Item}
 use Rattle.words.specs.declared.reply.Reply.{Reply}
 use Rattle.words.specs.declared.reply.Reply.TheVariants as reply
 use Rattle.words.specs.declared.history.Entry.{Entry}
@@ -15,7 +16,7 @@ use Rattle.words.specs.declared.history.Operation.TheVariants.{Run, Exec}
 use Rattle.words.specs.Store.{Bytes, Store, Write, empty, written, writes_key, weight}
 use Rattle.words.specs.Commands.{touches_keys, keys_of, keys_of_all}
 use Rattle.words.specs.Numbers.{in_range}
-use Rattle.words.specs.Answers.{Answer, answer, answers, allows, is_some, any_there, item_of, grown, set_range_answer, changed, number_at, value_of, line, bulk}
+use Rattle.words.specs.Answers.{Answer, answer, answers, allows, is_some, any_there, item_of, items_of, grown, set_range_answer, changed, number_at, value_of, line, bulk}
 use Rattle.words.specs.History.{History, Pair, after, due, outcome, was_not_done, too_much, is_dirty, pairs_of, keys_named, writes_of, keys_of_pairs}
 use Rattle.words.specs.declared.reply.Line.TheVariants.{Done}
 use Rattle.words.specs.declared.command.When.TheVariants.{Always}
@@ -27,6 +28,7 @@ use Rattle.gates.specs.Rule.{Meaning}
 use Rattle.gates.specs.Passes.{AreWatched}
 use Rattle.transact.specs.Plans.{IsPlan, made}
 use Rattle.transact.specs.Tables.{AreThere, AllRead, AllMarked, any_marked, joined, joined_marks, keys_written, values_of}
+use Rattle.plans.specs.Finding.{ReadsNothing}
 use Rattle.plans.proofs.Stores.{written-append}
 use Rattle.plans.proofs.Keys.{any_is, found_agrees, joined_at, joined_same, none_more, same_both, same_more, written_there}
 
@@ -124,6 +126,22 @@ is_plan seen operation planned_reply one planned_writes ws heavy clean all heavy
           ] ∙ sym made_is;
     }
 
+-- stores that are the same at keys have the same items of them
+same_items : (keys : List Bytes) (one other : Store) → AreSameAt keys one other → items_of one keys ≡ items_of other keys
+same_items [] one other same = refl
+same_items (key ∷ keys) one other same = λ i. item_of (same.0 i) ∷ same_items keys one other same.1 i
+
+-- a command that reads nothing is answered as on an empty store
+pub plan_of_unread : (seen : History) (command : Command) (done : CommandReply × List Write) (planned_reply : Reply) (planned_writes : List Write)
+    → touches_keys command ≡ true → ReadsNothing command → done ≡ answer empty command
+    → planned_reply ≡ cond (nat_lt WEIGHT_MAX (weight done.1)) too_much (reply.Single done.0) → planned_writes ≡ cond (nat_lt WEIGHT_MAX (weight done.1)) [] done.1
+    → IsPlan seen (Run command) planned_reply planned_writes
+plan_of_unread seen command done planned_reply planned_writes touches unread done_is reply_is writes_are =
+    let all : done ≡ answer (after seen) command = done_is ∙ unread empty (after seen) in
+    is_plan seen (Run command) planned_reply (reply.Single done.0) planned_writes done.1 (nat_lt WEIGHT_MAX (weight done.1)) refl
+    (ap (λ (a : CommandReply × List Write). (reply.Single a.0, a.1)) (sym all)) refl reply_is writes_are
+    (ap (λ (a : CommandReply × List Write). was_not_done (reply.Single a.0)) all ∙ answer_ran command (after seen) touches)
+
 module _ {T : Type 0} (contents : Meaning T) (n : ℕ) (parts : ℕ → Option T) where
   -- what was found of keys shows what a store has of them of which there are the parts
   found_shows : (keys : List Bytes) (whole : Store) (found start : List Write) → start ≡ [] → found ≡ start ++ values_of (joined contents n parts) keys
@@ -153,6 +171,17 @@ module _ {T : Type 0} (contents : Meaning T) (n : ℕ) (parts : ℕ → Option T
   plan_of_get seen key value planned_reply planned_writes value_is reads there reply_is writes_are =
       is_plan seen (Run (Get key)) planned_reply (reply.Single (bulk value)) planned_writes [] false refl
       (ap (λ (v : Option Bytes). (reply.Single (bulk v), [])) (sym (value_is ∙ joined_at contents n parts (after seen) key reads there))) refl reply_is writes_are (item_ran value)
+
+  -- a MGET is answered what the parts of its keys have, and writes nothing
+  pub plan_of_items : (seen : History) (command : Command) (keys : List Bytes) (items start : List Item) (planned_reply : Reply) (planned_writes : List Write) → command ≡ MGet keys → start ≡ []
+      → items ≡ start ++ items_of (joined contents n parts) keys → AllRead contents n parts (after seen) → AreThere n parts keys → planned_reply ≡ reply.Single (Array items) → planned_writes ≡ []
+      → IsPlan seen (Run command) planned_reply planned_writes
+  plan_of_items seen command keys items start planned_reply planned_writes is none items_are reads there reply_is writes_are =
+      let all : items ≡ items_of (after seen) keys =
+      items_are ∙ ap (λ (l : List Item). l ++ items_of (joined contents n parts) keys) none ∙ same_items keys (joined contents n parts) (after seen) (joined_same contents n parts keys (after seen) reads there) in
+      subst (λ (x : Command). IsPlan seen (Run x) planned_reply planned_writes) (sym is)
+      (is_plan seen (Run (MGet keys)) planned_reply (reply.Single (Array items)) planned_writes [] false refl
+      (ap (λ (l : List Item). (reply.Single (Array l), [])) (sym all)) refl reply_is writes_are refl)
 
   pub plan_of_all : Depends → (seen : History) (commands : List Command) (watched : List Pair) (found start : List Write) (done : List CommandReply × List Write) (planned_reply : Reply) (planned_writes : List Write)
       → is_dirty seen watched ≡ false → start ≡ [] → found ≡ start ++ values_of (joined contents n parts) (keys_of_all commands) → done ≡ answers (written empty found) commands

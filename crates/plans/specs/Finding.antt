@@ -1,8 +1,9 @@
 -- What is found of keys that are looked up.
 use Rattle.std.specs.Prelude.{ℕ, ◌≡◌, ◌<◌, ◌∷◌, ◌++◌, [], List, Option}
-use Rattle.words.specs.Answers.{value_of}
+use Rattle.words.specs.declared.command.Command.{Command}
+use Rattle.words.specs.Answers.{answer, value_of}
 use Rattle.words.specs.Commands.{IsInline}
-use Rattle.words.specs.Store.{Bytes, Write}
+use Rattle.words.specs.Store.{Bytes, Store, Write}
 use Rattle.strings.specs.declared.writes.TheConstants.{WRITES_INLINE}
 use Rattle.gates.specs.Rule.{Meaning}
 use Rattle.hybrid.specs.HybridLog.{HybridLog, Kept}
@@ -12,6 +13,10 @@ use Rattle.shards.specs.declared.shard.Shard.{Shard}
 use Rattle.shards.specs.Shards.{logs_of, shard_log, shard_meaning, shard_store}
 use Rattle.plans.specs.Memory.{AreAtHand, IsAtHand}
 use Rattle.plans.specs.Stops.{HasFound, IsNeeded, IsWanted, IsWantedFor}
+
+-- What the command answers and writes is the same on each store, so nothing of it is to be looked up.
+abbrev pub ReadsNothing : Command → Type 0
+ReadsNothing command = (one other : Store) → answer one command ≡ answer other command
 
 -- the receipt that the log keeps of the page of this number, which is neither resident nor staged, joins the cold ones
 pub record JoinsWanted (log : HybridLog) (staged : List StagedPage) (number : ℕ) (cold_before cold : List Kept) : Type 0 where

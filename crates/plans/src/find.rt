@@ -1,18 +1,23 @@
 //! What commands answer, on what is found of their keys.
 
 ghost use Rattle.std.specs.Prelude.{◌≡◌, ◌≤◌, ◌+◌, ◌∷◌, ◌++◌, [], length, OnOk, IfOk, IsOk};
+ghost use Rattle.std.specs.Bool.{OnTrue};
 ghost use Rattle.words.specs.Store.{Bytes, empty, written};
 ghost use Rattle.words.specs.Commands.{keys_of, keys_of_all};
 ghost use Rattle.words.specs.Answers.{answer, answers};
 ghost use Rattle.words.specs.Answers as answering;
+ghost use Rattle.words.specs.Answers.{items_of};
 ghost use Rattle.strings.specs.declared.found.TheConstants.{FOUND_INLINE};
-ghost use Rattle.strings.specs.Overlays.{shown};
+ghost use Rattle.strings.specs.Overlays.{shown, NeedsNoMemory};
+ghost use Rattle.transact.specs.Tables.{joined};
+ghost use Rattle.shards.specs.Shards.{shard_meaning};
 ghost use Rattle.hybrid.specs.Staging.{AreRight};
 ghost use Rattle.plans.specs.Planning.{IsStillHeld, MayLookUp};
 ghost use Rattle.plans.specs.Finding.{FindsInPlaceIn, LooksUpIn};
 ghost use Rattle.plans.specs.Memory.{IfOneInPlace};
 
 use crate::cells::find_key;
+use crate::short::value_of;
 use crate::stop::Receipts;
 use device::Shows;
 use gates::Parts;
@@ -25,8 +30,9 @@ use strings::overlay::Overlay;
 use strings::run::run;
 use strings::writes::{Write, Writes};
 use words::command::Command;
-use words::reply::CommandReply;
-use words::word::OutOfMemory;
+use words::hash::Hashed;
+use words::reply::{CommandReply, Item};
+use words::word::{OutOfMemory, Word};
 
 /// Looks up the keys of a command, all of them, whichever of their pages are wanted.
 pub(crate) fn find_command<R: Shows, P: Parts<Shard<R>>>(
@@ -77,6 +83,34 @@ pub(crate) fn find_commands<R: Shows, P: Parts<Shard<R>>>(
     Ok(())
 }
 
+/// Adds the values of these keys, as items. Each is copied once, from where it lies. False where a page is wanted, or memory:
+/// the items are then some of them.
+pub(crate) fn add_values<R: Shows, P: Parts<Shard<R>>>(
+    alloc: Global,
+    parts: &mut P,
+    keys: &[Word],
+    staged: &Staged<R>,
+    items: &mut Vec<Item>,
+) -> bool
+    requires may { MayLookUp (P.is_open parts.old) (P.stripes_of parts.old) (P.part_of parts.old) keys.now }
+    ensures items { OnTrue result (R.is_honest × AreRight staged.now → items.new.items ≡ items.old.items
+        ++ items_of (joined (shard_meaning R.is_steady) (P.stripes_of parts.old) (P.part_of parts.old)) keys.now) }
+    ensures same { P.part_of parts.new ≡ P.part_of parts.old }
+    ensures held { IsStillHeld P.is_open P.keeps parts.old parts.new }
+{
+    let mut left = keys;
+    while let Some((first, others)) = left.split_first() {
+        let Ok(value) = value_of(alloc, parts, &Hashed::new(first), staged) else {
+            return false;
+        };
+        let Ok(()) = items.push(Item::of(value)) else {
+            return false;
+        };
+        left = others;
+    }
+    true
+}
+
 /// Shows what was found.
 fn show<'a>(found: &'a [Write], shown: &mut Findings<'a>) -> Result<(), OutOfMemory>
     ensures shown { OnOk result (shown.new ≡ shown.old ++ found.entry.now) }
@@ -105,6 +139,21 @@ pub(crate) fn answer_one(
 {
     let mut overlay = Overlay::new(alloc);
     match answer_on(alloc, found, command, &mut overlay) {
+        Ok(reply) => Ok((reply, overlay.writes)),
+        Err(refused) => Err(refused),
+    }
+}
+
+/// What a command answers and writes on an empty store, where nothing is looked up.
+pub(crate) fn answer_unread(
+    alloc: Global,
+    command: &Command,
+) -> Result<(CommandReply, Writes), OutOfMemory>
+    ensures answer { IfOk result (λ done. done ≡ answer empty command.now) }
+    ensures memory { NeedsNoMemory (record { found = []; writes = [] }) command.now → IsOk result }
+{
+    let mut overlay = Overlay::new(alloc);
+    match run(alloc, command, &mut overlay) {
         Ok(reply) => Ok((reply, overlay.writes)),
         Err(refused) => Err(refused),
     }

@@ -1,6 +1,7 @@
 //! What a call comes to, before its commit.
 
 ghost use Rattle.std.specs.Prelude.{◌≡◌, ⊤, [], ◌∷◌, true, IfOk, IfErr};
+ghost use Rattle.words.specs.declared.command.Command.TheVariants as asked;
 ghost use Rattle.words.specs.declared.history.Operation.TheVariants.{Watch};
 ghost use Rattle.words.specs.Commands.{keys_of, keys_of_all, touches_keys};
 ghost use Rattle.words.specs.History.{too_much};
@@ -15,10 +16,11 @@ ghost use Rattle.shards.specs.Shards.{SameLogs, SameWaits, shard_meaning};
 ghost use Rattle.plans.specs.Planning.{AreDue, AreSettled, FoundFull, HasAnswered, HasMissedIn, HasPlanned, HasStopped};
 ghost use Rattle.plans.specs.Planning.{HaveFailed, IsPlanOfWatch, IsStillHeld, IsUnmarked, MatchStop, MayLookUp, MayPlan, StillStands};
 ghost use Rattle.plans.specs.Planning.{asks_call, asks_command, asks_commands, asks_copied, asks_exec, asks_get};
+ghost use Rattle.plans.specs.Finding.{ReadsNothing};
 ghost use Rattle.plans.specs.Sizes.{AreSized, IsSized};
 ghost use Rattle.plans.specs.Holding.{AreMarkedFor};
 
-use crate::find::{answer_all, answer_one, find_command, find_commands};
+use crate::find::{add_values, answer_all, answer_one, answer_unread, find_command, find_commands};
 use crate::marks::{any_marked, begin_all, clear_all};
 use crate::planned::Planned;
 use crate::room::reserve_all;
@@ -35,7 +37,8 @@ use words::bounds::writes_are_bounded;
 use words::command::{Command, Keys};
 use words::hash::Hashed;
 use words::locality::{depends_on_named_keys, writes_named_keys};
-use words::reply::{CommandReplies, Line, Refusal, Reply};
+use words::reply::{CommandReplies, CommandReply, Line, Refusal, Reply};
+use words::sequence::Sequence;
 use words::word::Word;
 
 /// Plans a call of a session: finds what it answers and writes, and makes room for its writes and its marks. No
@@ -105,6 +108,10 @@ fn plan_one<R: Shows, D: Device<Receipt = R>, P: Parts<Shard<R>>>(
 {
     match command {
         Command::Get(key) => plan_get(alloc, parts, key, staged),
+        Command::MGet(keys) => {
+            plan_values(alloc, parts, command, keys.as_slice(), staged, device)
+        }
+        Command::MSet(_) => plan_unread(alloc, parts, command, staged, device),
         _ => plan_copied(alloc, parts, command, staged, device),
     }
 }
@@ -167,6 +174,70 @@ fn plan_copied<R: Shows, D: Device<Receipt = R>, P: Parts<Shard<R>>>(
         return Err(Stop::OutOfMemory);
     };
     drop(found);
+    settle(alloc, parts, Reply::Single(reply), writes, device)
+}
+
+/// Plans a MGET of these keys: its items are the one copy that is made of each value. Where a page is wanted, or memory, it is
+/// planned as other commands are.
+fn plan_values<R: Shows, D: Device<Receipt = R>, P: Parts<Shard<R>>>(
+    alloc: Global,
+    parts: &mut P,
+    command: &Command,
+    keys: &[Word],
+    staged: &Staged<R>,
+    device: &mut D,
+) -> Result<Planned, Stop<R>>
+    requires is { command.now ≡ asked.MGet keys.now }
+    requires may { MayLookUp (P.is_open parts.old) (P.stripes_of parts.old) (P.part_of parts.old) (keys_of command.now) }
+    requires touches { touches_keys command.now ≡ true }
+    requires sized { IsSized command.now }
+    ensures planned { IfOk result (HasPlanned D.wrote (kept_by R.identity R.shown)
+        (AreDue (R.is_honest × AreRight staged.now) (asks_copied R.is_steady P.stripes_of P.part_of parts.old command.now))
+        (P.stripes_of parts.old) (P.part_of parts.old, device.old) (P.part_of parts.new, device.new)) }
+    ensures unmarked { IsUnmarked (shard_meaning R.is_steady) (P.stripes_of parts.old) (P.part_of parts.old) (P.part_of parts.new) result }
+    ensures stopped { IfErr result (HasStopped D.wrote (kept_by R.identity R.shown) R.lends (R.is_honest × AreRight staged.now)
+        (asks_copied R.is_steady P.stripes_of P.part_of parts.old command.now)
+        (P.stripes_of parts.old) staged.now (P.part_of parts.old, device.old) (P.part_of parts.new, device.new)) }
+    ensures stands { StillStands (StillServes D.serves D.releases) (P.part_of parts.old, device.old) (P.part_of parts.new, device.new) }
+    ensures failed { HaveFailed result (D.failures device.old) (D.failures device.new) }
+    ensures held { IsStillHeld P.is_open P.keeps parts.old parts.new }
+{
+    let mut items = Vec::new(alloc);
+    if add_values(alloc, parts, keys, staged, &mut items) {
+        let reply = CommandReply::Array(Sequence::from_vec(items));
+        return Ok(answered(alloc, Reply::Single(reply)));
+    }
+    drop(items);
+    plan_copied(alloc, parts, command, staged, device)
+}
+
+/// Plans a command that answers and writes the same whatever its keys have: none of them is looked up, and no page is wanted.
+fn plan_unread<R: Shows, D: Device<Receipt = R>, P: Parts<Shard<R>>>(
+    alloc: Global,
+    parts: &mut P,
+    command: &Command,
+    staged: &Staged<R>,
+    device: &mut D,
+) -> Result<Planned, Stop<R>>
+    requires unread { ReadsNothing command.now }
+    requires may { MayLookUp (P.is_open parts.old) (P.stripes_of parts.old) (P.part_of parts.old) (keys_of command.now) }
+    requires touches { touches_keys command.now ≡ true }
+    requires sized { IsSized command.now }
+    ensures planned { IfOk result (HasPlanned D.wrote (kept_by R.identity R.shown)
+        (AreDue (R.is_honest × AreRight staged.now) (asks_copied R.is_steady P.stripes_of P.part_of parts.old command.now))
+        (P.stripes_of parts.old) (P.part_of parts.old, device.old) (P.part_of parts.new, device.new)) }
+    ensures unmarked { IsUnmarked (shard_meaning R.is_steady) (P.stripes_of parts.old) (P.part_of parts.old) (P.part_of parts.new) result }
+    ensures stopped { IfErr result (HasStopped D.wrote (kept_by R.identity R.shown) R.lends (R.is_honest × AreRight staged.now)
+        (asks_copied R.is_steady P.stripes_of P.part_of parts.old command.now)
+        (P.stripes_of parts.old) staged.now (P.part_of parts.old, device.old) (P.part_of parts.new, device.new)) }
+    ensures stands { StillStands (StillServes D.serves D.releases) (P.part_of parts.old, device.old) (P.part_of parts.new, device.new) }
+    ensures failed { HaveFailed result (D.failures device.old) (D.failures device.new) }
+    ensures held { IsStillHeld P.is_open P.keeps parts.old parts.new }
+{
+    writes_named_keys();
+    let Ok((reply, writes)) = answer_unread(alloc, command) else {
+        return Err(Stop::OutOfMemory);
+    };
     settle(alloc, parts, Reply::Single(reply), writes, device)
 }
 

@@ -86,6 +86,28 @@ fn a_plan_names_all_pages_that_it_wants(rt: HostRuntime) -> Result<(), Fail> {
     Ok(())
 }
 
+/// How many pages a command wants.
+fn pages_wanted_by(alloc: Global, both: &mut Away, line: &str) -> Option<usize> {
+    let command = command_of(alloc, line)?;
+    answer_once(alloc, &mut both.store, 0, Call::One(command)).err()
+}
+
+/// An MSET wants no page of its keys, an MGET each that is not resident.
+#[test]
+fn an_mset_reads_nothing(rt: HostRuntime) -> Result<(), Fail> {
+    let alloc = rt.alloc();
+    let mut both = filled(alloc).ok_or("not filled")?;
+    let before = both.store.device.calls();
+    let is_same = run_both(alloc, &mut both, "MSET f0 v f9 w f19 x");
+    assert!(rt; is_same);
+    assert!(rt; both.store.device.calls() == before);
+    let wanted = pages_wanted_by(alloc, &mut both, "MGET f1 f59 f11 f21");
+    assert!(rt; wanted == Some(3));
+    let is_same = run_both(alloc, &mut both, "MGET f1 f0 f9 f19 f59 f11 f1 none");
+    assert!(rt; is_same);
+    Ok(())
+}
+
 /// RENAME of a key over another, neither of which is resident; of one that is missing; and of one to its own name.
 #[test]
 fn keys_without_frames_are_renamed(rt: HostRuntime) -> Result<(), Fail> {
