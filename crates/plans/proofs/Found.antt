@@ -1,10 +1,15 @@
 -- What was looked up, of keys and then of more.
 use Rattle.std.proofs.Common.{◌≡◌, ◌∙◌, ◌≤◌, ◌||◌, unwrap_or, bytes_eq, cond, zero, suc, ℕ, List, [], ◌∷◌, ◌++◌, Option, Some, nat_eq, length, append_assoc, refl, sym, ap, subst, true, false, ne_eqb, arith}
 use Rattle.std.specs.Map.{update}
+use Rattle.words.specs.declared.command.Command.{Command}
+use Rattle.words.specs.Commands.{keys_of}
+use Rattle.strings.specs.Overlays.{NeedsNoMemory}
+use Rattle.transact.specs.Memory.{of_one_key}
 use Rattle.words.specs.Store.{Bytes, Store, Write, empty, written}
 use Rattle.words.specs.History.{is_among}
 use Rattle.words.specs.Stripes.{stripe_of}
 use Rattle.hybrid.specs.HybridLog.{HybridLog, Kept}
+use Rattle.hybrid.specs.Lookups.{Leads}
 use Rattle.hybrid.specs.Staging.{StagedPage}
 use Rattle.transact.specs.Tables.{values_of}
 use Rattle.shards.specs.declared.shard.Shard.{Shard}
@@ -18,7 +23,9 @@ use Rattle.words.specs.declared.word.TheConstants.{WORD_INLINE}
 use Rattle.gates.specs.Rule.{Meaning}
 use Rattle.transact.specs.Tables.{joined}
 use Rattle.shards.specs.Shards.{shard_store}
-use Rattle.plans.specs.Planning.{HasMissed, MissedAt, of_get}
+use Rattle.plans.specs.Finding.{MissedFor, WantsPage}
+use Rattle.plans.specs.Memory.{AreAtHand}
+use Rattle.plans.specs.Planning.{AreWanted, AreWantedAt, HasMissed, MatchStop, MissedAt, of_copied, of_get}
 use Rattle.plans.proofs.Hand.{hand_of}
 use Rattle.plans.proofs.Logs.{log_at}
 use Rattle.plans.proofs.Stores.{or_false, or_left, or_right, same_key, some_is}
@@ -211,3 +218,43 @@ missed_of (Err (stop.Cold receipts)) lends Right contents n parts key part stage
       unlent = missed.unlent;
     }
 missed_of (Err (stop.StoreFull stripe)) lends Right contents n parts key part staged there same missed = absurd missed
+
+-- a lookup that is cold was missed
+pub missed_cold : {R : Type 0} (s : Stop R) (lends Right Memory : Type 0) (log : HybridLog) (key : Bytes) (staged : List StagedPage) (number : ℕ) → (Right → Leads log key number) → (lends → ⊥) → Memory
+    → WantsPage log staged number s → MatchStop s (AreWantedAt lends Right log key staged) Memory ⊥ (λ stripe. ⊥)
+missed_cold (stop.Cold receipts) lends Right Memory log key staged number leads unlent memory wants =
+    let one : receipts ≡ wants.kept ∷ [] = wants.joins in
+    record {
+      some = subst IsNotEmpty (sym one) tt;
+      each = subst (λ (l : List Kept). Each (IsWantedFor Right log key staged) l) (sym one) (record { wanted = wants.wanted; leads = λ right. subst (λ (i : ℕ). Leads log key i) (sym wants.number_is) (leads right) }, tt);
+      unlent = unlent;
+    }
+missed_cold stop.OutOfMemory lends Right Memory log key staged number leads unlent memory wants = memory
+missed_cold stop.DeviceFault lends Right Memory log key staged number leads unlent memory wants = absurd wants
+missed_cold (stop.StoreFull stripe) lends Right Memory log key staged number leads unlent memory wants = absurd wants
+
+-- a command that names one key alone was missed where its key was
+pub missed_for : {A R : Type 0} (r : Result A (Stop R)) (lends Right : Type 0) (contents : Meaning (Shard R)) (n : ℕ) (parts : ℕ → Option (Shard R)) (key : Bytes) (command : Command) (part : Shard R) (staged : List StagedPage)
+    → keys_of command ≡ key ∷ [] → parts (stripe_of n key) ≡ Some part → shard_store part key ≡ joined contents n parts key → IfErr r (MissedFor lends Right part key command staged)
+    → IfErr r (HasMissed lends Right n (of_copied contents n parts command) staged (logs_of parts))
+missed_for (Ok value) lends Right contents n parts key command part staged one there same missed = tt
+missed_for (Err stop.OutOfMemory) lends Right contents n parts key command part staged one there same missed = λ right hand brief.
+    let is : brief.0 ∷ [] ≡ key ∷ [] = sym brief.1.keys ∙ one in
+    let named : brief.0 ≡ key = cc is in
+    missed right (hand_of lends n parts key part staged there (subst (λ (l : List Bytes). AreAtHand lends n (logs_of parts) l staged) one hand))
+    (subst (λ (v : Option Bytes). NeedsNoMemory (of_one_key key v) command) (sym same) (subst (λ (k : Bytes). NeedsNoMemory (of_one_key k (joined contents n parts k)) command) named brief.1.texts))
+missed_for (Err stop.DeviceFault) lends Right contents n parts key command part staged one there same missed = absurd missed
+missed_for (Err (stop.Cold receipts)) lends Right contents n parts key command part staged one there same missed =
+    let P : Kept → Type 0 = IsWantedFor Right (shard_log part) key staged in
+    let C : Kept → Type 0 = IsCold n (logs_of parts) (key ∷ []) staged in
+    let N : Kept → Type 0 = IsNeeded Right n (logs_of parts) (key ∷ []) staged in
+    subst (λ (l : List Bytes). AreWanted lends Right n l staged (logs_of parts) receipts) (sym one) (record {
+      cold = (missed.some, each_as P C receipts (λ k is. cold_of n parts key part staged there k is.wanted) missed.each);
+      needed = each_as P N receipts (needed_of Right n parts key part staged there) missed.each;
+      unlent = missed.unlent;
+    })
+missed_for (Err (stop.StoreFull stripe)) lends Right contents n parts key command part staged one there same missed = absurd missed
+
+-- what one key has shows a store whose values are short
+pub short_one : (key : Bytes) (value : Option Bytes) → IsShort value → AllShort (written empty ((key, value) ∷ []))
+short_one key value short = short_written ((key, value) ∷ []) empty (λ k. omega arith) (short, tt)

@@ -187,3 +187,9 @@ take_whole [] zero most = refl
 take_whole [] (suc n) most = refl
 take_whole (k ∷ keys) zero most = absurd (omega (arith, most))
 take_whole (k ∷ keys) (suc n) most = ap (λ l. k ∷ l) (take_whole keys n (omega (arith, most)))
+
+-- a list of one has that one alone
+pub only_one : (keys : List Bytes) (key : Bytes) → length keys ≡ 1 → slice_get keys 0 ≡ Some key → keys ≡ key ∷ []
+only_one [] key one is = absurd (cc is)
+only_one (first ∷ []) key one is = ap (λ (k : Bytes). k ∷ []) (cc is)
+only_one (first ∷ (second ∷ more)) key one is = absurd (omega (arith, one))

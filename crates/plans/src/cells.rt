@@ -13,7 +13,7 @@ ghost use Rattle.shards.specs.Devices.{StillServes};
 ghost use Rattle.shards.specs.Receipts.{kept_by};
 ghost use Rattle.shards.specs.Rooms.{IsFullAt, LacksRoomAt};
 ghost use Rattle.shards.specs.Shards.{SameLogs, SameWaits, logs_of, shard_log, shard_store};
-ghost use Rattle.plans.specs.Finding.{FindsInPlaceAt, FindsInPlaceIn, JoinsWanted, LooksUpAt, LooksUpIn};
+ghost use Rattle.plans.specs.Finding.{FindsInPlaceAt, FindsInPlaceIn, JoinsWanted, LooksUpAt, LooksUpIn, WantsPage};
 ghost use Rattle.plans.specs.Planning.{IsStillHeld, MayLookUp, MissedAt};
 ghost use Rattle.plans.specs.Reserving.{GrowsBy, HasRoomAt, HasShedAt, IsRoomyFor, LeavesRoom, ReservesAt};
 ghost use Rattle.plans.specs.Holding.{Becomes, BecomesWritten, BeginsWatches, EndsWatches, marks_of};
@@ -68,6 +68,24 @@ fn wanted<R: Shows>(
         unreachable!()
     };
     cold.push(receipt.again()?)
+}
+
+/// Why a lookup came to nothing that is cold at this page: the page is wanted, or there was no memory for a copy of its receipt.
+pub(crate) fn missed<R: Shows>(
+    alloc: Global,
+    part: &Shard<R>,
+    number: u64,
+    staged: &Staged<R>,
+) -> Stop<R>
+    requires missing { IsMissing (shard_log part.now) staged.now number }
+    requires left { number < (shard_log part.now).resident.oldest }
+    ensures { WantsPage (shard_log part.now) staged.now number result }
+{
+    let mut cold = Receipts::new(alloc);
+    match wanted(part, number, staged, &mut cold) {
+        Ok(()) => Stop::Cold(cold),
+        Err(_) => Stop::OutOfMemory,
+    }
 }
 
 /// Looks a key up in the part of its stripe. What it has is found, or the receipt of a page that is wanted for it
@@ -135,13 +153,7 @@ pub(crate) fn copy_of<R: Shows>(
             Err(_) => Err(Stop::OutOfMemory),
         },
         Lookup::Absent => Ok(None),
-        Lookup::Cold(number) => {
-            let mut cold = Receipts::new(alloc);
-            match wanted(part, number, staged, &mut cold) {
-                Ok(()) => Err(Stop::Cold(cold)),
-                Err(_) => Err(Stop::OutOfMemory),
-            }
-        }
+        Lookup::Cold(number) => Err(missed(alloc, part, number, staged)),
     }
 }
 

@@ -1,7 +1,8 @@
 //! What commands answer, on what is found of their keys.
 
-ghost use Rattle.std.specs.Prelude.{◌≡◌, ◌≤◌, ◌+◌, ◌∷◌, ◌++◌, [], length, OnOk, IfOk, IsOk};
+ghost use Rattle.std.specs.Prelude.{◌≡◌, ◌≤◌, ◌+◌, ◌∷◌, ◌++◌, [], length, OnOk, IfErr, IfOk, IsOk};
 ghost use Rattle.std.specs.Bool.{OnTrue};
+ghost use Rattle.std.specs.Option.{option_copied};
 ghost use Rattle.words.specs.Store.{Bytes, empty, written};
 ghost use Rattle.words.specs.Commands.{keys_of, keys_of_all};
 ghost use Rattle.words.specs.Answers.{answer, answers};
@@ -9,19 +10,20 @@ ghost use Rattle.words.specs.Answers as answering;
 ghost use Rattle.words.specs.Answers.{items_of};
 ghost use Rattle.strings.specs.declared.found.TheConstants.{FOUND_INLINE};
 ghost use Rattle.strings.specs.Overlays.{shown, NeedsNoMemory};
+ghost use Rattle.transact.specs.Memory.{of_one_key};
 ghost use Rattle.transact.specs.Tables.{joined};
-ghost use Rattle.shards.specs.Shards.{shard_meaning};
+ghost use Rattle.shards.specs.Shards.{shard_meaning, shard_store};
 ghost use Rattle.hybrid.specs.Staging.{AreRight};
 ghost use Rattle.plans.specs.Planning.{IsStillHeld, MayLookUp};
-ghost use Rattle.plans.specs.Finding.{FindsInPlaceIn, LooksUpIn};
+ghost use Rattle.plans.specs.Finding.{AnswersOn, AnswersOnIn, FindsInPlaceIn, HasMissedFor, LooksUpIn, MissedFor};
 ghost use Rattle.plans.specs.Memory.{IfOneInPlace};
 
-use crate::cells::find_key;
+use crate::cells::{find_key, missed, stripe_at};
 use crate::short::value_of;
-use crate::stop::Receipts;
+use crate::stop::{Receipts, Stop};
 use device::Shows;
 use gates::Parts;
-use hybrid::Staged;
+use hybrid::{Lookup, Staged};
 use shards::shard::Shard;
 use std::alloc::Global;
 use strings::found::Findings;
@@ -142,6 +144,68 @@ pub(crate) fn answer_one(
         Ok(reply) => Ok((reply, overlay.writes)),
         Err(refused) => Err(refused),
     }
+}
+
+/// What a command that names this key alone answers and writes, where this was found of it.
+fn answer_found(
+    alloc: Global,
+    key: &Word,
+    value: Option<&[u8]>,
+    command: &Command,
+) -> Result<(CommandReply, Writes), OutOfMemory>
+    ensures answer { IfOk result (λ done. done ≡ answer (written empty ((key.now, option_copied value.entry) ∷ [])) command.now) }
+    ensures memory { NeedsNoMemory (of_one_key key.now (option_copied value.entry)) command.now → IsOk result }
+{
+    let mut overlay = Overlay::new(alloc);
+    overlay.found.push(key.as_slice(), value)?;
+    match run(alloc, command, &mut overlay) {
+        Ok(reply) => Ok((reply, overlay.writes)),
+        Err(refused) => Err(refused),
+    }
+}
+
+/// What a command that names this key alone answers and writes, on the part of its stripe: the value is read where it lies.
+fn answer_at<R: Shows>(
+    alloc: Global,
+    part: &Shard<R>,
+    key: &Hashed,
+    command: &Command,
+    staged: &Staged<R>,
+) -> Result<(CommandReply, Writes), Stop<R>>
+    ensures answer { IfOk result (AnswersOn (R.is_honest × AreRight staged.now) (shard_store part.now) key.now command.now) }
+    ensures stopped { IfErr result (MissedFor R.lends (R.is_honest × AreRight staged.now) part.now key.now command.now staged.now) }
+{
+    let value = match part.find(key, staged) {
+        Lookup::Found(value) => Some(value),
+        Lookup::Absent => None,
+        Lookup::Cold(number) => return Err(missed(alloc, part, number, staged)),
+    };
+    match answer_found(alloc, key.key(), value, command) {
+        Ok(done) => Ok(done),
+        Err(_) => Err(Stop::OutOfMemory),
+    }
+}
+
+/// What a command that names this key alone answers and writes.
+pub(crate) fn answer_key<R: Shows, P: Parts<Shard<R>>>(
+    alloc: Global,
+    parts: &mut P,
+    key: &Word,
+    command: &Command,
+    staged: &Staged<R>,
+) -> Result<(CommandReply, Writes), Stop<R>>
+    requires one { keys_of command.now ≡ key.now ∷ [] }
+    requires may { MayLookUp (P.is_open parts.old) (P.stripes_of parts.old) (P.part_of parts.old) (key.now ∷ []) }
+    ensures answer { IfOk result (AnswersOnIn R.is_steady P.stripes_of P.part_of parts.old
+        (R.is_honest × AreRight staged.now) key.now command.now) }
+    ensures stopped { IfErr result (HasMissedFor R.is_steady P.stripes_of P.part_of parts.old
+        R.lends (R.is_honest × AreRight staged.now) command.now staged.now) }
+    ensures same { P.part_of parts.new ≡ P.part_of parts.old }
+    ensures held { IsStillHeld P.is_open P.keeps parts.old parts.new }
+{
+    let key = Hashed::new(key);
+    let stripe = stripe_at(&*parts, &key);
+    answer_at(alloc, parts.part(stripe), &key, command, staged)
 }
 
 /// What a command answers and writes on an empty store, where nothing is looked up.

@@ -20,7 +20,9 @@ ghost use Rattle.plans.specs.Finding.{ReadsNothing};
 ghost use Rattle.plans.specs.Sizes.{AreSized, IsSized};
 ghost use Rattle.plans.specs.Holding.{AreMarkedFor};
 
-use crate::find::{add_values, answer_all, answer_one, answer_unread, find_command, find_commands};
+use crate::find::{
+    add_values, answer_all, answer_key, answer_one, answer_unread, find_command, find_commands,
+};
 use crate::marks::{any_marked, begin_all, clear_all};
 use crate::planned::Planned;
 use crate::room::reserve_all;
@@ -31,6 +33,7 @@ use gates::Parts;
 use hybrid::Staged;
 use shards::shard::Shard;
 use std::alloc::Global;
+use strings::keys::{key_at, key_count};
 use strings::writes::Writes;
 use transact::call::Call;
 use words::bounds::writes_are_bounded;
@@ -112,7 +115,13 @@ fn plan_one<R: Shows, D: Device<Receipt = R>, P: Parts<Shard<R>>>(
             plan_values(alloc, parts, command, keys.as_slice(), staged, device)
         }
         Command::MSet(_) => plan_unread(alloc, parts, command, staged, device),
-        _ => plan_copied(alloc, parts, command, staged, device),
+        _ => {
+            if key_count(command) == 1 {
+                plan_key(alloc, parts, command, key_at(command, 0), staged, device)
+            } else {
+                plan_copied(alloc, parts, command, staged, device)
+            }
+        }
     }
 }
 
@@ -134,6 +143,38 @@ fn plan_get<R: Shows, P: Parts<Shard<R>>>(
     let key = Hashed::new(key);
     match value_of(alloc, parts, &key, staged) {
         Ok(value) => Ok(answered(alloc, Reply::value(value))),
+        Err(stop) => Err(stop),
+    }
+}
+
+/// Plans a command that names this key alone, on its value where it lies.
+fn plan_key<R: Shows, D: Device<Receipt = R>, P: Parts<Shard<R>>>(
+    alloc: Global,
+    parts: &mut P,
+    command: &Command,
+    key: &Word,
+    staged: &Staged<R>,
+    device: &mut D,
+) -> Result<Planned, Stop<R>>
+    requires one { keys_of command.now ≡ key.now ∷ [] }
+    requires may { MayLookUp (P.is_open parts.old) (P.stripes_of parts.old) (P.part_of parts.old) (keys_of command.now) }
+    requires touches { touches_keys command.now ≡ true }
+    requires sized { IsSized command.now }
+    ensures planned { IfOk result (HasPlanned D.wrote (kept_by R.identity R.shown)
+        (AreDue (R.is_honest × AreRight staged.now) (asks_copied R.is_steady P.stripes_of P.part_of parts.old command.now))
+        (P.stripes_of parts.old) (P.part_of parts.old, device.old) (P.part_of parts.new, device.new)) }
+    ensures unmarked { IsUnmarked (shard_meaning R.is_steady) (P.stripes_of parts.old) (P.part_of parts.old) (P.part_of parts.new) result }
+    ensures stopped { IfErr result (HasStopped D.wrote (kept_by R.identity R.shown) R.lends (R.is_honest × AreRight staged.now)
+        (asks_copied R.is_steady P.stripes_of P.part_of parts.old command.now)
+        (P.stripes_of parts.old) staged.now (P.part_of parts.old, device.old) (P.part_of parts.new, device.new)) }
+    ensures stands { StillStands (StillServes D.serves D.releases) (P.part_of parts.old, device.old) (P.part_of parts.new, device.new) }
+    ensures failed { HaveFailed result (D.failures device.old) (D.failures device.new) }
+    ensures held { IsStillHeld P.is_open P.keeps parts.old parts.new }
+{
+    depends_on_named_keys();
+    writes_named_keys();
+    match answer_key(alloc, parts, key, command, staged) {
+        Ok((reply, writes)) => settle(alloc, parts, Reply::Single(reply), writes, device),
         Err(stop) => Err(stop),
     }
 }

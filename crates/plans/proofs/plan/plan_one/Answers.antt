@@ -1,10 +1,12 @@
-use Rattle.std.proofs.Common.{sym, subst, refl, IfErr}
+use Rattle.std.proofs.Common.{sym, subst, refl, arith, IfErr}
 use Rattle.words.specs.declared.command.Command.{Command}
 use Rattle.hybrid.specs.Staging.{AreRight}
 use Rattle.shards.specs.Receipts.{kept_by}
 use Rattle.shards.specs.Shards.{logs_of, shard_meaning}
 use Rattle.plans.specs.Planning.{AreDue, AreWanted, HasStopped, TakesMemory, of_command, of_get}
+use Rattle.words.specs.Commands.{keys_of}
 use Rattle.plans.proofs.Become.{became_same}
+use Rattle.plans.proofs.Keys.{only_one}
 use Rattle.plans.proofs.Logs.{logs_same}
 use Rattle.plans.proofs.Questions.{failed_none, planned_nothing, stands_same, stop_of_read}
 use Rattle.plans.proofs.Stores.{ok_then_all}
@@ -50,3 +52,11 @@ returns-in-Get-clause-failed g c =
     let question = of_get (shard_meaning g.R.Shows.is_steady) (g.P.Parts.stripes_of c.args.parts.now) (g.P.Parts.part_of c.args.parts.now) c.in-Get.key in
     failed_none c.plan_get.result (AreWanted g.R.Shows.lends right (g.P.Parts.stripes_of c.args.parts.now) question.keys c.args.staged.now logs) (TakesMemory g.R.Shows.lends right (g.P.Parts.stripes_of c.args.parts.now) question c.args.staged.now logs) (λ stripe. ⊥)
     (g.D.Device.failures c.args.device.now) c.plan_get.ensures.stopped
+
+pub plan_key-requires : goal.plan_key-requires
+plan_key-requires g c = record {
+  one = only_one (keys_of c.args.command.now) c.key_at.result.now (omega (arith, c.if-key_count-eq1.true, c.key_count.ensures)) c.key_at.ensures;
+  may = c.requires.may;
+  touches = c.requires.touches;
+  sized = c.requires.sized;
+}
