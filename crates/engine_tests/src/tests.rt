@@ -1,160 +1,38 @@
-//! An engine, by one pass, by two, and by two threads.
+//! An engine, by one pass.
 
-ghost use Rattle.std.specs.Prelude.{◌≡◌, ◌∷◌, [], ⊤, All, IfOk, IfSome, IsTrue, true, vec_len};
-ghost use Rattle.words.specs.History.{keys_of_pairs};
+ghost use Rattle.std.specs.Prelude.{⊤, IfSome, IsTrue};
 ghost use Rattle.words.specs.Bounds.{IsBounded};
 ghost use Rattle.words.specs.Commands.{touches_keys};
-ghost use Rattle.engine.specs.Passes.{knows, Rests};
+ghost use Rattle.engine.specs.Passes.{Rests};
 
-use device::{Device, MemoryDevice};
-use engine::{BACKGROUND_PASSES, Engine, Pass};
-use gates::{Latch, Open, Point};
+use device::MemoryDevice;
+use engine::{Engine, Pass};
+use engine_harness::calls::{is_due, sets_to};
+use engine_harness::engines::new_engine;
+use engine_harness::exchanges::{Exchange, Outcome, compare, keyed, placed};
+use gates::{Latch, Point};
 use std::alloc::Global;
 use std::process::Abort;
 use std::sync::Wait;
-use std::sync::atomic::{AtomicBool, AtomicU64, Ordering};
+use std::sync::atomic::{AtomicU64, Ordering};
 use std::test::Fail;
-use std::thread::{Threads, join, sleep};
-use std::time::{Clock, Duration};
-use transact::call::{Answer, Call, Watching};
-use words::command::{Command, Keys, When};
-use words::history::Commands;
-use words::limits::{KEY_BYTES_MAX, Limits, VALUE_BYTES_MAX, WORDS_MAX};
-use words::number;
-use words::reply::{CommandReply, Fault, Item, Reply};
-use words::word::{OutOfMemory, Word, Words};
+use transact::call::Call;
+use words::command::{Command, When};
+use words::limits::KEY_BYTES_MAX;
+use words::word::{OutOfMemory, Word};
 
-mod beside;
-mod cleaning;
-mod cold;
-mod failing;
-mod held;
-mod leaving;
 mod limits;
-mod moving;
-mod refused;
 mod releasing;
-mod rounds;
 mod steps;
 mod trying;
-mod waiting;
-mod watched;
 
-/// How often each of two threads adds to a key.
-const TIMES: u64 = 1_000;
-
-/// How many turns of a millisecond a thread waits for the other.
-const TURNS: u64 = 10_000;
-
-/// A request, its words set apart by one space each, and what it is answered.
-#[derive(Clone, Copy)]
-struct Exchange<'a> {
-    request: &'a str,
-    due: &'a str,
-}
-
-/// How a request was answered.
-#[derive(Clone, Copy, Debug, PartialEq, Eq)]
-enum Outcome {
-    /// With what is due.
-    Due,
-    /// With `-OOM out of memory`.
-    OutOfMemory,
-    /// With something else.
-    Other,
-}
-
-/// Adds words to a request. `None` where there was no memory.
-fn add_words(alloc: Global, words: &mut Words, texts: &str) -> Option<()> {
-    for text in texts.split(' ') {
-        let word = Word::from_slice(alloc, text.as_bytes()).ok()?;
-        if words.as_slice().len() < WORDS_MAX {
-            words.push(word).ok()?;
-        }
-    }
-    Some(())
-}
-
-/// The words of a request. `None` where there was no memory.
-fn words_of(alloc: Global, request: &str) -> Option<Words> {
-    let (name, others) = request.split_once(' ')?;
-    let name = Word::from_slice(alloc, name.as_bytes()).ok()?;
-    let mut words = Words::one(alloc, name);
-    add_words(alloc, &mut words, others)?;
-    Some(words)
-}
-
-/// The command of a request. `None` where there was no memory, or where it is no command.
-fn command_of(alloc: Global, request: &str) -> Option<Command> {
-    let words = words_of(alloc, request)?;
-    Command::of(alloc, &words).ok()?.ok()
-}
-
-/// Whether a command has its place in a history: it names a key, and is within the limits.
-fn has_place(command: &Command) -> bool
-    ensures { result ≡ true → IsTrue (touches_keys command.now) × IsBounded command.now }
+/// A new engine, and one pass of it. `None` where there was no memory.
+fn with_pass(alloc: Global) -> Option<(Engine<MemoryDevice>, Pass<MemoryDevice>)>
+    ensures { IfSome result (λ made. Rests ⊤ made.0 made.1) }
 {
-    names_key(command) && command.is_bounded()
-}
-
-/// Whether a command names a key.
-fn names_key(command: &Command) -> bool
-    ensures { result ≡ touches_keys command.now }
-{
-    !matches!(
-        command,
-        Command::Ping(_) | Command::Echo(_) | Command::Session(_) | Command::Bad(_)
-    )
-}
-
-/// Whether an item is the one of this text: a line, `:` and a number, `$` and a value, or `null`.
-fn is_item(item: &Item, text: &[u8]) -> bool {
-    match (item, text) {
-        (Item::Line(line), _) => line.text() == text,
-        (Item::Integer(number), [b':', digits @ ..]) => number::parse(digits) == Some(*number),
-        (Item::Bulk(word), [b'$', bytes @ ..]) => word.as_slice() == bytes,
-        (Item::Null, _) => text == b"null".as_slice(),
-        _ => false,
-    }
-}
-
-/// Whether items are those of these texts, which are set apart by one space each.
-fn are_items(items: &[Item], texts: &str) -> bool {
-    let mut others = items;
-    for text in texts.split(' ') {
-        let Some((item, rest)) = others.split_first() else {
-            return false;
-        };
-        if !is_item(item, text.as_bytes()) {
-            return false;
-        }
-        others = rest;
-    }
-    others.is_empty()
-}
-
-/// Whether an answer is the one that is due, or out of memory.
-fn compare(answer: &Answer, due: &str) -> Outcome {
-    let is_due = match answer {
-        Answer::Fault(Fault::OutOfMemory) => return Outcome::OutOfMemory,
-        Answer::Reply(Reply::Single(CommandReply::One(item))) => is_item(item, due.as_bytes()),
-        Answer::Reply(Reply::Single(CommandReply::Array(items))) => {
-            are_items(items.as_slice(), due)
-        }
-        _ => false,
-    };
-    if is_due { Outcome::Due } else { Outcome::Other }
-}
-
-/// An engine over a device in memory, with its passes.
-fn new_engine(alloc: Global) -> Result<(Engine<MemoryDevice>, Vec<Pass<MemoryDevice>>), OutOfMemory>
-    ensures count { IfOk result (λ made. vec_len made.1 ≡ 7) }
-    ensures rest { IfOk result (λ made. All (Rests ⊤ made.0) made.1.items) }
-    ensures watch { IfOk result (λ made. All (λ pass. (knows (λ device. 0) pass).watched ≡ []) made.1.items) }
-{
-    let limits = Limits::default();
-    let openings = MemoryDevice::openings(alloc, limits.clients + BACKGROUND_PASSES)?;
-    Engine::new(alloc, &limits, openings)
+    let (engine, mut passes) = new_engine(alloc).ok()?;
+    let pass = passes.swap_remove(0);
+    Some((engine, pass))
 }
 
 /// An engine with a pass of it.
@@ -172,8 +50,7 @@ impl Client {
     fn of_new_engine(alloc: Global) -> Option<Client>
         ensures { IfSome result (λ client. Rests ⊤ client.engine client.pass) }
     {
-        let (engine, mut passes) = new_engine(alloc).ok()?;
-        let pass = passes.swap_remove(0);
+        let (engine, pass) = with_pass(alloc)?;
         Some(Client {
             alloc,
             engine,
@@ -211,8 +88,7 @@ impl Client {
         requires rests { Rests ⊤ self.old.engine self.old.pass }
         ensures rests { Rests ⊤ self.new.engine self.new.pass }
     {
-        let command = command_of(self.alloc, exchange.request);
-        match command.filter(|command| has_place(command)) {
+        match keyed(self.alloc, exchange.request) {
             Some(command) => Some(self.run(rt, command, exchange.due)),
             None => None,
         }
@@ -316,6 +192,7 @@ fn all_answered<R: Abort + Wait>(rt: &R, alloc: Global, text: &str) -> Result<()
     let (reading, lines) = reading_of(text).ok_or("no reading")?;
     let mut client = Client::new(alloc).ok_or("no engine")?;
     answer_all(rt, &mut client, reading, lines);
+    drop(client);
     Ok(())
 }
 
@@ -416,12 +293,16 @@ fn several_keys_with_each_growth_refused(rt: HostRuntime) -> Result<(), Fail> {
     all_answered(&rt, rt.alloc(), text)
 }
 
+/// How many passes a new engine has. `None` where there was no memory.
+fn passes_of_new(alloc: Global) -> Option<usize> {
+    let (_engine, passes) = new_engine(alloc).ok()?;
+    Some(passes.len())
+}
+
 #[test]
-fn a_pass_for_each_client_and_three_more(rt: HostRuntime) -> Result<(), Fail> {
-    let made = new_engine(rt.alloc());
-    let (_engine, passes) = made.or_else(|_| new_engine(rt.alloc()))?;
-    assert_eq!(rt; passes.len(), 7);
-    Ok(())
+fn a_pass_for_each_client_and_three_more(rt: HostRuntime) {
+    let count = passes_of_new(rt.alloc()).or_else(|| passes_of_new(rt.alloc()));
+    assert!(rt; count == Some(7), "{count:?}");
 }
 
 /// SET of the key `k` to a value. `None` where there was no memory.
@@ -430,8 +311,7 @@ fn set(alloc: Global, value: &[u8]) -> Option<Command>
 {
     let value = Word::from_slice(alloc, value).ok()?;
     let key = Word::from_slice(alloc, b"k").ok()?;
-    let command = Command::Set(key, value, When::Always);
-    Some(command).filter(|command| has_place(command))
+    placed(Command::Set(key, value, When::Always))
 }
 
 /// How SET of the key `k` to a value is answered. `None` where there was no memory for its words.
@@ -503,65 +383,58 @@ fn a_value_is_kept_until_the_next(rt: HostRuntime) -> Result<(), Fail> {
     let mut client = Client::new(rt.alloc()).ok_or("no engine")?;
     keeps_values(&rt, &mut client);
     misses_others(&rt, &mut client);
+    drop(client);
     Ok(())
+}
+
+/// Adds a key and a value of so many bytes to a request.
+fn add(alloc: Global, request: &mut Vec<u8>, key: u8, length: usize) -> Result<(), OutOfMemory> {
+    request.extend_from_slice(&[b' ', key, b' '])?;
+    let value = vec![in alloc; b'x'; length]?;
+    request.extend_from_slice(value.as_slice())?;
+    Ok(())
+}
+
+/// Adds five keys with values of the longest length to a request, and a sixth one with a value of so many bytes.
+fn add_all(alloc: Global, request: &mut Vec<u8>, last: usize) -> Result<(), OutOfMemory> {
+    for key in b"abcde" {
+        add(alloc, request, *key, 32_768)?;
+    }
+    add(alloc, request, b'f', last)
 }
 
 /// MSET of six keys: five values of 32,768 bytes, and a last one of so many. It weighs 164,134 and the bytes of
 /// the last.
 fn heavy(alloc: Global, last: usize) -> Result<Vec<u8>, OutOfMemory> {
-    let longest = vec![in alloc; b'x'; 32_768]?;
     let mut request = Vec::from_slice(alloc, b"MSET")?;
-    for key in b"abcde" {
-        request.push(b' ')?;
-        request.push(*key)?;
-        request.push(b' ')?;
-        request.extend_from_slice(longest.as_slice())?;
-    }
-    request.extend_from_slice(b" f ")?;
-    request.extend_from_slice(vec![in alloc; b'x'; last]?.as_slice())?;
+    add_all(alloc, &mut request, last)?;
     Ok(request)
 }
 
-/// Writes what may just be written, and then what weighs one byte more, which changes nothing.
-fn refuses_the_heavier<R: Abort + Wait>(
-    rt: &R,
-    alloc: Global,
-    most: &[u8],
-    more: &[u8],
-) -> Result<(), Fail> {
-    let most = str::from_utf8(most)?;
-    let more = str::from_utf8(more)?;
-    let mut client = Client::new(alloc).ok_or("no engine")?;
+/// Whether what weighs one byte more than what may just be written is refused and changes nothing, and that is written then.
+fn refuses_the_heavier(rt: &impl Wait, client: &mut Client, most: &str, more: &str) -> bool
+    requires rests { Rests ⊤ client.old.engine client.old.pass }
+    ensures rests { Rests ⊤ client.new.engine client.new.pass }
+{
+    let request = more;
     let due = "-ERR command writes too much";
-    assert!(rt; client.ask(rt, Exchange { request: more, due }) == Outcome::Due);
-    assert!(rt;
-        client.reads(
-            rt,
-            Exchange {
-                request: "EXISTS a f",
-                due: ":0"
-            }
-        )
-    );
-    assert!(rt;
-        client.ask(
-            rt,
-            Exchange {
-                request: most,
-                due: "+OK"
-            }
-        ) == Outcome::Due
-    );
-    assert!(rt;
-        client.reads(
-            rt,
-            Exchange {
-                request: "EXISTS a f",
-                due: ":2"
-            }
-        )
-    );
-    Ok(())
+    let refused = client.ask(rt, Exchange { request, due }) == Outcome::Due;
+    let request = "EXISTS a f";
+    let nothing = client.reads(rt, Exchange { request, due: ":0" });
+    let due = "+OK";
+    let written = client.ask(rt, Exchange { request: most, due }) == Outcome::Due;
+    let both = client.reads(rt, Exchange { request, due: ":2" });
+    refused && nothing && written && both
+}
+
+/// Whether it is so of these requests at a new engine. `None` where they are no texts, or there was no memory.
+fn weighs_too_much(rt: &impl Wait, alloc: Global, most: &[u8], more: &[u8]) -> Option<bool> {
+    let most = str::from_utf8(most).ok()?;
+    let more = str::from_utf8(more).ok()?;
+    let mut client = Client::new(alloc)?;
+    let refused = refuses_the_heavier(rt, &mut client, most, more);
+    drop(client);
+    Some(refused)
 }
 
 #[test]
@@ -569,7 +442,9 @@ fn a_call_that_weighs_too_much_changes_nothing(rt: HostRuntime) -> Result<(), Fa
     let alloc = rt.alloc();
     let most = heavy(alloc, 32_474)?;
     let more = heavy(alloc, 32_475)?;
-    refuses_the_heavier(&rt, alloc, most.as_slice(), more.as_slice())
+    let refused = weighs_too_much(&rt, alloc, most.as_slice(), more.as_slice());
+    assert!(rt; refused == Some(true));
+    Ok(())
 }
 
 /// Whether a key that is missing is given a value. The byte tells it from others.
@@ -636,267 +511,7 @@ fn a_refused_growth_changes_nothing(rt: HostRuntime) -> Result<(), Fail> {
     let mut client = Client::new(rt.alloc()).ok_or("no engine")?;
     sets_each(&rt, &mut client);
     has_each(&rt, &mut client);
-    Ok(())
-}
-
-/// An engine, and two passes of it, which watch nothing.
-fn with_two_idle(
-    alloc: Global,
-) -> Result<(Engine<MemoryDevice>, Pass<MemoryDevice>, Pass<MemoryDevice>), OutOfMemory>
-    ensures first { IfOk result (λ made. Rests ⊤ made.0 made.1) }
-    ensures second { IfOk result (λ made. Rests ⊤ made.0 made.2) }
-    ensures nothing { IfOk result (λ made. (knows (λ device. 0) made.1).watched ≡ []) }
-    ensures second_nothing { IfOk result (λ made. (knows (λ device. 0) made.2).watched ≡ []) }
-{
-    let (engine, mut passes) = new_engine(alloc)?;
-    let second = passes.swap_remove(1);
-    let first = passes.swap_remove(0);
-    Ok((engine, first, second))
-}
-
-/// An engine, and two passes of it.
-fn with_two(
-    alloc: Global,
-) -> Result<(Engine<MemoryDevice>, Pass<MemoryDevice>, Pass<MemoryDevice>), OutOfMemory>
-    ensures first { IfOk result (λ made. Rests ⊤ made.0 made.1) }
-    ensures second { IfOk result (λ made. Rests ⊤ made.0 made.2) }
-    ensures nothing { IfOk result (λ made. (knows (λ device. 0) made.1).watched ≡ []) }
-{
-    let (engine, mut passes) = new_engine(alloc)?;
-    let second = passes.swap_remove(1);
-    let first = passes.swap_remove(0);
-    Ok((engine, first, second))
-}
-
-/// What a pass is answered. `None` where there was no memory for the request's own words.
-fn answer_of<R: Wait, L: Latch, D: Device>(
-    rt: &R,
-    alloc: Global,
-    latch: &L,
-    engine: &Engine<D>,
-    pass: &mut Pass<D>,
-    request: &str,
-) -> Option<Answer>
-    requires { Rests D.Receipt.is_steady engine.now pass.old }
-    ensures { Rests D.Receipt.is_steady engine.now pass.new }
-{
-    let command = command_of(alloc, request);
-    match command.filter(|command| has_place(command)) {
-        Some(command) => Some(engine.submit_with(rt, pass, Call::One(command), latch)),
-        None => None,
-    }
-}
-
-/// Whether a pass is answered as is due.
-fn is_due<R: Wait, L: Latch>(
-    rt: &R,
-    alloc: Global,
-    latch: &L,
-    engine: &Engine<MemoryDevice>,
-    pass: &mut Pass<MemoryDevice>,
-    exchange: Exchange<'_>,
-) -> bool
-    requires { Rests ⊤ engine.now pass.old }
-    ensures { Rests ⊤ engine.now pass.new }
-{
-    match answer_of(rt, alloc, latch, engine, pass, exchange.request) {
-        Some(answer) => compare(&answer, exchange.due) == Outcome::Due,
-        None => false,
-    }
-}
-
-/// Makes these requests, which are set apart by commas, and says how many were answered by a reply.
-fn replies_to<R: Wait>(
-    rt: &R,
-    alloc: Global,
-    engine: &Engine<MemoryDevice>,
-    pass: &mut Pass<MemoryDevice>,
-    requests: &str,
-) -> u64
-    requires { Rests ⊤ engine.now pass.old }
-    ensures { Rests ⊤ engine.now pass.new }
-{
-    let mut done = 0u64;
-    for request in requests.split(',') {
-        let answer = answer_of(rt, alloc, &Open, engine, pass, request);
-        if let Some(Answer::Reply(_)) = answer {
-            done = done.saturating_add(1);
-        }
-    }
-    done
-}
-
-/// Makes these requests over and over, until so many were made, and says how many were answered by a reply.
-fn count_up<R: Wait>(
-    rt: &R,
-    alloc: Global,
-    engine: &Engine<MemoryDevice>,
-    mut pass: Pass<MemoryDevice>,
-    requests: &str,
-) -> (Pass<MemoryDevice>, u64)
-    requires { Rests ⊤ engine.now pass }
-    ensures { Rests ⊤ engine.now result.0 }
-{
-    let mut done = 0u64;
-    for _n in 0..TIMES {
-        let replies = replies_to(rt, alloc, engine, &mut pass, requests);
-        done = done.saturating_add(replies);
-    }
-    (pass, done)
-}
-
-/// Whether no addition is lost where two threads make these requests, of which there are `count`: by either pass the
-/// reading is answered as is due then, once both have met.
-fn counts_to<R: Threads + Wait + Sync>(
-    rt: &R,
-    alloc: Global,
-    requests: &str,
-    count: u64,
-    reading: Exchange<'_>,
-) -> Result<bool, OutOfMemory> {
-    let (engine, one, two) = with_two(alloc)?;
-    let shared = &engine;
-    let ((mut first, a), (mut second, b)) = join(
-        rt,
-        move || -> (Pass<MemoryDevice>, u64)
-            requires { Rests ⊤ shared.now one }
-            ensures { Rests ⊤ shared.entry.now result.0 }
-        { count_up(rt, alloc, shared, one, requests) },
-        move || -> (Pass<MemoryDevice>, u64)
-            requires { Rests ⊤ shared.now two }
-            ensures { Rests ⊤ shared.entry.now result.0 }
-        { count_up(rt, alloc, shared, two, requests) },
-    );
-    engine.meet(&mut first, &mut second);
-    let is_all = is_due(rt, alloc, &Open, &engine, &mut first, reading)
-        && is_due(rt, alloc, &Open, &engine, &mut second, reading);
-    Ok(a == b && a.checked_div(count) == Some(TIMES) && is_all)
-}
-
-#[test]
-fn two_threads_add_to_one_key(rt: HostRuntime) -> Result<(), Fail> {
-    let request = "MGET n";
-    let due = "$2000";
-    let reading = Exchange { request, due };
-    assert!(rt; counts_to(&rt, rt.alloc(), "INCR n", 1, reading)?);
-    Ok(())
-}
-
-#[test]
-fn two_threads_add_to_several_keys(rt: HostRuntime) -> Result<(), Fail> {
-    let request = "MGET a b n z";
-    let due = "$2000 $2000 $2000 $2000";
-    let reading = Exchange { request, due };
-    let requests = "INCR a,INCR b,INCR n,INCR z";
-    assert!(rt; counts_to(&rt, rt.alloc(), requests, 4, reading)?);
-    Ok(())
-}
-
-/// Holds the call of pass 0 up until another was answered.
-#[derive(Drop)]
-struct Holds<'a, R> {
-    rt: &'a R,
-    came: AtomicBool,
-    answered: AtomicBool,
-    late: AtomicBool,
-}
-
-impl<'a, R: Clock> Holds<'a, R> {
-    /// Waits until this is so. False after all turns.
-    fn wait_for(&self, told: &AtomicBool) -> bool {
-        for _n in 0..TURNS {
-            if told.load(Ordering::SeqCst) {
-                return true;
-            }
-            sleep(self.rt, Duration::from_millis(1));
-        }
-        false
-    }
-}
-
-impl<'a, R: Clock> Latch for Holds<'a, R> {
-    fn at(&self, pass: u64, point: Point) {
-        if pass == 0 && point == Point::Holding {
-            self.came.store(true, Ordering::SeqCst);
-            let answered = self.wait_for(&self.answered);
-            self.late.store(!answered, Ordering::SeqCst);
-        }
-    }
-}
-
-/// Whether the call that is held up is answered as is due.
-fn call_held<R: Wait + Clock>(
-    rt: &R,
-    alloc: Global,
-    latch: &Holds<'_, R>,
-    engine: &Engine<MemoryDevice>,
-    mut pass: Pass<MemoryDevice>,
-) -> bool
-    requires { Rests ⊤ engine.now pass }
-{
-    let request = "SET a value";
-    let due = "+OK";
-    is_due(
-        rt,
-        alloc,
-        latch,
-        engine,
-        &mut pass,
-        Exchange { request, due },
-    )
-}
-
-/// Whether a call is answered as is due once the other one holds its stripe.
-fn call_after<R: Wait + Clock>(
-    rt: &R,
-    alloc: Global,
-    latch: &Holds<'_, R>,
-    engine: &Engine<MemoryDevice>,
-    mut pass: Pass<MemoryDevice>,
-) -> bool
-    requires { Rests ⊤ engine.now pass }
-{
-    let came = latch.wait_for(&latch.came);
-    let request = "GET b";
-    let due = "null";
-    let is_due = is_due(
-        rt,
-        alloc,
-        &Open,
-        engine,
-        &mut pass,
-        Exchange { request, due },
-    );
-    latch.answered.store(true, Ordering::SeqCst);
-    came && is_due
-}
-
-/// Whether call two was answered while call one was held. The keys `a` and `b` are of stripes 12 and 5.
-fn two_calls<R: Threads + Wait + Clock + Sync>(rt: &R, alloc: Global) -> Result<bool, OutOfMemory> {
-    let (engine, one, two) = with_two(alloc)?;
-    let latch = Holds {
-        rt,
-        came: AtomicBool::new(false),
-        answered: AtomicBool::new(false),
-        late: AtomicBool::new(false),
-    };
-    let shared = &engine;
-    let held = &latch;
-    let (first, second) = join(
-        rt,
-        move || -> bool
-            requires { Rests ⊤ shared.now one }
-        { call_held(rt, alloc, held, shared, one) },
-        move || -> bool
-            requires { Rests ⊤ shared.now two }
-        { call_after(rt, alloc, held, shared, two) },
-    );
-    Ok(first && second && !latch.late.load(Ordering::SeqCst))
-}
-
-#[test]
-fn call_two_is_answered_while_call_one_is_held(rt: HostRuntime) -> Result<(), Fail> {
-    assert!(rt; two_calls(&rt, rt.alloc())?);
+    drop(client);
     Ok(())
 }
 
@@ -906,6 +521,20 @@ struct Trail {
     digits: AtomicU64,
 }
 
+impl Trail {
+    /// Nothing was told yet.
+    fn new() -> Trail {
+        Trail {
+            digits: AtomicU64::new(0),
+        }
+    }
+
+    /// What it was told, the last digit last.
+    fn digits(&self) -> u64 {
+        self.digits.load(Ordering::SeqCst)
+    }
+}
+
 impl Latch for Trail {
     fn at(&self, _pass: u64, point: Point) {
         let digit = match point {
@@ -913,9 +542,8 @@ impl Latch for Trail {
             Point::Holding => 2,
             Point::After => 3,
         };
-        let so_far = self.digits.load(Ordering::SeqCst);
         self.digits.store(
-            so_far.wrapping_mul(10).wrapping_add(digit),
+            self.digits().wrapping_mul(10).wrapping_add(digit),
             Ordering::SeqCst,
         );
     }
@@ -935,23 +563,6 @@ fn gets<R: Wait, L: Latch>(
     key.len() <= KEY_BYTES_MAX && engine.get(rt, pass, key, latch).is_ok()
 }
 
-/// Whether a key within the limits is set to a value within them.
-fn sets_to<R: Wait, L: Latch, D: Device>(
-    rt: &R,
-    engine: &Engine<D>,
-    pass: &mut Pass<D>,
-    key: &Word,
-    value: &Word,
-    latch: &L,
-) -> bool
-    requires { Rests D.Receipt.is_steady engine.now pass.old }
-    ensures { Rests D.Receipt.is_steady engine.now pass.new }
-{
-    key.len() <= KEY_BYTES_MAX
-        && value.len() <= VALUE_BYTES_MAX
-        && engine.set(rt, pass, key, value, latch).is_ok()
-}
-
 /// Whether a call, a GET and a SET are answered, each of which tells this latch where it is.
 fn tells_of_each<R: Wait>(
     rt: &R,
@@ -966,198 +577,27 @@ fn tells_of_each<R: Wait>(
     let value = Word::from_slice(alloc, b"2").ok()?;
     let request = "INCR n";
     let due = ":1";
-    let exchange = Exchange { request, due };
-    Some(
-        is_due(rt, alloc, trail, engine, pass, exchange)
-            && gets(rt, engine, pass, &key, trail)
-            && sets_to(rt, engine, pass, &key, &value, trail),
-    )
+    let called = is_due(rt, alloc, trail, engine, pass, Exchange { request, due });
+    let got = gets(rt, engine, pass, &key, trail);
+    let set = sets_to(rt, engine, pass, &key, &value, trail);
+    drop(key);
+    drop(value);
+    Some(called && got && set)
+}
+
+/// What a latch is told of a call, a GET and a SET at a new engine, and whether they are answered. `None` where there was no memory
+/// for the engine.
+fn told_of_each<R: Wait>(rt: &R, alloc: Global) -> Option<(Option<bool>, u64)> {
+    let (engine, mut pass) = with_pass(alloc)?;
+    let trail = Trail::new();
+    let told = tells_of_each(rt, alloc, &engine, &mut pass, &trail);
+    drop(pass);
+    drop(engine);
+    Some((told, trail.digits()))
 }
 
 #[test]
-fn a_latch_is_told_where_each_call_is(rt: HostRuntime) -> Result<(), Fail> {
-    let (engine, mut pass, _other) = with_two(rt.alloc())?;
-    let trail = Trail {
-        digits: AtomicU64::new(0),
-    };
-    let told = tells_of_each(&rt, rt.alloc(), &engine, &mut pass, &trail);
-    assert!(rt; told == Some(true));
-    assert_eq!(rt; trail.digits.load(Ordering::SeqCst), 123_123_123);
-    Ok(())
-}
-
-/// A list of one key. `None` where there was no memory.
-fn list_of(alloc: Global, key: &Word) -> Option<Keys>
-    ensures { IfSome result (λ keys. keys ≡ key.now ∷ []) }
-{
-    let mut keys = Vec::new(alloc);
-    let key = key.clone().ok()?;
-    keys.push(key).ok()?;
-    Some(Keys::from_vec(keys))
-}
-
-/// Watches this key alone, and says whether it does.
-#[tactic(auto, using(crate::proofs::Watching::watches_one))]
-fn watches<R: Wait>(
-    rt: &R,
-    alloc: Global,
-    engine: &Engine<MemoryDevice>,
-    pass: &mut Pass<MemoryDevice>,
-    key: &Word,
-) -> bool
-    requires rests { Rests ⊤ engine.now pass.old }
-    requires nothing { (knows (λ device. 0) pass.old).watched ≡ [] }
-    ensures rests { Rests ⊤ engine.now pass.new }
-    ensures watches { IsTrue result → keys_of_pairs (knows (λ device. 0) pass.new).watched ≡ key.now ∷ [] }
-{
-    let Some(keys) = list_of(alloc, key) else {
-        return false;
-    };
-    match engine.submit(rt, pass, Call::Watch(keys)) {
-        Answer::Reply(_) => true,
-        Answer::Fault(_) => false,
-    }
-}
-
-/// What a session that watches this key alone hands in. `None` where there was no memory.
-fn watching_of(alloc: Global, key: &Word) -> Option<Watching>
-    ensures { IfSome result (λ watching. watching ≡ key.now ∷ []) }
-{
-    let keys = list_of(alloc, key)?;
-    let mut watching = Watching::none(alloc);
-    if let Err(_) = watching.add(keys.as_slice()) {
-        drop(watching.into_keys());
-        return None;
-    }
-    Some(watching)
-}
-
-/// Whether a transaction of no commands is answered by the null array.
-fn is_null<R: Wait>(
-    rt: &R,
-    alloc: Global,
-    engine: &Engine<MemoryDevice>,
-    pass: &mut Pass<MemoryDevice>,
-    key: &Word,
-) -> Option<bool>
-    requires rests { Rests ⊤ engine.now pass.old }
-    requires watches { keys_of_pairs (knows (λ device. 0) pass.old).watched ≡ key.now ∷ [] }
-{
-    let watching = watching_of(alloc, key)?;
-    let commands = Commands::from_vec(Vec::new(alloc));
-    match engine.submit(rt, pass, Call::Exec(commands, watching)) {
-        Answer::Reply(Reply::NullArray) => Some(true),
-        Answer::Reply(_) => Some(false),
-        Answer::Fault(_) => None,
-    }
-}
-
-/// Whether the transaction of the first pass, which watches a key, is answered by the null array after a
-/// call of the second. `None` where the call is not answered as is due.
-fn null_after<R: Wait>(
-    rt: &R,
-    alloc: Global,
-    engine: &Engine<MemoryDevice>,
-    first: &mut Pass<MemoryDevice>,
-    second: &mut Pass<MemoryDevice>,
-    key: &Word,
-    exchange: Exchange<'_>,
-) -> Option<bool>
-    requires first { Rests ⊤ engine.now first.old }
-    requires second { Rests ⊤ engine.now second.old }
-    requires nothing { (knows (λ device. 0) first.old).watched ≡ [] }
-{
-    let watches = watches(rt, alloc, engine, first, key);
-    let is_due = is_due(rt, alloc, &Open, engine, second, exchange);
-    engine.meet(first, second);
-    if watches && is_due {
-        is_null(rt, alloc, engine, first, key)
-    } else {
-        None
-    }
-}
-
-/// [`null_after`], over a new engine and the key `k`.
-fn null_of_new<R: Wait>(rt: &R, alloc: Global, exchange: Exchange<'_>) -> Option<bool> {
-    let key = Word::from_slice(alloc, b"k").ok()?;
-    let (engine, mut first, mut second) = with_two(alloc).ok()?;
-    null_after(rt, alloc, &engine, &mut first, &mut second, &key, exchange)
-}
-
-#[test]
-fn exec_is_null_where_another_pass_wrote_the_watched_key(rt: HostRuntime) {
-    let request = "SET k value";
-    let due = "+OK";
-    assert!(rt; null_of_new(&rt, rt.alloc(), Exchange { request, due }) == Some(true));
-}
-
-/// [`null_of_new`], where the second pass made a call before the watch began.
-fn null_after_two<R: Wait>(
-    rt: &R,
-    alloc: Global,
-    before: Exchange<'_>,
-    exchange: Exchange<'_>,
-) -> Option<bool> {
-    let key = Word::from_slice(alloc, b"k").ok()?;
-    let (engine, mut first, mut second) = with_two(alloc).ok()?;
-    null_between(
-        rt,
-        alloc,
-        &engine,
-        &mut first,
-        &mut second,
-        &key,
-        (before, exchange),
-    )
-}
-
-/// [`null_after`], where the second pass made a call before the watch began.
-fn null_between<R: Wait>(
-    rt: &R,
-    alloc: Global,
-    engine: &Engine<MemoryDevice>,
-    first: &mut Pass<MemoryDevice>,
-    second: &mut Pass<MemoryDevice>,
-    key: &Word,
-    exchanges: (Exchange<'_>, Exchange<'_>),
-) -> Option<bool>
-    requires first { Rests ⊤ engine.now first.old }
-    requires second { Rests ⊤ engine.now second.old }
-    requires nothing { (knows (λ device. 0) first.old).watched ≡ [] }
-{
-    let (before, exchange) = exchanges;
-    if !is_due(rt, alloc, &Open, engine, second, before) {
-        return None;
-    }
-    null_after(rt, alloc, engine, first, second, key, exchange)
-}
-
-/// What a RENAME by another pass is answered after SET of a key, and whether it writes the key `k`, which is watched
-/// between them.
-const RENAMES: [(&str, &str, &str, bool); 6] = [
-    ("SET k value", "RENAME k j", "+OK", true),
-    ("SET j value", "RENAME j k", "+OK", true),
-    ("SET k value", "RENAME k k", "+OK", false),
-    ("SET j value", "RENAME k j", "-ERR no such key", false),
-    ("SET k value", "RENAME j k", "-ERR no such key", false),
-    ("SET j value", "RENAME j i", "+OK", false),
-];
-
-#[test]
-fn exec_goes_by_what_another_pass_renamed(rt: HostRuntime) {
-    for (set, request, due, is_written) in RENAMES {
-        let before = Exchange {
-            request: set,
-            due: "+OK",
-        };
-        let null = null_after_two(&rt, rt.alloc(), before, Exchange { request, due });
-        assert!(rt; null == Some(is_written), "{set} {request}");
-    }
-}
-
-#[test]
-fn exec_is_run_where_another_pass_deleted_the_watched_key_that_was_missing(rt: HostRuntime) {
-    let request = "DEL k";
-    let due = ":0";
-    assert!(rt; null_of_new(&rt, rt.alloc(), Exchange { request, due }) == Some(false));
+fn a_latch_is_told_where_each_call_is(rt: HostRuntime) {
+    let told = told_of_each(&rt, rt.alloc());
+    assert!(rt; told == Some((Some(true), 123_123_123)), "{told:?}");
 }

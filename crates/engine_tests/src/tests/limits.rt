@@ -5,10 +5,10 @@ ghost use Rattle.std.specs.Prelude.{◌≡◌, ◌+◌, All, IfOk, IfSome, IsTru
 ghost use Rattle.engine.specs.Passes.{Rests};
 ghost use Rattle.engine.specs.declared.TheConstants.{BACKGROUND_PASSES};
 
-use super::sets_to;
-use super::steps::{fill, key_of};
 use device::MemoryDevice;
 use engine::{BACKGROUND_PASSES, Engine, Pass};
+use engine_harness::calls::sets_to;
+use engine_harness::filling::{fill, key_of};
 use gates::Open;
 use std::alloc::Global;
 use std::sync::Wait;
@@ -100,6 +100,7 @@ fn keeps<R: Wait>(
         if is_kept(rt, engine, pass, &key) {
             kept = kept.saturating_add(1);
         }
+        drop(key);
     }
     Some(kept)
 }
@@ -108,7 +109,10 @@ fn keeps<R: Wait>(
 fn kept_of<R: Wait>(rt: &R, alloc: Global, sizes: &[usize; 5]) -> Option<usize> {
     let limits = Limits::new(sizes[0], sizes[1], sizes[2], sizes[3], sizes[4])?;
     let (engine, mut pass) = with_pass(alloc, &limits)?;
-    keeps(rt, alloc, &engine, &mut pass, 100)
+    let kept = keeps(rt, alloc, &engine, &mut pass, 100);
+    drop(pass);
+    drop(engine);
+    kept
 }
 
 #[test]
@@ -124,6 +128,24 @@ const PAGES: usize = FRAMES_DEFAULT + PLACES_DEFAULT;
 /// A value of which a page holds one.
 const VALUE: [u8; 32_760] = [b'v'; 32_760];
 
+/// Whether the key of this number has the value. `None` where there was no memory.
+fn has_key<R: Wait>(
+    rt: &R,
+    alloc: Global,
+    engine: &Engine<MemoryDevice>,
+    pass: &mut Pass<MemoryDevice>,
+    number: usize,
+    value: &Word,
+) -> Option<bool>
+    requires { Rests ⊤ engine.now pass.old }
+    ensures { Rests ⊤ engine.now pass.new }
+{
+    let key = key_of(alloc, number)?;
+    let has = has(rt, engine, pass, &key, value);
+    drop(key);
+    Some(has)
+}
+
 /// How many of these keys have the value, one of each hundred, until one has not.
 fn finds<R: Wait>(
     rt: &R,
@@ -131,20 +153,36 @@ fn finds<R: Wait>(
     engine: &Engine<MemoryDevice>,
     pass: &mut Pass<MemoryDevice>,
     hundreds: usize,
+    value: &Word,
 ) -> Option<usize>
     requires { Rests ⊤ engine.now pass.old }
 {
-    let value = Word::from_slice(alloc, &VALUE).ok()?;
     for number in 0..hundreds {
-        let key = key_of(alloc, number.saturating_mul(100))?;
-        if !has(rt, engine, pass, &key, &value) {
+        if !has_key(rt, alloc, engine, pass, number.saturating_mul(100), value)? {
             return Some(number);
         }
     }
     Some(hundreds)
 }
 
-/// How many of so many keys can be set in a store of these limits, and how many of one in each hundred of them are read then.
+/// How many of so many keys can be set, and how many of one in each hundred of them are read then.
+fn stores_and_finds<R: Wait>(
+    rt: &R,
+    alloc: Global,
+    engine: &Engine<MemoryDevice>,
+    pass: &mut Pass<MemoryDevice>,
+    count: usize,
+) -> Option<(usize, usize)>
+    requires { Rests ⊤ engine.now pass.old }
+{
+    let stored = fill(rt, alloc, engine, pass, &VALUE, count)?;
+    let value = Word::from_slice(alloc, &VALUE).ok()?;
+    let found = finds(rt, alloc, engine, pass, stored / 100, &value);
+    drop(value);
+    Some((stored, found?))
+}
+
+/// The same in a store of these limits.
 fn stored_and_found<R: Wait>(
     rt: &R,
     alloc: Global,
@@ -152,9 +190,10 @@ fn stored_and_found<R: Wait>(
     count: usize,
 ) -> Option<(usize, usize)> {
     let (engine, mut pass) = with_pass(alloc, limits)?;
-    let stored = fill(rt, alloc, &engine, &mut pass, &VALUE, count)?;
-    let found = finds(rt, alloc, &engine, &mut pass, stored / 100)?;
-    Some((stored, found))
+    let came = stores_and_finds(rt, alloc, &engine, &mut pass, count);
+    drop(pass);
+    drop(engine);
+    came
 }
 
 /// More pages than a store of the defaults holds, in one stripe.

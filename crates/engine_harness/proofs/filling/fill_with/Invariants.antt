@@ -1,0 +1,5 @@
+use Rattle.engine.specs.Passes.{Rests}
+use Rattle.engine_harness.proofs.filling.fill_with.Given as goal
+
+abbrev pub invariant-loop-number : goal.invariant-loop-number
+invariant-loop-number g l = Rests g.D.Receipt.Shows.is_steady l.engine l.pass

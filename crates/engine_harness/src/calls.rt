@@ -1,0 +1,67 @@
+//! Calls by one pass.
+
+ghost use Rattle.std.specs.Prelude.{⊤};
+ghost use Rattle.engine.specs.Passes.{Rests};
+
+use crate::exchanges::{Exchange, Outcome, compare, keyed};
+use device::{Device, MemoryDevice};
+use engine::{Engine, Pass};
+use gates::Latch;
+use std::alloc::Global;
+use std::sync::Wait;
+use transact::call::{Answer, Call};
+use words::limits::{KEY_BYTES_MAX, VALUE_BYTES_MAX};
+use words::word::Word;
+
+/// What a pass is answered. `None` where there was no memory for the request's own words.
+pub fn answer_of<R: Wait, L: Latch, D: Device>(
+    rt: &R,
+    alloc: Global,
+    latch: &L,
+    engine: &Engine<D>,
+    pass: &mut Pass<D>,
+    request: &str,
+) -> Option<Answer>
+    requires { Rests D.Receipt.is_steady engine.now pass.old }
+    ensures { Rests D.Receipt.is_steady engine.now pass.new }
+{
+    match keyed(alloc, request) {
+        Some(command) => Some(engine.submit_with(rt, pass, Call::One(command), latch)),
+        None => None,
+    }
+}
+
+/// Whether a pass is answered as is due.
+pub fn is_due<R: Wait, L: Latch>(
+    rt: &R,
+    alloc: Global,
+    latch: &L,
+    engine: &Engine<MemoryDevice>,
+    pass: &mut Pass<MemoryDevice>,
+    exchange: Exchange<'_>,
+) -> bool
+    requires { Rests ⊤ engine.now pass.old }
+    ensures { Rests ⊤ engine.now pass.new }
+{
+    match answer_of(rt, alloc, latch, engine, pass, exchange.request) {
+        Some(answer) => compare(&answer, exchange.due) == Outcome::Due,
+        None => false,
+    }
+}
+
+/// Whether a key within the limits is set to a value within them.
+pub fn sets_to<R: Wait, L: Latch, D: Device>(
+    rt: &R,
+    engine: &Engine<D>,
+    pass: &mut Pass<D>,
+    key: &Word,
+    value: &Word,
+    latch: &L,
+) -> bool
+    requires { Rests D.Receipt.is_steady engine.now pass.old }
+    ensures { Rests D.Receipt.is_steady engine.now pass.new }
+{
+    key.len() <= KEY_BYTES_MAX
+        && value.len() <= VALUE_BYTES_MAX
+        && engine.set(rt, pass, key, value, latch).is_ok()
+}
