@@ -1,5 +1,5 @@
 -- Held stripes: what there is of them.
-use Rattle.std.specs.Prelude.{◌≡◌, ◌↔◌, ◌<◌, ◌≤◌, ℕ, IsSome, Bool, true, false, List, reverse, refl, Result, IfOk, OnOk, OnErr}
+use Rattle.std.specs.Prelude.{◌≡◌, ◌↔◌, ◌<◌, ◌≤◌, ◌∷◌, ◌++◌, ℕ, IsSome, Bool, true, false, List, [], reverse, refl, Result, IfOk, OnOk, OnErr}
 use Rattle.std.proofs.Common.{◌∙◌, ap}
 use Rattle.std.specs.Borrow.{MutBor}
 use Rattle.gates.specs.Sets.{times, part_at}
@@ -14,7 +14,7 @@ use Rattle.words.specs.declared.reply.Reply.{Reply}
 use Rattle.words.specs.Session.{Asked, operation_of}
 use Rattle.gates.specs.Passes.{known, parts_in, taken_in, stripes_in, stripes_of, IsHolding, takes_in, AllFit, AreAsTaken, Learned, ToldBusy, WasTold, Committed}
 use Rattle.gates.specs.declared.gates.CommitsWornOut.{CommitsWornOut}
-use Rattle.gates.specs.declared.view.Note.TheVariants.{Worn}
+use Rattle.gates.specs.declared.view.Note.TheVariants.{Busy, Worn}
 
 module _ {T : Type 0} where
   -- the gates whose stripes are held
@@ -111,6 +111,37 @@ module _ {T : Type 0} where
     pub worn : OnErr result (WasTold Worn (known_to before) (known_to later))
     pub none : OnErr result (has_committed later ≡ false)
 
+  -- A pass may take one stripe more, which it does not have. What it has fits.
+  pub record MayTake (contents : Meaning T) (gates : Gates T) (stripe : ℕ) (pass : Pass T) : Type 0 where
+    pub holding : IsHolding contents.trusted gates pass
+    pub below : stripe < stripes_of gates
+    pub other : times stripe (stripes_in pass) ≡ 0
+    pub fit : AllFit contents (stripes_of gates) (known pass) (taken_in pass) (parts_in pass)
+    pub lent : AreAsTaken (taken_in pass) (parts_in pass)
+
+  -- It has taken that stripe, whose part comes last, and was told of this stripe alone that another pass had it.
+  pub record TookOneMore (contents : Meaning T) (gates : Gates T) (stripe : ℕ) (before now : Pass T) : Type 0 where
+    pub holding : IsHolding contents.trusted gates now
+    pub fit : AllFit contents (stripes_of gates) (known now) (taken_in now) (parts_in now)
+    pub lent : AreAsTaken (taken_in now) (parts_in now)
+    pub learned : Learned (known before) (known now)
+    pub told : ToldBusy (stripe ∷ []) (known before) (known now)
+    pub parts : (part : T) × (parts_in now ≡ parts_in before ++ (stripe, part) ∷ [])
+    pub takes : takes_in now ≡ stripe ∷ takes_in before
+
+  -- one try took the stripe, and told nothing
+  abbrev pub TookAtOnce : ℕ → (before now : Pass T) → Type 0
+  TookAtOnce stripe before now =
+      Learned (known before) (known now)
+      × ((known now).notes ≡ (known before).notes)
+      × ((part : T) × (parts_in now ≡ parts_in before ++ (stripe, part) ∷ []))
+      × (takes_in now ≡ stripe ∷ takes_in before)
+
+  -- one try found that another pass has the stripe, and took nothing
+  abbrev pub WasRefused : ℕ → (before now : Pass T) → Type 0
+  WasRefused stripe before now =
+      WasTold (Busy stripe) (known before) (known now) × (parts_in now ≡ parts_in before) × (takes_in now ≡ takes_in before)
+
   -- A pass has taken these stripes of the gates with one try each, and nothing else. What it knows only grew, its own entries are the same, it
   -- was told nothing, and each part fits, as in `HasTaken`.
   pub record TookAll (contents : Meaning T) (gates : Gates T) (stripes : List ℕ) (before now : Pass T) : Type 0 where
@@ -145,3 +176,13 @@ module _ {T : Type 0} where
     pub lent : AreAsTaken (held_taken held) (held_parts held)
     pub rising : takes_in held.pass.now ≡ reverse stripes
     pub fresh : held.committed ≡ false
+
+  -- stripes that a pass took with one try each, after this, are held as taken from then on
+  abbrev pub IsTakenSince : Meaning T → Gates T → List ℕ → MutBor (Pass T) → Held T → Type 0
+  IsTakenSince contents gates stripes pass held =
+      (before : Pass T) → TookAll contents gates stripes before pass.now → HasTaken contents gates stripes (record pass { now = before }) held
+
+  -- and the pass was told nothing since
+  abbrev pub IsToldNothingSince : Meaning T → Gates T → List ℕ → Pass T → Held T → Type 0
+  IsToldNothingSince contents gates stripes pass held =
+      (before : Pass T) → TookAll contents gates stripes before pass → (known_to held).notes ≡ (known before).notes

@@ -3,6 +3,8 @@ use Rattle.std.specs.Prelude.{◌≡◌, ◌≢◌, ◌||◌, Bool, true, ℕ, �
 use Rattle.atomic_table.specs.Seated.{TableId}
 use Rattle.atomic_table.specs.Table.{Me}
 use Rattle.words.specs.declared.history.Entry.{Entry}
+use Rattle.words.specs.declared.reply.Reply.{Reply}
+use Rattle.words.specs.Session.{Asked, operation_of}
 use Rattle.words.specs.Store.{Bytes}
 use Rattle.words.specs.History.{History, Pair, Legal, after, subhistory, keys_of_pairs, is_written, AreWatches}
 use Rattle.words.specs.Watches.{watched_at, watched_after, mark_at, mark_after}
@@ -16,6 +18,10 @@ use Rattle.gates.specs.declared.gates.Pass.{Pass}
 use Rattle.gates.specs.Sets.{times, part_at}
 use Rattle.gates.specs.Plays.{own, IsSingle, newcomer}
 use Rattle.gates.specs.Rule.{writes, Meaning, IsMarked, AreOwnMarks, touched_marks}
+
+-- the entry of what is asked of a pass and answered: a transaction goes by all that the pass watches
+abbrev pub entry_asked : Knowledge → Asked → Reply → Entry
+entry_asked mine asked said = record { session = mine.number; operation = operation_of mine.watched asked; reply = said }
 
 -- each of these pairs is what is watched of its key among all: with all of them, no key stands twice
 abbrev pub AreWatched : (all : List Pair) → List Pair → Type 0

@@ -1,6 +1,7 @@
 //! Gates over the parts of a store, and the passes that take them.
 
-ghost use Rattle.std.specs.Prelude.{◌≡◌, ◌+◌, ◌*◌, ◌^◌, ◌<◌, ◌≤◌, ◌++◌, ◌∷◌, [], ℕ, true, false, length, map, IsTrue, IsFalse, IfOk, OnOk, OnErr, vec_len, vec_capacity, MatchBool};
+ghost use Rattle.std.specs.Prelude.{◌≡◌, ◌+◌, ◌*◌, ◌^◌, ◌<◌, ◌≤◌, ◌++◌, ◌∷◌, [], ℕ, true, false, length, map};
+ghost use Rattle.std.specs.Prelude.{IsTrue, IsFalse, IfOk, OnOk, OnErr, vec_len, vec_capacity, MatchBool};
 ghost use Rattle.gates.specs.Rule.{word_of};
 
 use crate::asks::Asks;
@@ -78,7 +79,9 @@ impl<T: Part> Gates<T> {
     ghost use Rattle.gates.specs.declared.view.Note.{Note};
     ghost use Rattle.gates.specs.declared.view.Note.TheVariants.{Busy, Worn};
     ghost use Rattle.gates.specs.Sets.{times};
-    ghost use Rattle.gates.specs.Passes.{stripes_of, known, parts_in, taken_in, takes_in, stripes_in, AllFit, AreAsTaken, IsHolding, IsResting, Learned, WasTold, Committed, KeysHeld, MayEnd, id_of, AreNew};
+    ghost use Rattle.gates.specs.Passes.{stripes_of, known, parts_in, taken_in, AllFit, IsHolding, IsResting, WasTold, MayEnd};
+    ghost use Rattle.gates.specs.Passes.{AreAsTaken, Committed, KeysHeld, Learned, id_of, AreNew, entry_asked};
+    ghost use Rattle.gates.specs.Helds.{MayTake, TookAtOnce, WasRefused};
     ghost use Rattle.gates.specs.Plays.{AreEmpty, unmet, kept};
     ghost use Rattle.atomic_table.specs.Table.{rest};
     ghost use Rattle.words.specs.History.{HasPlace, due, keys_named};
@@ -219,7 +222,7 @@ impl<T: Part> Gates<T> {
         reply: &S,
     ) -> Result<u64, CommitsWornOut>
         requires holding { IsHolding T.meaning.trusted self.now pass.old }
-        requires told { E.entry ≡ record { session = (known pass.old).number; operation = operation_of (known pass.old).watched (C.asked call.now); reply = S.said reply.now } }
+        requires told { E.entry ≡ entry_asked (known pass.old) (C.asked call.now) (S.said reply.now) }
         requires place { HasPlace E.entry.operation }
         requires due { T.meaning.trusted → S.said reply.now ≡ due (known pass.old).seen E.entry.operation }
         requires keys { KeysHeld (stripes_of self.now) (parts_in pass.old) (keys_named E.entry.operation) }
@@ -227,7 +230,8 @@ impl<T: Part> Gates<T> {
         ensures parts { parts_in pass.new ≡ parts_in pass.old }
         ensures taken { taken_in pass.new ≡ taken_in pass.old }
         ensures number { pass.new.number ≡ pass.old.number }
-        ensures ok { IfOk result (λ place. Committed (stripes_of self.now) (parts_in pass.old) E.entry place (known pass.old) (known pass.new)) }
+        ensures ok { IfOk result (λ place.
+            Committed (stripes_of self.now) (parts_in pass.old) E.entry place (known pass.old) (known pass.new)) }
         ensures worn { OnErr result (WasTold Worn (known pass.old) (known pass.new)) }
     {
         laws();
@@ -241,16 +245,12 @@ impl<T: Part> Gates<T> {
     /// One try of a stripe that the pass does not have. Its part comes last.
     #[inline]
     pub(crate) fn try_stripe(&self, pass: &mut Pass<T>, stripe: usize) -> bool
-        requires holding { IsHolding T.meaning.trusted self.now pass.old }
-        requires below { stripe < stripes_of self.now }
-        requires other { times stripe (stripes_in pass.old) ≡ 0 }
-        requires fit { AllFit T.meaning (stripes_of self.now) (known pass.old) (taken_in pass.old) (parts_in pass.old) }
-        requires lent { AreAsTaken (taken_in pass.old) (parts_in pass.old) }
+        requires { MayTake T.meaning self.now stripe pass.old }
         ensures holding { IsHolding T.meaning.trusted self.now pass.new }
         ensures fit { AllFit T.meaning (stripes_of self.now) (known pass.new) (taken_in pass.new) (parts_in pass.new) }
         ensures lent { AreAsTaken (taken_in pass.new) (parts_in pass.new) }
-        ensures taken { IsTrue result → Learned (known pass.old) (known pass.new) × ((known pass.new).notes ≡ (known pass.old).notes) × ((part : T) × (parts_in pass.new ≡ parts_in pass.old ++ (stripe, part) ∷ [])) × (takes_in pass.new ≡ stripe ∷ takes_in pass.old) }
-        ensures missed { IsFalse result → WasTold (Busy stripe) (known pass.old) (known pass.new) × (parts_in pass.new ≡ parts_in pass.old) × (takes_in pass.new ≡ takes_in pass.old) }
+        ensures taken { IsTrue result → TookAtOnce stripe pass.old pass.new }
+        ensures missed { IsFalse result → WasRefused stripe pass.old pass.new }
     {
         laws();
         let word = word_index(stripe);

@@ -1,6 +1,7 @@
 //! Stripes that a pass holds.
 
-ghost use Rattle.std.specs.Prelude.{◌≡◌, ◌+◌, ◌<◌, ◌≤◌, ◌++◌, ◌∷◌, ◌↔◌, [], ℕ, true, false, length, IsTrue, IsFalse, IfOk, IfErr, OnErr, OnOk, IsSome, Some, MatchResult};
+ghost use Rattle.std.specs.Prelude.{◌≡◌, ◌+◌, ◌<◌, ◌≤◌, ◌++◌, ◌∷◌, ◌↔◌, [], ℕ, true, false, length};
+ghost use Rattle.std.specs.Prelude.{IsTrue, IsFalse, IfOk, IfErr, OnErr, OnOk, IsSome, Some, MatchResult};
 
 use crate::asks::Asks;
 use crate::gates::{CommitsWornOut, Gates, Pass};
@@ -24,10 +25,9 @@ pub struct Held<'a, T: Part> {
 
 impl<T: Part> Gates<T> {
     ghost use Rattle.std.specs.Bool.{OnFalse, OnTrue};
-    ghost use Rattle.gates.specs.declared.view.Note.TheVariants as note;
-    ghost use Rattle.gates.specs.Sets.{times, AreBelow, part_at};
-    ghost use Rattle.gates.specs.Passes.{stripes_of, known, parts_in, taken_in, takes_in, stripes_in, AllFit, AreAsTaken, IsHolding, IsResting, Learned, MayEnd, ToldBusy, WasTold, WasBusy, Committed, KeysHeld};
-    ghost use Rattle.gates.specs.Helds.{IsOpen, held_parts, HasHeld, HasTaken, TookAll, known_to};
+    ghost use Rattle.gates.specs.Sets.{times, AreBelow};
+    ghost use Rattle.gates.specs.Passes.{stripes_of, known, parts_in, taken_in, stripes_in, AllFit, IsHolding, IsResting, MayEnd, WasBusy};
+    ghost use Rattle.gates.specs.Helds.{HasHeld, HasTaken, IsTakenSince, IsToldNothingSince, MayTake, TookAll, TookOneMore};
     ghost use Rattle.atomic_table.specs.Table.{rest};
     ghost use Rattle.gates.specs.Plays.{kept};
     ghost use Rattle.gates.specs.Background.{notes_of};
@@ -35,18 +35,8 @@ impl<T: Part> Gates<T> {
     /// Takes a stripe that the pass does not have, and waits where another has it.
     #[inline]
     fn take_stripe<R: Wait>(&self, rt: &R, pass: &mut Pass<T>, stripe: usize)
-        requires holding { IsHolding T.meaning.trusted self.now pass.old }
-        requires below { stripe < stripes_of self.now }
-        requires other { times stripe (stripes_in pass.old) ≡ 0 }
-        requires fit { AllFit T.meaning (stripes_of self.now) (known pass.old) (taken_in pass.old) (parts_in pass.old) }
-        requires lent { AreAsTaken (taken_in pass.old) (parts_in pass.old) }
-        ensures holding { IsHolding T.meaning.trusted self.now pass.new }
-        ensures fit { AllFit T.meaning (stripes_of self.now) (known pass.new) (taken_in pass.new) (parts_in pass.new) }
-        ensures lent { AreAsTaken (taken_in pass.new) (parts_in pass.new) }
-        ensures learned { Learned (known pass.old) (known pass.new) }
-        ensures told { ToldBusy (stripe ∷ []) (known pass.old) (known pass.new) }
-        ensures parts { (part : T) × (parts_in pass.new ≡ parts_in pass.old ++ (stripe, part) ∷ []) }
-        ensures takes { takes_in pass.new ≡ stripe ∷ takes_in pass.old }
+        requires { MayTake T.meaning self.now stripe pass.old }
+        ensures { TookOneMore T.meaning self.now stripe pass.old pass.new }
     {
         let taken = self.try_stripe(pass, stripe);
         if !taken {
@@ -57,18 +47,8 @@ impl<T: Part> Gates<T> {
     /// Takes a stripe that another pass was seen to have, once that pass has given it back.
     #[cold]
     fn wait_stripe<R: Wait>(&self, rt: &R, pass: &mut Pass<T>, stripe: usize)
-        requires holding { IsHolding T.meaning.trusted self.now pass.old }
-        requires below { stripe < stripes_of self.now }
-        requires other { times stripe (stripes_in pass.old) ≡ 0 }
-        requires fit { AllFit T.meaning (stripes_of self.now) (known pass.old) (taken_in pass.old) (parts_in pass.old) }
-        requires lent { AreAsTaken (taken_in pass.old) (parts_in pass.old) }
-        ensures holding { IsHolding T.meaning.trusted self.now pass.new }
-        ensures fit { AllFit T.meaning (stripes_of self.now) (known pass.new) (taken_in pass.new) (parts_in pass.new) }
-        ensures lent { AreAsTaken (taken_in pass.new) (parts_in pass.new) }
-        ensures learned { Learned (known pass.old) (known pass.new) }
-        ensures told { ToldBusy (stripe ∷ []) (known pass.old) (known pass.new) }
-        ensures parts { (part : T) × (parts_in pass.new ≡ parts_in pass.old ++ (stripe, part) ∷ []) }
-        ensures takes { takes_in pass.new ≡ stripe ∷ takes_in pass.old }
+        requires { MayTake T.meaning self.now stripe pass.old }
+        ensures { TookOneMore T.meaning self.now stripe pass.old pass.new }
     {
         let backoff = Backoff::new();
         for _ in rt.forever() {
@@ -122,7 +102,8 @@ impl<T: Part> Gates<T> {
         requires own { IsResting T.meaning.trusted self.now pass.old }
         requires known { AreBelow (stripes_of self.now) stripes.now }
         ensures ok { OnOk result (TookAll T.meaning self.now stripes.now pass.old pass.new) }
-        ensures busy { IfErr result (λ stripe. IsResting T.meaning.trusted self.now pass.new × (0 < times stripe stripes.now) × WasBusy stripe (known pass.old) (known pass.new)) }
+        ensures busy { IfErr result (λ stripe. IsResting T.meaning.trusted self.now pass.new
+            × (0 < times stripe stripes.now) × WasBusy stripe (known pass.old) (known pass.new)) }
     {
         stripes.rises();
         let mut left = stripes.again();
@@ -144,8 +125,8 @@ impl<T: Part> Gates<T> {
         requires all { stripes_in pass.old ≡ stripes.now }
         ensures held { HasHeld T.meaning.trusted self.now pass.entry result }
         // What was taken with one try each is taken from before the tries on, and the pass was told nothing.
-        ensures taken { (before : Pass T) → TookAll T.meaning self.now stripes.now before pass.old → HasTaken T.meaning self.now stripes.now (record pass.entry { now = before }) result }
-        ensures told { (before : Pass T) → TookAll T.meaning self.now stripes.now before pass.old → (known_to result).notes ≡ (known before).notes }
+        ensures taken { IsTakenSince T.meaning self.now stripes.now pass.entry result }
+        ensures told { IsToldNothingSince T.meaning self.now stripes.now pass.old result }
     {
         let order = Order::of(stripes.again());
         Held {
@@ -189,8 +170,8 @@ impl<T: Part> Gates<T> {
         requires all { stripes_in pass.old ≡ stripe ∷ [] }
         ensures held { HasHeld T.meaning.trusted self.now pass.entry result }
         // As of [`Gates::hold`].
-        ensures taken { (before : Pass T) → TookAll T.meaning self.now (stripe ∷ []) before pass.old → HasTaken T.meaning self.now (stripe ∷ []) (record pass.entry { now = before }) result }
-        ensures told { (before : Pass T) → TookAll T.meaning self.now (stripe ∷ []) before pass.old → (known_to result).notes ≡ (known before).notes }
+        ensures taken { IsTakenSince T.meaning self.now (stripe ∷ []) pass.entry result }
+        ensures told { IsToldNothingSince T.meaning self.now (stripe ∷ []) pass.old result }
     {
         let wanted = self.set_of(stripe);
         self.hold(pass, &wanted)
@@ -244,7 +225,8 @@ impl<'a, T: Part> Held<'a, T> {
     ghost use Rattle.gates.specs.Plays.{kept};
     ghost use Rattle.gates.specs.Background.{IsToldOf, notes_of};
     ghost use Rattle.gates.specs.Passes.{stripes_of, known, AllFit, IsResting, KeysHeld};
-    ghost use Rattle.gates.specs.Helds.{IsOpen, held_parts, held_taken, gates_of, known_to, number_of, operation_asked, has_committed, HasCommitted};
+    ghost use Rattle.gates.specs.Helds.{IsOpen, held_parts, held_taken, gates_of, known_to, number_of};
+    ghost use Rattle.gates.specs.Helds.{operation_asked, has_committed, HasCommitted};
 
     /// Commits one entry of the pass, what a call asks and what it is answered, and says its position in
     /// the history. A transaction goes by all that the pass watches. The reply has to be the one that is
@@ -260,8 +242,10 @@ impl<'a, T: Part> Held<'a, T> {
         requires once { has_committed self.old ≡ false }
         requires place { HasPlace (operation_asked self.old (C.asked call.now)) }
         requires due { T.meaning.trusted → S.said reply.now ≡ due (known_to self.old).seen (operation_asked self.old (C.asked call.now)) }
-        requires keys { KeysHeld (stripes_of (gates_of self.old)) (held_parts self.old) (keys_named (operation_asked self.old (C.asked call.now))) }
-        ensures { HasCommitted T.meaning.trusted self.old (operation_asked self.old (C.asked call.now)) (S.said reply.now) self.new result }
+        requires keys { KeysHeld (stripes_of (gates_of self.old)) (held_parts self.old)
+            (keys_named (operation_asked self.old (C.asked call.now))) }
+        ensures { HasCommitted T.meaning.trusted self.old
+            (operation_asked self.old (C.asked call.now)) (S.said reply.now) self.new result }
     {
         let place = self
             .gates
@@ -358,7 +342,8 @@ impl<'a, T: Part> Held<'a, T> {
     fn lend(&mut self, stripe: usize) -> &mut T
         requires open { IsOpen T.meaning.trusted self.old }
         requires there { IsSome (part_at (held_parts self.old) stripe) }
-        ensures* writes_back { sem 𝓛 (Lends (the_row (record { mir = named 1; lft = [] }) T.row T.Part) T.row self.entry result (with_part self.old stripe)) }
+        ensures* writes_back { sem 𝓛 (Lends (the_row (record { mir = named 1; lft = [] }) T.row T.Part) T.row
+            self.entry result (with_part self.old stripe)) }
         ensures value { part_at (held_parts self.old) stripe ≡ Some result.now }
     {
         self.bring(stripe);
@@ -371,7 +356,8 @@ impl<'a, T: Part> Held<'a, T> {
 
 impl<'a, T: Part> Parts<T> for Held<'a, T> {
     ghost use Rattle.gates.specs.Sets.{part_at};
-    ghost use Rattle.gates.specs.Helds.{IsOpen, held_parts, held_stripes, number_of, SameHold, same_as_it, same_by_both, few_held, stripes_stay, holder_stays};
+    ghost use Rattle.gates.specs.Helds.{IsOpen, held_parts, held_stripes, number_of};
+    ghost use Rattle.gates.specs.Helds.{SameHold, same_as_it, same_by_both, few_held, stripes_stay, holder_stays};
     ghost use Rattle.gates.specs.Lending as lending;
 
     ghost stripes_of = { held_stripes };

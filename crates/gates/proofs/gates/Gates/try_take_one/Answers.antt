@@ -1,4 +1,4 @@
-use Rattle.std.proofs.Common.{◌≡◌, ◌∙◌, ◌∷◌, [], subst, ap, ℕ, List, ◌<◌}
+use Rattle.std.proofs.Common.{subst, ℕ, List, ◌<◌}
 use Rattle.gates.specs.Sets.{times}
 use Rattle.gates.specs.Passes.{known, WasBusy}
 use Rattle.gates.proofs.Bits.{times_one}
