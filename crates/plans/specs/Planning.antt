@@ -1,5 +1,5 @@
 -- What is asked of a plan, what one leaves that was made, and what one leaves that was not.
-use Rattle.std.specs.Prelude.{ℕ, ◌≡◌, ◌<◌, ◌≤◌, ◌+◌, ◌∷◌, false, length, unwrap_or, nat_lt, if◌then◌else◌, List, [], Option, Some, Result, Ok, Err, IfOk}
+use Rattle.std.specs.Prelude.{ℕ, ◌≡◌, ◌<◌, ◌≤◌, ◌+◌, ◌∷◌, false, length, unwrap_or, nat_lt, if◌then◌else◌, List, [], Option, Some, Result, Ok, Err, IfErr, IfOk}
 use Rattle.words.specs.declared.command.Command.{Command}
 use Rattle.words.specs.declared.command.Command.TheVariants.{Get}
 use Rattle.words.specs.declared.history.Operation.{Operation}
@@ -14,12 +14,14 @@ use Rattle.words.specs.Session.{Asked, operation_of, value_reply}
 use Rattle.gates.specs.Passes.{AreWatched}
 use Rattle.gates.specs.Rule.{Meaning}
 use Rattle.hybrid.specs.HybridLog.{HybridLog, Kept}
-use Rattle.hybrid.specs.Staging.{StagedPage}
+use Rattle.hybrid.specs.Staging.{AreRight, StagedPage}
 use Rattle.hybrid.specs.Writing.{AreFit}
 use Rattle.transact.specs.declared.call.Call.{Call}
 use Rattle.transact.specs.Calls.{asked_of, call_keys}
 use Rattle.transact.specs.Plans.{EndsAll, IsEntry, IsPlan, made}
 use Rattle.transact.specs.Tables.{AllRead, AreThere, Became, HasBegun, Stand, begins, joined, stays}
+use Rattle.shards.specs.Devices.{StillServes}
+use Rattle.shards.specs.Receipts.{kept_by}
 use Rattle.shards.specs.declared.shard.Shard.{Shard}
 use Rattle.shards.specs.Rooms.{AreRoomy, IsFullAt, LeaveFrames, MakesRoom, MeetsFull, ShedFew, share}
 use Rattle.shards.specs.Shards.{SameLogs, SameWaits, logs_of, shard_log, shard_meaning, shard_store, weigh}
@@ -292,3 +294,19 @@ module _ {R : Type 0} where
 pub record IsStillHeld {P : Type 0} (is_open : P → Type 0) (keeps : P → P → Type 0) (before later : P) : Type 0 where
   pub open_still : is_open later
   pub kept : keeps before later
+
+-- What came of a plan of what is asked, whatever it came to. Parts and their device are taken together, as they were and as they are; the rest is
+-- the device's, the receipts' and the lender's.
+pub record CameOfPlan {P D R : Type 0} (wrote : D → List ℕ → R → D → Type 0) (serves : D → R → Type 0) (releases failures : D → ℕ) (identity shown : R → List ℕ) (steady honest lends : Type 0) (is_open : P → Type 0) (keeps : P → P → Type 0) (stripes_of : P → ℕ) (part_of : P → ℕ → Option (Shard R)) (staged : List StagedPage) (question : Question) (before later : P × D) (result : Result Planned (Stop R)) : Type 0 where
+  -- one that was made is due, and there is room for it
+  pub planned : IfOk result (HasPlanned wrote (kept_by identity shown) (AreDue (honest × AreRight staged) question) (stripes_of before.0) (part_of before.0, before.1) (part_of later.0, later.1))
+  -- no mark has changed, nor what keys have
+  pub unmarked : IsUnmarked (shard_meaning steady) (stripes_of before.0) (part_of before.0) (part_of later.0) result
+  -- one that was not made says why
+  pub stopped : IfErr result (HasStopped wrote (kept_by identity shown) lends (honest × AreRight staged) question (stripes_of before.0) staged (part_of before.0, before.1) (part_of later.0, later.1))
+  -- the device serves what it served, and parts have beside their logs what they had
+  pub stands : StillStands (StillServes serves releases) (part_of before.0, before.1) (part_of later.0, later.1)
+  -- as many calls of the device failed as the result says
+  pub failed : HaveFailed result (failures before.1) (failures later.1)
+  -- what was held is held still
+  pub held : IsStillHeld is_open keeps before.0 later.0

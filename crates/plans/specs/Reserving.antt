@@ -1,5 +1,5 @@
 -- What making room for writes leaves, at one stripe and at all that are written.
-use Rattle.std.specs.Prelude.{ℕ, ◌≡◌, ◌≢◌, ◌-◌, ◌<◌, ◌≤◌, [], true, List, Option, Some}
+use Rattle.std.specs.Prelude.{ℕ, ◌≡◌, ◌≢◌, ◌+◌, ◌-◌, ◌<◌, ◌≤◌, [], true, List, Option, Some, Result, IfErr, OnErr, OnOk}
 use Rattle.epoch.specs.declared.view.View.{View}
 use Rattle.words.specs.History.{History}
 use Rattle.words.specs.declared.history.Operation.{Operation}
@@ -8,7 +8,9 @@ use Rattle.words.specs.Stripes.{stripe_of}
 use Rattle.gates.specs.Rule.{Meaning}
 use Rattle.gates.specs.declared.view.Refused.{Refused}
 use Rattle.hybrid.specs.HybridLog.{Kept}
+use Rattle.hybrid.specs.Reserving.{MatchFault}
 use Rattle.hybrid.specs.Staging.{AreRight, StagedPage}
+use Rattle.hybrid.specs.declared.stripe.room.Fault.{Fault}
 use Rattle.hybrid.specs.declared.stripe.room.Purpose.{Purpose}
 use Rattle.hybrid.specs.declared.stripe.room.Purpose.TheVariants as purpose
 use Rattle.transact.specs.Plans.{made}
@@ -45,6 +47,12 @@ module _ {R : Type 0} where
   pub record HasNoRoomAt (stripe weight : ℕ) (purpose : Purpose) (before later : ℕ → Option (Shard R)) (stop : Stop R) : Type 0 where
     pub lacks : LacksRoomAt stripe weight purpose (logs_of before) (logs_of later)
     pub why : MatchStop stop (λ receipts. ⊥) ⊥ (Unit {0}) (λ full. (full ≡ stripe) × (0 < weight) × IsFullAt (logs_of later) full)
+
+  -- Where no room was made at a stripe, it lacked it: a call of the device failed, which is counted, or the stripe is full.
+  pub record FailsToReserveAt {A : Type 0} (result : Result A Fault) (stripe weight : ℕ) (purpose : Purpose) (before later : ℕ → Option (Shard R)) (failed_before failed : ℕ) : Type 0 where
+    pub fault : IfErr result (λ fault. MatchFault fault (failed ≡ failed_before + 1) (IsFullAt (logs_of later) stripe × (failed ≡ failed_before)))
+    pub lacks : OnErr result (LacksRoomAt stripe weight purpose (logs_of before) (logs_of later))
+    pub no_fault : OnOk result (failed ≡ failed_before)
 
   -- there is room for a key that is given a value
   abbrev pub HasRoomToPut : (n : ℕ) (key value : Bytes) (before later : ℕ → Option (Shard R)) → Type 0

@@ -5,17 +5,15 @@ ghost use Rattle.std.specs.Prelude.{OnErr, length, unwrap_or, false, is_none, So
 ghost use Rattle.words.specs.declared.limits.TheConstants.{WEIGHT_MAX};
 ghost use Rattle.words.specs.Answers as answering;
 ghost use Rattle.words.specs.Stripes as striping;
-ghost use Rattle.hybrid.specs.Reserving.{MatchFault};
 ghost use Rattle.hybrid.specs.Staging.{AreRight, IsMissing};
 ghost use Rattle.hybrid.specs.Log.{Fits};
 ghost use Rattle.transact.specs.Tables.{stays};
 ghost use Rattle.shards.specs.Devices.{StillServes};
 ghost use Rattle.shards.specs.Receipts.{kept_by};
-ghost use Rattle.shards.specs.Rooms.{IsFullAt, LacksRoomAt};
 ghost use Rattle.shards.specs.Shards.{SameLogs, SameWaits, logs_of, shard_log, shard_store};
 ghost use Rattle.plans.specs.Finding.{FindsInPlaceAt, FindsInPlaceIn, JoinsWanted, LooksUpAt, LooksUpIn, WantsPage};
 ghost use Rattle.plans.specs.Planning.{IsStillHeld, MayLookUp, MissedAt};
-ghost use Rattle.plans.specs.Reserving.{GrowsBy, HasRoomAt, HasShedAt, IsRoomyFor, LeavesRoom, ReservesAt};
+ghost use Rattle.plans.specs.Reserving.{FailsToReserveAt, GrowsBy, HasRoomAt, HasShedAt, IsRoomyFor, LeavesRoom, ReservesAt};
 ghost use Rattle.plans.specs.Holding.{Becomes, BecomesWritten, BeginsWatches, EndsWatches, marks_of};
 
 use crate::stop::{Receipts, Stop};
@@ -186,10 +184,8 @@ pub(crate) fn reserve_at<R: Shows, D: Device<Receipt = R>, P: Parts<Shard<R>>>(
     ensures room { OnOk result (HasRoomAt stripe weight purpose (P.part_of parts.old) (P.part_of parts.new)) }
     ensures shed { D.failures device.new ≡ D.failures device.old → HasShedAt D.wrote (kept_by R.identity R.shown) stripe
         (P.part_of parts.old, device.old) (P.part_of parts.new, device.new) }
-    ensures refused { IfErr result (λ fault. MatchFault fault (D.failures device.new ≡ D.failures device.old + 1)
-        (IsFullAt (logs_of (P.part_of parts.new)) stripe × (D.failures device.new ≡ D.failures device.old))) }
-    ensures lacks { OnErr result (LacksRoomAt stripe weight purpose (logs_of (P.part_of parts.old)) (logs_of (P.part_of parts.new))) }
-    ensures no_fault { OnOk result (D.failures device.new ≡ D.failures device.old) }
+    ensures failed { FailsToReserveAt result stripe weight purpose (P.part_of parts.old) (P.part_of parts.new)
+        (D.failures device.old) (D.failures device.new) }
     ensures held { IsStillHeld P.is_open P.keeps parts.old parts.new }
 {
     parts.part(stripe).reserve(weight, purpose, device)

@@ -13,7 +13,7 @@ ghost use Rattle.plans.specs.declared.stop.Stop.TheVariants.{OutOfMemory};
 ghost use Rattle.shards.specs.Devices.{StillServes};
 ghost use Rattle.shards.specs.Receipts.{kept_by};
 ghost use Rattle.shards.specs.Shards.{SameLogs, SameWaits, shard_meaning};
-ghost use Rattle.plans.specs.Planning.{AreDue, AreSettled, FoundFull, HasAnswered, HasMissedIn, HasPlanned, HasStopped};
+ghost use Rattle.plans.specs.Planning.{AreDue, AreSettled, CameOfPlan, FoundFull, HasAnswered, HasMissedIn, HasPlanned, HasStopped};
 ghost use Rattle.plans.specs.Planning.{HaveFailed, IsPlanOfWatch, IsStillHeld, IsUnmarked, MatchStop, MayLookUp, MayPlan, StillStands};
 ghost use Rattle.plans.specs.Planning.{asks_call, asks_command, asks_commands, asks_copied, asks_exec, asks_get};
 ghost use Rattle.plans.specs.Finding.{ReadsNothing};
@@ -98,16 +98,9 @@ fn plan_one<R: Shows, D: Device<Receipt = R>, P: Parts<Shard<R>>>(
     requires may { MayLookUp (P.is_open parts.old) (P.stripes_of parts.old) (P.part_of parts.old) (keys_of command.now) }
     requires touches { touches_keys command.now ≡ true }
     requires sized { IsSized command.now }
-    ensures planned { IfOk result (HasPlanned D.wrote (kept_by R.identity R.shown)
-        (AreDue (R.is_honest × AreRight staged.now) (asks_command R.is_steady P.stripes_of P.part_of parts.old command.now))
-        (P.stripes_of parts.old) (P.part_of parts.old, device.old) (P.part_of parts.new, device.new)) }
-    ensures unmarked { IsUnmarked (shard_meaning R.is_steady) (P.stripes_of parts.old) (P.part_of parts.old) (P.part_of parts.new) result }
-    ensures stopped { IfErr result (HasStopped D.wrote (kept_by R.identity R.shown) R.lends (R.is_honest × AreRight staged.now)
-        (asks_command R.is_steady P.stripes_of P.part_of parts.old command.now)
-        (P.stripes_of parts.old) staged.now (P.part_of parts.old, device.old) (P.part_of parts.new, device.new)) }
-    ensures stands { StillStands (StillServes D.serves D.releases) (P.part_of parts.old, device.old) (P.part_of parts.new, device.new) }
-    ensures failed { HaveFailed result (D.failures device.old) (D.failures device.new) }
-    ensures held { IsStillHeld P.is_open P.keeps parts.old parts.new }
+    ensures { CameOfPlan D.wrote D.serves D.releases D.failures R.identity R.shown R.is_steady R.is_honest R.lends
+        P.is_open P.keeps P.stripes_of P.part_of staged.now (asks_command R.is_steady P.stripes_of P.part_of parts.old command.now)
+        (parts.old, device.old) (parts.new, device.new) result }
 {
     match command {
         Command::Get(key) => plan_get(alloc, parts, key, staged),
@@ -160,16 +153,9 @@ fn plan_key<R: Shows, D: Device<Receipt = R>, P: Parts<Shard<R>>>(
     requires may { MayLookUp (P.is_open parts.old) (P.stripes_of parts.old) (P.part_of parts.old) (keys_of command.now) }
     requires touches { touches_keys command.now ≡ true }
     requires sized { IsSized command.now }
-    ensures planned { IfOk result (HasPlanned D.wrote (kept_by R.identity R.shown)
-        (AreDue (R.is_honest × AreRight staged.now) (asks_copied R.is_steady P.stripes_of P.part_of parts.old command.now))
-        (P.stripes_of parts.old) (P.part_of parts.old, device.old) (P.part_of parts.new, device.new)) }
-    ensures unmarked { IsUnmarked (shard_meaning R.is_steady) (P.stripes_of parts.old) (P.part_of parts.old) (P.part_of parts.new) result }
-    ensures stopped { IfErr result (HasStopped D.wrote (kept_by R.identity R.shown) R.lends (R.is_honest × AreRight staged.now)
-        (asks_copied R.is_steady P.stripes_of P.part_of parts.old command.now)
-        (P.stripes_of parts.old) staged.now (P.part_of parts.old, device.old) (P.part_of parts.new, device.new)) }
-    ensures stands { StillStands (StillServes D.serves D.releases) (P.part_of parts.old, device.old) (P.part_of parts.new, device.new) }
-    ensures failed { HaveFailed result (D.failures device.old) (D.failures device.new) }
-    ensures held { IsStillHeld P.is_open P.keeps parts.old parts.new }
+    ensures { CameOfPlan D.wrote D.serves D.releases D.failures R.identity R.shown R.is_steady R.is_honest R.lends
+        P.is_open P.keeps P.stripes_of P.part_of staged.now (asks_copied R.is_steady P.stripes_of P.part_of parts.old command.now)
+        (parts.old, device.old) (parts.new, device.new) result }
 {
     depends_on_named_keys();
     writes_named_keys();
@@ -190,16 +176,9 @@ fn plan_copied<R: Shows, D: Device<Receipt = R>, P: Parts<Shard<R>>>(
     requires may { MayLookUp (P.is_open parts.old) (P.stripes_of parts.old) (P.part_of parts.old) (keys_of command.now) }
     requires touches { touches_keys command.now ≡ true }
     requires sized { IsSized command.now }
-    ensures planned { IfOk result (HasPlanned D.wrote (kept_by R.identity R.shown)
-        (AreDue (R.is_honest × AreRight staged.now) (asks_copied R.is_steady P.stripes_of P.part_of parts.old command.now))
-        (P.stripes_of parts.old) (P.part_of parts.old, device.old) (P.part_of parts.new, device.new)) }
-    ensures unmarked { IsUnmarked (shard_meaning R.is_steady) (P.stripes_of parts.old) (P.part_of parts.old) (P.part_of parts.new) result }
-    ensures stopped { IfErr result (HasStopped D.wrote (kept_by R.identity R.shown) R.lends (R.is_honest × AreRight staged.now)
-        (asks_copied R.is_steady P.stripes_of P.part_of parts.old command.now)
-        (P.stripes_of parts.old) staged.now (P.part_of parts.old, device.old) (P.part_of parts.new, device.new)) }
-    ensures stands { StillStands (StillServes D.serves D.releases) (P.part_of parts.old, device.old) (P.part_of parts.new, device.new) }
-    ensures failed { HaveFailed result (D.failures device.old) (D.failures device.new) }
-    ensures held { IsStillHeld P.is_open P.keeps parts.old parts.new }
+    ensures { CameOfPlan D.wrote D.serves D.releases D.failures R.identity R.shown R.is_steady R.is_honest R.lends
+        P.is_open P.keeps P.stripes_of P.part_of staged.now (asks_copied R.is_steady P.stripes_of P.part_of parts.old command.now)
+        (parts.old, device.old) (parts.new, device.new) result }
 {
     depends_on_named_keys();
     writes_named_keys();
@@ -232,16 +211,9 @@ fn plan_values<R: Shows, D: Device<Receipt = R>, P: Parts<Shard<R>>>(
     requires may { MayLookUp (P.is_open parts.old) (P.stripes_of parts.old) (P.part_of parts.old) (keys_of command.now) }
     requires touches { touches_keys command.now ≡ true }
     requires sized { IsSized command.now }
-    ensures planned { IfOk result (HasPlanned D.wrote (kept_by R.identity R.shown)
-        (AreDue (R.is_honest × AreRight staged.now) (asks_copied R.is_steady P.stripes_of P.part_of parts.old command.now))
-        (P.stripes_of parts.old) (P.part_of parts.old, device.old) (P.part_of parts.new, device.new)) }
-    ensures unmarked { IsUnmarked (shard_meaning R.is_steady) (P.stripes_of parts.old) (P.part_of parts.old) (P.part_of parts.new) result }
-    ensures stopped { IfErr result (HasStopped D.wrote (kept_by R.identity R.shown) R.lends (R.is_honest × AreRight staged.now)
-        (asks_copied R.is_steady P.stripes_of P.part_of parts.old command.now)
-        (P.stripes_of parts.old) staged.now (P.part_of parts.old, device.old) (P.part_of parts.new, device.new)) }
-    ensures stands { StillStands (StillServes D.serves D.releases) (P.part_of parts.old, device.old) (P.part_of parts.new, device.new) }
-    ensures failed { HaveFailed result (D.failures device.old) (D.failures device.new) }
-    ensures held { IsStillHeld P.is_open P.keeps parts.old parts.new }
+    ensures { CameOfPlan D.wrote D.serves D.releases D.failures R.identity R.shown R.is_steady R.is_honest R.lends
+        P.is_open P.keeps P.stripes_of P.part_of staged.now (asks_copied R.is_steady P.stripes_of P.part_of parts.old command.now)
+        (parts.old, device.old) (parts.new, device.new) result }
 {
     let mut items = Vec::new(alloc);
     if add_values(alloc, parts, keys, staged, &mut items) {
@@ -264,16 +236,9 @@ fn plan_unread<R: Shows, D: Device<Receipt = R>, P: Parts<Shard<R>>>(
     requires may { MayLookUp (P.is_open parts.old) (P.stripes_of parts.old) (P.part_of parts.old) (keys_of command.now) }
     requires touches { touches_keys command.now ≡ true }
     requires sized { IsSized command.now }
-    ensures planned { IfOk result (HasPlanned D.wrote (kept_by R.identity R.shown)
-        (AreDue (R.is_honest × AreRight staged.now) (asks_copied R.is_steady P.stripes_of P.part_of parts.old command.now))
-        (P.stripes_of parts.old) (P.part_of parts.old, device.old) (P.part_of parts.new, device.new)) }
-    ensures unmarked { IsUnmarked (shard_meaning R.is_steady) (P.stripes_of parts.old) (P.part_of parts.old) (P.part_of parts.new) result }
-    ensures stopped { IfErr result (HasStopped D.wrote (kept_by R.identity R.shown) R.lends (R.is_honest × AreRight staged.now)
-        (asks_copied R.is_steady P.stripes_of P.part_of parts.old command.now)
-        (P.stripes_of parts.old) staged.now (P.part_of parts.old, device.old) (P.part_of parts.new, device.new)) }
-    ensures stands { StillStands (StillServes D.serves D.releases) (P.part_of parts.old, device.old) (P.part_of parts.new, device.new) }
-    ensures failed { HaveFailed result (D.failures device.old) (D.failures device.new) }
-    ensures held { IsStillHeld P.is_open P.keeps parts.old parts.new }
+    ensures { CameOfPlan D.wrote D.serves D.releases D.failures R.identity R.shown R.is_steady R.is_honest R.lends
+        P.is_open P.keeps P.stripes_of P.part_of staged.now (asks_copied R.is_steady P.stripes_of P.part_of parts.old command.now)
+        (parts.old, device.old) (parts.new, device.new) result }
 {
     writes_named_keys();
     let Ok((reply, writes)) = answer_unread(alloc, command) else {
@@ -292,16 +257,9 @@ fn plan_all<R: Shows, D: Device<Receipt = R>, P: Parts<Shard<R>>>(
 ) -> Result<Planned, Stop<R>>
     requires may { MayLookUp (P.is_open parts.old) (P.stripes_of parts.old) (P.part_of parts.old) (keys_of_all commands.now) }
     requires sized { AreSized commands.now }
-    ensures planned { IfOk result (HasPlanned D.wrote (kept_by R.identity R.shown)
-        (AreDue (R.is_honest × AreRight staged.now) (asks_commands R.is_steady P.stripes_of P.part_of parts.old commands.now))
-        (P.stripes_of parts.old) (P.part_of parts.old, device.old) (P.part_of parts.new, device.new)) }
-    ensures unmarked { IsUnmarked (shard_meaning R.is_steady) (P.stripes_of parts.old) (P.part_of parts.old) (P.part_of parts.new) result }
-    ensures stopped { IfErr result (HasStopped D.wrote (kept_by R.identity R.shown) R.lends (R.is_honest × AreRight staged.now)
-        (asks_commands R.is_steady P.stripes_of P.part_of parts.old commands.now)
-        (P.stripes_of parts.old) staged.now (P.part_of parts.old, device.old) (P.part_of parts.new, device.new)) }
-    ensures stands { StillStands (StillServes D.serves D.releases) (P.part_of parts.old, device.old) (P.part_of parts.new, device.new) }
-    ensures failed { HaveFailed result (D.failures device.old) (D.failures device.new) }
-    ensures held { IsStillHeld P.is_open P.keeps parts.old parts.new }
+    ensures { CameOfPlan D.wrote D.serves D.releases D.failures R.identity R.shown R.is_steady R.is_honest R.lends
+        P.is_open P.keeps P.stripes_of P.part_of staged.now (asks_commands R.is_steady P.stripes_of P.part_of parts.old commands.now)
+        (parts.old, device.old) (parts.new, device.new) result }
 {
     depends_on_named_keys();
     writes_named_keys();
@@ -333,17 +291,10 @@ fn plan_exec<R: Shows, D: Device<Receipt = R>, P: Parts<Shard<R>>>(
     requires may { MayLookUp (P.is_open parts.old) (P.stripes_of parts.old) (P.part_of parts.old) (keys_of_all commands.now) }
     requires sized { AreSized commands.now }
     requires watching { AreThere (P.stripes_of parts.old) (P.part_of parts.old) watching.now }
-    ensures planned { IfOk result (HasPlanned D.wrote (kept_by R.identity R.shown)
-        (AreDue (R.is_honest × AreRight staged.now)
-        (asks_exec R.is_steady P.stripes_of P.holder_of P.part_of parts.old watching.now commands.now))
-        (P.stripes_of parts.old) (P.part_of parts.old, device.old) (P.part_of parts.new, device.new)) }
-    ensures unmarked { IsUnmarked (shard_meaning R.is_steady) (P.stripes_of parts.old) (P.part_of parts.old) (P.part_of parts.new) result }
-    ensures stopped { IfErr result (HasStopped D.wrote (kept_by R.identity R.shown) R.lends (R.is_honest × AreRight staged.now)
+    ensures { CameOfPlan D.wrote D.serves D.releases D.failures R.identity R.shown R.is_steady R.is_honest R.lends
+        P.is_open P.keeps P.stripes_of P.part_of staged.now
         (asks_exec R.is_steady P.stripes_of P.holder_of P.part_of parts.old watching.now commands.now)
-        (P.stripes_of parts.old) staged.now (P.part_of parts.old, device.old) (P.part_of parts.new, device.new)) }
-    ensures stands { StillStands (StillServes D.serves D.releases) (P.part_of parts.old, device.old) (P.part_of parts.new, device.new) }
-    ensures failed { HaveFailed result (D.failures device.old) (D.failures device.new) }
-    ensures held { IsStillHeld P.is_open P.keeps parts.old parts.new }
+        (parts.old, device.old) (parts.new, device.new) result }
 {
     if any_marked(parts, watching) {
         return Ok(answered(alloc, Reply::NullArray));

@@ -1,4 +1,4 @@
-use Rattle.std.proofs.Common.{ℕ, ap}
+use Rattle.std.proofs.Common.{rules, ℕ, ap}
 use Rattle.shards.specs.Shards.{shard_log}
 use Rattle.plans.proofs.Few.{err_then, few_at, lacks_at, left_at, ok_two}
 use Rattle.plans.proofs.Logs.{log_at, logs_as}
@@ -41,13 +41,17 @@ returns-clause-reserved g c =
       };
     }
 
-pub returns-clause-lacks : goal.returns-clause-lacks
-returns-clause-lacks g c =
+pub returns-clause-failed : goal.returns-clause-failed
+returns-clause-failed g c =
     let i : ℕ = c.args.stripe in
     let new = c.reserve.new.self in
     let before = g.P.Parts.part_of c.args.parts.now in
     let later = g.P.Parts.part_of (g.P.Parts.with_part c.args.parts.now i new) in
-    err_then c.reserve.result (λ lacks. lacks_at c.args.weight c.args.purpose i before later c.part.result.now new c.part.ensures.value (c.part.ensures.written new) lacks) c.reserve.ensures.lacks
+    record {
+      fault = search rules;
+      lacks = err_then c.reserve.result (λ lacks. lacks_at c.args.weight c.args.purpose i before later c.part.result.now new c.part.ensures.value (c.part.ensures.written new) lacks) c.reserve.ensures.lacks;
+      no_fault = c.reserve.ensures.failed.no_fault;
+    }
 
 pub returns-clause-room : goal.returns-clause-room
 returns-clause-room g c =

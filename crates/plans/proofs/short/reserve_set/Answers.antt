@@ -16,9 +16,10 @@ pub returns-in-Ok-clause-room : goal.returns-in-Ok-clause-room
 returns-in-Ok-clause-room g c = room_as _ _ _ _ c.stripe_at-stripe.ensures (omega (arith, c.len.ensures, c.len-2.ensures, ap length c.key.ensures)) purpose.Write _ _ c.in-Ok.ensures.room
 
 pub returns-in-Err-DeviceFault-clause-stopped : goal.returns-in-Err-DeviceFault-clause-stopped
-returns-in-Err-DeviceFault-clause-stopped g c = no_room_as _ _ _ _ c.stripe_at-stripe.ensures (omega (arith, c.len.ensures, c.len-2.ensures, ap length c.key.ensures)) purpose.Write _ _ _ (record { lacks = c.in-Err-DeviceFault.ensures.lacks; why = tt })
+returns-in-Err-DeviceFault-clause-stopped g c = no_room_as _ _ _ _ c.stripe_at-stripe.ensures (omega (arith, c.len.ensures, c.len-2.ensures, ap length c.key.ensures)) purpose.Write _ _ _ (record { lacks = c.in-Err-DeviceFault.ensures.failed.lacks; why = tt })
 
 pub returns-in-Err-StoreFull-clause-stopped : goal.returns-in-Err-StoreFull-clause-stopped
 returns-in-Err-StoreFull-clause-stopped g c =
-    let full = rw c.in-Err-StoreFull.field-0-is at c.in-Err-StoreFull.ensures.refused in
-    no_room_as _ _ _ _ c.stripe_at-stripe.ensures (omega (arith, c.len.ensures, c.len-2.ensures, ap length c.key.ensures)) purpose.Write _ _ _ (record { lacks = c.in-Err-StoreFull.ensures.lacks; why = (refl, omega arith, full.0) })
+    let failed = c.in-Err-StoreFull.ensures.failed in
+    let full = rw c.in-Err-StoreFull.field-0-is at failed.fault in
+    no_room_as _ _ _ _ c.stripe_at-stripe.ensures (omega (arith, c.len.ensures, c.len-2.ensures, ap length c.key.ensures)) purpose.Write _ _ _ (record { lacks = failed.lacks; why = (refl, omega arith, full.0) })
