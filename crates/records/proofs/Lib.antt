@@ -9,4 +9,5 @@ pub mod Laid
 pub mod After
 pub mod Lent
 pub mod There
+pub mod Piece
 pub mod SizeRows

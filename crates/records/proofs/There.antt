@@ -1,6 +1,6 @@
 -- A record that is listed among the records of a page that is laid out: what stands at its offset, and the page after
 -- it takes another value.
-use Rattle.std.proofs.Common.{◌≡◌, ℕ, ◌+◌, ◌-◌, ◌%◌, ◌≤◌, List, [], ◌∷◌, ◌++◌, length, map, take, drop, slice_index, Option, None, Some, refl, sym, ap, ◌∙◌, arith, subst, inl, inr, length-take, length-drop}
+use Rattle.std.proofs.Common.{◌≡◌, ℕ, ◌+◌, ◌-◌, ◌%◌, ◌≤◌, List, [], ◌∷◌, ◌++◌, length, map, take, drop, slice_index, Option, None, Some, Result, Ok, Err, IsOk, IsOkAnd, IfOk, MatchResult, ◌↔◌, refl, sym, ap, ◌∙◌, arith, subst, inl, inr, length-take, length-drop}
 use Rattle.std.specs.List.{AllByRecursion, Contains}
 use Rattle.std.proofs.lemmas.List.{take_at}
 use borrow.Rule.Slice.PartMut.{put_mid}
@@ -8,7 +8,9 @@ use Rattle.records.specs.declared.pages.TheConstants.{PAGE_SIZE, HEADER_SIZE}
 use Rattle.records.specs.declared.entries.TheConstants.{RECORD_HEADER, HASH_AT, KEY_LENGTH_AT, VALUE_LENGTH_AT, CAPACITY_AT, KIND_AT, RECORD_FORM_AT, RECORD_FORM}
 use Rattle.records.specs.Fields.{u16_at, u32_at, u64_at}
 use Rattle.records.specs.Page.{number_of, used_end}
-use Rattle.records.specs.Records.{Stored, IsStored, IsKindFor, value_of_kind, value_bytes, kind_of, size_of, spelling, end_from, placed, IsPage, fields_at, records_of, IsLaidOut, with_value, HasRoomAt, IsRecordAt}
+use Rattle.records.specs.Read.{shown}
+use Rattle.records.specs.declared.entries.Record.{Record}
+use Rattle.records.specs.Records.{Stored, IsStored, IsKindFor, value_of_kind, value_bytes, kind_of, size_of, spelling, end_from, placed, IsPage, fields_at, records_of, IsLaidOut, with_value, HasRoomAt, IsRecordAt, IsRecordBefore}
 use Rattle.records.proofs.Spelling.{length-spelling, key_length_at, value_length_at, capacity_at, kind_at, form_at, fields_at-is}
 use Rattle.records.proofs.Lists.{end_from-le, end_from-append, Split, split_at, with_value-placed, each-left}
 use Rattle.records.proofs.Laid.{page-number, page-end, page-records, page-laid_out, page-length, listed-ok, listed-within, listed-here, listed_back, overwritten-page}
@@ -105,7 +107,7 @@ module _ (page : List ℕ) (offset : ℕ) (r : Stored) (was : IsLaidOut page) (t
       (between-HasChanged (number_of page) s.before r s.after page is value fits)
 
 -- such a record may be read
-kind-is-for : (value : Option (List ℕ)) (kind n : ℕ) → kind ≡ kind_of value → n ≡ length (value_bytes value) → IsKindFor kind n
+pub kind-is-for : (value : Option (List ℕ)) (kind n : ℕ) → kind ≡ kind_of value → n ≡ length (value_bytes value) → IsKindFor kind n
 kind-is-for None kind n e l = (inr e, λ two. l)
 kind-is-for (Some bytes) kind n e l = (inl e, λ two. absurd (omega (arith, e, two)))
 
@@ -127,15 +129,23 @@ IsThere-IsRecordAt page offset r t =
       within = omega (arith, sizes, t.within);
     }
 
--- no record is listed where none may be read
-pub unlisted : (page : List ℕ) (offset : ℕ) → (IsRecordAt page offset → ⊥) → IsLaidOut page → (r : Stored) → Contains (records_of page) (offset, r) → ⊥
-unlisted page offset none was r there = none (IsThere-IsRecordAt page offset r (listed-IsThere page offset r was there))
+-- what `record_at` answers, by what `record_before` does
+module _ {E : Type 0} (page : List ℕ) (offset : ℕ) where
+  pub answer-end : (end : ℕ) (read : Result Record E) → end ≡ used_end page → IsOk read ↔ IsRecordBefore end page offset → IsOk read ↔ IsRecordAt page offset
+  answer-end end read is exact = subst (λ (n : ℕ). IsOk read ↔ IsRecordBefore n page offset) is exact
 
--- what is read there is what is listed
-pub read-listed : (page : List ℕ) (offset : ℕ) (read : Stored) → read ≡ fields_at page offset → IsLaidOut page → (r : Stored) → Contains (records_of page) (offset, r) → read ≡ r
-read-listed page offset read e was r there = let is : IsThere page offset r = listed-IsThere page offset r was there in e ∙ is.fields
+  pub answer-exact : (read : Result Record E) → IsOk read ↔ IsRecordAt page offset → IfOk read (λ r. shown r ≡ fields_at page offset)
+      → MatchResult read (λ r. IsRecordAt page offset × (shown r ≡ fields_at page offset)) (λ _. ¬ IsRecordAt page offset)
+  answer-exact (Ok r) exact fields = (exact.0 refl, fields)
+  answer-exact (Err e) exact fields = λ at. let none : IsOk {T = Record} {E = E} (Err e) = exact.1 at in cc
 
--- what `record_at` reads
+  pub answer-found : (read : Result Record E) → IsOk read ↔ IsRecordAt page offset → IfOk read (λ r. shown r ≡ fields_at page offset)
+      → IsLaidOut page → (r : Stored) → Contains (records_of page) (offset, r) → IsOkAnd read (λ x. shown x ≡ r)
+  answer-found (Ok x) exact fields was r there = let is : IsThere page offset r = listed-IsThere page offset r was there in fields ∙ is.fields
+  answer-found (Err e) exact fields was r there =
+      let none : IsOk {T = Record} {E = E} (Err e) = exact.1 (IsThere-IsRecordAt page offset r (listed-IsThere page offset r was there)) in cc
+
+-- what `record_before` reads
 pub read-fields : (page bytes key : List ℕ) (offset link hash k n capacity kind : ℕ) (value : Option (List ℕ))
     → bytes ≡ page → link ≡ u64_at bytes offset → hash ≡ u64_at bytes (offset + HASH_AT)
     → k ≡ u16_at bytes (offset + KEY_LENGTH_AT) → n ≡ u32_at bytes (offset + VALUE_LENGTH_AT) → capacity ≡ u32_at bytes (offset + CAPACITY_AT) → kind ≡ slice_index bytes (offset + KIND_AT)
@@ -148,7 +158,7 @@ read-fields page bytes key offset link hash k n capacity kind value is_page is_l
     let value_cut : offset + RECORD_HEADER + k + n - (offset + RECORD_HEADER + k) ≡ n = omega arith in
     rw (is_key, is_value, key_cut, value_cut, is_link, is_hash, is_capacity, is_kind, is_k, is_n, is_page) refl
 
--- the part of the page that holds the value which `record_at` reads
+-- the part of the page that holds the value which `record_before` reads
 module _ (page bytes : List ℕ) (offset k n : ℕ) (is_page : bytes ≡ page) (is_size : length bytes ≡ PAGE_SIZE) (within : offset + RECORD_HEADER + k + n ≤ PAGE_SIZE) (is_n : n ≡ u32_at bytes (offset + VALUE_LENGTH_AT)) where
   value-length : length (take (offset + RECORD_HEADER + k + n - (offset + RECORD_HEADER + k)) (drop (offset + RECORD_HEADER + k) bytes)) ≡ u32_at page (offset + VALUE_LENGTH_AT)
   value-length =
@@ -167,12 +177,12 @@ module _ (page bytes : List ℕ) (offset k n : ℕ) (is_page : bytes ≡ page) (
       let Q : ℕ → Type 0 = λ m. IsKindFor (slice_index bytes (offset + KIND_AT)) m in
       subst P same_kind (subst Q value-length h)
 
-  pub kind-in_part : IsRecordAt page offset
+  pub kind-in_part : IsKindFor (slice_index page (offset + KIND_AT)) (u32_at page (offset + VALUE_LENGTH_AT))
       → IsKindFor (slice_index bytes (offset + KIND_AT)) (length (take (offset + RECORD_HEADER + k + n - (offset + RECORD_HEADER + k)) (drop (offset + RECORD_HEADER + k) bytes)))
-  kind-in_part at =
+  kind-in_part h =
       let P : ℕ → Type 0 = λ kind. IsKindFor kind (u32_at page (offset + VALUE_LENGTH_AT)) in
       let Q : ℕ → Type 0 = λ m. IsKindFor (slice_index bytes (offset + KIND_AT)) m in
-      subst Q (sym value-length) (subst P (sym same_kind) at.kind)
+      subst Q (sym value-length) (subst P (sym same_kind) h)
 
 -- what `overwrite` reads of the record
 pub read-key_length : (page bytes : List ℕ) (offset k : ℕ) (r : Stored) → IsThere page offset r → bytes ≡ page → k ≡ u16_at bytes (offset + KEY_LENGTH_AT) → k ≡ length r.key

@@ -8,7 +8,7 @@ use Rattle.std.specs.List.{All, AllByRecursion, AllPairs, Contains, flat_map}
 use Rattle.records.specs.declared.pages.TheConstants.{PAGE_SIZE, HEADER_SIZE}
 use Rattle.records.specs.declared.entries.TheConstants.{RECORD_HEADER, KEY_BYTES_MAX, HASH_AT, KEY_LENGTH_AT, VALUE_LENGTH_AT, CAPACITY_AT, KIND_AT, RECORD_FORM_AT, LENGTH_BITS, RECORD_FORM, VALUE, TOMBSTONE}
 use Rattle.records.specs.Fields.{u16_bytes, u32_bytes, u64_bytes, u16_at, u32_at, u64_at}
-use Rattle.records.specs.Page.{header, number_of, used_end}
+use Rattle.records.specs.Page.{header, number_of, used_end, SameWithin}
 
 -- what a record says. The link is the address of the next older record of its bucket, or 0; a record with no value is
 -- a tombstone; a value of at most `capacity` bytes fits in place
@@ -140,15 +140,27 @@ pub record HasRoomAt (records : List (ℕ × Stored)) (offset n : ℕ) : Type 0 
 abbrev pub with_value : ℕ → Option (List ℕ) → ℕ × Stored → ℕ × Stored
 with_value offset value entry = if entry.0 == offset then (entry.0, record entry.1 { value = value }) else entry
 
--- a record may be read at this offset, whatever the bytes of the page are
-pub record IsRecordAt (page : List ℕ) (offset : ℕ) : Type 0 where
-  pub ends_in_page : used_end page ≤ PAGE_SIZE
+-- a record that ends by this end may be read at this offset, whatever the bytes of the page are
+pub record IsRecordBefore (end : ℕ) (page : List ℕ) (offset : ℕ) : Type 0 where
+  pub ends_in_page : end ≤ PAGE_SIZE
   pub past_header : HEADER_SIZE ≤ offset
-  pub used : offset < used_end page
+  pub used : offset < end
   pub aligned : offset % 8 ≡ 0
   pub form : slice_index page (offset + RECORD_FORM_AT) ≡ RECORD_FORM
   pub kind : IsKindFor (slice_index page (offset + KIND_AT)) (u32_at page (offset + VALUE_LENGTH_AT))
   pub key_length : u16_at page (offset + KEY_LENGTH_AT) ≤ KEY_BYTES_MAX
   pub value_length : u32_at page (offset + VALUE_LENGTH_AT) ≤ u32_at page (offset + CAPACITY_AT)
   pub size : (RECORD_HEADER + u16_at page (offset + KEY_LENGTH_AT) + u32_at page (offset + CAPACITY_AT)) % 8 ≡ 0
-  pub within : offset + (RECORD_HEADER + u16_at page (offset + KEY_LENGTH_AT) + u32_at page (offset + CAPACITY_AT)) ≤ used_end page
+  pub within : offset + (RECORD_HEADER + u16_at page (offset + KEY_LENGTH_AT) + u32_at page (offset + CAPACITY_AT)) ≤ end
+
+-- a record may be read at this offset of the page's used part, whatever the bytes of the page are
+abbrev pub IsRecordAt : (page : List ℕ) (offset : ℕ) → Type 0
+IsRecordAt page offset = IsRecordBefore (used_end page) page offset
+
+-- the page has the bytes from this offset up to this end of a whole page, which is laid out and has this record at the offset
+pub record HasPiece (offset end : ℕ) (page : List ℕ) (r : Stored) : Type 0 where
+  pub whole : List ℕ
+  pub laid_out : IsLaidOut whole
+  pub listed : Contains (records_of whole) (offset, r)
+  pub same : SameWithin offset end page whole
+  pub in_page : end ≤ PAGE_SIZE

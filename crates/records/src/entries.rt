@@ -1,11 +1,11 @@
 // The records of a page.
 
-ghost use Rattle.std.specs.Prelude.{◌≡◌, ◌<◌, ◌≤◌, ◌↔◌, ℕ, ◌+◌, ◌-◌, ◌*◌, ◌/◌, ◌%◌, ◌^◌, List, [], ◌∷◌, ◌++◌, length, drop, map, replicate, Option, IsTrue, IsErr, IfOk, IsOkAnd, OnOk, OnErr, MatchResult, Contains};
+ghost use Rattle.std.specs.Prelude.{◌≡◌, ◌<◌, ◌≤◌, ◌↔◌, ℕ, ◌+◌, ◌-◌, ◌*◌, ◌/◌, ◌%◌, ◌^◌, List, [], ◌∷◌, ◌++◌, length, drop, map, replicate, Option, IsTrue, IsOk, IsErr, IfOk, IsOkAnd, OnOk, OnErr, MatchResult, Contains};
 ghost use Rattle.std.specs.Option.{option_copied};
 ghost use Rattle.records.specs.Page.{number_of, used_end};
 ghost use Rattle.records.specs.Fields.{u16_bytes, u32_bytes, u64_bytes};
 ghost use Rattle.records.specs.Read.{shown};
-ghost use Rattle.records.specs.Records.{Stored, IsKindFor, value_of_kind, kind_of, size_of, size_for, new_record, value_bytes, filled, spelling, fields_at, records_of, IsLaidOut, HasRoomAt, IsRecordAt, with_value};
+ghost use Rattle.records.specs.Records.{Stored, IsKindFor, value_of_kind, kind_of, size_of, size_for, new_record, value_bytes, filled, spelling, fields_at, records_of, IsLaidOut, HasRoomAt, IsRecordAt, IsRecordBefore, HasPiece, with_value};
 
 use crate::fields;
 use crate::pages::{self, HEADER_SIZE, PAGE_SIZE, Page};
@@ -113,8 +113,24 @@ pub fn record_at(page: &Page, offset: usize) -> Result<Record<'_>, NotARecord>
     ensures exact { MatchResult result (λ r. IsRecordAt page.now offset × (shown r ≡ fields_at page.now offset)) (λ _. ¬ IsRecordAt page.now offset) }
     ensures found { IsLaidOut page.now → (r : Stored) → Contains (records_of page.now) (offset, r) → IsOkAnd result (λ x. shown x ≡ r) }
 {
+    record_before(page, page.used_end() as usize, offset)
+}
+
+/// The record at an offset of a page of which only the bytes from there up to `end` are known. All other bytes of the page may be
+/// any, those of its header too: none of them is read.
+///
+/// Refuses an `end` over `PAGE_SIZE`, an offset in the page's header, at or past `end` or no multiple of 8, a form or kind that is
+/// not known, a key length over 512, a value length over the capacity, a size that is no multiple of 8 or passes `end`, and a
+/// tombstone with a value length above 0. Of the records that this crate put into a page it so refuses those alone that pass
+/// `end`: more of that page is to be read.
+#[inline]
+pub fn record_before(page: &Page, end: usize, offset: usize) -> Result<Record<'_>, NotARecord>
+    ensures exact { IsOk result ↔ IsRecordBefore end page.now offset }
+    ensures fields { IfOk result (λ r. shown r ≡ fields_at page.now offset) }
+    ensures found { (r : Stored) → HasPiece offset end page.now r → offset + size_of r ≤ end → IsOkAnd result (λ x. shown x ≡ r) }
+    ensures refused { (r : Stored) → HasPiece offset end page.now r → end < offset + size_of r → IsErr result }
+{
     let bytes = page.bytes();
-    let end = page.used_end() as usize;
     if end > PAGE_SIZE || offset < HEADER_SIZE || offset % 8 != 0 {
         return Err(NotARecord);
     }

@@ -18,8 +18,11 @@ pub const PAGE_SIZE: usize = 65536;
 /// The bytes of a page's header.
 pub const HEADER_SIZE: usize = PAGE_FORM_AT + 4;
 
+/// The bytes of a page's number, which stands at the front of its header.
+pub const NUMBER_SIZE: usize = 8;
+
 // Where the end of the used part and the form stand in a page's header, after the number.
-pub(crate) const USED_END_AT: usize = 8;
+pub(crate) const USED_END_AT: usize = NUMBER_SIZE;
 
 pub(crate) const PAGE_FORM_AT: usize = USED_END_AT + 4;
 

@@ -27,5 +27,7 @@ mod passes;
 #[cfg(test)]
 mod paths;
 #[cfg(test)]
+mod pieces;
+#[cfg(test)]
 mod stays;
 pub mod visits;

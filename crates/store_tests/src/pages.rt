@@ -12,10 +12,10 @@ const EXAMPLE: [u8; 48] = [
 ];
 
 /// The FNV-1a hash of `a`.
-const HASH: u64 = 0xaf63_dc4c_8601_ec8c;
+pub(crate) const HASH: u64 = 0xaf63_dc4c_8601_ec8c;
 
 /// The example's bytes, then zeros, but for other bytes at some places.
-fn patched(alloc: Global, places: &[(usize, u8)]) -> Result<Page, AllocError> {
+pub(crate) fn patched(alloc: Global, places: &[(usize, u8)]) -> Result<Page, AllocError> {
     let mut page = Page::new(alloc, 0)?;
     let bytes = page.bytes_mut();
     for (place, byte) in EXAMPLE.iter().enumerate() {
@@ -36,10 +36,10 @@ fn is_patched(alloc: Global, page: &Page, places: &[(usize, u8)]) -> Result<bool
 }
 
 /// The example's places that are other ones where its record is a tombstone.
-const TOMBSTONE: [(usize, u8); 3] = [(34, 2), (36, 0), (45, 0)];
+pub(crate) const TOMBSTONE: [(usize, u8); 3] = [(34, 2), (36, 0), (45, 0)];
 
 /// Whether a record was put at this offset.
-fn is_put_at(put: Result<usize, NoRoom>, offset: usize) -> bool {
+pub(crate) fn is_put_at(put: Result<usize, NoRoom>, offset: usize) -> bool {
     put == Ok(offset)
 }
 

@@ -1,48 +1,14 @@
-use Rattle.std.proofs.Common.{◌+◌, ◌≤◌, rules, refl, arith}
-use Rattle.std.specs.Option.{option_copied}
-use Rattle.records.specs.declared.pages.TheConstants.{PAGE_SIZE}
-use Rattle.records.specs.declared.entries.TheConstants.{RECORD_HEADER}
-use Rattle.records.proofs.There.{unlisted, read-listed, read-fields, kind-in_page, kind-in_part}
-use Rattle.records.specs.Records.{IsRecordAt}
+use Rattle.records.proofs.There.{answer-end, answer-exact, answer-found}
 use Rattle.records.proofs.entries.record_at.Goals as goal
 
-pub returns-then-end-gt-PAGE_SIZE-clause-found : goal.returns-then-end-gt-PAGE_SIZE-clause-found
-returns-then-end-gt-PAGE_SIZE-clause-found c = unlisted c.args.page.now c.args.offset (search rules)
+pub returns-clause-exact : goal.returns-clause-exact
+returns-clause-exact c =
+    let read = c.record_before.result in
+    let exact = answer-end c.args.page.now c.args.offset c.used_end.result read c.used_end.ensures c.record_before.ensures.exact in
+    answer-exact c.args.page.now c.args.offset read exact c.record_before.ensures.fields
 
-pub returns-then-offset-end-clause-found : goal.returns-then-offset-end-clause-found
-returns-then-offset-end-clause-found c = unlisted c.args.page.now c.args.offset (search rules)
-
-pub returns-then-key_length-gt-KEY_BYTES_MAX-clause-found : goal.returns-then-key_length-gt-KEY_BYTES_MAX-clause-found
-returns-then-key_length-gt-KEY_BYTES_MAX-clause-found c = unlisted c.args.page.now c.args.offset (search rules)
-
-pub returns-then-bytes-offset-ne-RECORD_FORM-clause-found : goal.returns-then-bytes-offset-ne-RECORD_FORM-clause-found
-returns-then-bytes-offset-ne-RECORD_FORM-clause-found c = unlisted c.args.page.now c.args.offset (search rules)
-
-pub returns-in_err-value-clause-found : goal.returns-in_err-value-clause-found
-returns-in_err-value-clause-found c = λ was r there.
-    let within : c.args.offset + RECORD_HEADER + c.u16_at-key_length.result + c.u32_at-value_length.result ≤ PAGE_SIZE = omega arith in
-    absurd (unlisted c.args.page.now c.args.offset (λ at. c.in_err-value.ensures (kind-in_part c.args.page.now c.bytes-bytes.result.now c.args.offset c.u16_at-key_length.result c.u32_at-value_length.result c.bytes-bytes.ensures.bytes c.bytes-bytes.ensures.size within c.u32_at-value_length.ensures at)) was r there)
-
-pub returns : goal.returns
-returns c =
-    let read = read-fields c.args.page.now c.bytes-bytes.result.now _ c.args.offset c.u64_at.result c.u64_at-2.result c.u16_at-key_length.result c.u32_at-value_length.result c.u32_at-capacity.result _ (option_copied c.in_ok-value.value)
-    c.bytes-bytes.ensures.bytes c.u64_at.ensures.value c.u64_at-2.ensures.value c.u16_at-key_length.ensures c.u32_at-value_length.ensures c.u32_at-capacity.ensures refl
-    refl c.in_ok-value.ensures.1 in
-    let within : c.args.offset + RECORD_HEADER + c.u16_at-key_length.result + c.u32_at-value_length.result ≤ PAGE_SIZE = omega arith in
-    let kind = kind-in_page c.args.page.now c.bytes-bytes.result.now c.args.offset c.u16_at-key_length.result c.u32_at-value_length.result c.bytes-bytes.ensures.bytes c.bytes-bytes.ensures.size within c.u32_at-value_length.ensures c.in_ok-value.ensures.0 in
-    let at : IsRecordAt c.args.page.now c.args.offset = record {
-      ends_in_page = search rules;
-      past_header = search rules;
-      used = search rules;
-      aligned = search rules;
-      form = search rules;
-      kind = kind;
-      key_length = search rules;
-      value_length = search rules;
-      size = search rules;
-      within = search rules;
-    } in
-    record { exact = (at, read); found = read-listed c.args.page.now c.args.offset _ read }
-
-pub returns-in_err-value-clause-exact : goal.returns-in_err-value-clause-exact
-returns-in_err-value-clause-exact c = search rules
+pub returns-clause-found : goal.returns-clause-found
+returns-clause-found c =
+    let read = c.record_before.result in
+    let exact = answer-end c.args.page.now c.args.offset c.used_end.result read c.used_end.ensures c.record_before.ensures.exact in
+    answer-found c.args.page.now c.args.offset read exact c.record_before.ensures.fields
