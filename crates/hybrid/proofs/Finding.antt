@@ -6,7 +6,7 @@ use Rattle.frames.specs.Resident.{next_number}
 use Rattle.words.specs.Stripes.{hash_of}
 use Rattle.hybrid.specs.Log.{Log, begin_of, top}
 use Rattle.hybrid.specs.HybridLog.{HybridLog, Kept, IsHybridLog, bucket_of, log_of, page_at, shown_page, cold, receipt_at, receipt_of}
-use Rattle.hybrid.specs.Lookups.{Leads}
+use Rattle.hybrid.specs.Lookups.{IsLaidAt, Leads}
 use Rattle.std.proofs.lemmas.List.{get_or_append_left, get_or-take}
 use Rattle.records.specs.declared.pages.TheConstants.{PAGE_SIZE}
 use Rattle.hybrid.specs.Staging.{StagedPage, IsStaged, IsMissing}
@@ -23,9 +23,9 @@ use Rattle.std.proofs.Common.{false}
 use Rattle.std.proofs.lemmas.Bool.{le-ltb}
 
 -- what the loop keeps
-pub record IsFinding (honest right : Type 0) (p : HybridLog) (key : List ℕ) (Near : ℕ → Type 0) (address : ℕ) : Type 0 where
+pub record IsFinding (honest right : Type 0) (p : HybridLog) (key : List ℕ) (Near : ℕ × Stored → Type 0) (address : ℕ) : Type 0 where
   pub below : address < next_number p.resident * PAGE_SIZE
-  pub walk : honest → right → IsWalk (bucket_of p) (begin_of p.oldest) (log_of p) key (λ e. Near (e.0 / PAGE_SIZE)) address
+  pub walk : honest → right → IsWalk (bucket_of p) (begin_of p.oldest) (log_of p) key Near address
 
 pub record IsStart (p : HybridLog) (key : List ℕ) (Near : ℕ × Stored → Type 0) (address : ℕ) : Type 0 where
   pub is : IsHybridLog p
@@ -55,21 +55,15 @@ start-from v now key Near hash a same is hashed at =
     subst (λ (q : HybridLog). IsStart q key Near a) same (subst (λ (n : ℕ). IsStart v key Near n) (sym at_head) (start v key Near is))
 
 -- the record that the walk has come to stands in the page of its address
-pub record IsSeen (p : HybridLog) (key : List ℕ) (Near : ℕ × Stored → Type 0) (address : ℕ) (page : List ℕ) : Type 0 where
+pub record IsSeen (p : HybridLog) (key : List ℕ) (Near : ℕ × Stored → Type 0) (address : ℕ) : Type 0 where
   pub found : IsHere (bucket_of p) (begin_of p.oldest) (log_of p) key Near address
-  pub laid : IsLaidOut page
-  pub listed : Contains (records_of page) (address % PAGE_SIZE, found.stored)
+  pub at : IsLaidAt p address found.stored
 
-pub seen : (p : HybridLog) (key : List ℕ) (Near : ℕ × Stored → Type 0) (address number : ℕ) (page : List ℕ) → IsHybridLog p → begin_of p.oldest ≤ address → IsWalk (bucket_of p) (begin_of p.oldest) (log_of p) key Near address → number ≡ address / PAGE_SIZE → page ≡ page_at p number → IsSeen p key Near address page
-seen p key Near address number page is low walk at same =
+pub seen : (p : HybridLog) (key : List ℕ) (Near : ℕ × Stored → Type 0) (address : ℕ) → IsHybridLog p → begin_of p.oldest ≤ address → IsWalk (bucket_of p) (begin_of p.oldest) (log_of p) key Near address → IsSeen p key Near address
+seen p key Near address is low walk =
     let h = walk-here (bucket_of p) (begin_of p.oldest) (log_of p) key Near address low walk in
     let f = at-page p (address, h.stored) is h.listed in
-    let there : page_at p (address / PAGE_SIZE) ≡ page = sym (same ∙ ap (page_at p) at) in
-    record {
-      found = h;
-      laid = subst IsLaidOut there f.laid;
-      listed = subst (λ (q : List ℕ). Contains (records_of q) (address % PAGE_SIZE, h.stored)) there f.listed;
-    }
+    record { found = h; at = record { laid = f.laid; listed = f.listed } }
 
 -- it leads there
 pub leads-here : (p : HybridLog) (key : List ℕ) (Near : ℕ × Stored → Type 0) (address number : ℕ) → begin_of p.oldest ≤ address → IsWalk (bucket_of p) (begin_of p.oldest) (log_of p) key Near address → number ≡ address / PAGE_SIZE → Leads p key number
@@ -77,23 +71,12 @@ leads-here p key Near address number low walk at =
     let h = walk-here (bucket_of p) (begin_of p.oldest) (log_of p) key Near address low walk in
     record { entry = (address, h.stored); listed = here-visited (bucket_of p) (begin_of p.oldest) (log_of p) key Near address h; there = sym at }
 
--- no page before it is far
-pub far-here : (lends : Type 0) (p : HybridLog) (staged : List StagedPage) (key : List ℕ) (address number : ℕ) → begin_of p.oldest ≤ address
-    → IsWalk (bucket_of p) (begin_of p.oldest) (log_of p) key (λ e. IsNear lends p staged (e.0 / PAGE_SIZE)) address → number ≡ address / PAGE_SIZE → (IsNear lends p staged number → ⊥) → IsFirstFar lends p staged key number
-far-here lends p staged key address number low walk at far =
-    let h = walk-here (bucket_of p) (begin_of p.oldest) (log_of p) key (λ e. IsNear lends p staged (e.0 / PAGE_SIZE)) address low walk in
-    let n = here-next (bucket_of p) (begin_of p.oldest) (log_of p) key (λ e. IsNear lends p staged (e.0 / PAGE_SIZE)) address h in
+-- no record before it is far
+pub far-here : (lends : Type 0) (p : HybridLog) (staged : List StagedPage) (key : List ℕ) (address number : ℕ) → (here : IsHere (bucket_of p) (begin_of p.oldest) (log_of p) key (IsNear lends p staged) address)
+    → number ≡ address / PAGE_SIZE → (IsNear lends p staged (address, here.stored) → ⊥) → IsFirstFar lends p staged key number
+far-here lends p staged key address number h at far =
+    let n = here-next (bucket_of p) (begin_of p.oldest) (log_of p) key (IsNear lends p staged) address h in
     record { passed = h.passed; entry = (address, h.stored); more = n.more; way = n.way; near = h.near; there = sym at; far = far }
-
--- a page is far that is missing, where receipts lend none
-pub far-missing : (lends : Type 0) (p : HybridLog) (staged : List StagedPage) (number : ℕ) → IsMissing p staged number → (lends → ⊥) → IsNear lends p staged number → ⊥
-far-missing lends p staged number missing alone near = elim near [
-  | inl there ↦ missing.away there
-  | inr kept ↦ elim kept.2 [
-    | inl lent ↦ alone lent
-    | inr read ↦ missing.unread (subst (λ (k : Kept). IsStaged staged k.identity) (some_is kept.0 missing.kept (sym kept.1 ∙ missing.has)) read)
-  ]
-]
 
 -- ---- a page that is not resident
 

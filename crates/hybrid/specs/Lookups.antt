@@ -1,18 +1,18 @@
 -- What a lookup of a key gives (FASTER, "The FASTER hash index": a walk down the records of the key's bucket).
-use Rattle.std.specs.Prelude.{◌≡◌, ℕ, ◌/◌, ◌≤◌, List, Some}
+use Rattle.std.specs.Prelude.{◌≡◌, ℕ, ◌/◌, ◌%◌, ◌≤◌, List, Some}
 use Rattle.std.specs.List.{Contains}
 use Rattle.records.specs.declared.pages.TheConstants.{PAGE_SIZE}
-use Rattle.records.specs.Records.{Stored}
+use Rattle.records.specs.Records.{IsLaidOut, Stored, records_of}
 use Rattle.frames.specs.Resident.{first_mutable}
 use Rattle.hybrid.specs.declared.stripe.find.Lookup.{Lookup}
 use Rattle.hybrid.specs.declared.stripe.find.Lookup.TheVariants as answer
 use Rattle.hybrid.specs.Log.{newest, chain, begin_of}
-use Rattle.hybrid.specs.HybridLog.{HybridLog, log_of, bucket_of}
+use Rattle.hybrid.specs.HybridLog.{HybridLog, log_of, bucket_of, page_at}
 
 abbrev pub MatchLookup : Lookup → (List ℕ → Type 0) → Type 0 → (ℕ → Type 0) → Type 0
 MatchLookup (answer.Found value) P Q S = P value.now
 MatchLookup answer.Absent P Q S = Q
-MatchLookup (answer.Cold number) P Q S = S number
+MatchLookup (answer.Cold number offset) P Q S = S number
 
 -- the lookup of the key comes to a record in the page of this number
 pub record Leads (p : HybridLog) (key : List ℕ) (number : ℕ) : Type 0 where
@@ -38,3 +38,8 @@ pub record IsRoomy (p : HybridLog) (address size : ℕ) : Type 0 where
 pub record IsResidentAt (p : HybridLog) (address : ℕ) (r : Stored) : Type 0 where
   pub listed : Contains (log_of p) (address, r)
   pub resident : begin_of p.resident.oldest ≤ address
+
+-- the page of this address is laid out, and has this record there
+pub record IsLaidAt (p : HybridLog) (address : ℕ) (r : Stored) : Type 0 where
+  pub laid : IsLaidOut (page_at p (address / PAGE_SIZE))
+  pub listed : Contains (records_of (page_at p (address / PAGE_SIZE))) (address % PAGE_SIZE, r)

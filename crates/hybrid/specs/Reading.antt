@@ -1,5 +1,5 @@
--- Pages that are read outside until no lookup is cold, and why that ends.
-use Rattle.std.specs.Prelude.{◌≡◌, ℕ, ◌+◌, ◌<◌, ◌≤◌, ◌||◌, Bool, false, cond, List, [], ◌∷◌, ◌++◌, Option, Some, None}
+-- Pages that are read outside, whole or a piece of each, until no lookup is cold, and why that ends.
+use Rattle.std.specs.Prelude.{◌≡◌, ◌⊎◌, ℕ, ◌+◌, ◌<◌, ◌≤◌, ◌||◌, ◌&&◌, Bool, false, cond, is_none, List, [], ◌∷◌, ◌++◌, Option, Some, None}
 use Rattle.std.specs.Bool.{Decides}
 use Rattle.std.specs.Str.{bytes_eq}
 use Rattle.words.specs.declared.reply.Fault.{Fault}
@@ -7,18 +7,31 @@ use Rattle.words.specs.declared.reply.Fault.TheVariants as reply
 use Rattle.hybrid.specs.declared.staged.ReadFault.{ReadFault}
 use Rattle.hybrid.specs.declared.staged.ReadFault.TheVariants as fault
 use Rattle.hybrid.specs.HybridLog.{HybridLog, Kept}
-use Rattle.hybrid.specs.Staging.{StagedPage, IsStaged, IsMissing}
+use Rattle.hybrid.specs.Staging.{StagedPage, IsStaged, IsRead, IsMissing}
+use Rattle.hybrid.specs.declared.piece.Piece.{Piece}
 
--- each receipt with the page that was read by it; pages beyond are free
-abbrev pub staged_of : List Kept → List (List ℕ) → List StagedPage
+-- what a page was read by: a receipt, and the piece that was read, if it was not read whole
+pub record Source : Type 0 where
+  pub kept : Kept
+  pub piece : Option Piece
+
+-- each with the page that was read; pages beyond are free
+abbrev pub staged_of : List Source → List (List ℕ) → List StagedPage
 staged_of [] pages = []
-staged_of (kept ∷ more) [] = []
-staged_of (kept ∷ more) (page ∷ pages) = (record { kept = kept; page = page }) ∷ staged_of more pages
+staged_of (by ∷ more) [] = []
+staged_of (by ∷ more) (page ∷ pages) = (record { kept = by.kept; page = page; piece = by.piece }) ∷ staged_of more pages
 
--- a page was staged that was read by this receipt
+-- a page was staged that was read by this receipt, whole
 pub record HasStaged (kept : Kept) (old new : List StagedPage) : Type 0 where
   pub page : List ℕ
-  pub is : new ≡ old ++ (record { kept = kept; page = page }) ∷ []
+  pub is : new ≡ old ++ (record { kept = kept; page = page; piece = None }) ∷ []
+
+-- a page was staged that was read by this receipt, whole or, where none of its identity was staged, a piece of it
+pub record HasRead (kept : Kept) (old new : List StagedPage) : Type 0 where
+  pub page : List ℕ
+  pub piece : Option Piece
+  pub is : new ≡ old ++ (record { kept = kept; page = page; piece = piece }) ∷ []
+  pub more : (piece ≡ None) ⊎ (IsRead old kept.identity → ⊥)
 
 abbrev pub MatchReadFault : ReadFault → Type 0 → Type 0 → Type 0
 MatchReadFault fault.OutOfMemory P Q = P
@@ -30,22 +43,32 @@ fault_of fault.OutOfMemory = reply.OutOfMemory
 fault_of fault.DeviceFault = reply.DeviceFault
 
 -- whether a page is staged that was read by a receipt of this identity
+abbrev pub is_read : List StagedPage → List ℕ → Bool
+is_read [] identity = false
+is_read (s ∷ staged) identity = bytes_eq s.kept.identity identity || is_read staged identity
+
+-- whether one is staged whole
 abbrev pub is_staged : List StagedPage → List ℕ → Bool
 is_staged [] identity = false
-is_staged (s ∷ staged) identity = bytes_eq s.kept.identity identity || is_staged staged identity
+is_staged (s ∷ staged) identity = (bytes_eq s.kept.identity identity && is_none s.piece) || is_staged staged identity
 
--- how many of these receipts no page was read by
+-- how often the page of a receipt of this identity can still be read: no more once it was read whole, once if a piece of it was
+-- read, and twice if nothing was
+abbrev pub unread_at : List StagedPage → List ℕ → ℕ
+unread_at staged identity = cond (is_staged staged identity) 0 (cond (is_read staged identity) 1 2)
+
+-- how often the pages of these receipts can still be read
 abbrev pub unread_of : List (Option Kept) → List StagedPage → ℕ
 unread_of [] staged = 0
 unread_of (None ∷ kept) staged = unread_of kept staged
-unread_of (Some k ∷ kept) staged = cond (is_staged staged k.identity) 0 1 + unread_of kept staged
+unread_of (Some k ∷ kept) staged = unread_at staged k.identity + unread_of kept staged
 
--- how many pages of the log could still be read
+-- how often the pages of the log can still be read
 abbrev pub unread : HybridLog → List StagedPage → ℕ
 unread p staged = unread_of p.kept staged
 
--- Pages that are read make the unread ones no more, and the page that a cold lookup names makes them fewer.
+-- What is read makes the reads that are left no more, and a read of the page that a cold lookup names makes them fewer.
 pub record ReadingLaws : Type 0 where
   pub decides : (staged : List StagedPage) (identity : List ℕ) → Decides (is_staged staged identity) (IsStaged staged identity)
   pub no_more : (p : HybridLog) (staged more : List StagedPage) → unread p (staged ++ more) ≤ unread p staged
-  pub fewer : (p : HybridLog) (staged more : List StagedPage) (number : ℕ) → (missing : IsMissing p staged number) → IsStaged (staged ++ more) missing.kept.identity → unread p (staged ++ more) < unread p staged
+  pub fewer : (p : HybridLog) (staged later : List StagedPage) (number : ℕ) → (missing : IsMissing p staged number) → HasRead missing.kept staged later → unread p later < unread p staged

@@ -1,10 +1,12 @@
 -- Pages that were read outside, and the records that a cleaner copies.
-use Rattle.std.specs.Prelude.{◌≡◌, ℕ, ◌+◌, ◌-◌, ◌*◌, ◌/◌, List, [], ◌∷◌, Bool, true, false, Some, None, IsSome, slice_index_or, replicate, length, drop, ◌++◌, ◌<◌, ◌≤◌}
+use Rattle.std.specs.Prelude.{◌≡◌, ℕ, ◌+◌, ◌-◌, ◌*◌, ◌/◌, List, [], ◌∷◌, Bool, true, false, Option, Some, None, IsSome, MatchOption, slice_index_or, replicate, length, drop, ◌++◌, ◌<◌, ◌≤◌}
 use Rattle.std.specs.List.{All, Contains}
+use Rattle.records.specs.Page.{SameWithin}
 use Rattle.records.specs.Records.{Stored, records_of}
 use Rattle.frames.specs.Resident.{IsResident, next_number, first_mutable, page_of}
 use Rattle.hybrid.specs.Log.{Log, IsShort, newest}
 use Rattle.records.specs.declared.pages.TheConstants.{PAGE_SIZE, HEADER_SIZE}
+use Rattle.hybrid.specs.declared.piece.Piece.{Piece}
 use Rattle.hybrid.specs.declared.stripe.TheConstants.{CLOSED_MIN}
 use Rattle.hybrid.specs.declared.stripe.clean.Cleaned.{Cleaned}
 use Rattle.hybrid.specs.declared.stripe.clean.Cleaned.TheVariants as answer
@@ -14,19 +16,45 @@ use Rattle.hybrid.specs.Lookups.{Leads}
 use Rattle.hybrid.specs.Writing.{IsAdded}
 use Rattle.hybrid.specs.Weighing.{lives}
 
--- a page, and the receipt that it was read by
+-- a page, the receipt that it was read by, and the piece of it that was read, if it was not read whole
 pub record StagedPage : Type 0 where
   pub kept : Kept
   pub page : List ℕ
+  pub piece : Option Piece
 
--- each page is the one that its receipt shows
+-- what was read of it is what its receipt shows
+abbrev pub IsRight : StagedPage → Type 0
+IsRight s = MatchOption s.piece (s.page ≡ s.kept.shown) (λ piece. SameWithin piece.from piece.to s.page s.kept.shown)
+
+-- of each page
 abbrev pub AreRight : List StagedPage → Type 0
-AreRight staged = All (λ (s : StagedPage). s.page ≡ s.kept.shown) staged
+AreRight staged = All IsRight staged
 
-abbrev pub IsStaged : List StagedPage → List ℕ → Type 0
-IsStaged staged identity = (s : StagedPage) × Contains staged s × (s.kept.identity ≡ identity)
+-- a page is staged whole that was read by a receipt of this identity
+pub record IsStaged (staged : List StagedPage) (identity : List ℕ) : Type 0 where
+  pub one : StagedPage
+  pub there : Contains staged one
+  pub same : one.kept.identity ≡ identity
+  pub whole : one.piece ≡ None
 
--- a page of the log that is neither resident nor staged
+-- a page is staged that was read by one, whole or a piece of it
+pub record IsRead (staged : List StagedPage) (identity : List ℕ) : Type 0 where
+  pub one : StagedPage
+  pub there : Contains staged one
+  pub same : one.kept.identity ≡ identity
+
+-- so many bytes from this place on were read of it
+abbrev pub HasBytes : StagedPage → (from size : ℕ) → Type 0
+HasBytes s from size = MatchOption s.piece (Unit {0}) (λ piece. (piece.from ≤ from) × (from + size ≤ piece.to))
+
+-- a page is staged that was read by a receipt of this identity, and has these bytes
+pub record AreBytesRead (staged : List StagedPage) (identity : List ℕ) (from size : ℕ) : Type 0 where
+  pub one : StagedPage
+  pub there : Contains staged one
+  pub same : one.kept.identity ≡ identity
+  pub has : HasBytes one from size
+
+-- a page of the log that is neither resident nor staged whole
 pub record IsMissing (p : HybridLog) (staged : List StagedPage) (number : ℕ) : Type 0 where
   pub kept : Kept
   pub live : p.oldest ≤ number

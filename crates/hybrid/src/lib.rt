@@ -13,10 +13,12 @@
 
 mod address;
 pub mod laws;
+mod piece;
 mod staged;
 mod stripe;
 mod write;
 
+pub use piece::PIECE_BYTES;
 pub use staged::{ReadFault, Staged};
 pub use stripe::clean::{Cleaned, Weighed};
 pub use stripe::find::Lookup;

@@ -1,12 +1,18 @@
-// Pages that were read outside.
+// Pages that were read outside, whole or a piece of each.
 
-ghost use Rattle.std.specs.Prelude.{◌≡◌, ◌+◌, ◌<◌, ◌≤◌, ◌++◌, ℕ, List, IsSome, IfSome, IfNone, [], OnOk, OnErr, IfErr, length, vec_len};
-ghost use Rattle.hybrid.specs.Staging.{AreRight, IsStaged};
-ghost use Rattle.hybrid.specs.Reading.{HasStaged, MatchReadFault};
-ghost use Rattle.hybrid.specs.Ways.{IsAtHand};
+ghost use Rattle.std.specs.Prelude.{◌≡◌, ◌≢◌, ◌+◌, ◌<◌, ◌≤◌, ◌++◌, ℕ, List, [], None, IsTrue, IsSome, IsOkAnd};
+ghost use Rattle.std.specs.Prelude.{IfSome, IfNone, IfErr, OnOk, OnErr, length, vec_len};
+ghost use Rattle.std.specs.List.{Contains};
+ghost use Rattle.records.specs.Read.{shown};
+ghost use Rattle.records.specs.Records.{IsLaidOut, Stored, records_of, size_of};
+ghost use Rattle.hybrid.specs.Staging.{AreRight, HasBytes, IsRead, IsRight, IsStaged, StagedPage};
+ghost use Rattle.hybrid.specs.Reading.{HasRead, HasStaged, MatchReadFault};
+ghost use Rattle.hybrid.specs.Ways.{AreInReach, IsAtHand};
 
+use crate::piece::Piece;
 use device::{Device, Shows};
-use records::Page;
+use records::laws::parts_of_the_same_bytes_are_the_same;
+use records::{NotARecord, PAGE_SIZE, Page, Record, record_at, record_before};
 use std::alloc::{AllocError, Global};
 use std::marker::Model;
 use thiserror::Error;
@@ -36,14 +42,21 @@ impl From<ReadFault> for Fault {
     }
 }
 
-/// Pages that were read from the device, each with the receipt that it was read by.
+// What a page was read by: a receipt, and the piece that was read, if it was not read whole.
+#[derive(Drop)]
+struct ReadBy<R: Shows> {
+    receipt: R,
+    piece: Option<Piece>,
+}
+
+/// Pages that were read from the device, each with the receipt that it was read by: whole, or a piece of it.
 ///
-/// Its memory serves from call to call: after `clear` as many reads as before take none.
+/// Its memory serves from call to call: after `clear` as many reads as before take none. A piece takes the memory of a page.
 #[derive(Drop)]
 pub struct Staged<R: Shows> {
     alloc: Global,
-    /// The receipts, each with a page at the same place.
-    receipts: Vec<R>,
+    /// What was read, each with a page at the same place.
+    reads: Vec<ReadBy<R>>,
     /// Their pages, and behind these the pages that are free for the next reads.
     pages: Vec<Page>,
 }
@@ -55,9 +68,9 @@ impl<R: Shows> Model for Staged<R> {
 
     ghost Value = { List StagedPage };
 
-    ghost view = { λ s. staged_of (map (λ r. record { identity = R.identity r; shown = R.shown r }) s.receipts.items) s.pages.items };
+    ghost view = { λ s. staged_of (map (λ r. record { kept = record { identity = R.identity r.receipt; shown = R.shown r.receipt }; piece = r.piece }) s.reads.items) s.pages.items };
 
-    ghost invariant = { λ s. vec_len s.receipts ≤ vec_len s.pages };
+    ghost invariant = { λ s. vec_len s.reads ≤ vec_len s.pages };
 }
 
 impl<R: Shows> Staged<R> {
@@ -67,7 +80,7 @@ impl<R: Shows> Staged<R> {
     {
         Staged {
             alloc,
-            receipts: Vec::new(alloc),
+            reads: Vec::new(alloc),
             pages: Vec::new(alloc),
         }
     }
@@ -76,7 +89,7 @@ impl<R: Shows> Staged<R> {
     pub fn clear(&mut self)
         ensures { self.new ≡ [] }
     {
-        self.receipts.clear();
+        self.reads.clear();
     }
 
     /// For how many pages there is memory: for those that are staged, and those that are free for the next reads.
@@ -106,8 +119,8 @@ impl<R: Shows> Staged<R> {
         ensures once { D.reads device.new ≤ D.reads device.old + 1 }
         ensures no_release { D.releases device.new ≡ D.releases device.old }
     {
-        let place = self.receipts.len();
-        let Ok(()) = self.receipts.reserve(1) else {
+        let place = self.reads.len();
+        let Ok(()) = self.reads.reserve(1) else {
             return Err(ReadFault::OutOfMemory);
         };
         let Ok(()) = make_place(self.alloc, &mut self.pages, place) else {
@@ -117,11 +130,90 @@ impl<R: Shows> Staged<R> {
         let Ok(()) = device.read(&receipt, page) else {
             return Err(ReadFault::DeviceFault);
         };
-        self.receipts.push_reserved(receipt);
+        self.reads.push_reserved(ReadBy {
+            receipt,
+            piece: None,
+        });
         Ok(())
     }
 
-    /// The page of this receipt: the one that it lends, or that was read by it or one that is `same`.
+    /// Reads what is wanted of the page of a receipt for its record at an offset, from the device, once: [`crate::PIECE_BYTES`]
+    /// from there on, up to the page's end, or the whole page if some of it was read before.
+    ///
+    /// # Errors
+    ///
+    /// As of [`Staged::read`].
+    pub fn read_at<D: Device<Receipt = R>>(
+        &mut self,
+        receipt: R,
+        offset: usize,
+        device: &mut D,
+    ) -> Result<(), ReadFault>
+        ensures read { OnOk result (HasRead (record { identity = R.identity receipt; shown = R.shown receipt }) self.old self.new) }
+        ensures right { D.serves device.old receipt → AreRight self.old → OnOk result (AreRight self.new) }
+        ensures unchanged { OnErr result (self.new ≡ self.old) }
+        ensures fault { IfErr result (λ fault. MatchReadFault fault (device.new ≡ device.old) (D.failures device.new ≡ D.failures device.old + 1)) }
+        ensures no_fault { OnOk result (D.failures device.new ≡ D.failures device.old) }
+        ensures still_served { (r : R) → D.serves device.old r → D.serves device.new r }
+        ensures no_write { D.writes device.new ≡ D.writes device.old }
+        ensures once { D.reads device.new ≤ D.reads device.old + 1 }
+        ensures no_release { D.releases device.new ≡ D.releases device.old }
+    {
+        if offset >= PAGE_SIZE || self.has_read(&receipt) {
+            return self.read(receipt, device);
+        }
+        self.read_piece(receipt, Piece::for_record_at(offset), device)
+    }
+
+    // Reads a piece of the page of a receipt from the device, once, to where the page is kept.
+    fn read_piece<D: Device<Receipt = R>>(
+        &mut self,
+        receipt: R,
+        piece: Piece,
+        device: &mut D,
+    ) -> Result<(), ReadFault>
+        requires first { IsRead self.old (R.identity receipt) → ⊥ }
+        ensures read { OnOk result (HasRead (record { identity = R.identity receipt; shown = R.shown receipt }) self.old self.new) }
+        ensures right { D.serves device.old receipt → AreRight self.old → OnOk result (AreRight self.new) }
+        ensures unchanged { OnErr result (self.new ≡ self.old) }
+        ensures fault { IfErr result (λ fault. MatchReadFault fault (device.new ≡ device.old) (D.failures device.new ≡ D.failures device.old + 1)) }
+        ensures no_fault { OnOk result (D.failures device.new ≡ D.failures device.old) }
+        ensures still_served { (r : R) → D.serves device.old r → D.serves device.new r }
+        ensures no_write { D.writes device.new ≡ D.writes device.old }
+        ensures once { D.reads device.new ≤ D.reads device.old + 1 }
+        ensures no_release { D.releases device.new ≡ D.releases device.old }
+    {
+        let place = self.reads.len();
+        let Ok(()) = self.reads.reserve(1) else {
+            return Err(ReadFault::OutOfMemory);
+        };
+        let Ok(()) = make_place(self.alloc, &mut self.pages, place) else {
+            return Err(ReadFault::OutOfMemory);
+        };
+        let page = &mut self.pages[place];
+        let Ok(()) = device.read(&receipt, page) else {
+            return Err(ReadFault::DeviceFault);
+        };
+        self.reads.push_reserved(ReadBy {
+            receipt,
+            piece: Some(piece),
+        });
+        Ok(())
+    }
+
+    // Whether a page was read by this receipt or one that is `same`, whole or a piece of it.
+    fn has_read(&self, receipt: &R) -> bool
+        ensures { IsRead self.now (R.identity receipt.now) → IsTrue result }
+    {
+        for read in &self.reads {
+            if read.receipt.same(receipt) {
+                return true;
+            }
+        }
+        false
+    }
+
+    /// The whole page of this receipt: the one that it lends, or that was read by it or one that is `same`.
     pub fn page<'a>(&'a self, receipt: &'a R) -> Option<&'a Page>
         ensures found { R.is_honest → AreRight self.now → IfSome result (λ page. page.now ≡ R.shown receipt.now) }
         ensures missing { IfNone result (IsStaged self.now (R.identity receipt.now) → ⊥) }
@@ -131,12 +223,65 @@ impl<R: Shows> Staged<R> {
         if let Some(page) = receipt.page() {
             return Some(page);
         }
-        for (place, kept) in self.receipts.iter().enumerate() {
-            if kept.same(receipt) {
+        for (place, read) in self.reads.iter().enumerate() {
+            if read.piece.is_none() && read.receipt.same(receipt) {
                 return Some(&self.pages[place]);
             }
         }
         None
+    }
+
+    /// The record at an offset of the page of this receipt, from the page that it lends, or from what was read by it or one that is
+    /// `same`. None if that does not have it whole.
+    pub fn record<'a>(
+        &'a self,
+        receipt: &'a R,
+        offset: usize,
+    ) -> Option<Result<Record<'a>, NotARecord>>
+        ensures found { R.is_honest → AreRight self.now → IsLaidOut (R.shown receipt.now) → (r : Stored) → Contains (records_of (R.shown receipt.now)) (offset, r)
+            → IfSome result (λ found. IsOkAnd found (λ x. shown x ≡ r) × AreInReach R.lends self.now (R.identity receipt.now) offset (size_of r)) }
+        ensures unread { R.is_honest → AreRight self.now → IsLaidOut (R.shown receipt.now) → (r : Stored) → Contains (records_of (R.shown receipt.now)) (offset, r)
+            → IfNone result (AreInReach R.lends self.now (R.identity receipt.now) offset (size_of r) → ⊥) }
+        ensures missing { IfNone result (IsStaged self.now (R.identity receipt.now) → ⊥) }
+        ensures lent { R.lends → IsSome result }
+    {
+        if let Some(page) = receipt.page() {
+            return Some(record_at(page, offset));
+        }
+        for (place, read) in self.reads.iter().enumerate() {
+            if read.receipt.same(receipt) {
+                let found = record_in(&self.pages[place], read.piece, offset);
+                if found.is_some() {
+                    return found;
+                }
+            }
+        }
+        None
+    }
+}
+
+// The record at an offset of a page of which this piece was read, or all. None if the piece does not have it whole.
+fn record_in(
+    page: &Page,
+    piece: Option<Piece>,
+    offset: usize,
+) -> Option<Result<Record<'_>, NotARecord>>
+    ensures found { (s : StagedPage) → s.page ≡ page.now → s.piece ≡ piece → IsRight s → IsLaidOut s.kept.shown → (r : Stored) → Contains (records_of s.kept.shown) (offset, r)
+        → IfSome result (λ found. IsOkAnd found (λ x. shown x ≡ r) × HasBytes s offset (size_of r)) }
+    ensures unread { (s : StagedPage) → s.page ≡ page.now → s.piece ≡ piece → IsRight s → IsLaidOut s.kept.shown → (r : Stored) → Contains (records_of s.kept.shown) (offset, r)
+        → IfNone result (HasBytes s offset (size_of r) → ⊥) }
+    ensures whole { IfNone result (piece ≢ None) }
+{
+    let Some(piece) = piece else {
+        return Some(record_at(page, offset));
+    };
+    if offset < piece.from {
+        return None;
+    }
+    parts_of_the_same_bytes_are_the_same();
+    match record_before(page, piece.to, offset) {
+        Ok(record) => Some(Ok(record)),
+        Err(_) => None,
     }
 }
 

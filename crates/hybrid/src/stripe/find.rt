@@ -1,14 +1,14 @@
 // Lookups: a walk down the chain of a key's bucket.
 
-ghost use Rattle.std.specs.Prelude.{MatchOption, IsSome, IsSomeAnd, IsOk, ◌≡◌, ◌+◌, ◌*◌, ◌<◌, ◌≤◌, Some, None, IfOk, IfErr, IfSome, IfNone, option_map, slice_index_or, [], ◌-◌, length, ℕ, ⊤};
+ghost use Rattle.std.specs.Prelude.{MatchOption, ◌/◌, IsSome, IsSomeAnd, IsOk, IsOkAnd, ◌≡◌, ◌+◌, ◌*◌, ◌<◌, ◌≤◌, Some, None, IfOk, IfErr, IfSome, IfNone, option_map, slice_index_or, [], ◌-◌, length, ℕ, ⊤};
 ghost use Rattle.std.specs.Option.{option_copied};
 ghost use Rattle.records.specs.Records.{Stored, value_bytes};
 ghost use Rattle.records.specs.Read.{shown};
 ghost use Rattle.frames.specs.Resident.{first_mutable, next_number};
 ghost use Rattle.hybrid.specs.Log.{AreValuesShort, begin_of, newest, contents};
-ghost use Rattle.hybrid.specs.HybridLog.{log_of, page_at};
+ghost use Rattle.hybrid.specs.HybridLog.{log_of};
 ghost use Rattle.words.specs.Stripes.{hash_of};
-ghost use Rattle.hybrid.specs.Lookups.{Leads, MatchLookup, IsInPlace, IsResidentAt};
+ghost use Rattle.hybrid.specs.Lookups.{Leads, MatchLookup, IsInPlace, IsLaidAt, IsResidentAt};
 ghost use Rattle.hybrid.specs.Staging.{AreRight, IsMissing};
 ghost use Rattle.hybrid.specs.Ways.{AreNear, IsFirstFar, IsNear, way_of};
 
@@ -16,7 +16,7 @@ use crate::address::Address;
 use crate::staged::Staged;
 use crate::stripe::Stripe;
 use device::Shows;
-use records::{HEADER_SIZE, Page, Record, record_at};
+use records::{HEADER_SIZE, NotARecord, PAGE_SIZE, Record, record_at};
 use words::hash::hash_of;
 use words::limits::VALUE_BYTES_MAX;
 
@@ -28,8 +28,8 @@ pub enum Lookup<'a> {
     /// The key has no value.
     Absent,
     /// The chain leads to the page of this number, which is neither resident, nor lent by its receipt, nor
-    /// staged.
-    Cold(u64),
+    /// staged as far as it is wanted: the record at this offset of it.
+    Cold(u64, usize),
 }
 
 impl<R: Shows> Stripe<R> {
@@ -61,7 +61,7 @@ impl<R: Shows> Stripe<R> {
     {
         let _ = &self.oldest;
         match self.newest(hash, key, staged) {
-            Err(number) => Lookup::Cold(number),
+            Err(address) => Lookup::Cold(address.page(), address.offset()),
             Ok(None) => Lookup::Absent,
             Ok(Some((_, record))) => match record.value {
                 // Over a device that is not honest a page may have any value.
@@ -79,23 +79,22 @@ impl<R: Shows> Stripe<R> {
         hash: u64,
         key: &[u8],
         staged: &'a Staged<R>,
-    ) -> Result<Option<(Address, Record<'a>)>, u64>
+    ) -> Result<Option<(Address, Record<'a>)>, Address>
         requires hash { hash ≡ hash_of key.now }
         ensures found { R.is_honest → AreRight staged.now → IfOk result (λ o. option_map (λ x. (x.0, shown x.1)) o ≡ newest (log_of self.now) key.now) }
-        ensures leads { R.is_honest → AreRight staged.now → IfErr result (λ number. Leads self.now key.now number) }
-        ensures cold { IfErr result (λ number. IsMissing self.now staged.now number) }
+        ensures leads { R.is_honest → AreRight staged.now → IfErr result (λ address. Leads self.now key.now (address / PAGE_SIZE)) }
+        ensures cold { IfErr result (λ address. IsMissing self.now staged.now (address / PAGE_SIZE)) }
         ensures lent { R.lends → IsOk result }
         ensures way { R.is_honest → AreRight staged.now → IfOk result (λ _. AreNear R.lends self.now staged.now (way_of self.now key.now)) }
-        ensures far { R.is_honest → AreRight staged.now → IfErr result (λ number. IsFirstFar R.lends self.now staged.now key.now number) }
+        ensures far { R.is_honest → AreRight staged.now → IfErr result (λ address. IsFirstFar R.lends self.now staged.now key.now (address / PAGE_SIZE)) }
     {
         let begin = Address::of(self.oldest, HEADER_SIZE);
         let mut address = Address::from_number(self.index.head(hash / self.stripes));
         while begin <= address {
-            let number = address.page();
-            let Some(page) = self.live_page(number, staged) else {
-                return Err(number);
+            let Some(found) = self.live_record(address, staged) else {
+                return Err(address);
             };
-            let Ok(record) = record_at(page, address.offset()) else {
+            let Ok(record) = found else {
                 return Ok(None);
             };
             if record.has_key(key) {
@@ -124,25 +123,35 @@ impl<R: Shows> Stripe<R> {
         match self.newest(hash_of(key), key, staged) {
             Ok(Some((address, _))) => Ok(Some(address)),
             Ok(None) => Ok(None),
-            Err(number) => Err(number),
+            Err(address) => Err(address.page()),
         }
     }
 
-    // The page of this number: resident, lent by its receipt, or staged.
+    // The record at an address, if it is near: in a page that is resident, or lent by its receipt, or in what was read of it.
     #[inline]
-    fn live_page<'a>(&'a self, number: u64, staged: &'a Staged<R>) -> Option<&'a Page>
-        requires live { self.now.oldest ≤ number }
-        requires below { number < next_number self.now.resident }
-        ensures page { R.is_honest → AreRight staged.now → IfSome result (λ page. page.now ≡ page_at self.now number) }
-        ensures missing { IfNone result (IsMissing self.now staged.now number) }
+    fn live_record<'a>(
+        &'a self,
+        address: Address,
+        staged: &'a Staged<R>,
+    ) -> Option<Result<Record<'a>, NotARecord>>
+        requires live { self.now.oldest ≤ address / PAGE_SIZE }
+        requires below { address / PAGE_SIZE < next_number self.now.resident }
+        ensures found { R.is_honest → AreRight staged.now → (r : Stored) → IsLaidAt self.now address r
+            → IfSome result (λ found. IsOkAnd found (λ x. shown x ≡ r) × IsNear R.lends self.now staged.now (address, r)) }
+        ensures unread { R.is_honest → AreRight staged.now → (r : Stored) → IsLaidAt self.now address r
+            → IfNone result (IsNear R.lends self.now staged.now (address, r) → ⊥) }
+        ensures missing { IfNone result (IsMissing self.now staged.now (address / PAGE_SIZE)) }
         ensures lent { R.lends → IsSome result }
-        ensures near { R.is_honest → IfSome result (λ _. IsNear R.lends self.now staged.now number) }
     {
+        let number = address.page();
         if self.frames.oldest() <= number {
-            return self.frames.page(number);
+            let Some(page) = self.frames.page(number) else {
+                unreachable!()
+            };
+            return Some(record_at(page, address.offset()));
         }
         match self.receipt(number) {
-            Some(receipt) => staged.page(receipt),
+            Some(receipt) => staged.record(receipt, address.offset()),
             None => unreachable!(),
         }
     }

@@ -1,56 +1,56 @@
-use Rattle.std.proofs.Common.{◌≡◌, ◌<◌, ◌≤◌, List, [], ◌∷◌, ◌++◌, ◌∙◌, length, map, set, ap, arith}
-use Rattle.hybrid.specs.HybridLog.{Kept}
-use Rattle.hybrid.specs.Reading.{staged_of}
+use Rattle.std.proofs.Common.{None, ◌≡◌, ◌<◌, ◌≤◌, List, [], ◌∷◌, ◌++◌, ◌∙◌, length, map, set, ap, arith}
+use Rattle.hybrid.specs.declared.staged.ReadBy.{ReadBy}
+use Rattle.hybrid.specs.Reading.{Source, staged_of}
 use Rattle.hybrid.proofs.Staging.{still-staged, still-set, one-staged, right-more}
 use Rattle.hybrid.proofs.staged.Staged.read.Goals as goal
 
 pub returns-in_default-make_place-clause-unchanged : goal.returns-in_default-make_place-clause-unchanged
 returns-in_default-make_place-clause-unchanged g c =
-    let f : g.row.R.Denot → Kept = λ r. record { identity = g.R.Shows.identity r; shown = g.R.Shows.shown r } in
-    let items = c.self.inside.receipts.items in
+    let f : ReadBy g.row.R.Denot → Source = λ r. record { kept = record { identity = g.R.Shows.identity r.receipt; shown = g.R.Shows.shown r.receipt }; piece = r.piece } in
+    let items = c.self.inside.reads.items in
     let pages = c.self.inside.pages.items in
     let made = c.make_place.new.pages.items in
     let grown = c.make_place.ensures.grown in
-    let fits : length items ≤ length pages = omega (arith, c.self.invariant, c.self.inside.receipts.ok.0, c.self.inside.pages.ok.0) in
-    let last : length items ≡ c.len-place.result = omega (arith, c.len-place.ensures, c.self.inside.receipts.ok.0) in
-    ap (λ (l : List g.row.R.Denot). staged_of (map f l) made) c.reserve.ensures.items ∙ still-staged f items pages made c.args.self.now c.self.view_is fits grown.0 grown.1
+    let fits : length items ≤ length pages = omega (arith, c.self.invariant, c.self.inside.reads.ok.0, c.self.inside.pages.ok.0) in
+    let last : length items ≡ c.len-place.result = omega (arith, c.len-place.ensures, c.self.inside.reads.ok.0) in
+    ap (λ (l : List (ReadBy g.row.R.Denot)). staged_of (map f l) made) c.reserve.ensures.items ∙ still-staged f items pages made c.args.self.now c.self.view_is fits grown.0 grown.1
 
 pub returns-in_default-read-clause-unchanged : goal.returns-in_default-read-clause-unchanged
 returns-in_default-read-clause-unchanged g c =
-    let f : g.row.R.Denot → Kept = λ r. record { identity = g.R.Shows.identity r; shown = g.R.Shows.shown r } in
-    let items = c.self.inside.receipts.items in
+    let f : ReadBy g.row.R.Denot → Source = λ r. record { kept = record { identity = g.R.Shows.identity r.receipt; shown = g.R.Shows.shown r.receipt }; piece = r.piece } in
+    let items = c.self.inside.reads.items in
     let pages = c.self.inside.pages.items in
     let made = c.make_place.new.pages.items in
     let grown = c.make_place.ensures.grown in
-    let fits : length items ≤ length pages = omega (arith, c.self.invariant, c.self.inside.receipts.ok.0, c.self.inside.pages.ok.0) in
-    let last : length items ≡ c.len-place.result = omega (arith, c.len-place.ensures, c.self.inside.receipts.ok.0) in
-    ap (λ (l : List g.row.R.Denot). staged_of (map f l) (set made c.len-place.result c.read.new.page)) c.reserve.ensures.items
+    let fits : length items ≤ length pages = omega (arith, c.self.invariant, c.self.inside.reads.ok.0, c.self.inside.pages.ok.0) in
+    let last : length items ≡ c.len-place.result = omega (arith, c.len-place.ensures, c.self.inside.reads.ok.0) in
+    ap (λ (l : List (ReadBy g.row.R.Denot)). staged_of (map f l) (set made c.len-place.result c.read.new.page)) c.reserve.ensures.items
     ∙ still-set f items pages made c.args.self.now c.self.view_is fits grown.0 c.len-place.result c.read.new.page grown.1 last
 
 pub returns-clause-staged : goal.returns-clause-staged
 returns-clause-staged g c =
-    let f : g.row.R.Denot → Kept = λ r. record { identity = g.R.Shows.identity r; shown = g.R.Shows.shown r } in
-    let items = c.self.inside.receipts.items in
+    let f : ReadBy g.row.R.Denot → Source = λ r. record { kept = record { identity = g.R.Shows.identity r.receipt; shown = g.R.Shows.shown r.receipt }; piece = r.piece } in
+    let items = c.self.inside.reads.items in
     let pages = c.self.inside.pages.items in
     let made = c.make_place.new.pages.items in
     let grown = c.make_place.ensures.grown in
-    let fits : length items ≤ length pages = omega (arith, c.self.invariant, c.self.inside.receipts.ok.0, c.self.inside.pages.ok.0) in
-    let last : length items ≡ c.len-place.result = omega (arith, c.len-place.ensures, c.self.inside.receipts.ok.0) in
+    let fits : length items ≤ length pages = omega (arith, c.self.invariant, c.self.inside.reads.ok.0, c.self.inside.pages.ok.0) in
+    let last : length items ≡ c.len-place.result = omega (arith, c.len-place.ensures, c.self.inside.reads.ok.0) in
     let lt : c.len-place.result < length made = omega (arith, c.in-Ok-make_place.ensures.there, c.make_place.new.pages.ok.0) in
-    let is = ap (λ (l : List g.row.R.Denot). staged_of (map f l) (set made c.len-place.result c.read.new.page)) (c.push_reserved.ensures.items ∙ ap (λ (l : List g.row.R.Denot). l ++ c.args.receipt ∷ []) c.reserve.ensures.items)
-    ∙ one-staged f items pages made c.args.self.now c.self.view_is fits grown.0 c.len-place.result c.read.new.page c.args.receipt grown.1 last lt in
+    let is = ap (λ (l : List (ReadBy g.row.R.Denot)). staged_of (map f l) (set made c.len-place.result c.read.new.page)) (c.push_reserved.ensures.items ∙ ap (λ (l : List (ReadBy g.row.R.Denot)). l ++ record { receipt = c.args.receipt; piece = None } ∷ []) c.reserve.ensures.items)
+    ∙ one-staged f items pages made c.args.self.now c.self.view_is fits grown.0 c.len-place.result c.read.new.page (record { receipt = c.args.receipt; piece = None }) grown.1 last lt in
     record { page = c.read.new.page; is = is }
 
 pub returns-clause-right : goal.returns-clause-right
 returns-clause-right g c = λ serves right.
-    let f : g.row.R.Denot → Kept = λ r. record { identity = g.R.Shows.identity r; shown = g.R.Shows.shown r } in
-    let items = c.self.inside.receipts.items in
+    let f : ReadBy g.row.R.Denot → Source = λ r. record { kept = record { identity = g.R.Shows.identity r.receipt; shown = g.R.Shows.shown r.receipt }; piece = r.piece } in
+    let items = c.self.inside.reads.items in
     let pages = c.self.inside.pages.items in
     let made = c.make_place.new.pages.items in
     let grown = c.make_place.ensures.grown in
-    let fits : length items ≤ length pages = omega (arith, c.self.invariant, c.self.inside.receipts.ok.0, c.self.inside.pages.ok.0) in
-    let last : length items ≡ c.len-place.result = omega (arith, c.len-place.ensures, c.self.inside.receipts.ok.0) in
+    let fits : length items ≤ length pages = omega (arith, c.self.invariant, c.self.inside.reads.ok.0, c.self.inside.pages.ok.0) in
+    let last : length items ≡ c.len-place.result = omega (arith, c.len-place.ensures, c.self.inside.reads.ok.0) in
     let lt : c.len-place.result < length made = omega (arith, c.in-Ok-make_place.ensures.there, c.make_place.new.pages.ok.0) in
-    let is = ap (λ (l : List g.row.R.Denot). staged_of (map f l) (set made c.len-place.result c.read.new.page)) (c.push_reserved.ensures.items ∙ ap (λ (l : List g.row.R.Denot). l ++ c.args.receipt ∷ []) c.reserve.ensures.items)
-    ∙ one-staged f items pages made c.args.self.now c.self.view_is fits grown.0 c.len-place.result c.read.new.page c.args.receipt grown.1 last lt in
-    right-more c.args.self.now (f c.args.receipt) c.read.new.page _ is right (c.in-Ok-read.ensures.page serves)
+    let is = ap (λ (l : List (ReadBy g.row.R.Denot)). staged_of (map f l) (set made c.len-place.result c.read.new.page)) (c.push_reserved.ensures.items ∙ ap (λ (l : List (ReadBy g.row.R.Denot)). l ++ record { receipt = c.args.receipt; piece = None } ∷ []) c.reserve.ensures.items)
+    ∙ one-staged f items pages made c.args.self.now c.self.view_is fits grown.0 c.len-place.result c.read.new.page (record { receipt = c.args.receipt; piece = None }) grown.1 last lt in
+    right-more c.args.self.now (f (record { receipt = c.args.receipt; piece = None })) c.read.new.page _ is right (c.in-Ok-read.ensures.page serves)

@@ -2,47 +2,86 @@ use Rattle.std.proofs.Common.{◌≡◌, ◌/◌, ◌<◌, ◌≤◌, ◌∙◌,
 use Rattle.records.specs.Read.{shown}
 use Rattle.hybrid.specs.Log.{begin_of}
 use Rattle.hybrid.specs.HybridLog.{HybridLog, bucket_of, log_of}
-use Rattle.records.specs.declared.pages.TheConstants.{PAGE_SIZE}
 use Rattle.hybrid.specs.Ways.{IsNear}
 use Rattle.hybrid.proofs.Addresses.{at_most, beyond}
 use Rattle.hybrid.proofs.Walk.{here-found, here-last, here-link, link-falls, walk-end, walk-passed}
-use Rattle.hybrid.proofs.Finding.{start-from, seen, far-here, far-missing, leads-here, now-is}
+use Rattle.hybrid.proofs.Finding.{start-from, seen, far-here, leads-here, now-is}
 use Rattle.hybrid.proofs.stripe.Stripe.newest.Goals as goal
 
 pub loop-begin-init : goal.loop-begin-init
 loop-begin-init g c =
-    let s = start-from _ _ c.args.key.now (λ e. IsNear g.R.Shows.lends c.args.self.now c.args.staged.now (e.0 / PAGE_SIZE)) c.args.hash c.from_number-address.result c.self.view_is c.self.invariant.0 c.requires.hash (c.from_number-address.ensures ∙ c.head.ensures.head) in
+    let s = start-from _ _ c.args.key.now (IsNear g.R.Shows.lends c.args.self.now c.args.staged.now) c.args.hash c.from_number-address.result c.self.view_is c.self.invariant.0 c.requires.hash (c.from_number-address.ensures ∙ c.head.ensures.head) in
     record { below = s.below; walk = λ honest right. s.walk }
 
 pub returns-in_default-clause-leads : goal.returns-in_default-clause-leads
 returns-in_default-clause-leads g c = λ honest right.
     let first = ap (λ (q : HybridLog). q.oldest) c.self.view_is in
     let low : begin_of c.args.self.now.oldest ≤ c.loop-begin.address = omega (arith, at_most c.of-begin.result c.loop-begin.address c.loop-begin-test.ensures, c.of-begin.ensures, first) in
-    leads-here c.args.self.now c.args.key.now (λ e. IsNear g.R.Shows.lends c.args.self.now c.args.staged.now (e.0 / PAGE_SIZE)) c.loop-begin.address _ low (c.loop-begin.invariant.walk honest right) c.page-number.ensures
+    leads-here c.args.self.now c.args.key.now (IsNear g.R.Shows.lends c.args.self.now c.args.staged.now) c.loop-begin.address _ low (c.loop-begin.invariant.walk honest right) refl
 
-pub returns-in_default-record_at-clause-found : goal.returns-in_default-record_at-clause-found
-returns-in_default-record_at-clause-found g c = λ honest right.
+pub returns-in_default-clause-far : goal.returns-in_default-clause-far
+returns-in_default-clause-far g c = λ honest right.
     let first = ap (λ (q : HybridLog). q.oldest) c.self.view_is in
     let low : begin_of c.args.self.now.oldest ≤ c.loop-begin.address = omega (arith, at_most c.of-begin.result c.loop-begin.address c.loop-begin-test.ensures, c.of-begin.ensures, first) in
-    let s = seen c.args.self.now c.args.key.now (λ e. IsNear g.R.Shows.lends c.args.self.now c.args.staged.now (e.0 / PAGE_SIZE)) c.loop-begin.address c.page-number.result c.in-Some.page.now (now-is _ _ c.self.view_is c.self.invariant.0) low (c.loop-begin.invariant.walk honest right) c.page-number.ensures (c.in-Some.ensures.page honest right) in
-    absurd (c.in_default-record_at.ensures.found s.laid s.found.stored (rw c.offset.ensures s.listed))
+    let s = seen c.args.self.now c.args.key.now (IsNear g.R.Shows.lends c.args.self.now c.args.staged.now) c.loop-begin.address (now-is _ _ c.self.view_is c.self.invariant.0) low (c.loop-begin.invariant.walk honest right) in
+    far-here g.R.Shows.lends c.args.self.now c.args.staged.now c.args.key.now c.loop-begin.address _ s.found refl (c.in_default.ensures.unread honest right s.found.stored s.at)
+
+pub returns-in_default-found-clause-found : goal.returns-in_default-found-clause-found
+returns-in_default-found-clause-found g c = λ honest right.
+    let first = ap (λ (q : HybridLog). q.oldest) c.self.view_is in
+    let low : begin_of c.args.self.now.oldest ≤ c.loop-begin.address = omega (arith, at_most c.of-begin.result c.loop-begin.address c.loop-begin-test.ensures, c.of-begin.ensures, first) in
+    let s = seen c.args.self.now c.args.key.now (IsNear g.R.Shows.lends c.args.self.now c.args.staged.now) c.loop-begin.address (now-is _ _ c.self.view_is c.self.invariant.0) low (c.loop-begin.invariant.walk honest right) in
+    let has = c.in-Some.ensures.found honest right s.found.stored s.at in
+    let none = rw c.in_default-found.is at has.0 in
+    absurd none
+
+pub returns-in_default-found-clause-way : goal.returns-in_default-found-clause-way
+returns-in_default-found-clause-way g c = λ honest right.
+    let first = ap (λ (q : HybridLog). q.oldest) c.self.view_is in
+    let low : begin_of c.args.self.now.oldest ≤ c.loop-begin.address = omega (arith, at_most c.of-begin.result c.loop-begin.address c.loop-begin-test.ensures, c.of-begin.ensures, first) in
+    let s = seen c.args.self.now c.args.key.now (IsNear g.R.Shows.lends c.args.self.now c.args.staged.now) c.loop-begin.address (now-is _ _ c.self.view_is c.self.invariant.0) low (c.loop-begin.invariant.walk honest right) in
+    let has = c.in-Some.ensures.found honest right s.found.stored s.at in
+    let none = rw c.in_default-found.is at has.0 in
+    absurd none
 
 pub returns-then-has_key-clause-found : goal.returns-then-has_key-clause-found
 returns-then-has_key-clause-found g c = λ honest right.
     let first = ap (λ (q : HybridLog). q.oldest) c.self.view_is in
     let low : begin_of c.args.self.now.oldest ≤ c.loop-begin.address = omega (arith, at_most c.of-begin.result c.loop-begin.address c.loop-begin-test.ensures, c.of-begin.ensures, first) in
-    let s = seen c.args.self.now c.args.key.now (λ e. IsNear g.R.Shows.lends c.args.self.now c.args.staged.now (e.0 / PAGE_SIZE)) c.loop-begin.address c.page-number.result c.in-Some.page.now (now-is _ _ c.self.view_is c.self.invariant.0) low (c.loop-begin.invariant.walk honest right) c.page-number.ensures (c.in-Some.ensures.page honest right) in
-    let same : shown c.in-Ok.record ≡ s.found.stored = c.in-Ok.ensures.found s.laid s.found.stored (rw c.offset.ensures s.listed) in
+    let s = seen c.args.self.now c.args.key.now (IsNear g.R.Shows.lends c.args.self.now c.args.staged.now) c.loop-begin.address (now-is _ _ c.self.view_is c.self.invariant.0) low (c.loop-begin.invariant.walk honest right) in
+    let has = c.in-Some.ensures.found honest right s.found.stored s.at in
+    let same : shown c.in-Ok.record ≡ s.found.stored = rw c.in-Ok.is at has.0 in
     let key : s.found.stored.key ≡ c.args.key.now = ap (λ r. r.key) (sym same) ∙ c.if-has_key.ensures.0 refl in
-    ap (λ r. Some (c.loop-begin.address, r)) same ∙ sym (here-found (bucket_of c.args.self.now) (begin_of c.args.self.now.oldest) (log_of c.args.self.now) c.args.key.now (λ e. IsNear g.R.Shows.lends c.args.self.now c.args.staged.now (e.0 / PAGE_SIZE)) c.loop-begin.address s.found key)
+    ap (λ r. Some (c.loop-begin.address, r)) same ∙ sym (here-found (bucket_of c.args.self.now) (begin_of c.args.self.now.oldest) (log_of c.args.self.now) c.args.key.now (IsNear g.R.Shows.lends c.args.self.now c.args.staged.now) c.loop-begin.address s.found key)
+
+pub returns-then-has_key-clause-way : goal.returns-then-has_key-clause-way
+returns-then-has_key-clause-way g c = λ honest right.
+    let first = ap (λ (q : HybridLog). q.oldest) c.self.view_is in
+    let low : begin_of c.args.self.now.oldest ≤ c.loop-begin.address = omega (arith, at_most c.of-begin.result c.loop-begin.address c.loop-begin-test.ensures, c.of-begin.ensures, first) in
+    let s = seen c.args.self.now c.args.key.now (IsNear g.R.Shows.lends c.args.self.now c.args.staged.now) c.loop-begin.address (now-is _ _ c.self.view_is c.self.invariant.0) low (c.loop-begin.invariant.walk honest right) in
+    let has = c.in-Some.ensures.found honest right s.found.stored s.at in
+    let same : shown c.in-Ok.record ≡ s.found.stored = rw c.in-Ok.is at has.0 in
+    let key : s.found.stored.key ≡ c.args.key.now = ap (λ r. r.key) (sym same) ∙ c.if-has_key.ensures.0 refl in
+    here-last (bucket_of c.args.self.now) (begin_of c.args.self.now.oldest) (log_of c.args.self.now) c.args.key.now (IsNear g.R.Shows.lends c.args.self.now c.args.staged.now) c.loop-begin.address s.found key has.1
 
 pub returns-then-le-clause-found : goal.returns-then-le-clause-found
 returns-then-le-clause-found g c = λ honest right.
     let first = ap (λ (q : HybridLog). q.oldest) c.self.view_is in
     let low : begin_of c.args.self.now.oldest ≤ c.loop-begin.address = omega (arith, at_most c.of-begin.result c.loop-begin.address c.loop-begin-test.ensures, c.of-begin.ensures, first) in
-    let s = seen c.args.self.now c.args.key.now (λ e. IsNear g.R.Shows.lends c.args.self.now c.args.staged.now (e.0 / PAGE_SIZE)) c.loop-begin.address c.page-number.result c.in-Some.page.now (now-is _ _ c.self.view_is c.self.invariant.0) low (c.loop-begin.invariant.walk honest right) c.page-number.ensures (c.in-Some.ensures.page honest right) in
-    let same : shown c.in-Ok.record ≡ s.found.stored = c.in-Ok.ensures.found s.laid s.found.stored (rw c.offset.ensures s.listed) in
-    let falls = link-falls (bucket_of c.args.self.now) (begin_of c.args.self.now.oldest) (log_of c.args.self.now) c.args.key.now (λ e. IsNear g.R.Shows.lends c.args.self.now c.args.staged.now (e.0 / PAGE_SIZE)) c.loop-begin.address low s.found in
+    let s = seen c.args.self.now c.args.key.now (IsNear g.R.Shows.lends c.args.self.now c.args.staged.now) c.loop-begin.address (now-is _ _ c.self.view_is c.self.invariant.0) low (c.loop-begin.invariant.walk honest right) in
+    let has = c.in-Some.ensures.found honest right s.found.stored s.at in
+    let same : shown c.in-Ok.record ≡ s.found.stored = rw c.in-Ok.is at has.0 in
+    let falls = link-falls (bucket_of c.args.self.now) (begin_of c.args.self.now.oldest) (log_of c.args.self.now) c.args.key.now (IsNear g.R.Shows.lends c.args.self.now c.args.staged.now) c.loop-begin.address low s.found in
+    absurd (omega (arith, falls, ap (λ r. r.link) same, at_most c.loop-begin.address c.from_number-link.result c.if-le.ensures, c.from_number-link.ensures))
+
+pub returns-then-le-clause-way : goal.returns-then-le-clause-way
+returns-then-le-clause-way g c = λ honest right.
+    let first = ap (λ (q : HybridLog). q.oldest) c.self.view_is in
+    let low : begin_of c.args.self.now.oldest ≤ c.loop-begin.address = omega (arith, at_most c.of-begin.result c.loop-begin.address c.loop-begin-test.ensures, c.of-begin.ensures, first) in
+    let s = seen c.args.self.now c.args.key.now (IsNear g.R.Shows.lends c.args.self.now c.args.staged.now) c.loop-begin.address (now-is _ _ c.self.view_is c.self.invariant.0) low (c.loop-begin.invariant.walk honest right) in
+    let has = c.in-Some.ensures.found honest right s.found.stored s.at in
+    let same : shown c.in-Ok.record ≡ s.found.stored = rw c.in-Ok.is at has.0 in
+    let falls = link-falls (bucket_of c.args.self.now) (begin_of c.args.self.now.oldest) (log_of c.args.self.now) c.args.key.now (IsNear g.R.Shows.lends c.args.self.now c.args.staged.now) c.loop-begin.address low s.found in
     absurd (omega (arith, falls, ap (λ r. r.link) same, at_most c.loop-begin.address c.from_number-link.result c.if-le.ensures, c.from_number-link.ensures))
 
 pub loop-begin-preserved : goal.loop-begin-preserved
@@ -51,10 +90,11 @@ loop-begin-preserved g c = record {
   walk = λ honest right.
       let first = ap (λ (q : HybridLog). q.oldest) c.self.view_is in
       let low : begin_of c.args.self.now.oldest ≤ c.loop-begin.address = omega (arith, at_most c.of-begin.result c.loop-begin.address c.loop-begin-test.ensures, c.of-begin.ensures, first) in
-      let s = seen c.args.self.now c.args.key.now (λ e. IsNear g.R.Shows.lends c.args.self.now c.args.staged.now (e.0 / PAGE_SIZE)) c.loop-begin.address c.page-number.result c.in-Some.page.now (now-is _ _ c.self.view_is c.self.invariant.0) low (c.loop-begin.invariant.walk honest right) c.page-number.ensures (c.in-Some.ensures.page honest right) in
-      let same : shown c.in-Ok.record ≡ s.found.stored = c.in-Ok.ensures.found s.laid s.found.stored (rw c.offset.ensures s.listed) in
-      let linked = here-link (bucket_of c.args.self.now) (begin_of c.args.self.now.oldest) (log_of c.args.self.now) c.args.key.now (λ e. IsNear g.R.Shows.lends c.args.self.now c.args.staged.now (e.0 / PAGE_SIZE)) c.loop-begin.address s.found
-      (λ key. let bad = c.if-has_key.ensures.1 (ap (λ r. r.key) same ∙ key) in absurd (let f = c.if-has_key.false in cc)) (rw (sym c.page-number.ensures) (c.in-Some.ensures.near honest)) in
+      let s = seen c.args.self.now c.args.key.now (IsNear g.R.Shows.lends c.args.self.now c.args.staged.now) c.loop-begin.address (now-is _ _ c.self.view_is c.self.invariant.0) low (c.loop-begin.invariant.walk honest right) in
+      let has = c.in-Some.ensures.found honest right s.found.stored s.at in
+      let same : shown c.in-Ok.record ≡ s.found.stored = rw c.in-Ok.is at has.0 in
+      let linked = here-link (bucket_of c.args.self.now) (begin_of c.args.self.now.oldest) (log_of c.args.self.now) c.args.key.now (IsNear g.R.Shows.lends c.args.self.now c.args.staged.now) c.loop-begin.address s.found
+      (λ key. let bad = c.if-has_key.ensures.1 (ap (λ r. r.key) same ∙ key) in absurd (let f = c.if-has_key.false in cc)) has.1 in
       rw (sym (c.from_number-link.ensures ∙ ap (λ r. r.link) same)) at linked;
 }
 
@@ -62,42 +102,10 @@ pub returns-clause-found : goal.returns-clause-found
 returns-clause-found g c = λ honest right.
     let first = ap (λ (q : HybridLog). q.oldest) c.self.view_is in
     let low : c.loop-begin.address < begin_of c.args.self.now.oldest = omega (arith, beyond c.of-begin.result c.loop-begin.address c.loop-begin-test.ensures, c.of-begin.ensures, first) in
-    sym (walk-end (bucket_of c.args.self.now) (begin_of c.args.self.now.oldest) (log_of c.args.self.now) c.args.key.now (λ e. IsNear g.R.Shows.lends c.args.self.now c.args.staged.now (e.0 / PAGE_SIZE)) c.loop-begin.address (c.loop-begin.invariant.walk honest right) low)
-
-pub returns-in_default-clause-far : goal.returns-in_default-clause-far
-returns-in_default-clause-far g c = λ honest right.
-    let first = ap (λ (q : HybridLog). q.oldest) c.self.view_is in
-    let low : begin_of c.args.self.now.oldest ≤ c.loop-begin.address = omega (arith, at_most c.of-begin.result c.loop-begin.address c.loop-begin-test.ensures, c.of-begin.ensures, first) in
-    far-here g.R.Shows.lends c.args.self.now c.args.staged.now c.args.key.now c.loop-begin.address _ low (c.loop-begin.invariant.walk honest right) c.page-number.ensures
-    (far-missing g.R.Shows.lends c.args.self.now c.args.staged.now _ c.in_default.ensures.missing (λ lends. let some = c.in_default.ensures.lent lends in absurd cc))
-
-pub returns-in_default-record_at-clause-way : goal.returns-in_default-record_at-clause-way
-returns-in_default-record_at-clause-way g c = λ honest right.
-    let first = ap (λ (q : HybridLog). q.oldest) c.self.view_is in
-    let low : begin_of c.args.self.now.oldest ≤ c.loop-begin.address = omega (arith, at_most c.of-begin.result c.loop-begin.address c.loop-begin-test.ensures, c.of-begin.ensures, first) in
-    let s = seen c.args.self.now c.args.key.now (λ e. IsNear g.R.Shows.lends c.args.self.now c.args.staged.now (e.0 / PAGE_SIZE)) c.loop-begin.address c.page-number.result c.in-Some.page.now (now-is _ _ c.self.view_is c.self.invariant.0) low (c.loop-begin.invariant.walk honest right) c.page-number.ensures (c.in-Some.ensures.page honest right) in
-    absurd (c.in_default-record_at.ensures.found s.laid s.found.stored (rw c.offset.ensures s.listed))
-
-pub returns-then-le-clause-way : goal.returns-then-le-clause-way
-returns-then-le-clause-way g c = λ honest right.
-    let first = ap (λ (q : HybridLog). q.oldest) c.self.view_is in
-    let low : begin_of c.args.self.now.oldest ≤ c.loop-begin.address = omega (arith, at_most c.of-begin.result c.loop-begin.address c.loop-begin-test.ensures, c.of-begin.ensures, first) in
-    let s = seen c.args.self.now c.args.key.now (λ e. IsNear g.R.Shows.lends c.args.self.now c.args.staged.now (e.0 / PAGE_SIZE)) c.loop-begin.address c.page-number.result c.in-Some.page.now (now-is _ _ c.self.view_is c.self.invariant.0) low (c.loop-begin.invariant.walk honest right) c.page-number.ensures (c.in-Some.ensures.page honest right) in
-    let same : shown c.in-Ok.record ≡ s.found.stored = c.in-Ok.ensures.found s.laid s.found.stored (rw c.offset.ensures s.listed) in
-    let falls = link-falls (bucket_of c.args.self.now) (begin_of c.args.self.now.oldest) (log_of c.args.self.now) c.args.key.now (λ e. IsNear g.R.Shows.lends c.args.self.now c.args.staged.now (e.0 / PAGE_SIZE)) c.loop-begin.address low s.found in
-    absurd (omega (arith, falls, ap (λ r. r.link) same, at_most c.loop-begin.address c.from_number-link.result c.if-le.ensures, c.from_number-link.ensures))
-
-pub returns-then-has_key-clause-way : goal.returns-then-has_key-clause-way
-returns-then-has_key-clause-way g c = λ honest right.
-    let first = ap (λ (q : HybridLog). q.oldest) c.self.view_is in
-    let low : begin_of c.args.self.now.oldest ≤ c.loop-begin.address = omega (arith, at_most c.of-begin.result c.loop-begin.address c.loop-begin-test.ensures, c.of-begin.ensures, first) in
-    let s = seen c.args.self.now c.args.key.now (λ e. IsNear g.R.Shows.lends c.args.self.now c.args.staged.now (e.0 / PAGE_SIZE)) c.loop-begin.address c.page-number.result c.in-Some.page.now (now-is _ _ c.self.view_is c.self.invariant.0) low (c.loop-begin.invariant.walk honest right) c.page-number.ensures (c.in-Some.ensures.page honest right) in
-    let same : shown c.in-Ok.record ≡ s.found.stored = c.in-Ok.ensures.found s.laid s.found.stored (rw c.offset.ensures s.listed) in
-    let key : s.found.stored.key ≡ c.args.key.now = ap (λ r. r.key) (sym same) ∙ c.if-has_key.ensures.0 refl in
-    here-last (bucket_of c.args.self.now) (begin_of c.args.self.now.oldest) (log_of c.args.self.now) c.args.key.now (λ e. IsNear g.R.Shows.lends c.args.self.now c.args.staged.now (e.0 / PAGE_SIZE)) c.loop-begin.address s.found key (rw (sym c.page-number.ensures) (c.in-Some.ensures.near honest))
+    sym (walk-end (bucket_of c.args.self.now) (begin_of c.args.self.now.oldest) (log_of c.args.self.now) c.args.key.now (IsNear g.R.Shows.lends c.args.self.now c.args.staged.now) c.loop-begin.address (c.loop-begin.invariant.walk honest right) low)
 
 pub returns-clause-way : goal.returns-clause-way
 returns-clause-way g c = λ honest right.
     let first = ap (λ (q : HybridLog). q.oldest) c.self.view_is in
     let low : c.loop-begin.address < begin_of c.args.self.now.oldest = omega (arith, beyond c.of-begin.result c.loop-begin.address c.loop-begin-test.ensures, c.of-begin.ensures, first) in
-    walk-passed (bucket_of c.args.self.now) (begin_of c.args.self.now.oldest) (log_of c.args.self.now) c.args.key.now (λ e. IsNear g.R.Shows.lends c.args.self.now c.args.staged.now (e.0 / PAGE_SIZE)) c.loop-begin.address (c.loop-begin.invariant.walk honest right) low
+    walk-passed (bucket_of c.args.self.now) (begin_of c.args.self.now.oldest) (log_of c.args.self.now) c.args.key.now (IsNear g.R.Shows.lends c.args.self.now c.args.staged.now) c.loop-begin.address (c.loop-begin.invariant.walk honest right) low
