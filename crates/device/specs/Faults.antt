@@ -31,3 +31,14 @@ module _ {D : Type 0} where
   -- the next call is one that fails
   abbrev pub fails_next : Faulty D → Bool
   fails_next faulty = list_any (λ (n : ℕ). nat_eq n faulty.calls) faulty.failing.items
+
+  -- how many calls have failed, those in which the device was not asked among them, by how many it counts
+  abbrev pub all_failures : (failures : D → ℕ) → Faulty D → ℕ
+  all_failures failures faulty = failures faulty.device + refused_of faulty
+
+  -- how many reads there were, and how many writes, likewise
+  abbrev pub all_reads : (reads : D → ℕ) → Faulty D → ℕ
+  all_reads reads faulty = reads faulty.device + faulty.refused_reads
+
+  abbrev pub all_writes : (writes : D → ℕ) → Faulty D → ℕ
+  all_writes writes faulty = writes faulty.device + faulty.refused_writes

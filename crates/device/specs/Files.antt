@@ -1,13 +1,13 @@
 -- Files of pages, as contracts name them.
-use Rattle.std.specs.Prelude.{◌≡◌, ◌≢◌, ℕ, ◌*◌, ◌⊎◌, List, ◌∷◌, true, false}
-use Rattle.records.specs.declared.pages.TheConstants.{PAGE_SIZE}
+use Rattle.std.specs.Prelude.{◌≡◌, ◌≢◌, ◌≤◌, ℕ, ◌+◌, ◌*◌, ◌⊎◌, List, ◌∷◌, Bool, true, false}
+use Rattle.records.specs.declared.pages.TheConstants.{PAGE_SIZE, NUMBER_SIZE}
 use Rattle.records.specs.Page.{number_of}
 use Rattle.device.specs.declared.file.FileReceipt.{FileReceipt}
 use Rattle.device.specs.declared.file.FileDevice.{FileDevice}
 use Rattle.device.specs.declared.places.PlaceNote.{PlaceNote}
 use Rattle.device.specs.declared.places.PlaceNote.TheVariants.{Took, GaveBack, FoundNone}
 use Rattle.device.specs.Written.{page_of}
-use Rattle.device.specs.SystemCalls.{SystemCall, Write, Read}
+use Rattle.device.specs.SystemCalls.{SystemCall, Write, Read, ReadPiece}
 
 -- the page for which a receipt was given
 abbrev pub page_shown : FileReceipt → List ℕ
@@ -20,6 +20,14 @@ place_of receipt = receipt.place
 -- its number
 abbrev pub receipt_number : FileReceipt → ℕ
 receipt_number receipt = receipt.number
+
+-- a piece of a page has the page's number
+abbrev pub HasNumber : (from to : ℕ) → Type 0
+HasNumber from to = (from ≡ 0) × (NUMBER_SIZE ≤ to)
+
+-- the system was asked for a piece of the page at the place of a receipt; this is the page then, and whether all of the piece was read
+abbrev pub piece_call : (receipt : FileReceipt) (from to : ℕ) (page : List ℕ) (done : Bool) → SystemCall
+piece_call receipt from to page done = ReadPiece (place_of receipt * PAGE_SIZE + from) from to page done
 
 -- a file serves no receipt: what lies in it may change at any time
 abbrev pub IsServed : Type 0
@@ -62,3 +70,10 @@ module _ {R : Type 0} where
   GaveNone receipt page before later =
       (asked_of later ≡ Read (place_of receipt * PAGE_SIZE) page false ∷ asked_of before)
       ⊎ ((asked_of later ≡ Read (place_of receipt * PAGE_SIZE) page true ∷ asked_of before) × (number_of page ≢ receipt_number receipt))
+
+  -- no piece was given for this receipt: the system did not read it at its place, or it read one that has a page's number, and another one
+  abbrev pub GaveNoPiece : (receipt : FileReceipt) (from to : ℕ) (page : List ℕ) (before later : FileDevice R) → Type 0
+  GaveNoPiece receipt from to page before later =
+      (asked_of later ≡ piece_call receipt from to page false ∷ asked_of before)
+      ⊎ ((asked_of later ≡ piece_call receipt from to page true ∷ asked_of before)
+      × HasNumber from to × (number_of page ≢ receipt_number receipt))

@@ -1,11 +1,12 @@
 // A device that fails on demand.
 
-ghost use Rattle.std.specs.Prelude.{◌≡◌, ◌≢◌, ◌+◌, ◌%◌, ◌^◌, ℕ, IsTrue, IsFalse, IsErr, IsNone, IfOk, IfSome, OnOk, OnErr};
+ghost use Rattle.std.specs.Prelude.{◌≡◌, ◌≢◌, ◌≤◌, ◌+◌, ◌%◌, ◌^◌, ℕ, IsTrue, IsFalse, IsErr, IsNone, IfOk, IfSome, OnOk, OnErr};
+ghost use Rattle.records.specs.Page.{SameWithin};
 
 use crate::counts::CallCount;
 use crate::{Device, DeviceFault, Shows};
 use epoch::{Drained, Retired, Wraps};
-use records::Page;
+use records::{PAGE_SIZE, Page};
 use std::alloc::AllocError;
 use std::marker::Model;
 
@@ -66,7 +67,7 @@ impl<R> Wraps for FaultyReceipt<R> {
 }
 
 /// One opening of a device over another one, which it does not ask at the calls whose numbers it was
-/// given: those fail. Reads and writes are the calls, numbered from 0. Each other call asks that device
+/// given: those fail. Writes and reads, also those of a piece, are the calls, numbered from 0. Each other call asks that device
 /// once, and answers what it answers. What the other device promises, it promises too.
 #[derive(Drop)]
 pub struct Faulty<D: Drop> {
@@ -120,7 +121,7 @@ impl<D: Device> Faulty<D> {
 }
 
 impl<D: Device> Device for Faulty<D> {
-    ghost use Rattle.device.specs.Faults.{device_of, calls_of, failing_of, refused_writes_of, refused_reads_of, refused_of, fails_next};
+    ghost use Rattle.device.specs.Faults.{device_of, calls_of, failing_of, refused_writes_of, refused_reads_of, refused_of, fails_next, all_failures, all_reads, all_writes};
     ghost use Rattle.epoch.specs.Seats.{drained_epoch, drained_of, retired_epoch, retired_of, retired_value};
 
     type Receipt = FaultyReceipt<D::Receipt>;
@@ -191,6 +192,38 @@ impl<D: Device> Device for Faulty<D> {
             return Err(DeviceFault);
         }
         self.device.read(&receipt.receipt, page)
+    }
+
+    fn read_piece(
+        &mut self,
+        receipt: &FaultyReceipt<D::Receipt>,
+        from: usize,
+        to: usize,
+        page: &mut Page,
+    ) -> Result<(), DeviceFault>
+        requires in_order { from ≤ to }
+        requires in_page { to ≤ PAGE_SIZE }
+        ensures page { D.serves (device_of self.old) receipt.now → OnOk result (SameWithin from to page.new (D.Receipt.shown receipt.now)) }
+        ensures still_served { (r : D.Receipt) → D.serves (device_of self.old) r → D.serves (device_of self.new) r }
+        ensures failure { OnErr result (all_failures D.failures self.new ≡ all_failures D.failures self.old + 1) }
+        ensures no_failure { OnOk result (all_failures D.failures self.new ≡ all_failures D.failures self.old) }
+        ensures fails { IsTrue (fails_next self.old) → IsErr result }
+        ensures not_asked { IsTrue (fails_next self.old) → device_of self.new ≡ device_of self.old }
+        ensures asked { IsFalse (fails_next self.old)
+            → OnErr result (D.failures (device_of self.new) ≡ D.failures (device_of self.old) + 1) }
+
+        ensures asked_once { IsFalse (fails_next self.old) → D.reads (device_of self.new) ≡ D.reads (device_of self.old) + 1 }
+        ensures calls { calls_of self.new ≡ (calls_of self.old + 1) % 2 ^ 64 }
+        ensures failing { failing_of self.new ≡ failing_of self.old }
+        ensures counted { all_reads D.reads self.new ≡ all_reads D.reads self.old + 1 }
+        ensures no_write { all_writes D.writes self.new ≡ all_writes D.writes self.old }
+        ensures no_release { D.releases (device_of self.new) ≡ D.releases (device_of self.old) }
+    {
+        if self.next_fails() {
+            self.refused_reads.note();
+            return Err(DeviceFault);
+        }
+        self.device.read_piece(&receipt.receipt, from, to, page)
     }
 
     fn release(&mut self, retired: Retired<FaultyReceipt<D::Receipt>>, drained: &Drained)

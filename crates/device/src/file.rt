@@ -1,7 +1,7 @@
 // A device that keeps its pages in a file.
 
-ghost use Rattle.std.specs.Prelude.{◌≡◌, ◌<◌, ◌+◌, ◌*◌, ◌∷◌, ℕ, true, IfOk, IfSome, IfNone, IsNone, OnOk, OnErr, All, vec_len, Some};
-ghost use Rattle.records.specs.Page.{number_of};
+ghost use Rattle.std.specs.Prelude.{◌≡◌, ◌<◌, ◌≤◌, ◌+◌, ◌*◌, ◌∷◌, ℕ, true, IfOk, IfSome, IfNone, IsNone, OnOk, OnErr, All, vec_len, Some};
+ghost use Rattle.records.specs.Page.{number_of, SameWithin};
 ghost use Rattle.device.specs.Written.{page_of};
 ghost use Rattle.device.specs.declared.places.TheConstants.{MAX_PLACES};
 
@@ -10,7 +10,7 @@ use crate::places::{MAX_PLACES, PlaceNotes, Places};
 use crate::system::PageFile;
 use crate::{Device, DeviceFault, Shows};
 use epoch::{Drained, Retired};
-use records::{PAGE_SIZE, Page};
+use records::{NUMBER_SIZE, PAGE_SIZE, Page};
 use std::alloc::{AllocError, Global};
 use std::error::Error;
 use std::fs::{File, Files, OpenOptions};
@@ -128,8 +128,9 @@ impl Shows for FileReceipt {
 ///
 /// A write takes a free place, one that was released before the file grows, and fails where the system
 /// does not take the whole page: the place is then free again. A read fails where the file is too short,
-/// or where the page that lies there has another number. Neither takes memory. What else is done to the
-/// file changes at most what reads give: the device promises nothing of the pages that they give.
+/// or where the page that lies there has another number; one of a piece looks at the number only where the
+/// piece has it. Neither takes memory. What else is done to the file changes at most what reads give: the
+/// device promises nothing of the pages that they give.
 #[derive(Drop)]
 pub struct FileDevice<'a, R: Wait> {
     rt: &'a R,
@@ -284,7 +285,7 @@ fn offset(place: u32) -> u64
 impl<'a, R: Wait> Device for FileDevice<'a, R> {
     ghost use Rattle.device.specs.declared.places.PlaceNote.TheVariants.{Took, GaveBack};
     ghost use Rattle.device.specs.SystemCalls.{Write, Read};
-    ghost use Rattle.device.specs.Files.{IsServed, WroteNone, GaveNone, failures_of, writes_of, reads_of, releases_of, notes_of, asked_of, page_shown, place_of, receipt_number};
+    ghost use Rattle.device.specs.Files.{IsServed, WroteNone, GaveNone, HasNumber, GaveNoPiece, piece_call, failures_of, writes_of, reads_of, releases_of, notes_of, asked_of, page_shown, place_of, receipt_number};
     ghost use Rattle.epoch.specs.Seats.{drained_epoch, drained_of, retired_epoch, retired_of, retired_value};
 
     type Receipt = FileReceipt;
@@ -344,6 +345,40 @@ impl<'a, R: Wait> Device for FileDevice<'a, R> {
         self.reads.note();
         let is_read = self.file.read(page, offset(receipt.place));
         if is_read && page.number() == receipt.number {
+            return Ok(());
+        }
+        Err(self.fault())
+    }
+
+    /// Reads these bytes of the file alone, at the place of the receipt: the system is asked once.
+    ///
+    /// Where the piece has the page's number (`from` is 0, and `to` at least 8), gives it only where that is the number of the page
+    /// that was written. Else nothing tells the piece of another page: whatever the file has there is given.
+    fn read_piece(
+        &mut self,
+        receipt: &FileReceipt,
+        from: usize,
+        to: usize,
+        page: &mut Page,
+    ) -> Result<(), DeviceFault>
+        requires in_order { from ≤ to }
+        requires in_page { to ≤ PAGE_SIZE }
+        ensures number { HasNumber from to → OnOk result (number_of page.new ≡ receipt_number receipt.now) }
+        ensures page { IsServed → OnOk result (SameWithin from to page.new (page_shown receipt.now)) }
+        ensures given { OnOk result (asked_of self.new ≡ piece_call receipt.now from to page.new true ∷ asked_of self.old) }
+        ensures none_given { OnErr result (GaveNoPiece receipt.now from to page.new self.old self.new) }
+        ensures failure { OnErr result (failures_of self.new ≡ failures_of self.old + 1) }
+        ensures no_failure { OnOk result (failures_of self.new ≡ failures_of self.old) }
+        ensures counted { reads_of self.new ≡ reads_of self.old + 1 }
+        ensures no_write { writes_of self.new ≡ writes_of self.old }
+        ensures no_release { releases_of self.new ≡ releases_of self.old }
+        ensures no_note { notes_of self.new ≡ notes_of self.old }
+    {
+        self.reads.note();
+        let at = offset(receipt.place) + from as u64;
+        let is_read = self.file.read_piece(page, from, to, at);
+        let is_other = from == 0 && to >= NUMBER_SIZE && page.number() != receipt.number;
+        if is_read && !is_other {
             return Ok(());
         }
         Err(self.fault())

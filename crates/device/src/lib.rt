@@ -19,10 +19,11 @@
 //! `Device` and `Shows` state this. `MemoryDevice` is steady. `FileDevice` keeps pages in a file.
 //! `Faulty` fails calls of another device on demand, and promises what that device promises.
 
-ghost use Rattle.std.specs.Prelude.{◌≡◌, ◌≢◌, ℕ, ◌+◌, List, Some, codes, IsTrue, IsSome, IfOk, IfSome, OnOk, OnErr};
+ghost use Rattle.std.specs.Prelude.{◌≡◌, ◌≢◌, ◌≤◌, ℕ, ◌+◌, List, Some, codes, IsTrue, IsSome, IfOk, IfSome, OnOk, OnErr};
+ghost use Rattle.records.specs.Page.{SameWithin};
 
 use epoch::{Drained, Retired};
-use records::Page;
+use records::{PAGE_SIZE, Page};
 use std::alloc::AllocError;
 use std::error::Error;
 use std::fmt;
@@ -157,6 +158,31 @@ pub trait Device: Drop {
         ensures counted { reads self.new ≡ reads self.old + 1 }
         ensures no_write { writes self.new ≡ writes self.old }
         ensures no_release { releases self.new ≡ releases self.old };
+
+    /// Reads the bytes from `from` up to `to` of the page that a receipt shows into the same places of `page`, whose other bytes may
+    /// then be any. After an `Err`, and where the device does not serve the receipt, all of its bytes may be any.
+    ///
+    /// It counts as a read. As it stands here it reads the whole page; a device that can read less has a body of its own.
+    fn read_piece(
+        &mut self,
+        receipt: &Self::Receipt,
+        from: usize,
+        to: usize,
+        page: &mut Page,
+    ) -> Result<(), DeviceFault>
+        requires in_order { from ≤ to }
+        requires in_page { to ≤ PAGE_SIZE }
+        ensures page { serves self.old receipt.now → OnOk result (SameWithin from to page.new (Self.Receipt.shown receipt.now)) }
+        ensures still_served { (r : Self.Receipt) → serves self.old r → serves self.new r }
+
+        ensures failure { OnErr result (failures self.new ≡ failures self.old + 1) }
+        ensures no_failure { OnOk result (failures self.new ≡ failures self.old) }
+        ensures counted { reads self.new ≡ reads self.old + 1 }
+        ensures no_write { writes self.new ≡ writes self.old }
+        ensures no_release { releases self.new ≡ releases self.old }
+    {
+        self.read(receipt, page)
+    }
 
     /// Takes back a receipt that nobody reads by any more: its own epoch is drained, by the epochs that
     /// retired it. Its place may be used anew, and all receipts but it and its copies stay served.

@@ -1,8 +1,9 @@
 // The file of pages, as the system has it.
 
-ghost use Rattle.std.specs.Prelude.{◌≡◌, ◌∷◌, []};
+ghost use Rattle.std.specs.Prelude.{◌≡◌, ◌≤◌, ◌∷◌, []};
+ghost use Rattle.records.specs.Page.{SameWithin};
 
-use records::Page;
+use records::{PAGE_SIZE, Page};
 use std::fs::File;
 use std::marker::Model;
 use std::os::unix::fs::FileExt;
@@ -25,6 +26,7 @@ enum Asked {
     Nothing,
     Write(u64, Snapshot<Page>, bool, Snapshot<Asked>),
     Read(u64, Snapshot<Page>, bool, Snapshot<Asked>),
+    ReadPiece(u64, usize, usize, Snapshot<Page>, bool, Snapshot<Asked>),
 }
 
 impl Model for PageFile {
@@ -39,7 +41,7 @@ impl Model for PageFile {
 }
 
 impl PageFile {
-    ghost use Rattle.device.specs.SystemCalls.{Write, Read};
+    ghost use Rattle.device.specs.SystemCalls.{Write, Read, ReadPiece};
 
     /// A file of which the system was asked nothing yet.
     pub(crate) fn new(file: File) -> PageFile
@@ -68,6 +70,22 @@ impl PageFile {
         let is_done = self.file.read_exact_at(page.bytes_mut(), at).is_ok();
         let earlier = Snapshot::of(&self.last);
         self.last = Asked::Read(at, Snapshot::of(page), is_done, earlier);
+        is_done
+    }
+
+    /// Reads the bytes of a page from `from` up to `to`, from this byte of the file on, and says whether the system gave all of them.
+    /// All other bytes of the page stay.
+    pub(crate) fn read_piece(&mut self, page: &mut Page, from: usize, to: usize, at: u64) -> bool
+        requires in_order { from ≤ to }
+        requires in_page { to ≤ PAGE_SIZE }
+        ensures asked { self.new ≡ ReadPiece at from to page.new result ∷ self.old }
+        ensures before { SameWithin 0 from page.new page.old }
+        ensures behind { SameWithin to PAGE_SIZE page.new page.old }
+    {
+        let piece = &mut page.bytes_mut()[from..to];
+        let is_done = self.file.read_exact_at(piece, at).is_ok();
+        let earlier = Snapshot::of(&self.last);
+        self.last = Asked::ReadPiece(at, from, to, Snapshot::of(page), is_done, earlier);
         is_done
     }
 }

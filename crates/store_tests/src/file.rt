@@ -360,7 +360,12 @@ fn the_place_that_was_released_is_used_again(rt: HostRuntime) {
 }
 
 // Writes bytes over the front of a file, and cuts it.
-fn change<R: Files<File = File>>(rt: &R, path: &str, bytes: &[u8], len: u64) -> Option<()> {
+pub(crate) fn change<R: Files<File = File>>(
+    rt: &R,
+    path: &str,
+    bytes: &[u8],
+    len: u64,
+) -> Option<()> {
     let file = fs::OpenOptions::new().write(true).open(rt, path).ok()?;
     file.write_all_at(bytes, 0).ok()?;
     file.set_len(len).ok()

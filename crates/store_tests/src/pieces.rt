@@ -1,10 +1,16 @@
 // Pieces of pages: the records in them, and what devices read of a page.
 
-ghost use Rattle.std.specs.Prelude.{◌<◌};
+ghost use Rattle.std.specs.Prelude.{◌≡◌, ◌<◌, ◌≤◌, ◌+◌, OnErr, OnOk};
+ghost use Rattle.records.specs.Page.{SameWithin};
 
+use crate::file::{change, filled_page, length_of, opened};
 use crate::pages::{HASH, TOMBSTONE, is_put_at, patched};
+use device::{Device, DeviceFault, Faulty, MemoryDevice};
 use records::{PAGE_SIZE, Page, put_record, record_before};
 use std::alloc::{AllocError, Global};
+use std::fs;
+use std::fs::{File, Files};
+use std::sync::Wait;
 
 /// A page that has the bytes of another one from a place up to an end, and 255 everywhere else.
 fn piece_of(alloc: Global, page: &Page, from: usize, to: usize) -> Result<Page, AllocError> {
@@ -139,4 +145,213 @@ fn each_reason_to_refuse_in_a_piece(rt: HostRuntime) -> Result<(), AllocError> {
         panic!(rt; "{why}");
     }
     Ok(())
+}
+
+/// Writes a page, and reads a piece of it. It knows the device by its contract alone.
+fn write_and_read_piece<D: Device>(
+    device: &mut D,
+    page: &Page,
+    from: usize,
+    to: usize,
+    seen: &mut Page,
+) -> Result<(), DeviceFault>
+    requires in_order { from ≤ to }
+    requires in_page { to ≤ PAGE_SIZE }
+    ensures honest { D.Receipt.is_honest → OnOk result (SameWithin from to seen.new page.now) }
+    ensures steady { D.Receipt.is_steady → OnOk result (SameWithin from to seen.new page.now) }
+    ensures fault { OnErr result (D.failures device.new ≡ D.failures device.old + 1) }
+    ensures written_once { D.writes device.new ≡ D.writes device.old + 1 }
+    ensures read_once { OnOk result (D.reads device.new ≡ D.reads device.old + 1) }
+{
+    let receipt = device.write(page)?;
+    device.read_piece(&receipt, from, to, seen)
+}
+
+/// From where and up to where a piece is read, and what comes of it: whether it has the bytes of the page that was written.
+type Case = (usize, usize, Result<bool, DeviceFault>);
+
+/// Whether the bytes that a device gives of a page are those of the page.
+fn read_of<D: Device>(
+    alloc: Global,
+    device: &mut D,
+    receipt: &D::Receipt,
+    page: &Page,
+    from: usize,
+    to: usize,
+) -> Result<bool, DeviceFault> {
+    let Ok(mut seen) = Page::new(alloc, 99) else {
+        return Ok(false);
+    };
+    if from > to || to > PAGE_SIZE {
+        return Ok(false);
+    }
+    device.read_piece(receipt, from, to, &mut seen)?;
+    Ok(seen.bytes()[from..to] == page.bytes()[from..to])
+}
+
+/// The number of the first case that comes otherwise.
+fn first_other<D: Device>(
+    alloc: Global,
+    device: &mut D,
+    receipt: &D::Receipt,
+    page: &Page,
+    cases: &[Case],
+) -> Option<usize> {
+    for (i, (from, to, came)) in cases.iter().enumerate() {
+        if read_of(alloc, device, receipt, page, *from, *to) != *came {
+            return Some(i);
+        }
+    }
+    None
+}
+
+/// Pieces at both ends of a page and between them, all of it, and none.
+const PIECES: [Case; 10] = [
+    (0, 4_096, Ok(true)),
+    (0, 65_536, Ok(true)),
+    (0, 8, Ok(true)),
+    (0, 7, Ok(true)),
+    (0, 0, Ok(true)),
+    (8, 16, Ok(true)),
+    (4_093, 8_200, Ok(true)),
+    (61_440, 65_536, Ok(true)),
+    (65_535, 65_536, Ok(true)),
+    (65_536, 65_536, Ok(true)),
+];
+
+/// The number of the first piece that a device does not give of the second of two pages with one number.
+fn first_missing<D: Device>(alloc: Global, device: &mut D) -> Option<Option<usize>> {
+    let first = filled_page(alloc, 6, 3)?;
+    let second = filled_page(alloc, 6, 255)?;
+    let before = device.write(&first).ok()?;
+    let receipt = device.write(&second).ok()?;
+    let missing = first_other(alloc, device, &receipt, &second, &PIECES);
+    drop(before);
+    Some(missing)
+}
+
+/// The same of a device over this one that fails at no call, and how many calls it then had.
+fn first_missing_through<D: Device>(alloc: Global, device: D) -> Option<(Option<usize>, u64)> {
+    let mut device = Faulty::new(device, Vec::new(alloc));
+    let missing = first_missing(alloc, &mut device)?;
+    Some((missing, device.calls()))
+}
+
+fn first_missing_in_memory(alloc: Global) -> Option<Option<usize>> {
+    let mut device = MemoryDevice::openings(alloc, 1).ok()?.pop()?;
+    first_missing(alloc, &mut device)
+}
+
+fn first_missing_through_memory(alloc: Global) -> Option<(Option<usize>, u64)> {
+    let device = MemoryDevice::openings(alloc, 1).ok()?.pop()?;
+    first_missing_through(alloc, device)
+}
+
+fn first_missing_in_file<R: Wait + Files<File = File>>(
+    rt: &R,
+    alloc: Global,
+    path: &str,
+) -> Option<Option<usize>> {
+    let mut device = opened(rt, alloc, path)?;
+    first_missing(alloc, &mut device)
+}
+
+fn first_missing_through_file<R: Wait + Files<File = File>>(
+    rt: &R,
+    alloc: Global,
+    path: &str,
+) -> Option<(Option<usize>, u64)> {
+    let device = opened(rt, alloc, path)?;
+    first_missing_through(alloc, device)
+}
+
+#[test]
+fn each_piece_is_given(rt: HostRuntime) {
+    let path = "pieces.pages";
+    assert!(rt; first_missing_in_memory(rt.alloc()) == Some(None));
+    assert!(rt; first_missing_in_file(&rt, rt.alloc(), path) == Some(None));
+    assert!(rt; length_of(&rt, path) == Some(2 * 65_536));
+    assert!(rt; first_missing_through_memory(rt.alloc()) == Some((None, 12)));
+    assert!(rt; first_missing_through_file(&rt, rt.alloc(), path) == Some((None, 12)));
+    assert!(rt; fs::remove_file(&rt, path).is_ok());
+}
+
+/// Whether a piece is read as it was written, or which call of the device failed, where these calls fail.
+fn read_where<D: Device>(
+    alloc: Global,
+    device: D,
+    failing: Vec<u64>,
+) -> Option<(Result<(), DeviceFault>, bool, u64)> {
+    let mut device = Faulty::new(device, failing);
+    let page = filled_page(alloc, 5, 0)?;
+    let mut seen = Page::new(alloc, 99).ok()?;
+    let read = write_and_read_piece(&mut device, &page, 100, 5_000, &mut seen);
+    let is_same = seen.bytes()[100..5_000] == page.bytes()[100..5_000];
+    Some((read, is_same, device.calls()))
+}
+
+/// The same of a device in memory, where one call fails.
+fn read_in_memory(alloc: Global, failing: u64) -> Option<(Result<(), DeviceFault>, bool, u64)> {
+    let device = MemoryDevice::openings(alloc, 1).ok()?.pop()?;
+    read_where(alloc, device, [failing].to_vec(alloc).ok()?)
+}
+
+#[test]
+fn a_piece_fails_on_demand(rt: HostRuntime) {
+    assert!(rt; read_in_memory(rt.alloc(), 0) == Some((Err(DeviceFault), false, 1)));
+    assert!(rt; read_in_memory(rt.alloc(), 1) == Some((Err(DeviceFault), false, 2)));
+    assert!(rt; read_in_memory(rt.alloc(), 2) == Some((Ok(()), true, 2)));
+}
+
+/// The number of the first case that comes otherwise, of page 5, after these bytes were written over the front of its file, and
+/// the file was cut to this length.
+fn first_other_after<R: Wait + Files<File = File>>(
+    rt: &R,
+    alloc: Global,
+    path: &str,
+    bytes: &[u8],
+    len: u64,
+    cases: &[Case],
+) -> Option<Option<usize>> {
+    let mut device = opened(rt, alloc, path)?;
+    let page = filled_page(alloc, 5, 0)?;
+    let receipt = device.write(&page).ok()?;
+    change(rt, path, bytes, len)?;
+    Some(first_other(alloc, &mut device, &receipt, &page, cases))
+}
+
+/// What comes of pieces of a file that is a byte too short for its page.
+const CUT: [Case; 6] = [
+    (0, 4_096, Ok(true)),
+    (0, 65_535, Ok(true)),
+    (65_535, 65_535, Ok(true)),
+    (0, 65_536, Err(DeviceFault)),
+    (61_440, 65_536, Err(DeviceFault)),
+    (65_535, 65_536, Err(DeviceFault)),
+];
+
+#[test]
+fn a_file_too_short_for_a_piece_is_a_fault(rt: HostRuntime) {
+    let path = "cut_pieces.pages";
+    let other = first_other_after(&rt, rt.alloc(), path, &[], 65_535, &CUT);
+    assert!(rt; other == Some(None));
+    assert!(rt; fs::remove_file(&rt, path).is_ok());
+}
+
+/// What comes of pieces of a page in whose place another number was written: only those that have the number show it.
+const RENUMBERED: [Case; 6] = [
+    (0, 8, Err(DeviceFault)),
+    (0, 4_096, Err(DeviceFault)),
+    (0, 65_536, Err(DeviceFault)),
+    (0, 7, Ok(false)),
+    (1, 4_096, Ok(true)),
+    (61_440, 65_536, Ok(true)),
+];
+
+#[test]
+fn another_page_is_known_by_its_number(rt: HostRuntime) {
+    let path = "renumbered.pages";
+    let other = first_other_after(&rt, rt.alloc(), path, &[6], 65_536, &RENUMBERED);
+    assert!(rt; other == Some(None));
+    assert!(rt; fs::remove_file(&rt, path).is_ok());
 }
