@@ -1,7 +1,7 @@
 -- The loop of a lookup.
 use Rattle.std.proofs.Common.{◌≡◌, ℕ, ◌-◌, ◌*◌, ◌/◌, ◌%◌, ◌<◌, ◌≤◌, inl, inr, List, [], ◌∷◌, length, slice_index, Option, Some, None, refl, sym, ap, ◌∙◌, subst, arith, mod-lt}
 use Rattle.std.specs.List.{Contains}
-use Rattle.records.specs.Records.{Stored, records_of, IsLaidOut}
+use Rattle.records.specs.Records.{Stored}
 use Rattle.frames.specs.Resident.{next_number}
 use Rattle.words.specs.Stripes.{hash_of}
 use Rattle.hybrid.specs.Log.{Log, begin_of, top}
@@ -9,9 +9,9 @@ use Rattle.hybrid.specs.HybridLog.{HybridLog, Kept, IsHybridLog, bucket_of, log_
 use Rattle.hybrid.specs.Lookups.{IsLaidAt, Leads}
 use Rattle.std.proofs.lemmas.List.{get_or_append_left, get_or-take}
 use Rattle.records.specs.declared.pages.TheConstants.{PAGE_SIZE}
-use Rattle.hybrid.specs.Staging.{StagedPage, IsStaged, IsMissing}
+use Rattle.hybrid.specs.Staging.{StagedPage}
 use Rattle.hybrid.specs.Ways.{IsNear, IsFirstFar}
-use Rattle.hybrid.proofs.Logs.{here, some_is}
+use Rattle.hybrid.proofs.Logs.{here}
 use Rattle.hybrid.proofs.Chains.{joins_low}
 use Rattle.hybrid.proofs.Walk.{IsWalk, IsHere, walk-here, walk-start, here-visited, here-next}
 use Rattle.hybrid.proofs.Overwriting.{at-page}

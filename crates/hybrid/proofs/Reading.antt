@@ -109,8 +109,8 @@ fewer-reads false false false false = omega arith
 pub no-more-at : (a b : List StagedPage) (identity : List ℕ) → unread_at (a ++ b) identity ≤ unread_at a identity
 no-more-at a b identity =
     let same : unread_at (a ++ b) identity ≡ cond {A = ℕ} (is_staged a identity || is_staged b identity) 0 (cond (is_read a identity || is_read b identity) 1 2) =
-        ap (λ (t : Bool). cond {A = ℕ} t 0 (cond (is_read (a ++ b) identity) 1 2)) (staged-append a b identity)
-        ∙ ap (λ (t : Bool). cond {A = ℕ} (is_staged a identity || is_staged b identity) 0 (cond t 1 2)) (read-append a b identity) in
+    ap (λ (t : Bool). cond {A = ℕ} t 0 (cond (is_read (a ++ b) identity) 1 2)) (staged-append a b identity)
+    ∙ ap (λ (t : Bool). cond {A = ℕ} (is_staged a identity || is_staged b identity) 0 (cond t 1 2)) (read-append a b identity) in
     omega (arith, same, fewer-reads (is_staged a identity) (is_read a identity) (is_staged b identity) (is_read b identity))
 
 -- a page that was not staged whole is read once more
@@ -141,11 +141,30 @@ module _ (a later : List StagedPage) (k : Kept) (read : HasRead k a later) where
   fewer-at was =
       let whole : is_staged later k.identity ≡ is_none read.piece = now-staged ∙ ap (λ t. t || is_none read.piece) was in
       let now : unread_at later k.identity ≡ cond {A = ℕ} (is_none read.piece) 0 1 =
-          ap (λ t. cond {A = ℕ} t 0 (cond (is_read later k.identity) 1 2)) whole ∙ ap (λ t. cond {A = ℕ} (is_none read.piece) 0 (cond t 1 2)) now-read in
+      ap (λ t. cond {A = ℕ} t 0 (cond (is_read later k.identity) 1 2)) whole ∙ ap (λ t. cond {A = ℕ} (is_none read.piece) 0 (cond t 1 2)) now-read in
       let before : unread_at a k.identity ≡ cond {A = ℕ} (is_read a k.identity) 1 2 = ap (λ t. cond {A = ℕ} t 0 (cond (is_read a k.identity) 1 2)) was in
       let more : (is_none read.piece ≡ true) ⊎ (is_read a k.identity ≡ false) =
-          elim read.more [ inl w ↦ inl (ap is_none w) | inr none ↦ inr (not-read a k.identity none) ] in
+      elim read.more [ inl w ↦ inl (ap is_none w) | inr none ↦ inr (not-read a k.identity none) ] in
       omega (arith, now, before, at-most-one (is_read a k.identity) (is_none read.piece) more)
+
+-- a page that was staged whole is read no more
+pub fewer-or-none : (kept : Kept) (staged later : List StagedPage) → HasRead kept staged later → (unread_at later kept.identity < unread_at staged kept.identity) ⊎ (unread_at later kept.identity ≡ 0)
+fewer-or-none kept staged later read = go (is_staged staged kept.identity) refl
+  where
+    go : (was : Bool) → is_staged staged kept.identity ≡ was → (unread_at later kept.identity < unread_at staged kept.identity) ⊎ (unread_at later kept.identity ≡ 0)
+    go true e =
+        let whole : is_staged later kept.identity ≡ true = now-staged staged later kept read ∙ ap (λ t. t || is_none read.piece) e in
+        inr (ap (λ t. cond {A = ℕ} t 0 (cond (is_read later kept.identity) 1 2)) whole)
+    go false e = inl (fewer-at staged later kept read e)
+
+pub left-at : (staged : List StagedPage) (identity : List ℕ) → (IsStaged staged identity → ⊥) → 0 < unread_at staged identity
+left-at staged identity none =
+    let some : unread_at staged identity ≡ cond {A = ℕ} (is_read staged identity) 1 2 = ap (λ t. cond {A = ℕ} t 0 (cond (is_read staged identity) 1 2)) (not-staged staged identity none) in
+    omega (arith, some, one-or-two (is_read staged identity))
+  where
+    one-or-two : (part : Bool) → 0 < cond {A = ℕ} part 1 2
+    one-or-two true = omega arith
+    one-or-two false = omega arith
 
 -- ---- how many are unread
 

@@ -7,7 +7,6 @@ use Rattle.std.specs.List.{Contains}
 use Rattle.std.proofs.lemmas.List.{length-map, get_or-map, map-append}
 use Rattle.std.proofs.lemmas.List.Elements.{All-push}
 use Rattle.std.proofs.lemmas.Bool.{cases_lt}
-use Rattle.hybrid.specs.HybridLog.{Kept}
 use Rattle.hybrid.specs.Staging.{StagedPage, AreBytesRead, AreRight, HasBytes, IsRead, IsRight, IsStaged}
 use Rattle.hybrid.specs.Reading.{Source, staged_of}
 use Rattle.hybrid.proofs.Reading.{page-beyond, page-read, pages-beyond, staged-at, staged-size}

@@ -67,8 +67,12 @@ unread_of (Some k ∷ kept) staged = unread_at staged k.identity + unread_of kep
 abbrev pub unread : HybridLog → List StagedPage → ℕ
 unread p staged = unread_of p.kept staged
 
--- What is read makes the reads that are left no more, and a read of the page that a cold lookup names makes them fewer.
+-- What is read makes the reads that are left no more, of each page and of a log, and a read of a page makes them fewer, if some are left. Some
+-- are left of a page that is not staged whole.
 pub record ReadingLaws : Type 0 where
   pub decides : (staged : List StagedPage) (identity : List ℕ) → Decides (is_staged staged identity) (IsStaged staged identity)
+  pub no_more_at : (staged more : List StagedPage) (identity : List ℕ) → unread_at (staged ++ more) identity ≤ unread_at staged identity
+  pub fewer_at : (kept : Kept) (staged later : List StagedPage) → HasRead kept staged later → (unread_at later kept.identity < unread_at staged kept.identity) ⊎ (unread_at later kept.identity ≡ 0)
+  pub left_at : (staged : List StagedPage) (identity : List ℕ) → (IsStaged staged identity → ⊥) → 0 < unread_at staged identity
   pub no_more : (p : HybridLog) (staged more : List StagedPage) → unread p (staged ++ more) ≤ unread p staged
   pub fewer : (p : HybridLog) (staged later : List StagedPage) (number : ℕ) → (missing : IsMissing p staged number) → HasRead missing.kept staged later → unread p later < unread p staged

@@ -126,8 +126,8 @@ impl<R: Shows> Staged<R> {
         let Ok(()) = make_place(self.alloc, &mut self.pages, place) else {
             return Err(ReadFault::OutOfMemory);
         };
-        let page = &mut self.pages[place];
-        let Ok(()) = device.read(&receipt, page) else {
+        let whole = &mut self.pages[place];
+        let Ok(()) = device.read(&receipt, whole) else {
             return Err(ReadFault::DeviceFault);
         };
         self.reads.push_reserved(ReadBy {
@@ -191,7 +191,7 @@ impl<R: Shows> Staged<R> {
             return Err(ReadFault::OutOfMemory);
         };
         let page = &mut self.pages[place];
-        let Ok(()) = device.read(&receipt, page) else {
+        let Ok(()) = device.read_piece(&receipt, piece.from, piece.to, page) else {
             return Err(ReadFault::DeviceFault);
         };
         self.reads.push_reserved(ReadBy {

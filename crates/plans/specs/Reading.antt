@@ -1,7 +1,7 @@
 -- Pages that are read for a plan.
-use Rattle.std.specs.Prelude.{ℕ, zero, suc, ◌≡◌, ◌+◌, true, List, [], ◌∷◌, ◌++◌, Option, Some, None, Result, IfErr, OnOk}
+use Rattle.std.specs.Prelude.{ℕ, zero, suc, ◌≡◌, ◌⊎◌, ◌+◌, ◌<◌, List, [], ◌∷◌, ◌++◌, Option, Some, None, Result, IfErr, OnOk}
 use Rattle.hybrid.specs.HybridLog.{HybridLog, Kept, receipt_at}
-use Rattle.hybrid.specs.Reading.{is_staged, unread_of}
+use Rattle.hybrid.specs.Reading.{unread_at, unread_of}
 use Rattle.hybrid.specs.Staging.{AreRight, StagedPage}
 use Rattle.shards.specs.declared.shard.Shard.{Shard}
 use Rattle.shards.specs.Devices.{IsReadAlone}
@@ -11,26 +11,27 @@ use Rattle.plans.specs.declared.reading.WhenCold.TheVariants.{Stops}
 use Rattle.plans.specs.declared.stop.Stop.{Stop}
 use Rattle.plans.specs.Stops.{IfCold, IfFull, faults}
 
--- how many of its receipts no page was read by
+-- how often the pages of its receipts can still be read
 abbrev pub unread_log : Option HybridLog → List StagedPage → ℕ
 unread_log None staged = 0
 unread_log (Some log) staged = unread_of log.kept staged
 
--- how many receipts of so many logs are not staged
+-- how often the pages of the receipts of so many logs can still be read
 abbrev pub unread : ℕ → (ℕ → Option HybridLog) → List StagedPage → ℕ
 unread zero logs staged = 0
 unread (suc n) logs staged = unread n logs staged + unread_log (logs n) staged
 
--- each of these receipts is staged
-abbrev pub AreStaged : List StagedPage → List Kept → Type 0
-AreStaged staged [] = Unit {0}
-AreStaged staged (kept ∷ others) = (is_staged staged kept.identity ≡ true) × AreStaged staged others
+-- the page of each of these receipts can be read less often since, or no more
+abbrev pub AreFewer : (before later : List StagedPage) → List Kept → Type 0
+AreFewer before later [] = Unit {0}
+AreFewer before later (kept ∷ others) =
+    ((unread_at later kept.identity < unread_at before kept.identity) ⊎ (unread_at later kept.identity ≡ 0)) × AreFewer before later others
 
--- pages were staged, and each of these receipts is staged since
+-- pages were staged, whole or a piece of each, and those of these receipts can be read less often since
 pub record AreRead (receipts : List Kept) (before later : List StagedPage) : Type 0 where
   pub more : List StagedPage
   pub still : later ≡ before ++ more
-  pub staged : AreStaged later receipts
+  pub fewer : AreFewer before later receipts
 
 -- `serves` is the device's: it gives, as it is, for this receipt the page that it shows. `identity` is what a receipt has in common with its copies.
 module _ {D R : Type 0} (serves : D → R → Type 0) (identity : R → List ℕ) where

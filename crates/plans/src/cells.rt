@@ -16,7 +16,7 @@ ghost use Rattle.plans.specs.Planning.{IsStillHeld, MayLookUp, MissedAt};
 ghost use Rattle.plans.specs.Reserving.{FailsToReserveAt, GrowsBy, HasRoomAt, HasShedAt, IsRoomyFor, LeavesRoom, ReservesAt};
 ghost use Rattle.plans.specs.Holding.{Becomes, BecomesWritten, BeginsWatches, EndsWatches, marks_of};
 
-use crate::stop::{Receipts, Stop};
+use crate::stop::{Receipts, Stop, Wanted};
 use device::{Device, Shows};
 use gates::Parts;
 use hybrid::{Fault, Lookup, Purpose, Staged};
@@ -54,6 +54,7 @@ pub(crate) fn stripe_at<R: Shows, P: Parts<Shard<R>>>(parts: &P, key: &Hashed) -
 fn wanted<R: Shows>(
     part: &Shard<R>,
     number: u64,
+    offset: usize,
     staged: &Staged<R>,
     cold: &mut Receipts<R>,
 ) -> Result<(), OutOfMemory>
@@ -65,7 +66,8 @@ fn wanted<R: Shows>(
     let Some(receipt) = part.receipt(number) else {
         unreachable!()
     };
-    cold.push(receipt.again()?)
+    let receipt = receipt.again()?;
+    cold.push(Wanted { receipt, offset })
 }
 
 /// Why a lookup came to nothing that is cold at this page: the page is wanted, or there was no memory for a copy of its receipt.
@@ -73,6 +75,7 @@ pub(crate) fn missed<R: Shows>(
     alloc: Global,
     part: &Shard<R>,
     number: u64,
+    offset: usize,
     staged: &Staged<R>,
 ) -> Stop<R>
     requires missing { IsMissing (shard_log part.now) staged.now number }
@@ -80,7 +83,7 @@ pub(crate) fn missed<R: Shows>(
     ensures { WantsPage (shard_log part.now) staged.now number result }
 {
     let mut cold = Receipts::new(alloc);
-    match wanted(part, number, staged, &mut cold) {
+    match wanted(part, number, offset, staged, &mut cold) {
         Ok(()) => Stop::Cold(cold),
         Err(_) => Stop::OutOfMemory,
     }
@@ -108,7 +111,7 @@ fn look_up<R: Shows>(
             found.push(Write::new(key.key().clone()?, Some(value)))
         }
         Lookup::Absent => found.push(Write::new(key.key().clone()?, None)),
-        Lookup::Cold(number) => wanted(part, number, staged, cold),
+        Lookup::Cold(number, offset) => wanted(part, number, offset, staged, cold),
     }
 }
 
@@ -151,7 +154,7 @@ pub(crate) fn copy_of<R: Shows>(
             Err(_) => Err(Stop::OutOfMemory),
         },
         Lookup::Absent => Ok(None),
-        Lookup::Cold(number) => Err(missed(alloc, part, number, staged)),
+        Lookup::Cold(number, offset) => { Err(missed(alloc, part, number, offset, staged)) }
     }
 }
 

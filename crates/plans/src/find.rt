@@ -178,7 +178,9 @@ fn answer_at<R: Shows>(
     let value = match part.find(key, staged) {
         Lookup::Found(value) => Some(value),
         Lookup::Absent => None,
-        Lookup::Cold(number) => return Err(missed(alloc, part, number, staged)),
+        Lookup::Cold(number, offset) => {
+            return Err(missed(alloc, part, number, offset, staged));
+        }
     };
     match answer_found(alloc, key.key(), value, command) {
         Ok(done) => Ok(done),

@@ -3,7 +3,7 @@
 ghost use Rattle.std.specs.Prelude.{◌≡◌, ◌+◌, ◌≤◌, ⊤, [], ◌∷◌, IfOk, IfErr, OnOk, length};
 ghost use Rattle.words.specs.declared.command.Command.TheVariants.{Get};
 ghost use Rattle.transact.specs.declared.call.Call.TheVariants.{One};
-ghost use Rattle.hybrid.specs.Reading.{HasStaged};
+ghost use Rattle.hybrid.specs.Reading.{HasRead};
 ghost use Rattle.hybrid.specs.Staging.{AreRight};
 ghost use Rattle.transact.specs.Plans.{keys_begun};
 ghost use Rattle.shards.specs.Devices.{IsReadAlone, StillServes};
@@ -19,10 +19,11 @@ ghost use Rattle.plans.specs.Holding.{AreMarkedFor, NeedsMemory};
 use crate::plan::plan;
 use crate::planned::Planned;
 use crate::short::value_of;
-use crate::stop::{Receipts, Stop};
+use crate::stop::{Receipts, Stop, Wanted};
 use device::{Device, Shows};
 use gates::Parts;
 use hybrid::Staged;
+use hybrid::laws::reading_ends;
 use shards::shard::Shard;
 use std::alloc::Global;
 use transact::call::Call;
@@ -38,29 +39,30 @@ pub enum WhenCold {
     Stops,
 }
 
-/// Reads the page of a receipt, and stages it. Where the device serves the receipt, what is staged stays right.
+/// Reads what is wanted of a page, and stages it: a piece with the record, or the whole page if a piece of it was read before. Where the device
+/// serves the receipt, what is staged stays right.
 ///
 /// # Errors
 ///
 /// [`Stop::DeviceFault`] where the read failed, [`Stop::OutOfMemory`] where there is no memory for the page.
 fn read_one<R: Shows, D: Device<Receipt = R>>(
-    receipt: R,
+    wanted: Wanted<R>,
     staged: &mut Staged<R>,
     device: &mut D,
 ) -> Result<(), Stop<R>>
-    ensures staged { OnOk result (HasStaged (kept_by R.identity R.shown receipt) staged.old staged.new) }
-    ensures right { D.serves device.old receipt → AreRight staged.old → AreRight staged.new }
+    ensures staged { OnOk result (HasRead (kept_by R.identity R.shown wanted.receipt) staged.old staged.new) }
+    ensures right { D.serves device.old wanted.receipt → AreRight staged.old → AreRight staged.new }
     ensures still_served { (r : R) → D.serves device.old r → D.serves device.new r }
     ensures grows { HasMore staged.old staged.new }
     ensures device { IsReadAlone D.serves D.releases D.writes device.old device.new }
     ensures came { CameOfReads result (D.failures device.old) (D.failures device.new) }
     ensures once { D.reads device.new ≤ D.reads device.old + 1 }
 {
-    staged.read(receipt, device)?;
+    staged.read_at(wanted.receipt, wanted.offset, device)?;
     Ok(())
 }
 
-/// Reads the pages of receipts, each once, and stages them. Where the device serves the receipts, what is staged stays right.
+/// Reads what is wanted of the pages of receipts, each once, and stages it. Where the device serves the receipts, what is staged stays right.
 ///
 /// # Errors
 ///
@@ -78,9 +80,10 @@ pub fn read_all<R: Shows, D: Device<Receipt = R>>(
     ensures came { CameOfReads result (D.failures device.old) (D.failures device.new) }
     ensures once { D.reads device.new ≤ D.reads device.old + length receipts }
 {
+    reading_ends();
     let mut receipts = receipts;
-    while let Some(receipt) = receipts.pop() {
-        read_one(receipt, staged, device)?;
+    while let Some(wanted) = receipts.pop() {
+        read_one(wanted, staged, device)?;
     }
     Ok(())
 }
@@ -112,6 +115,7 @@ pub fn read_value<R: Shows, D: Device<Receipt = R>, P: Parts<Shard<R>>>(
     ensures failed { HaveFailed result (D.failures device.old) (D.failures device.new) }
     ensures held { IsStillHeld P.is_open P.keeps parts.old parts.new }
 {
+    reading_ends();
     loop {
         match value_of(alloc, parts, key, staged) {
             Ok(value) => return Ok(value),
@@ -162,6 +166,7 @@ pub fn plan_reading<R: Shows, D: Device<Receipt = R>, P: Parts<Shard<R>>>(
     ensures failed { HaveFailed result (D.failures device.old) (D.failures device.new) }
     ensures held { IsStillHeld P.is_open P.keeps parts.old parts.new }
 {
+    reading_ends();
     loop {
         match plan(alloc, parts, call, staged, device) {
             Ok(planned) => return Ok(planned),

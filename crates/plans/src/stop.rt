@@ -37,13 +37,22 @@ impl<R: Shows> From<ReadFault> for Stop<R> {
     }
 }
 
-/// Receipts of pages. Contracts see of each what it has in common with its copies, and the page that it shows.
+/// A page that is wanted.
+#[derive(Drop)]
+pub struct Wanted<R: Shows> {
+    /// A copy of its receipt.
+    pub receipt: R,
+    /// Where in it the record stands that is looked for.
+    pub offset: usize,
+}
+
+/// Receipts of pages that are wanted. Contracts see of each what it has in common with its copies, and the page that it shows.
 #[derive(Drop)]
 pub struct Receipts<R: Shows> {
     /// The first, which takes no memory of its own.
-    first: Option<R>,
+    first: Option<Wanted<R>>,
     /// Those after it.
-    others: Vec<R>,
+    others: Vec<Wanted<R>>,
 }
 
 impl<R: Shows> Model for Receipts<R> {
@@ -53,7 +62,7 @@ impl<R: Shows> Model for Receipts<R> {
 
     ghost Value = { List Kept };
 
-    ghost view = { λ receipts. listed R.identity R.shown receipts.first receipts.others.items };
+    ghost view = { λ receipts. listed (λ wanted. R.identity wanted.receipt) (λ wanted. R.shown wanted.receipt) receipts.first receipts.others.items };
 
     ghost invariant = { λ receipts. IfNone receipts.first (receipts.others.items ≡ []) };
 }
@@ -74,23 +83,23 @@ impl<R: Shows> Receipts<R> {
     /// # Errors
     ///
     /// [`OutOfMemory`] where there is no memory for it. The others are then as they were.
-    pub fn push(&mut self, receipt: R) -> Result<(), OutOfMemory>
-        ensures ok { OnOk result (self.new ≡ self.old ++ kept_by R.identity R.shown receipt ∷ []) }
+    pub fn push(&mut self, wanted: Wanted<R>) -> Result<(), OutOfMemory>
+        ensures ok { OnOk result (self.new ≡ self.old ++ kept_by R.identity R.shown wanted.receipt ∷ []) }
         ensures err { OnErr result (self.new ≡ self.old) }
         ensures first { self.old ≡ [] → IsOk result }
     {
         if self.first.is_none() {
-            self.first = Some(receipt);
+            self.first = Some(wanted);
             return Ok(());
         }
         self.others.reserve(1)?;
-        self.others.push_reserved(receipt);
+        self.others.push_reserved(wanted);
         Ok(())
     }
 
     /// Takes the last receipt off.
-    pub fn pop(&mut self) -> Option<R>
-        ensures some { IfSome result (λ receipt. self.old ≡ self.new ++ kept_by R.identity R.shown receipt ∷ []) }
+    pub fn pop(&mut self) -> Option<Wanted<R>>
+        ensures some { IfSome result (λ wanted. self.old ≡ self.new ++ kept_by R.identity R.shown wanted.receipt ∷ []) }
         ensures none { IfNone result ((self.old ≡ []) × (self.new ≡ self.old)) }
     {
         match self.others.pop() {

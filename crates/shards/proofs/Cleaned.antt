@@ -1,10 +1,10 @@
 -- The cleaner's step, by what its parts came to.
-use Rattle.std.proofs.Common.{◌≡◌, ◌∙◌, ◌≤◌, ◌<◌, ◌++◌, ◌∷◌, [], ℕ, List, Some, length, length-append, slice_index_or, refl, sym, ap, subst, arith}
+use Rattle.std.proofs.Common.{◌≡◌, ◌∙◌, ◌≤◌, ◌<◌, ℕ, inl, List, None, Some, refl, sym, ap, subst}
 use Rattle.std.specs.Prelude.{⊤}
 use Rattle.words.specs.declared.reply.Fault.{Fault}
 use Rattle.words.specs.declared.reply.Fault.TheVariants as fault
 use Rattle.hybrid.specs.HybridLog.{HybridLog, Kept}
-use Rattle.hybrid.specs.Reading.{ReadingLaws, unread}
+use Rattle.hybrid.specs.Reading.{HasRead, ReadingLaws, unread}
 use Rattle.hybrid.specs.Staging.{IsMissing, StagedPage}
 use Rattle.hybrid.specs.Weighing.{MatchWeighed}
 use Rattle.hybrid.specs.declared.stripe.TheConstants.{CLEAN_WEIGHT}
@@ -37,10 +37,6 @@ cleaned_by (cleaning.Cold n) A A2 U S S2 H H2 C X never more heavier stays unlin
 cleaned_by (cleaning.Heavy w) A A2 U S S2 H H2 C X never more heavier stays unlinked same heavy resident = heavier w same heavy
 cleaned_by cleaning.Resident A A2 U S S2 H H2 C X never more heavier stays unlinked same heavy resident = stays same resident
 
-last : (l : List StagedPage) (s : StagedPage) → slice_index_or (l ++ s ∷ []) (length l) s ≡ s
-last [] s = refl
-last (x ∷ l) s = last l s
-
 some_same : (a b : Kept) → Some a ≡ Some b → a ≡ b
 some_same a b same = cc same
 
@@ -48,10 +44,8 @@ some_same a b same = cc same
 pub fetched_less : ReadingLaws → (p : HybridLog) (number : ℕ) (old new : List StagedPage) → IsMissing p old number → IsFetched p number old new
     → unread p new < unread p old
 fetched_less laws p number old new missing fetched =
-    let one : StagedPage = record { kept = fetched.kept; page = fetched.page } in
     let same : fetched.kept ≡ missing.kept = some_same fetched.kept missing.kept (sym fetched.has ∙ missing.has) in
-    subst (λ (l : List StagedPage). unread p l < unread p old) (sym fetched.staged)
-    (laws.fewer p old (one ∷ []) number missing (one, (length old, omega (arith, length-append old (one ∷ [])), last old one), ap (λ (k : Kept). k.identity) same))
+    laws.fewer p old new number missing (subst (λ (k : Kept). HasRead k old new) same (record { page = fetched.page; piece = None; is = fetched.staged; more = inl refl }))
 
 -- what is the same waits the same
 pub same_waiting : (one two : Counted) → two ≡ one → SameWaiting one two

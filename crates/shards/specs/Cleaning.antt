@@ -1,5 +1,5 @@
 -- The cleaner's step at a stripe.
-use Rattle.std.specs.Prelude.{ℕ, ◌≡◌, ◌⊎◌, ◌+◌, ◌<◌, ◌≤◌, ⊤, Bool, true, false, List, [], ◌∷◌, ◌++◌, length, Some, Result, IfErr, OnOk, if◌then◌else◌}
+use Rattle.std.specs.Prelude.{ℕ, ◌≡◌, ◌⊎◌, ◌+◌, ◌<◌, ◌≤◌, ⊤, Bool, true, false, List, [], ◌∷◌, ◌++◌, length, None, Some, Result, IfErr, OnOk, if◌then◌else◌}
 use Rattle.epoch.specs.declared.view.View.{View}
 use Rattle.epoch.specs.declared.epochs.EpochSeat.{EpochSeat}
 use Rattle.epoch.specs.Seats.{WasWorn, known}
@@ -52,7 +52,7 @@ pub record IsFetched (p : HybridLog) (number : ℕ) (old new : List StagedPage) 
   pub kept : Kept
   pub has : receipt_of p number ≡ Some kept
   pub page : Bytes
-  pub staged : new ≡ old ++ record { kept = kept; page = page } ∷ []
+  pub staged : new ≡ old ++ record { kept = kept; page = page; piece = None } ∷ []
 
 -- what waits but for the unlinked receipts is the same
 pub record SameWaiting (old new : Counted) : Type 0 where

@@ -125,7 +125,7 @@ impl<R: Shows> Shard<R> {
                 }
             }
             Lookup::Absent => Lookup::Absent,
-            Lookup::Cold(number) => Lookup::Cold(number),
+            Lookup::Cold(number, offset) => Lookup::Cold(number, offset),
         }
     }
 

@@ -132,7 +132,7 @@ impl Shelf {
             match self.stripe.find(key, staged) {
                 Lookup::Found(found) => return Some(value == Some(found)),
                 Lookup::Absent => return Some(value.is_none()),
-                Lookup::Cold(number) => stage(&self.stripe, &mut self.device, staged, number)?,
+                Lookup::Cold(number, _) => stage(&self.stripe, &mut self.device, staged, number)?,
             }
         }
         None
@@ -651,7 +651,7 @@ fn is_cold<R: Shows>(stripe: &Stripe<R>, staged: &Staged<R>, number: u16) -> boo
     let key = key_of(number);
     matches!(
         stripe.find_hashed(hash_of(&key), &key, staged),
-        Lookup::Cold(_)
+        Lookup::Cold(_, _)
     )
 }
 
@@ -707,7 +707,7 @@ fn value_lent<'a, R: Shows>(
     match stripe.find(key, staged) {
         Lookup::Found(value) => Some(value),
         Lookup::Absent => None,
-        Lookup::Cold(_) => unreachable!(),
+        Lookup::Cold(_, _) => unreachable!(),
     }
 }
 

@@ -221,7 +221,8 @@ fn with_keepers(
 {
     let mut receipts = receipts;
     let mut due = Vec::new(alloc);
-    while let Some(receipt) = receipts.pop() {
+    while let Some(wanted) = receipts.pop() {
+        let receipt = wanted.receipt;
         let Some(stripe) = log.stripes.keeper_of(client, receipt.place()) else {
             return Err(Stopped);
         };

@@ -8,7 +8,7 @@ use Rattle.frames.specs.Resident.{Resident, first_mutable, page_of}
 use Rattle.hybrid.specs.HybridLog as hybrid
 use Rattle.hybrid.specs.Reserving.{IsReserved}
 use Rattle.hybrid.specs.Shedding as trace
-use Rattle.hybrid.specs.Reading.{HasStaged, ReadingLaws, unread}
+use Rattle.hybrid.specs.Reading.{HasRead, HasStaged, ReadingLaws, unread}
 use Rattle.hybrid.specs.Log.{Log}
 use Rattle.hybrid.specs.Weighing.{live_weight, oldest_weight}
 use Rattle.records.specs.Records.{records_of}
@@ -58,24 +58,18 @@ fetched_by p number old new one two has same staged = record {
   page = staged.page;
   staged =
       staged.is
-      ∙ ap (λ (k : Kept). let s : StagedPage = record { kept = k; page = staged.page } in old ++ s ∷ []) same;
+      ∙ ap (λ (k : Kept). let s : StagedPage = record { kept = k; page = staged.page; piece = None } in old ++ s ∷ []) same;
 }
 
 -- where a page was fetched that was missing, less is to be read
 pub fetched_less : ReadingLaws → (p : HybridLog) (number : ℕ) (old new : List StagedPage) → IsMissing p old number → IsFetched p number old new
     → unread p new < unread p old
 fetched_less laws p number old new missing fetched =
-    let one : StagedPage = record { kept = fetched.kept; page = fetched.page } in
     let same : fetched.kept ≡ missing.kept = some_same (sym fetched.has ∙ missing.has) in
-    subst (λ (l : List StagedPage). unread p l < unread p old) (sym fetched.staged)
-    (laws.fewer p old (one ∷ []) number missing (one, (length old, omega (arith, length-append old (one ∷ [])), last old one), ap (λ (k : Kept). k.identity) same))
+    laws.fewer p old new number missing (subst (λ (k : Kept). HasRead k old new) same (record { page = fetched.page; piece = None; is = fetched.staged; more = inl refl }))
   where
     some_same : {a b : Kept} → Option.Some a ≡ Some b → a ≡ b
     some_same same = cc same
-
-    last : (l : List StagedPage) (s : StagedPage) → slice_index_or (l ++ s ∷ []) (length l) s ≡ s
-    last [] s = refl
-    last (x ∷ l) s = last l s
 
 -- what is served by one device is served by another with its places
 pub served_places : (p : HybridLog) (device after : Shelves) → SamePlaces device after → AreServed p device → AreServed p after

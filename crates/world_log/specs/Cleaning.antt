@@ -24,7 +24,7 @@ pub record IsFetched (p : HybridLog) (number : ℕ) (old new : List StagedPage) 
   pub kept : Kept
   pub has : receipt_of p number ≡ Some kept
   pub page : Bytes
-  pub staged : new ≡ old ++ record { kept = kept; page = page } ∷ []
+  pub staged : new ≡ old ++ record { kept = kept; page = page; piece = None } ∷ []
 
 -- the oldest page left the log, so many pages were opened, and its place is unlinked
 pub record HasUnlinked (old : HybridLog) (before : Beside) (new : HybridLog) (after : Beside) : Type 0 where

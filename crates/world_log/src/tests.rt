@@ -84,7 +84,7 @@ fn look(
     let number = match lane.shard.find(&key, staged) {
         Lookup::Found(found) => return Ok(Seen::Value(found == value)),
         Lookup::Absent => return Ok(Seen::Value(false)),
-        Lookup::Cold(number) => number,
+        Lookup::Cold(number, _) => number,
     };
     match lane.shard.receipt(number) {
         Some(receipt) => match receipt.again() {

@@ -1,10 +1,9 @@
-use Rattle.std.proofs.Common.{◌≡◌, ◌+◌, ◌≤◌, ◌∙◌, inl, inr, ℕ, Option, sym, subst, arith}
+use Rattle.std.proofs.Common.{◌≡◌, ◌+◌, ◌≤◌, ◌∙◌, inl, inr, Option, sym, subst, arith}
 use Rattle.std.specs.Prelude.{MatchOption}
 use Rattle.std.proofs.lemmas.Bool.{cases_lt, false≢true}
 use Rattle.records.specs.Page.{SameWithin}
 use Rattle.records.specs.Records.{HasPiece, size_of}
 use Rattle.hybrid.specs.declared.piece.Piece.{Piece}
-use Rattle.hybrid.specs.Staging.{HasBytes, IsRight}
 use Rattle.hybrid.proofs.staged.record_in.Goals as goal
 
 pub returns-in-Ok-clause-found : goal.returns-in-Ok-clause-found

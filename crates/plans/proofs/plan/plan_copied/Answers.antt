@@ -1,4 +1,4 @@
-use Rattle.std.proofs.Common.{IsOk, rules, arith, length, ◌<◌, ◌≡◌, ◌∙◌, ℕ, List, [], refl, sym, ap, subst}
+use Rattle.std.proofs.Common.{IsOk, rules, arith, length, ◌<◌, ◌≡◌, ◌∙◌, ◌∷◌, ◌++◌, ℕ, List, [], refl, sym, ap, subst}
 use Rattle.words.specs.declared.reply.Reply.TheVariants as reply
 use Rattle.words.specs.declared.history.Operation.{Operation}
 use Rattle.words.specs.Commands.{keys_of}
@@ -8,7 +8,7 @@ use Rattle.plans.specs.Memory.{AreAtHand}
 use Rattle.hybrid.specs.Staging.{AreRight}
 use Rattle.hybrid.specs.Writing.{AreFit}
 use Rattle.transact.specs.Plans.{IsPlan, made}
-use Rattle.transact.specs.Tables.{AreThere, joined}
+use Rattle.transact.specs.Tables.{AreThere, joined, values_of}
 use Rattle.shards.specs.Receipts.{kept_by}
 use Rattle.shards.specs.Shards.{logs_of, shard_meaning}
 use Rattle.plans.specs.Planning.{AreDue, AreSettled, of_copied}
@@ -95,7 +95,20 @@ returns-in_default-answer_one g c = record {
     became =
         became_same (shard_meaning g.R.Shows.is_steady) (g.P.Parts.stripes_of c.args.parts.now) (g.P.Parts.part_of c.args.parts.now) (g.P.Parts.part_of c.find_command.new.parts) c.find_command.ensures.same;
   });
-  stopped = search rules;
+  stopped = (let n : ℕ = (g.P.Parts.stripes_of c.args.parts.now) in
+      let parts = g.P.Parts.part_of c.args.parts.now in
+      let store = joined (shard_meaning g.R.Shows.is_steady) n parts in
+      let none : c.find_command.new.cold ≡ [] = no_wanted c.find_command.new.cold (sym c.is_empty.ensures ∙ c.if-not-is_empty.false) in
+      record {
+        takes = λ right hand brief.
+            let found = all_found (IsNeeded (g.R.Shows.is_honest × AreRight c.args.staged.now) n (logs_of parts) (keys_of c.args.command.now) c.args.staged.now) (g.R.Shows.is_honest × AreRight c.args.staged.now) store (keys_of c.args.command.now)
+            c.new-cold.result c.find_command.new.cold c.new-found.result c.find_command.new.found c.in-Ok.ensures.found none right in
+            let one : c.find_command.new.found ≡ (brief.0, store brief.0) ∷ [] = found ∙ ap (λ (b : List Write). b ++ values_of store (keys_of c.args.command.now)) c.new-found.ensures ∙ ap (values_of store) brief.1.keys in
+            let ok : IsOk c.answer_one.result = c.answer_one.ensures.memory brief.0 (store brief.0) one brief.1.texts in
+            search (rules, ok);
+        logs = logs_same parts (g.P.Parts.part_of c.find_command.new.parts) c.find_command.ensures.same;
+        device = refl;
+      });
   stands = stands_same g.D.Device.serves g.D.Device.releases (g.P.Parts.part_of c.args.parts.now) (g.P.Parts.part_of c.find_command.new.parts) c.args.device.now c.find_command.ensures.same;
   failed = search rules;
   held = search rules;

@@ -73,7 +73,7 @@ loop-planned-smaller g c =
     let before = g.P.Parts.part_of c.loop-planned.parts in
     let stop = rw (c.in-Err-Cold.field-0-is, g.met.P.Parts.same_stripes c.args.parts.now c.loop-planned.parts c.loop-planned.invariant.keeps) at c.in-Err-Cold.ensures.stopped in
     subst (λ p. unread n (logs_of p) c.read_all.new.staged < unread n (logs_of before) c.loop-planned.staged) (sym stop.untouched)
-    (reads_fewer n (logs_of before) (keys_looked_up c.args.call.now) c.in-Err-Cold.receipts c.loop-planned.staged c.read_all.new.staged (g.met.P.Parts.are_few c.args.parts.now c.requires.may.may.can_lend).0 stop.wanted.cold c.in_default.ensures.staged)
+    (reads_fewer c.reading_ends.ensures n (logs_of before) (keys_looked_up c.args.call.now) c.in-Err-Cold.receipts c.loop-planned.staged c.read_all.new.staged (g.met.P.Parts.are_few c.args.parts.now c.requires.may.may.can_lend).0 stop.wanted.cold c.in_default.ensures.staged)
 
 pub returns-in-Ok-clause-planned : goal.returns-in-Ok-clause-planned
 returns-in-Ok-clause-planned g c =

@@ -4,8 +4,8 @@ use Rattle.plans.specs.Reading.{AreRead, HasMore, ServesEach}
 use Rattle.shards.specs.Devices.{IsReadAlone}
 use Rattle.plans.proofs.reading.read_all.Given as goal
 
-abbrev pub invariant-loop-receipt : goal.invariant-loop-receipt
-invariant-loop-receipt g l = record {
+abbrev pub invariant-loop-wanted : goal.invariant-loop-wanted
+invariant-loop-wanted g l = record {
   same : g.D.Device.failures l.device ≡ g.D.Device.failures l.fn.device;
   grows : HasMore l.fn.staged l.staged;
   once : g.D.Device.reads l.device + length l.receipts ≤ g.D.Device.reads l.fn.device + length l.fn.receipts;
@@ -16,5 +16,5 @@ invariant-loop-receipt g l = record {
   read : (later : List StagedPage) → AreRead l.receipts l.staged later → AreRead l.fn.receipts l.fn.staged later;
 }
 
-abbrev pub decreases-loop-receipt : goal.decreases-loop-receipt
-decreases-loop-receipt g l = length l.receipts
+abbrev pub decreases-loop-wanted : goal.decreases-loop-wanted
+decreases-loop-wanted g l = length l.receipts

@@ -59,7 +59,7 @@ loop-value-smaller g c =
     let before = g.P.Parts.part_of c.loop-value.parts in
     let stop = rw (c.in-Err-Cold.field-0-is, g.met.P.Parts.same_stripes c.args.parts.now c.loop-value.parts c.loop-value.invariant.keeps) at c.in-Err-Cold.ensures.stopped in
     subst (λ p. unread n (logs_of p) c.read_all.new.staged < unread n (logs_of before) c.loop-value.staged) (sym c.value_of.ensures.same)
-    (reads_fewer n (logs_of before) (c.args.key.now ∷ []) c.in-Err-Cold.receipts c.loop-value.staged c.read_all.new.staged (g.met.P.Parts.are_few c.args.parts.now c.requires.may.can_lend).0 stop.cold c.in_default.ensures.staged)
+    (reads_fewer c.reading_ends.ensures n (logs_of before) (c.args.key.now ∷ []) c.in-Err-Cold.receipts c.loop-value.staged c.read_all.new.staged (g.met.P.Parts.are_few c.args.parts.now c.requires.may.can_lend).0 stop.cold c.in_default.ensures.staged)
 
 pub returns-in-Ok-clause-value : goal.returns-in-Ok-clause-value
 returns-in-Ok-clause-value g c =

@@ -1,6 +1,5 @@
 use Rattle.std.proofs.Common.{List, ◌≡◌, ◌≤◌, ◌∙◌, length, map, ap, arith}
 use Rattle.hybrid.specs.declared.staged.ReadBy.{ReadBy}
-use Rattle.hybrid.specs.Staging.{StagedPage}
 use Rattle.hybrid.specs.Reading.{Source, staged_of}
 use Rattle.hybrid.proofs.Staging.{more-missed-any, all-missed, none-read}
 use Rattle.hybrid.proofs.staged.Staged.has_read.Goals as goal

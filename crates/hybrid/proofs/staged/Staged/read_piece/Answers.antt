@@ -39,7 +39,7 @@ returns-clause-read g c =
     let lt : c.len-place.result < length made = omega (arith, c.in-Ok-make_place.ensures.there, c.make_place.new.pages.ok.0) in
     let is = ap (λ (l : List (ReadBy g.row.R.Denot)). staged_of (map f l) (set made c.len-place.result c.read_piece.new.page)) (c.push_reserved.ensures.items ∙ ap (λ (l : List (ReadBy g.row.R.Denot)). l ++ record { receipt = c.args.receipt; piece = Some c.args.piece } ∷ []) c.reserve.ensures.items)
     ∙ one-staged f items pages made c.args.self.now c.self.view_is fits grown.0 c.len-place.result c.read_piece.new.page (record { receipt = c.args.receipt; piece = Some c.args.piece }) grown.1 last lt in
-    record { page = c.read_piece.new.page; piece = Some c.args.piece; is = is; more = inr c.requires }
+    record { page = c.read_piece.new.page; piece = Some c.args.piece; is = is; more = inr c.requires.first }
 
 pub returns-clause-right : goal.returns-clause-right
 returns-clause-right g c = λ serves right.

@@ -3,7 +3,7 @@ use Rattle.std.specs.List.{Contains}
 use Rattle.std.proofs.lemmas.Bool.{false≢true}
 use Rattle.records.specs.Records.{IsLaidOut, records_of, size_of}
 use Rattle.hybrid.specs.declared.staged.ReadBy.{ReadBy}
-use Rattle.hybrid.specs.Staging.{StagedPage, HasBytes}
+use Rattle.hybrid.specs.Staging.{HasBytes}
 use Rattle.hybrid.specs.Reading.{Source, staged_of}
 use Rattle.hybrid.proofs.Finding.{some-so}
 use Rattle.hybrid.proofs.Staging.{entry, entry-right, entry-there, more-missed, more-missed-any, all-missed, if-none, none-has, none-whole}
@@ -37,24 +37,24 @@ loop-place-preserved g c =
     let item = c.read-item.result in
     elim c.if-same.branch [
       | then-same+else-is_some w ↦ (
-          more-missed f items c.self.inside.pages.items c.args.self.now is fits (λ s. (s.kept.identity ≡ g.R.Shows.identity c.args.receipt.now) × (s.piece ≡ None)) c.loop-place.place item w.index.result.now c.loop-place-test.true c.read-item.is w.index.ensures
-              (λ same. if-none w.record_in-found.result _ (sym w.is_some.ensures ∙ w.if-is_some.false) w.record_in-found.ensures.whole same.1) c.loop-place.invariant.0,
-          λ honest right laid r listed.
-              let same = c.same.ensures.only_copies honest w.if-same.true in
-              let shown_is = g.met.R.Shows.one_page item.receipt c.args.receipt.now same in
-              let is_right = entry-right f items c.self.inside.pages.items c.args.self.now is fits c.loop-place.place item w.index.result.now c.loop-place-test.true c.read-item.is w.index.ensures right in
-              more-missed f items c.self.inside.pages.items c.args.self.now is fits (λ s. (s.kept.identity ≡ g.R.Shows.identity c.args.receipt.now) × HasBytes s c.args.offset (size_of r)) c.loop-place.place item w.index.result.now c.loop-place-test.true c.read-item.is w.index.ensures
-              (λ has. if-none w.record_in-found.result _ (sym w.is_some.ensures ∙ w.if-is_some.false)
-              (w.record_in-found.ensures.unread (entry (f item) w.index.result.now) refl refl is_right (subst IsLaidOut (sym shown_is) laid) r (subst (λ l. Contains (records_of l) (c.args.offset, r)) (sym shown_is) listed)) has.1)
-              (c.loop-place.invariant.1 honest right laid r listed),
-        )
+        more-missed f items c.self.inside.pages.items c.args.self.now is fits (λ s. (s.kept.identity ≡ g.R.Shows.identity c.args.receipt.now) × (s.piece ≡ None)) c.loop-place.place item w.index.result.now c.loop-place-test.true c.read-item.is w.index.ensures
+            (λ same. if-none w.record_in-found.result _ (sym w.is_some.ensures ∙ w.if-is_some.false) w.record_in-found.ensures.whole same.1) c.loop-place.invariant.0,
+        λ honest right laid r listed.
+            let same = c.same.ensures.only_copies honest w.if-same.true in
+            let shown_is = g.met.R.Shows.one_page item.receipt c.args.receipt.now same in
+            let is_right = entry-right f items c.self.inside.pages.items c.args.self.now is fits c.loop-place.place item w.index.result.now c.loop-place-test.true c.read-item.is w.index.ensures right in
+            more-missed f items c.self.inside.pages.items c.args.self.now is fits (λ s. (s.kept.identity ≡ g.R.Shows.identity c.args.receipt.now) × HasBytes s c.args.offset (size_of r)) c.loop-place.place item w.index.result.now c.loop-place-test.true c.read-item.is w.index.ensures
+            (λ has. if-none w.record_in-found.result _ (sym w.is_some.ensures ∙ w.if-is_some.false)
+            (w.record_in-found.ensures.unread (entry (f item) w.index.result.now) refl refl is_right (subst IsLaidOut (sym shown_is) laid) r (subst (λ l. Contains (records_of l) (c.args.offset, r)) (sym shown_is) listed)) has.1)
+            (c.loop-place.invariant.1 honest right laid r listed),
+      )
       | else-same w ↦ (
-          more-missed-any f items c.self.inside.pages.items c.args.self.now is fits (λ s. (s.kept.identity ≡ g.R.Shows.identity c.args.receipt.now) × (s.piece ≡ None)) c.loop-place.place item c.loop-place-test.true c.read-item.is
-              (λ page same. let bad = c.same.ensures.copies same.0 in absurd (cc (w.if-same.false, bad))) c.loop-place.invariant.0,
-          λ honest right laid r listed.
-              more-missed-any f items c.self.inside.pages.items c.args.self.now is fits (λ s. (s.kept.identity ≡ g.R.Shows.identity c.args.receipt.now) × HasBytes s c.args.offset (size_of r)) c.loop-place.place item c.loop-place-test.true c.read-item.is
-              (λ page same. let bad = c.same.ensures.copies same.0 in absurd (cc (w.if-same.false, bad))) (c.loop-place.invariant.1 honest right laid r listed),
-        )
+        more-missed-any f items c.self.inside.pages.items c.args.self.now is fits (λ s. (s.kept.identity ≡ g.R.Shows.identity c.args.receipt.now) × (s.piece ≡ None)) c.loop-place.place item c.loop-place-test.true c.read-item.is
+            (λ page same. let bad = c.same.ensures.copies same.0 in absurd (cc (w.if-same.false, bad))) c.loop-place.invariant.0,
+        λ honest right laid r listed.
+            more-missed-any f items c.self.inside.pages.items c.args.self.now is fits (λ s. (s.kept.identity ≡ g.R.Shows.identity c.args.receipt.now) × HasBytes s c.args.offset (size_of r)) c.loop-place.place item c.loop-place-test.true c.read-item.is
+            (λ page same. let bad = c.same.ensures.copies same.0 in absurd (cc (w.if-same.false, bad))) (c.loop-place.invariant.1 honest right laid r listed),
+      )
     ]
 
 pub returns-clause-unread : goal.returns-clause-unread

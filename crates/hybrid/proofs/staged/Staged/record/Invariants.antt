@@ -9,4 +9,4 @@ abbrev pub invariant-loop-place : goal.invariant-loop-place
 invariant-loop-place g l =
     ((k : ℕ) (d : StagedPage) → k < l.place → ((slice_index_or l.self k d).kept.identity ≡ g.R.Shows.identity l.receipt) × ((slice_index_or l.self k d).piece ≡ None) → ⊥)
     × (g.R.Shows.is_honest → AreRight l.self → IsLaidOut (g.R.Shows.shown l.receipt) → (r : Stored) → Contains (records_of (g.R.Shows.shown l.receipt)) (l.offset, r)
-        → (k : ℕ) (d : StagedPage) → k < l.place → ((slice_index_or l.self k d).kept.identity ≡ g.R.Shows.identity l.receipt) × HasBytes (slice_index_or l.self k d) l.offset (size_of r) → ⊥)
+    → (k : ℕ) (d : StagedPage) → k < l.place → ((slice_index_or l.self k d).kept.identity ≡ g.R.Shows.identity l.receipt) × HasBytes (slice_index_or l.self k d) l.offset (size_of r) → ⊥)

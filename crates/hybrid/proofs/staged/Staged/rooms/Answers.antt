@@ -1,4 +1,4 @@
-use Rattle.std.proofs.Common.{List, ◌≤◌, length, map, sym, subst, arith}
+use Rattle.std.proofs.Common.{List, ◌≤◌, length, map, subst, arith}
 use Rattle.hybrid.specs.declared.staged.ReadBy.{ReadBy}
 use Rattle.hybrid.specs.Staging.{StagedPage}
 use Rattle.hybrid.specs.Reading.{Source}

@@ -22,7 +22,7 @@ returns-clause-found g c = λ honest right r laid.
     let same : page_at p (c.args.address / PAGE_SIZE) ≡ k.shown = ap (page_at p) (sym at) ∙ page-cold p n k (now-is _ _ c.self.view_is c.self.invariant.0) live high has in
     let offset : c.offset-in-Some-receipt.result ≡ c.args.address % PAGE_SIZE = c.offset-in-Some-receipt.ensures in
     let listed : Contains (records_of k.shown) (c.offset-in-Some-receipt.result, r) =
-        subst (λ o. Contains (records_of k.shown) (o, r)) (sym offset) (subst (λ l. Contains (records_of l) (c.args.address % PAGE_SIZE, r)) same laid.listed) in
+    subst (λ o. Contains (records_of k.shown) (o, r)) (sym offset) (subst (λ l. Contains (records_of l) (c.args.address % PAGE_SIZE, r)) same laid.listed) in
     some-so c.record.result _ _ (λ found e. (e.0, inr (k, has_there, subst (λ o. AreInReach g.R.Shows.lends c.args.staged.now k.identity o (size_of r)) offset e.1)))
     (c.record.ensures.found honest right (subst IsLaidOut same laid.laid) r listed)
 
@@ -40,7 +40,7 @@ returns-clause-unread g c = λ honest right r laid.
     let same : page_at p (c.args.address / PAGE_SIZE) ≡ k.shown = ap (page_at p) (sym at) ∙ page-cold p n k (now-is _ _ c.self.view_is c.self.invariant.0) live high has in
     let offset : c.offset-in-Some-receipt.result ≡ c.args.address % PAGE_SIZE = c.offset-in-Some-receipt.ensures in
     let listed : Contains (records_of k.shown) (c.offset-in-Some-receipt.result, r) =
-        subst (λ o. Contains (records_of k.shown) (o, r)) (sym offset) (subst (λ l. Contains (records_of l) (c.args.address % PAGE_SIZE, r)) same laid.listed) in
+    subst (λ o. Contains (records_of k.shown) (o, r)) (sym offset) (subst (λ l. Contains (records_of l) (c.args.address % PAGE_SIZE, r)) same laid.listed) in
     none-so c.record.result _ _ (λ far near. elim near [
       | inl there ↦ absurd (omega (arith, there.0, high, at))
       | inr kept ↦

@@ -1,4 +1,4 @@
-use Rattle.std.proofs.Common.{◌≡◌, ◌/◌, ◌<◌, ◌≤◌, ◌∙◌, ap, sym, refl, arith, Some}
+use Rattle.std.proofs.Common.{◌≡◌, ◌<◌, ◌≤◌, ◌∙◌, ap, sym, refl, arith, Some}
 use Rattle.records.specs.Read.{shown}
 use Rattle.hybrid.specs.Log.{begin_of}
 use Rattle.hybrid.specs.HybridLog.{HybridLog, bucket_of, log_of}
