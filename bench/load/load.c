@@ -3,7 +3,7 @@
 //   load PORT CLIENTS DEEP SECONDS UNIT KEYS SIZE [PREFIX]
 // A unit is one command, or for exec2 one transaction (MULTI, INCR, INCR, EXEC). Those of memcached begin with "mc". Keys are drawn
 // uniformly for so many SECONDS; with 0 each key has its turn once, in order. PACE=N in the environment offers N units a second, and no
-// more. Prints one line of JSON: units, errors, values that were missing, and the time of a batch. It fails at what is no reply, at a reply
+// more; with SKEW=1 half of the keys that are drawn are of the first sixteenth (the fourth power of a uniform number). Prints one line of JSON: units, errors, values that were missing, and the time of a batch. It fails at what is no reply, at a reply
 // too many, and where the connection ends.
 #define _GNU_SOURCE
 #include <arpa/inet.h>
@@ -21,6 +21,7 @@ enum { CLIENTS_MAX = 128, KEYS_MAX = 16, DIGITS = 12, MICROSECONDS_MAX = 200000,
 
 static int port, clients, deep;
 static double seconds, pace, start_time;
+static bool is_skewed;
 static uint64_t keys;
 static const char *prefix = "key:";
 static char *value;
@@ -165,7 +166,12 @@ static int connected(void) {
 }
 
 static void digits(char *at, uint64_t n) { for (int i = DIGITS - 1; i >= 0; i--) { at[i] = '0' + n % 10; n /= 10; } }
-static uint64_t drawn(uint64_t *rng) { *rng ^= *rng << 13; *rng ^= *rng >> 7; *rng ^= *rng << 17; return (*rng >> 11) % keys; }
+static uint64_t drawn(uint64_t *rng) {
+    *rng ^= *rng << 13; *rng ^= *rng >> 7; *rng ^= *rng << 17;
+    if (!is_skewed) return (*rng >> 11) % keys;
+    double x = (*rng >> 11) * 0x1p-53;
+    return (uint64_t)(x * x * x * x * keys);
+}
 
 // Names the keys of the next batch: how many units it has. With 0 seconds there are fewer at the end, and then none.
 static int name_keys(char *out, uint64_t *rng, uint64_t *next) {
@@ -257,6 +263,7 @@ int main(int argc, char **argv) {
     if (deep < 1 || keys < 1) fail("DEEP and KEYS are at least 1", "");
     if (argc > 8) prefix = argv[8];
     if (getenv("PACE")) pace = atof(getenv("PACE"));
+    is_skewed = getenv("SKEW") && !strcmp(getenv("SKEW"), "1");
     size_t size = atoll(argv[7]);
     value = size == 3 ? strdup("123") : memset(calloc(1, size + 1), 'x', size);
     build(argv[5]);

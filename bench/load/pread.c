@@ -1,4 +1,5 @@
-// Pages of 64 KiB read a second from one file by THREADS threads, each at uniformly drawn places by pread.   pread FILE THREADS SECONDS
+// How often THREADS threads read SIZE bytes of one file a second, each at uniformly drawn places, which are multiples of SIZE, by pread.
+//   pread FILE THREADS SECONDS [SIZE]     a page of 64 KiB without SIZE
 #define _GNU_SOURCE
 #include <fcntl.h>
 #include <pthread.h>
@@ -8,19 +9,21 @@
 #include <sys/stat.h>
 #include <time.h>
 #include <unistd.h>
-static int fd; static uint64_t pages; static double seconds, start; static uint64_t counts[64];
+static int fd; static uint64_t size = 65536, pieces; static double seconds, start; static uint64_t counts[64];
 static double now(void) { struct timespec t; clock_gettime(CLOCK_MONOTONIC, &t); return t.tv_sec + t.tv_nsec * 1e-9; }
 static void *work(void *arg) {
-    long id = (long)arg; char *page = malloc(65536); uint64_t rng = 88172645463325252ull + id * 7919, n = 0;
+    long id = (long)arg; char *piece = malloc(size); uint64_t rng = 88172645463325252ull + id * 7919, n = 0;
     while ((n & 63) || now() - start < seconds) {
         rng ^= rng << 13; rng ^= rng >> 7; rng ^= rng << 17;
-        if (pread(fd, page, 65536, (rng >> 11) % pages * 65536) != 65536) { perror("pread"); exit(1); }
+        if (pread(fd, piece, size, (rng >> 11) % pieces * size) != (ssize_t)size) { perror("pread"); exit(1); }
         n++;
     }
     counts[id] = n; return 0;
 }
 int main(int argc, char **argv) {
-    int threads = atoi(argv[2]); seconds = atof(argv[3]); fd = open(argv[1], O_RDONLY); struct stat s; fstat(fd, &s); pages = s.st_size / 65536;
+    int threads = atoi(argv[2]); seconds = atof(argv[3]); fd = open(argv[1], O_RDONLY); struct stat s; fstat(fd, &s);
+    if (argc > 4) size = atol(argv[4]);
+    pieces = s.st_size / size;
     pthread_t t[64]; start = now(); uint64_t all = 0;
     for (long i = 0; i < threads; i++) pthread_create(&t[i], 0, work, (void *)i);
     for (int i = 0; i < threads; i++) { pthread_join(t[i], 0); all += counts[i]; }
