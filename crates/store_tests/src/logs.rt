@@ -15,6 +15,7 @@ use words::hash::hash_of;
 use words::limits::{Limits, VALUE_BYTES_MAX, WEIGHT_OF_KEY};
 
 mod flushed;
+mod pieced;
 
 // One write.
 #[derive(Drop)]
@@ -103,7 +104,7 @@ impl Shelf {
     }
 }
 
-// Reads a page that a lookup needs.
+// Reads the page that a lookup needs.
 fn stage(
     stripe: &Stripe<Receipt>,
     device: &mut Faulty<MemoryDevice>,
@@ -114,14 +115,45 @@ fn stage(
     staged.read(copy, device).ok()
 }
 
+// Reads what a lookup needs of a page: a piece with the record at this offset, or the whole page if a piece of it was read.
+fn stage_at(
+    stripe: &Stripe<Receipt>,
+    device: &mut Faulty<MemoryDevice>,
+    staged: &mut Staged<Receipt>,
+    number: u64,
+    offset: usize,
+) -> Option<()> {
+    let copy = stripe.receipt(number)?.again().ok()?;
+    staged.read_at(copy, offset, device).ok()
+}
+
 // Each answers `None` where something failed.
 impl Shelf {
-    // Whether a key has this value, or none. Reads the pages that the lookup needs.
+    // Whether a key has this value, or none. Reads what the lookup needs, pieces of pages first.
     fn holds(&mut self, alloc: Global, key: &[u8], value: Option<&[u8]>) -> Option<bool> {
         let mut staged = Staged::new(alloc);
-        self.holds_with(&mut staged, key, value)
+        self.holds_by_pieces(&mut staged, key, value)
     }
 
+    fn holds_by_pieces(
+        &mut self,
+        staged: &mut Staged<Receipt>,
+        key: &[u8],
+        value: Option<&[u8]>,
+    ) -> Option<bool> {
+        for _ in 0..400 {
+            match self.stripe.find(key, staged) {
+                Lookup::Found(found) => return Some(value == Some(found)),
+                Lookup::Absent => return Some(value.is_none()),
+                Lookup::Cold(number, offset) => {
+                    stage_at(&self.stripe, &mut self.device, staged, number, offset)?;
+                }
+            }
+        }
+        None
+    }
+
+    // The same with the whole pages.
     fn holds_with(
         &mut self,
         staged: &mut Staged<Receipt>,
@@ -328,10 +360,13 @@ fn fill_long(shelf: &mut Shelf, to: u16) -> Result<u16, Fault> {
     Ok(to)
 }
 
-// Whether the keys below a number have their values. A page that was read stays at hand.
+// Whether the keys below a number have their values. A page that was read stays at hand for as many keys as stand in it.
 fn are_there(shelf: &mut Shelf, alloc: Global, count: u16) -> bool {
     let mut staged = Staged::new(alloc);
     for number in 0..count {
+        if number % 63 == 0 {
+            staged.clear();
+        }
         let value = [(number % 128) as u8; 1000];
         if shelf.holds_with(&mut staged, &key_of(number), Some(&value)) != Some(true) {
             return false;
@@ -501,13 +536,13 @@ fn is_known(shelf: &mut Shelf, alloc: Global, known: &[Option<(usize, u8)>; 64])
     for (at, entry) in known.iter().enumerate() {
         let key = key_of(at as u16);
         let same = match entry {
-            None => shelf.holds_with(&mut staged, &key, None),
+            None => shelf.holds_by_pieces(&mut staged, &key, None),
             Some((length, byte)) => {
                 let value = [*byte; 6000];
                 if *length > 6000 {
                     return false;
                 }
-                shelf.holds_with(&mut staged, &key, Some(&value[..*length]))
+                shelf.holds_by_pieces(&mut staged, &key, Some(&value[..*length]))
             }
         };
         if same != Some(true) {
@@ -615,14 +650,14 @@ fn reads_once(shelf: &mut Shelf, alloc: Global, rt: &impl Abort) {
     let value = [0; 1000];
     assert!(rt; fills(shelf, 1260));
     let before = shelf.device.calls();
-    assert!(rt; shelf.holds_with(&mut staged, &key_of(0), Some(&value)) == Some(true));
+    assert!(rt; shelf.holds_by_pieces(&mut staged, &key_of(0), Some(&value)) == Some(true));
     let once = shelf.device.calls();
     assert!(rt; once == before.wrapping_add(1));
-    assert!(rt; shelf.holds_with(&mut staged, &key_of(0), Some(&value)) == Some(true));
+    assert!(rt; shelf.holds_by_pieces(&mut staged, &key_of(0), Some(&value)) == Some(true));
     assert!(rt; shelf.device.calls() == once);
     staged.clear();
     assert!(rt; is_cold(&shelf.stripe, &staged, 0));
-    assert!(rt; shelf.holds_with(&mut staged, &key_of(0), Some(&value)) == Some(true));
+    assert!(rt; shelf.holds_by_pieces(&mut staged, &key_of(0), Some(&value)) == Some(true));
     assert!(rt; shelf.device.calls().wrapping_sub(once) == once.wrapping_sub(before));
 }
 

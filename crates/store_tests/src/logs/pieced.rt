@@ -1,0 +1,105 @@
+// Cold records, by how much is read of their pages.
+
+use super::*;
+use hybrid::PIECE_BYTES;
+use records::{RECORD_HEADER, record_size};
+
+// The length of the longest value of a key of two bytes whose record lies in one piece.
+const LONGEST_IN_A_PIECE: usize = PIECE_BYTES - RECORD_HEADER - 2;
+
+// How often the device is read until a key is found with this value. `None` where it has another one, or a read failed.
+fn reads_of(
+    shelf: &mut Shelf,
+    staged: &mut Staged<Receipt>,
+    key: &[u8],
+    value: &[u8],
+) -> Option<u64> {
+    let before = shelf.device.calls();
+    if shelf.holds_by_pieces(staged, key, Some(value))? {
+        return Some(shelf.device.calls().wrapping_sub(before));
+    }
+    None
+}
+
+// The same, where nothing is staged yet.
+fn reads_alone(shelf: &mut Shelf, alloc: Global, key: &[u8], value: &[u8]) -> Option<u64> {
+    let mut staged = Staged::new(alloc);
+    reads_of(shelf, &mut staged, key, value)
+}
+
+// A shelf with three keys in its first pages, the longest value among them, which have left their frames. Calls of these numbers fail.
+fn with_cold_keys(alloc: Global, failing: Vec<u64>) -> Result<Shelf, Fail> {
+    let mut shelf = new_shelf(alloc, 4096, 64)?;
+    shelf.device = Faulty::new(new_device(alloc)?, failing);
+    let value = [7; VALUE_BYTES_MAX];
+    let are_put = puts(&mut shelf, b"a1", Some(&value[..LONGEST_IN_A_PIECE]))
+        && puts(&mut shelf, b"a2", Some(&value[..LONGEST_IN_A_PIECE + 1]))
+        && puts(&mut shelf, b"a3", Some(&value));
+    if !are_put || fill(&mut shelf, 0, 1260).is_err() {
+        return Err(Fail::from("a write"));
+    }
+    Ok(shelf)
+}
+
+#[test]
+fn a_record_is_read_with_a_piece_or_with_its_page(rt: HostRuntime) -> Result<(), Fail> {
+    let mut shelf = with_cold_keys(rt.alloc(), Vec::new(rt.alloc()))?;
+    reads_pieces_first(&mut shelf, rt.alloc(), &rt);
+    Ok(())
+}
+
+fn reads_pieces_first(shelf: &mut Shelf, alloc: Global, rt: &impl Abort) {
+    let value = [7; VALUE_BYTES_MAX];
+    assert!(rt; record_size(2, LONGEST_IN_A_PIECE) == PIECE_BYTES);
+    assert!(rt; is_away(&shelf.stripe, 0));
+    assert!(rt; reads_alone(shelf, alloc, b"a1", &value[..LONGEST_IN_A_PIECE]) == Some(1));
+    assert!(rt; reads_alone(shelf, alloc, b"a2", &value[..LONGEST_IN_A_PIECE + 1]) == Some(2));
+    assert!(rt; reads_alone(shelf, alloc, b"a3", &value) == Some(2));
+}
+
+// Whether a page has left its frame.
+fn is_away(stripe: &Stripe<Receipt>, number: u64) -> bool {
+    stripe.page(number).is_none()
+}
+
+// A second record of a page is read with the whole page, which then has all of its records.
+#[test]
+fn a_page_is_read_twice_at_most(rt: HostRuntime) -> Result<(), Fail> {
+    let mut shelf = with_cold_keys(rt.alloc(), Vec::new(rt.alloc()))?;
+    reads_twice(&mut shelf, rt.alloc(), &rt);
+    Ok(())
+}
+
+fn reads_twice(shelf: &mut Shelf, alloc: Global, rt: &impl Abort) {
+    let value = [7; VALUE_BYTES_MAX];
+    let mut staged = Staged::new(alloc);
+    assert!(rt; reads_of(shelf, &mut staged, b"a1", &value[..LONGEST_IN_A_PIECE]) == Some(1));
+    assert!(rt; reads_of(shelf, &mut staged, b"a2", &value[..LONGEST_IN_A_PIECE + 1]) == Some(1));
+    assert!(rt; reads_of(shelf, &mut staged, b"a1", &value[..LONGEST_IN_A_PIECE]) == Some(0));
+    assert!(rt; reads_of(shelf, &mut staged, b"a3", &value) == Some(0));
+}
+
+// How many calls a shelf has made once its keys are cold.
+fn calls_before(alloc: Global) -> Result<u64, Fail> {
+    let shelf = with_cold_keys(alloc, Vec::new(alloc))?;
+    Ok(shelf.device.calls())
+}
+
+// The second read of a long record fails: what was staged stays, and the record is read by another try.
+#[test]
+fn a_fault_in_the_second_read_loses_nothing(rt: HostRuntime) -> Result<(), Fail> {
+    let second = calls_before(rt.alloc())?.wrapping_add(1);
+    let mut failing = Vec::new(rt.alloc());
+    failing.push(second)?;
+    let mut shelf = with_cold_keys(rt.alloc(), failing)?;
+    reads_after_a_fault(&mut shelf, rt.alloc(), &rt);
+    Ok(())
+}
+
+fn reads_after_a_fault(shelf: &mut Shelf, alloc: Global, rt: &impl Abort) {
+    let value = [7; VALUE_BYTES_MAX];
+    let mut staged = Staged::new(alloc);
+    assert!(rt; reads_of(shelf, &mut staged, b"a3", &value).is_none());
+    assert!(rt; staged.rooms() == 2);
+    assert!(rt; reads_of(shelf, &mut staged, b"a3", &value) == Some(1));
+}
