@@ -4,14 +4,12 @@ ghost use Rattle.std.specs.Prelude.{◌≡◌};
 ghost use Rattle.engine.specs.Passes.{Rests, stripe_count};
 
 use crate::cold::{chills, has, with_one};
-use crate::waiting::Signal;
 use device::Device;
 use engine::{Engine, Pass};
 use engine_harness::filling::{KEYS, VALUE};
 use engine_harness::steps::cleans;
 use std::alloc::Global;
-use std::sync::{Arc, Wait};
-use std::test::Fail;
+use std::sync::Wait;
 use words::reply::Fault;
 
 /// Whether the cleaner's step is told that the device failed: that which waits for the stripe, or that which tries it.
@@ -85,8 +83,7 @@ fn goes_on_in<R: Wait, D: Device>(
 
 /// Whether it is so at a new store, whose device fails the second call of each opening. `None` where there was no memory.
 fn goes_on<R: Wait>(rt: &R, alloc: Global, tries: bool) -> Option<bool> {
-    let signal = Arc::new(alloc, Signal::new()).ok()?;
-    let (engine, mut pass) = with_one(alloc, &signal, &[1])?;
+    let (engine, mut pass) = with_one(alloc, &[1])?;
     let goes_on = goes_on_in(rt, alloc, &engine, &mut pass, tries);
     drop(pass);
     drop(engine);
@@ -95,8 +92,7 @@ fn goes_on<R: Wait>(rt: &R, alloc: Global, tries: bool) -> Option<bool> {
 
 /// A step of the cleaner whose read fails leaves what it found, and the next one is done.
 #[test]
-fn a_page_whose_read_fails_is_cleaned_at_the_next_step(rt: HostRuntime) -> Result<(), Fail> {
+fn a_page_whose_read_fails_is_cleaned_at_the_next_step(rt: HostRuntime) {
     assert!(rt; goes_on(&rt, rt.alloc(), false) == Some(true), "waiting");
     assert!(rt; goes_on(&rt, rt.alloc(), true) == Some(true), "trying");
-    Ok(())
 }

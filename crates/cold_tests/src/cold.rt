@@ -1,7 +1,7 @@
 //! Reads of a page that has left its frame, and what other passes do meanwhile: at an engine of one stripe, over a device in
 //! memory whose receipts lend no page. The keys of `filling` fill 10 pages; `k0000` is in the oldest one.
 
-ghost use Rattle.std.specs.Prelude.{⊤, ◌≡◌, IfSome, vec_len};
+ghost use Rattle.std.specs.Prelude.{⊤, ◌≡◌, ◌+◌, IfSome, IsTrue, vec_len};
 ghost use Rattle.engine.specs.Passes.{Rests, stripe_count};
 
 use crate::waiting::{Signal, Waiting};
@@ -13,8 +13,8 @@ use engine_harness::filling::{KEYS, VALUE, fill};
 use engine_harness::steps::{cleans, evicts, flushes};
 use gates::Open;
 use std::alloc::Global;
+use std::process::Abort;
 use std::sync::{Arc, Wait};
-use std::test::Fail;
 use std::thread::{Threads, join};
 use transact::call::Answer;
 use words::limits::KEY_BYTES_MAX;
@@ -245,20 +245,59 @@ impl Deed {
 /// An opening of the device of these tests.
 pub(crate) type Opening = Waiting<Faulty<MemoryDevice>>;
 
-/// A device that fails the calls with these numbers. `None` where there was no memory.
-fn faulty(alloc: Global, failing: &[u64], device: MemoryDevice) -> Option<Faulty<MemoryDevice>> {
-    let failing = failing.to_vec(alloc).ok()?;
-    Some(Faulty::new(device, failing))
+/// What an opening has of its own: a signal that it shares, and the numbers of the calls that fail. `None` where there was no
+/// memory.
+fn own_parts(
+    alloc: Global,
+    signal: &Arc<Signal>,
+    failing: &[u64],
+) -> Option<(Arc<Signal>, Vec<u64>)> {
+    let signal = Arc::try_clone(signal).ok()?;
+    match failing.to_vec(alloc) {
+        Ok(failing) => Some((signal, failing)),
+        Err(_) => {
+            drop(signal);
+            None
+        }
+    }
 }
 
-/// An opening of a device over this signal. Its reads wait, if they are to. `None` where there was no memory.
-fn opening_of(signal: &Arc<Signal>, device: Faulty<MemoryDevice>, waits: bool) -> Option<Opening> {
-    let signal = Arc::try_clone(signal).ok()?;
-    Some(Waiting {
-        device,
-        waits,
-        signal,
-    })
+/// An opening over this signal, of a device that fails the calls with these numbers. Its reads wait, if they are to. `None` where
+/// there was no memory.
+fn opening_of(
+    alloc: Global,
+    signal: &Arc<Signal>,
+    failing: &[u64],
+    device: MemoryDevice,
+    waits: bool,
+) -> Option<Opening> {
+    match own_parts(alloc, signal, failing) {
+        Some((signal, failing)) => Some(Waiting {
+            device: Faulty::new(device, failing),
+            waits,
+            signal,
+        }),
+        None => {
+            drop(device);
+            None
+        }
+    }
+}
+
+/// Adds such an opening to others, whose reads wait where it is the first. False where there was no memory.
+fn adds_opening(
+    alloc: Global,
+    signal: &Arc<Signal>,
+    failing: &[u64],
+    device: MemoryDevice,
+    openings: &mut Vec<Opening>,
+) -> bool
+    ensures { IsTrue result → vec_len openings.new ≡ vec_len openings.old + 1 }
+{
+    match opening_of(alloc, signal, failing, device, openings.is_empty()) {
+        Some(opening) => openings.push(opening).is_ok(),
+        None => false,
+    }
 }
 
 /// The openings of a device in memory whose receipts lend no page, over one signal. Each fails the calls with these numbers,
@@ -269,10 +308,13 @@ fn openings(alloc: Global, signal: &Arc<Signal>, failing: &[u64]) -> Option<Vec<
     let mut below = MemoryDevice::openings(alloc, 1 + BACKGROUND_PASSES).ok()?;
     let mut openings = Vec::new(alloc);
     while let Some(device) = below.pop() {
-        let device = faulty(alloc, failing, device)?;
-        let opening = opening_of(signal, device, openings.is_empty())?;
-        openings.push(opening).ok()?;
+        if !adds_opening(alloc, signal, failing, device, &mut openings) {
+            drop(below);
+            drop(openings);
+            return None;
+        }
     }
+    drop(below);
     Some(openings)
 }
 
@@ -291,22 +333,30 @@ pub(crate) fn with_two(
     let (engine, mut passes) = narrow_over(alloc, places, openings)?;
     let second = passes.swap_remove(1);
     let first = passes.swap_remove(0);
+    drop(passes);
     Some((engine, first, second))
+}
+
+/// Such openings over a signal of their own. `None` where there was no memory.
+fn openings_alone(alloc: Global, failing: &[u64]) -> Option<Vec<Opening>>
+    ensures { IfSome result (λ openings. vec_len openings ≡ 4) }
+{
+    let signal = Arc::new(alloc, Signal::new()).ok()?;
+    let openings = openings(alloc, &signal, failing);
+    drop(signal);
+    openings
 }
 
 /// A store of one stripe over such openings, which fail the calls with these numbers, and its second pass, whose reads do not wait.
 /// `None` where there was no memory.
-pub(crate) fn with_one(
-    alloc: Global,
-    signal: &Arc<Signal>,
-    failing: &[u64],
-) -> Option<(Engine<Opening>, Pass<Opening>)>
+pub(crate) fn with_one(alloc: Global, failing: &[u64]) -> Option<(Engine<Opening>, Pass<Opening>)>
     ensures one { IfSome result (λ made. stripe_count made.0 ≡ 1) }
     ensures rests { IfSome result (λ made. Rests ⊤ made.0 made.1) }
 {
-    let openings = openings(alloc, signal, failing)?;
+    let openings = openings_alone(alloc, failing)?;
     let (engine, mut passes) = narrow_over(alloc, MANY_PLACES, openings)?;
     let pass = passes.swap_remove(1);
+    drop(passes);
     Some((engine, pass))
 }
 
@@ -459,48 +509,39 @@ fn goes_well_in<R: Threads + Wait + Sync>(
     is_done && may_be && is_well && signal.is_in_time()
 }
 
-/// Whether that deed beside a cold read goes well, over a new signal. `None` where there was no memory.
-fn goes_well<R: Threads + Wait + Sync>(
+/// Whether that deed beside a cold read goes well, over a new signal.
+fn goes_well<R: Abort + Threads + Wait + Sync>(
     rt: &R,
     alloc: Global,
     deed: Deed,
     way: Way,
-) -> Option<bool> {
-    let signal = Arc::new(alloc, Signal::new()).ok()?;
-    let (engine, reader, other) = cold_store(rt, alloc, &signal)?;
-    Some(goes_well_in(rt, alloc, &signal, &engine, reader, other, deed, way))
+) -> bool {
+    let signal = Arc::new(alloc, Signal::new()).expect(rt, "memory for a signal");
+    let (engine, reader, other) = cold_store(rt, alloc, &signal).expect(rt, "a cold page");
+    let is_well = goes_well_in(rt, alloc, &signal, &engine, reader, other, deed, way);
+    drop(engine);
+    drop(signal);
+    is_well
 }
 
 /// While a cold read is under way, the place of its page is not released. It is once the read is over.
 #[test]
-fn a_cold_reader_keeps_its_place(rt: HostRuntime) -> Result<(), Fail> {
+fn a_cold_reader_keeps_its_place(rt: HostRuntime) {
     for way in WAYS {
-        assert!(rt;
-            goes_well(&rt, rt.alloc(), Deed::Cleans, way) == Some(true),
-            "{way:?}"
-        );
+        assert!(rt; goes_well(&rt, rt.alloc(), Deed::Cleans, way), "{way:?}");
     }
-    Ok(())
 }
 
 #[test]
-fn a_cold_key_is_set_anew_meanwhile(rt: HostRuntime) -> Result<(), Fail> {
+fn a_cold_key_is_set_anew_meanwhile(rt: HostRuntime) {
     for way in WAYS {
-        assert!(rt;
-            goes_well(&rt, rt.alloc(), Deed::Rewrites, way) == Some(true),
-            "{way:?}"
-        );
+        assert!(rt; goes_well(&rt, rt.alloc(), Deed::Rewrites, way), "{way:?}");
     }
-    Ok(())
 }
 
 #[test]
-fn a_cold_page_leaves_the_log_meanwhile(rt: HostRuntime) -> Result<(), Fail> {
+fn a_cold_page_leaves_the_log_meanwhile(rt: HostRuntime) {
     for way in WAYS {
-        assert!(rt;
-            goes_well(&rt, rt.alloc(), Deed::Unlinks, way) == Some(true),
-            "{way:?}"
-        );
+        assert!(rt; goes_well(&rt, rt.alloc(), Deed::Unlinks, way), "{way:?}");
     }
-    Ok(())
 }

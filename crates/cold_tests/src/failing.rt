@@ -11,8 +11,8 @@ use engine_harness::filling::{KEYS, VALUE, fill};
 use engine_harness::steps::{evicts, flushes};
 use engine_harness::trying::{is_busy, tried_answer};
 use std::alloc::Global;
+use std::process::Abort;
 use std::sync::{Arc, Wait};
-use std::test::Fail;
 use std::thread::{Threads, join};
 use transact::call::Answer;
 use words::reply::Fault;
@@ -86,8 +86,7 @@ fn goes_on_in<R: Wait, D: Device>(
 
 /// Whether it is so at a new store, whose device fails the first call of each opening. `None` where there was no memory.
 fn goes_on<R: Wait>(rt: &R, alloc: Global, tries: bool) -> Option<bool> {
-    let signal = Arc::new(alloc, Signal::new()).ok()?;
-    let (engine, mut pass) = with_one(alloc, &signal, &[0])?;
+    let (engine, mut pass) = with_one(alloc, &[0])?;
     let goes_on = goes_on_in(rt, alloc, &engine, &mut pass, tries);
     drop(pass);
     drop(engine);
@@ -95,10 +94,9 @@ fn goes_on<R: Wait>(rt: &R, alloc: Global, tries: bool) -> Option<bool> {
 }
 
 #[test]
-fn a_page_whose_write_fails_is_written_at_the_next_try(rt: HostRuntime) -> Result<(), Fail> {
+fn a_page_whose_write_fails_is_written_at_the_next_try(rt: HostRuntime) {
     assert!(rt; goes_on(&rt, rt.alloc(), false) == Some(true), "waiting");
     assert!(rt; goes_on(&rt, rt.alloc(), true) == Some(true), "trying");
-    Ok(())
 }
 
 /// One try of a GET of `k0000`.
@@ -167,15 +165,17 @@ fn is_read_while_held<R: Threads + Wait + Sync>(
     is_value && is_held && signal.is_in_time()
 }
 
-/// Whether it is so of a new store. `None` where there was no memory.
-fn reads_while_held<R: Threads + Wait + Sync>(rt: &R, alloc: Global) -> Option<bool> {
-    let signal = Arc::new(alloc, Signal::new()).ok()?;
-    let (engine, reader, other) = cold_store(rt, alloc, &signal)?;
-    Some(is_read_while_held(rt, alloc, &signal, &engine, reader, other))
+/// Whether it is so of a new store.
+fn reads_while_held<R: Abort + Threads + Wait + Sync>(rt: &R, alloc: Global) -> bool {
+    let signal = Arc::new(alloc, Signal::new()).expect(rt, "memory for a signal");
+    let (engine, reader, other) = cold_store(rt, alloc, &signal).expect(rt, "a cold page");
+    let is_read = is_read_while_held(rt, alloc, &signal, &engine, reader, other);
+    drop(engine);
+    drop(signal);
+    is_read
 }
 
 #[test]
-fn one_try_reads_a_cold_page_while_it_holds_the_stripe(rt: HostRuntime) -> Result<(), Fail> {
-    assert!(rt; reads_while_held(&rt, rt.alloc()) == Some(true));
-    Ok(())
+fn one_try_reads_a_cold_page_while_it_holds_the_stripe(rt: HostRuntime) {
+    assert!(rt; reads_while_held(&rt, rt.alloc()));
 }

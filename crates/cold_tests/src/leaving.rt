@@ -13,8 +13,8 @@ use engine_harness::filling::{VALUE, fill, key_of};
 use engine_harness::steps::{is_full_to_flush, retires_a_place};
 use gates::Open;
 use std::alloc::Global;
+use std::process::Abort;
 use std::sync::{Arc, Wait};
-use std::test::Fail;
 use std::thread::{Threads, join};
 use transact::call::Answer;
 use words::word::Word;
@@ -42,6 +42,7 @@ fn fills<R: Wait, D: Device>(
         if !sets_to(rt, engine, pass, &key, value, &Open) {
             return Some(key);
         }
+        drop(key);
     }
     None
 }
@@ -59,7 +60,9 @@ fn is_full<R: Wait, D: Device>(
 {
     let first = fill(rt, alloc, engine, pass, &VALUE, 1);
     let full = fills(rt, alloc, engine, pass, value);
-    first == Some(1) && full.is_some()
+    let is_full = full.is_some();
+    drop(full);
+    first == Some(1) && is_full
 }
 
 /// Takes the oldest page out of the log and retires its place, and fills the stripe anew. The key for which it is full, as the
@@ -78,8 +81,12 @@ fn stays_full<R: Wait, D: Device>(
     let retired = retires_a_place(rt, engine, pass);
     let key = fills(rt, alloc, engine, pass, value);
     let full = is_full_to_flush(rt, engine, pass);
-    let stays = retired && full;
-    if stays { key } else { None }
+    if retired && full {
+        key
+    } else {
+        drop(key);
+        None
+    }
 }
 
 /// Once the GET waits, the stripe stays full. Then the GET goes on. The key for which it was full.
@@ -98,7 +105,12 @@ fn tries_meanwhile<R: Wait, D: Device>(
     let came = signal.meets_reads(1);
     let key = stays_full(rt, alloc, engine, &mut pass, value);
     signal.let_go();
-    (pass, if came { key } else { None })
+    if came {
+        (pass, key)
+    } else {
+        drop(key);
+        (pass, None)
+    }
 }
 
 /// The GET in one thread, and what is tried meanwhile in another: what the GET is answered, and the key for which the stripe
@@ -178,18 +190,26 @@ fn goes_well_in<R: Threads + Wait + Sync>(
     Some(is_read && is_set && signal.is_in_time())
 }
 
-/// Whether that goes well, over a new signal. `None` where there was no memory.
-fn goes_well_with<R: Threads + Wait + Sync>(rt: &R, alloc: Global, value: &Word) -> Option<bool> {
-    let signal = Arc::new(alloc, Signal::new()).ok()?;
-    let (engine, reader, other) = with_two(alloc, &signal, PLACES)?;
+/// Whether that goes well, over a new signal. `None` where it was not full.
+fn goes_well_with<R: Abort + Threads + Wait + Sync>(
+    rt: &R,
+    alloc: Global,
+    value: &Word,
+) -> Option<bool> {
+    let signal = Arc::new(alloc, Signal::new()).expect(rt, "memory for a signal");
+    let (engine, reader, other) = with_two(alloc, &signal, PLACES).expect(
+        rt,
+        "memory for an engine",
+    );
     let is_well = goes_well_in(rt, alloc, &signal, &engine, reader, other, value);
     drop(engine);
+    drop(signal);
     is_well
 }
 
 /// The same with a large value.
-fn goes_well<R: Threads + Wait + Sync>(rt: &R, alloc: Global) -> Option<bool> {
-    let value = Word::from_slice(alloc, &LARGE).ok()?;
+fn goes_well<R: Abort + Threads + Wait + Sync>(rt: &R, alloc: Global) -> Option<bool> {
+    let value = Word::from_slice(alloc, &LARGE).expect(rt, "memory for a value");
     let is_well = goes_well_with(rt, alloc, &value);
     drop(value);
     is_well
@@ -198,7 +218,6 @@ fn goes_well<R: Threads + Wait + Sync>(rt: &R, alloc: Global) -> Option<bool> {
 /// A place whose drain was refused is tried again: the call that meets the stripe full once the reader has left releases it,
 /// and is answered.
 #[test]
-fn a_full_stripe_releases_a_place_once_its_reader_has_left(rt: HostRuntime) -> Result<(), Fail> {
+fn a_full_stripe_releases_a_place_once_its_reader_has_left(rt: HostRuntime) {
     assert!(rt; goes_well(&rt, rt.alloc()) == Some(true));
-    Ok(())
 }

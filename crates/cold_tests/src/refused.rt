@@ -4,11 +4,10 @@ ghost use Rattle.std.specs.Prelude.{◌≡◌};
 ghost use Rattle.engine.specs.Passes.{Rests, stripe_count};
 
 use crate::cold::{chills, has, with_one};
-use crate::waiting::Signal;
 use device::Device;
 use engine::{Engine, Pass};
 use std::alloc::Global;
-use std::sync::{Arc, Wait};
+use std::sync::Wait;
 use words::word::WORD_INLINE;
 
 /// A value that a word holds without memory.
@@ -46,8 +45,7 @@ fn reads_again_in<R: Wait, D: Device>(
 
 /// Whether it is so at a new store. `None` where there was no memory for it.
 fn reads_again<R: Wait>(rt: &R, alloc: Global) -> Option<bool> {
-    let signal = Arc::new(alloc, Signal::new()).ok()?;
-    let (engine, mut pass) = with_one(alloc, &signal, &[])?;
+    let (engine, mut pass) = with_one(alloc, &[])?;
     let again = reads_again_in(rt, alloc, &engine, &mut pass);
     drop(pass);
     drop(engine);

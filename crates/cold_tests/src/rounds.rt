@@ -15,8 +15,8 @@ use engine::{Engine, Pass};
 use engine_harness::filling::{KEYS, VALUE};
 use engine_harness::steps::{evicts, flushes};
 use std::alloc::Global;
+use std::process::Abort;
 use std::sync::{Arc, Wait};
-use std::test::Fail;
 use std::thread::{Threads, join};
 use transact::call::Answer;
 
@@ -161,20 +161,23 @@ fn goes_well_in<R: Threads + Wait + Sync>(
     Some(kept && came_back && is_read && signal.is_in_time())
 }
 
-/// Whether that goes well, over a new signal. `None` where there was no memory.
-fn goes_well<R: Threads + Wait + Sync>(rt: &R, alloc: Global, way: Way) -> Option<bool> {
-    let signal = Arc::new(alloc, Signal::new()).ok()?;
-    let (engine, reader, other) = with_two(alloc, &signal, MANY_PLACES)?;
+/// Whether that goes well, over a new signal. `None` where the pages did not become cold.
+fn goes_well<R: Abort + Threads + Wait + Sync>(rt: &R, alloc: Global, way: Way) -> Option<bool> {
+    let signal = Arc::new(alloc, Signal::new()).expect(rt, "memory for a signal");
+    let (engine, reader, other) = with_two(alloc, &signal, MANY_PLACES).expect(
+        rt,
+        "memory for an engine",
+    );
     let is_well = goes_well_in(rt, alloc, &signal, &engine, reader, other, way);
     drop(engine);
+    drop(signal);
     is_well
 }
 
 /// A reader has one stay from its first cold page to its answer: no place that is retired meanwhile is released.
 #[test]
-fn a_cold_reader_has_one_stay_over_all_its_pages(rt: HostRuntime) -> Result<(), Fail> {
+fn a_cold_reader_has_one_stay_over_all_its_pages(rt: HostRuntime) {
     for way in WAYS {
         assert!(rt; goes_well(&rt, rt.alloc(), way) == Some(true), "{way:?}");
     }
-    Ok(())
 }

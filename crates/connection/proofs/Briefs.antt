@@ -1,8 +1,9 @@
--- The turn of a client whose request goes to the engine with its words as they lie, or is a PING without a text.
-use Rattle.std.proofs.Common.{◌≡◌, ℕ, List, Some, refl, ap, subst, IsTrue}
-use Rattle.std.specs.Prelude.{Result, IfOk}
+-- The turn of a client in no transaction whose request goes to the engine with its words as they lie, or as the command that they make, or is a
+-- PING without a text.
+use Rattle.std.proofs.Common.{◌≡◌, ◌∙◌, ℕ, List, Some, refl, sym, ap, subst, IsTrue}
+use Rattle.std.specs.Prelude.{Result, Ok, IfOk}
 use Rattle.words.specs.declared.command.Command.{Command}
-use Rattle.words.specs.declared.command.Command.TheVariants.{Get, Set}
+use Rattle.words.specs.declared.command.Command.TheVariants.{Ping, Echo, Get, Set, SetGet, SetNx, GetSet, GetDel, StrLen, Exists, Del, Append, SetRange, GetRange, Add, Subtract, MGet, MSet, MSetNx, Rename, Session, Bad}
 use Rattle.words.specs.declared.command.When.TheVariants.{Always}
 use Rattle.words.specs.declared.reply.Refusal.{Refusal}
 use Rattle.words.specs.declared.reply.Reply.{Reply}
@@ -56,6 +57,41 @@ turned_brief : {promises : Promises} (was now : Known) (stripes : List ℕ) (wor
 turned_brief was now stripes words command a reply at entry law attends idle request asks place done undone says =
     turned_called was now stripes (One command) a reply (before words at) (record at { stage = Called (waits idle.0) }) at entry law
     (attends_before was words at attends) (hands_on words command at idle request asks place) done undone refl (rw says (says_it at idle a))
+
+-- a session in no transaction hands a command that reads or writes keys on
+handed_on : (watched : List Bytes) (command : Command) → IsTrue (touches_keys command) → turn_idle watched (Ok command) ≡ Calls (Run command) Idle Idle
+handed_on watched (Ping text) touches = absurd (cc touches)
+handed_on watched (Echo text) touches = absurd (cc touches)
+handed_on watched (Get key) touches = refl
+handed_on watched (Set key value when) touches = refl
+handed_on watched (SetGet key value when) touches = refl
+handed_on watched (SetNx key value) touches = refl
+handed_on watched (GetSet key value) touches = refl
+handed_on watched (GetDel key) touches = refl
+handed_on watched (StrLen key) touches = refl
+handed_on watched (Exists keys) touches = refl
+handed_on watched (Del keys) touches = refl
+handed_on watched (Append key value) touches = refl
+handed_on watched (SetRange key offset value) touches = refl
+handed_on watched (GetRange key start end) touches = refl
+handed_on watched (Add key n) touches = refl
+handed_on watched (Subtract key n) touches = refl
+handed_on watched (MGet keys) touches = refl
+handed_on watched (MSet settings) touches = refl
+handed_on watched (MSetNx settings) touches = refl
+handed_on watched (Rename key name) touches = refl
+handed_on watched (Session command) touches = absurd (cc touches)
+handed_on watched (Bad refusal) touches = absurd (cc touches)
+
+-- of a command that reads or writes keys
+pub turned_command : {promises : Promises} (was now : Known) (stripes : List ℕ) (words : List Bytes) (command : Command) (a : Answer) (reply : Reply) (at : Progress)
+    → WatchesPairsOfEntry → WatchesPairsOfFault → Attends was at → IsIdle at.stage → IsRequest words
+    → Ok command ≡ command_of words → IsTrue (touches_keys command) → IsBounded command
+    → IfReply a (λ given. IsDone stripes (Some (Run command)) given was now) → IfFault a (λ f. IsUndone promises stripes (Some (Run command)) f was now)
+    → reply ≡ reply_to a → Turned promises was now (before words at) at reply
+turned_command was now stripes words command a reply at entry law attends idle request made touches bounded done undone says =
+    turned_brief was now stripes words command a reply at entry law attends idle request (ap (turn_idle idle.0) (sym made) ∙ handed_on idle.0 command touches)
+    (touches, bounded) done undone says
 
 -- of a GET
 pub turned_get : {promises : Promises} (was now : Known) (stripes : List ℕ) (words : List Bytes) (a : Answer) (reply : Reply) (at : Progress)

@@ -1,5 +1,6 @@
 -- The turn of a client that makes a call, and of one that does not.
 use Rattle.std.proofs.Common.{◌≡◌, ◌≤◌, ℕ, List, [], ◌∷◌, ◌++◌, length, Option, Some, None, refl, sym, ap, subst, ◌∙◌, ◌⊎◌, inl, inr, arith}
+use Rattle.words.specs.Spelling.{IsRequest}
 use Rattle.words.specs.Commands.{command_of}
 use Rattle.words.specs.Commands as commands
 use Rattle.resp_read.specs.Memory.{FitInline}
@@ -25,7 +26,7 @@ use Rattle.transact.specs.Submits.{IfReply, IfFault}
 use Rattle.engine.specs.Passes.{Known}
 use Rattle.engine.specs.Calls.{Promises, HasItsPlace, IsDone, IsUndone, IsCause, Forgot, entry_of}
 use Rattle.connection.specs.declared.client.Next.TheVariants as next
-use Rattle.connection.specs.Clients.{Progress, Stage, watched_of, turn_at, TakesOff, TakesUp, Resumes, WantsMemory}
+use Rattle.connection.specs.Clients.{Progress, Stage, watched_of, turn_at, TakesOff, TakesUp, Resumes, WantsMemory, before}
 use Rattle.connection.specs.Conversations.{Went}
 use Rattle.connection.specs.Served.{IsFaulty, Turned, Spares, Attends}
 use Rattle.connection.proofs.Turns.{answers_said, answers_want, answers_done, answers_undone, answers_forgot, asked_of_call, some_is, taken_still, no_pairs}
@@ -281,3 +282,7 @@ pub wants_memory : (old new : Progress) (words : List Bytes) (rest : Bytes) → 
     → WantsMemory old.unread
 wants_memory old new words rest taken (inl one) = (words, rest, taken, inl one.0)
 wants_memory old new words rest taken (inr one) = (words, rest, taken, inr one.0)
+
+-- one that found none for the command of its request asked for some
+pub wants_command : (words : List Bytes) (at : Progress) → IsRequest words → ¬ commands.AsksNoMemory (command_of words) → WantsMemory (before words at).unread
+wants_command words at request asks = (words, at.unread, record { request = request; taken = refl }, inr asks)

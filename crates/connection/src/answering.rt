@@ -1,11 +1,13 @@
 //! The answering of what a client was fed: its requests are put to the engine, one after the other, and
 //! their replies are said.
 
-ghost use Rattle.std.specs.Prelude.{◌≡◌, ◌≤◌, ◌+◌, ℕ, [], ◌++◌, List, IfNone};
+ghost use Rattle.std.specs.Prelude.{◌≡◌, ◌≤◌, ◌+◌, ℕ, [], ◌++◌, List, IfNone, IfOk};
 ghost use Rattle.streams.specs.Streams.{stream_of, told_of, reads_of};
 ghost use Rattle.streams.specs.declared.observed.Told.{Told as HasTold};
 ghost use Rattle.engine.specs.Passes.{Known, knows, Rests, stripe_count};
 ghost use Rattle.engine.specs.Calls.{promises_of};
+ghost use Rattle.words.specs.Bounds.{IsBounded};
+ghost use Rattle.words.specs.Commands.{command_of, touches_keys};
 ghost use Rattle.words.specs.Session.{line_reply};
 ghost use Rattle.words.specs.Spelling.{IsRequest};
 ghost use Rattle.transact.specs.Calls.{answer_of, reply_to};
@@ -24,9 +26,10 @@ use session::watches_follow_entries;
 use std::io::Write;
 use std::sync::Wait;
 use streams::{Noted, ReadReady};
+use transact::call::Call;
 use words::bounds::commands_are_bounded;
-use words::command::Brief;
-use words::reply::{Fault, Line, ProtocolFault, Reply};
+use words::command::{Brief, Command};
+use words::reply::{Fault, Line, ProtocolFault, Refusal, Reply};
 use words::word::{Word, Words};
 
 /// What the next turn of a client comes to.
@@ -272,8 +275,51 @@ fn answer_idle<T: Wait, L: Latch, D: Device>(
             Due::Line(line_of(store.engine.set(store.rt, pass, key, value, store.latch)))
         }
         Brief::Ping => Due::Line(Line::Pong),
-        Brief::Other => answer_obeyed(store, client, words, pass),
+        Brief::Other => answer_command(store, client, words, pass),
     }
+}
+
+/// Answers the request of these words, which was taken off, of a client whose session is in no transaction.
+/// A command that reads or writes keys goes to the engine at once: the session does no more to it than to hand it on,
+/// and says its answer as it comes.
+#[inline(never)]
+fn answer_command<T: Wait, L: Latch, D: Device>(
+    store: &Store<T, L, D>,
+    client: &mut Client,
+    words: &Words,
+    pass: &mut Pass<D>,
+) -> Due
+    requires rests { Rests D.Receipt.is_steady store.now.engine.now pass.old }
+    requires attends { Attends (knows D.failures pass.old) client.old }
+    requires idle { IsIdle client.old.stage }
+    requires request { IsRequest words.now }
+    ensures turned { HasTurned (before words.now client.old) result client.new }
+    ensures due { IsDue (promises_of D.Receipt.is_steady D.Receipt.lends (stripe_count store.now.engine.now))
+        (knows D.failures pass.old) (knows D.failures pass.new) (before words.now client.old) result client.new }
+
+    ensures rests { Rests D.Receipt.is_steady store.now.engine.now pass.new }
+    ensures attends { Attends (knows D.failures pass.new) client.new }
+{
+    match client.command_of(words) {
+        Ok(Ok(command)) if names_key(&command) => {
+            watches_follow_entries();
+            let call = Call::One(command);
+            let answer = store.engine.submit_with(store.rt, pass, call, store.latch);
+            Due::Reply(answer.into_reply())
+        }
+        Ok(made) => answer_step(store, client, words, made, pass),
+        Err(_) => Due::NoMemory,
+    }
+}
+
+/// Whether a command reads or writes keys.
+fn names_key(command: &Command) -> bool
+    ensures { result ≡ touches_keys command.now }
+{
+    !matches!(
+        command,
+        Command::Ping(_) | Command::Echo(_) | Command::Session(_) | Command::Bad(_)
+    )
 }
 
 /// The line that is said to an answer of one line, or to a fault.
@@ -303,7 +349,35 @@ fn answer_obeyed<T: Wait, L: Latch, D: Device>(
     ensures rests { Rests D.Receipt.is_steady store.now.engine.now pass.new }
     ensures attends { Attends (knows D.failures pass.new) client.new }
 {
-    match client.obey(words) {
+    match client.command_of(words) {
+        Ok(command) => answer_step(store, client, words, command, pass),
+        Err(_) => Due::NoMemory,
+    }
+}
+
+/// Answers the request of these words, which was taken off and makes this command.
+#[inline(never)]
+fn answer_step<T: Wait, L: Latch, D: Device>(
+    store: &Store<T, L, D>,
+    client: &mut Client,
+    words: &Words,
+    command: Result<Command, Refusal>,
+    pass: &mut Pass<D>,
+) -> Due
+    requires rests { Rests D.Receipt.is_steady store.now.engine.now pass.old }
+    requires attends { Attends (knows D.failures pass.old) client.old }
+    requires is_open { IsOpen (mode_of client.old.stage) }
+    requires request { IsRequest words.now }
+    requires command { command ≡ command_of words.now }
+    requires bounded { IfOk command IsBounded }
+    ensures turned { HasTurned (before words.now client.old) result client.new }
+    ensures due { IsDue (promises_of D.Receipt.is_steady D.Receipt.lends (stripe_count store.now.engine.now))
+        (knows D.failures pass.old) (knows D.failures pass.new) (before words.now client.old) result client.new }
+
+    ensures rests { Rests D.Receipt.is_steady store.now.engine.now pass.new }
+    ensures attends { Attends (knows D.failures pass.new) client.new }
+{
+    match client.step(words, command) {
         Next::Input => Due::Input,
         Next::Says(reply) => Due::Reply(reply),
         Next::SaysOutOfMemory => Due::Reply(Reply::line(Line::Faulty(Fault::OutOfMemory))),

@@ -1,6 +1,6 @@
 //! The core of a connection, without input or output: it is fed bytes, and says what comes next.
 
-ghost use Rattle.std.specs.Prelude.{◌≡◌, ◌<◌, ◌⊎◌, ◌↔◌, [], ◌++◌, length, OnOk, OnErr, IsOk, IsTrue, true, false};
+ghost use Rattle.std.specs.Prelude.{◌≡◌, ◌<◌, ◌⊎◌, ◌↔◌, [], ◌++◌, length, OnOk, OnErr, IfOk, IsOk, IsTrue, true, false};
 
 use crate::state::State;
 use bytes::Bytes;
@@ -10,7 +10,7 @@ use std::alloc::Global;
 use std::marker::Model;
 use transact::call::{Answer, Call};
 use words::command::Command;
-use words::reply::{ProtocolFault, Reply};
+use words::reply::{ProtocolFault, Refusal, Reply};
 use words::word::{OutOfMemory, Word, Words};
 
 /// What a client does next.
@@ -67,6 +67,8 @@ impl Model for Client {
 
 impl Client {
     ghost use Rattle.session.specs.Standings.{forget_of};
+    ghost use Rattle.words.specs.Bounds.{IsBounded};
+    ghost use Rattle.words.specs.Commands.{command_of, AsksNoMemory};
     ghost use Rattle.words.specs.Spelling.{IsRequest};
     ghost use Rattle.words.specs.Session.{Closed};
     ghost use Rattle.connection.specs.Clients.{Progress, beginning, before, IsReady, IsCalled, IsIdle, IsOpen, Gives, Resumes, Stands, mode_of, watched_of};
@@ -159,9 +161,32 @@ impl Client {
         requires request { IsRequest words.now }
         ensures { Gives (before words.now self.old) result self.new }
     {
-        let Ok(command) = Command::of(self.alloc, words) else {
+        let Ok(command) = self.command_of(words) else {
             return Next::OutOfMemory;
         };
+        self.step(words, command)
+    }
+
+    /// The command that the words of a request are, or why they are none.
+    #[inline]
+    pub(crate) fn command_of(&self, words: &Words) -> Result<Result<Command, Refusal>, OutOfMemory>
+        ensures exact { IfOk result (λ command. command ≡ command_of words.now) }
+        ensures bounded { IsRequest words.now → IfOk result (λ made. IfOk made IsBounded) }
+        ensures memory { AsksNoMemory (command_of words.now) → IsOk result }
+    {
+        Command::of(self.alloc, words)
+    }
+
+    /// What the client does next whose request was taken off, of these words, which make this command.
+    #[inline]
+    pub(crate) fn step(&mut self, words: &Words, command: Result<Command, Refusal>) -> Next
+        requires ready { IsReady self.old.stage }
+        requires is_open { IsOpen (mode_of self.old.stage) }
+        requires request { IsRequest words.now }
+        requires command { command ≡ command_of words.now }
+        requires bounded { IfOk command IsBounded }
+        ensures { Gives (before words.now self.old) result self.new }
+    {
         self.state.step(words, command)
     }
 

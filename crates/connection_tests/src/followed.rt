@@ -5,7 +5,6 @@ use connection::Ended;
 use std::alloc::Global;
 use std::process::Abort;
 use std::sync::Wait;
-use std::test::Fail;
 
 /// Asserts what two connections come to, which are served one after the other with the same pass.
 fn check_both<R: Abort + Wait>(
@@ -14,24 +13,31 @@ fn check_both<R: Abort + Wait>(
     first: (Source<'_>, Sink),
     told: (&[u8], Ended),
     second: (&[u8], &[u8]),
-) -> Result<(), Fail> {
-    let streams = (Source::new(second.0, 16_384), Sink::new(alloc, 16_384)?);
-    let (before, after) = run_both(rt, alloc, first, streams)?;
+) {
+    let streams = (
+        Source::new(second.0, 16_384),
+        Sink::new(alloc, 16_384).expect(rt, "memory for a sink"),
+    );
+    let (before, after) = run_both(rt, alloc, first, streams);
     check_outcome(rt, &before, told.0, told.1);
     check_outcome(rt, &after, second.1, Ended::EndOfInput);
-    Ok(())
+    drop(after);
+    drop(before);
 }
 
 /// QUIT runs nothing of what is queued: the next connection finds no value.
 #[test]
-fn what_is_queued_goes_with_the_connection(rt: HostRuntime) -> Result<(), Fail> {
+fn what_is_queued_goes_with_the_connection(rt: HostRuntime) {
     let alloc = rt.alloc();
     let input =
         b"*1\r\n$5\r\nMULTI\r\n*3\r\n$3\r\nSET\r\n$1\r\na\r\n$1\r\n1\r\n*1\r\n$4\r\nQUIT\r\n";
-    let first = (Source::new(input, 16_384), Sink::new(alloc, 16_384)?);
+    let first = (
+        Source::new(input, 16_384),
+        Sink::new(alloc, 16_384).expect(&rt, "memory for a sink"),
+    );
     let told: &[u8] = b"+OK\r\n+QUEUED\r\n+OK\r\n";
     let get: &[u8] = b"*2\r\n$3\r\nGET\r\n$1\r\na\r\n";
-    check_both(&rt, alloc, first, (told, Ended::Quit), (get, b"$-1\r\n"))
+    check_both(&rt, alloc, first, (told, Ended::Quit), (get, b"$-1\r\n"));
 }
 
 /// Connections that end while they watch a key: their input, how many bytes are read and written
@@ -90,15 +96,14 @@ const AFTER_WATCHING_ANSWER: &[u8] = b"+OK\r\n+OK\r\n+QUEUED\r\n*1\r\n$1\r\nv\r\
 /// However a connection ends, nothing that it watched stays: with the same pass the next one writes the
 /// key, and its transaction runs.
 #[test]
-fn watches_end_with_the_connection(rt: HostRuntime) -> Result<(), Fail> {
+fn watches_end_with_the_connection(rt: HostRuntime) {
     let alloc = rt.alloc();
     for &(input, read, written, text, ended) in WATCHING {
         let mut source = Source::new(input, 16_384);
         source.fails_after = read;
-        let mut sink = Sink::new(alloc, 16_384)?;
+        let mut sink = Sink::new(alloc, 16_384).expect(&rt, "memory for a sink");
         sink.fails_after = written;
         let second = (AFTER_WATCHING, AFTER_WATCHING_ANSWER);
-        check_both(&rt, alloc, (source, sink), (text, ended), second)?;
+        check_both(&rt, alloc, (source, sink), (text, ended), second);
     }
-    Ok(())
 }

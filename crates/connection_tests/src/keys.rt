@@ -3,6 +3,7 @@
 use std::alloc::Global;
 use std::io;
 use std::io::Write;
+use std::process::Abort;
 
 /// The number of the first key.
 const FIRST: u32 = 1_000;
@@ -13,62 +14,63 @@ fn key(number: u32) -> u32 {
 }
 
 /// A value of 1,000 bytes as a reply, which begins with its key.
-fn add_value(all: &mut Vec<u8>, number: u32) -> io::Result<()> {
-    write!(all, "$1000\r\n{}", key(number))?;
-    all.extend_from_slice(&[b'v'; 996])?;
-    write!(all, "\r\n")
+fn add_value(rt: &impl Abort, all: &mut Vec<u8>, number: u32) {
+    write!(all, "$1000\r\n{}", key(number)).expect(rt, "memory for a text");
+    all.extend_from_slice(&[b'v'; 996])
+        .expect(rt, "memory for a text");
+    write!(all, "\r\n").expect(rt, "memory for a text");
 }
 
 /// Adds a SET of the key with this number.
-pub(crate) fn add_set(all: &mut Vec<u8>, number: u32) -> io::Result<()> {
-    write!(all, "*3\r\n$3\r\nSET\r\n$4\r\n{}\r\n", key(number))?;
-    add_value(all, number)
+pub(crate) fn add_set(rt: &impl Abort, all: &mut Vec<u8>, number: u32) {
+    write!(all, "*3\r\n$3\r\nSET\r\n$4\r\n{}\r\n", key(number)).expect(rt, "memory for a text");
+    add_value(rt, all, number);
 }
 
 /// Adds a GET of the key with this number.
-pub(crate) fn add_get(all: &mut Vec<u8>, number: u32) -> io::Result<()> {
-    write!(all, "*2\r\n$3\r\nGET\r\n$4\r\n{}\r\n", key(number))
+pub(crate) fn add_get(rt: &impl Abort, all: &mut Vec<u8>, number: u32) {
+    write!(all, "*2\r\n$3\r\nGET\r\n$4\r\n{}\r\n", key(number)).expect(rt, "memory for a text");
 }
 
 /// SETs of the keys below this number.
-pub(crate) fn sets(alloc: Global, count: u32) -> io::Result<Vec<u8>> {
+pub(crate) fn sets(rt: &impl Abort, alloc: Global, count: u32) -> Vec<u8> {
     let mut all = Vec::new(alloc);
     for number in 0..count {
-        add_set(&mut all, number)?;
+        add_set(rt, &mut all, number);
     }
-    Ok(all)
+    all
 }
 
 /// GETs of the keys below this number.
-pub(crate) fn gets(alloc: Global, count: u32) -> io::Result<Vec<u8>> {
+pub(crate) fn gets(rt: &impl Abort, alloc: Global, count: u32) -> Vec<u8> {
     let mut all = Vec::new(alloc);
     for number in 0..count {
-        add_get(&mut all, number)?;
+        add_get(rt, &mut all, number);
     }
-    Ok(all)
+    all
 }
 
 /// A GET of the key with this number.
-pub(crate) fn get(alloc: Global, number: u32) -> io::Result<Vec<u8>> {
+pub(crate) fn get(rt: &impl Abort, alloc: Global, number: u32) -> Vec<u8> {
     let mut all = Vec::new(alloc);
-    add_get(&mut all, number)?;
-    Ok(all)
+    add_get(rt, &mut all, number);
+    all
 }
 
 /// The replies to GETs of the keys below this number.
-pub(crate) fn values(alloc: Global, count: u32) -> io::Result<Vec<u8>> {
+pub(crate) fn values(rt: &impl Abort, alloc: Global, count: u32) -> Vec<u8> {
     let mut all = Vec::new(alloc);
     for number in 0..count {
-        add_value(&mut all, number)?;
+        add_value(rt, &mut all, number);
     }
-    Ok(all)
+    all
 }
 
 /// The reply to a GET of the key with this number.
-pub(crate) fn value(alloc: Global, number: u32) -> io::Result<Vec<u8>> {
+pub(crate) fn value(rt: &impl Abort, alloc: Global, number: u32) -> Vec<u8> {
     let mut all = Vec::new(alloc);
-    add_value(&mut all, number)?;
-    Ok(all)
+    add_value(rt, &mut all, number);
+    all
 }
 
 /// So many times a text, and then another.

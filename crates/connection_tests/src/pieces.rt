@@ -14,7 +14,6 @@ use std::io;
 use std::io::{ErrorKind, Read, Write};
 use std::process::Abort;
 use std::sync::Wait;
-use std::test::Fail;
 use streams::{Noted, ReadReady, Told};
 use words::limits::{FRAMES_MIN, Limits, PLACES_MIN};
 
@@ -160,17 +159,18 @@ pub(crate) struct Outcome {
 }
 
 /// Streams that give and take at most so many bytes at a time, and are interrupted or not.
-pub(crate) fn cut_streams(
+pub(crate) fn cut_streams<'a>(
+    rt: &impl Abort,
     alloc: Global,
-    input: &[u8],
+    input: &'a [u8],
     most: usize,
     interrupts: bool,
-) -> Result<(Source<'_>, Sink), AllocError> {
+) -> (Source<'a>, Sink) {
     let mut source = Source::new(input, most);
     source.interrupts = interrupts;
-    let mut sink = Sink::new(alloc, most)?;
+    let mut sink = Sink::new(alloc, most).expect(rt, "memory for a sink");
     sink.interrupts = interrupts;
-    Ok((source, sink))
+    (source, sink)
 }
 
 /// Serves a connection, and gives the pass back.
@@ -215,13 +215,13 @@ pub(crate) fn run(
 
 /// Serves two connections over a new engine, one after the other, with the same pass.
 pub(crate) fn run_both(
-    rt: &impl Wait,
+    rt: &(impl Abort + Wait),
     alloc: Global,
     first: (Source<'_>, Sink),
     second: (Source<'_>, Sink),
-) -> Result<(Outcome, Outcome), AllocError> {
+) -> (Outcome, Outcome) {
     let limits = small();
-    let openings = memory(alloc, &limits)?;
+    let openings = memory(alloc, &limits).expect(rt, "memory for a device");
     run_both_over(rt, alloc, (&limits, openings), first, second)
 }
 
@@ -243,10 +243,10 @@ pub(crate) fn check_run<R: Abort + Wait>(
     streams: (Source<'_>, Sink),
     text: &[u8],
     ended: Ended,
-) -> Result<(), Fail> {
-    let outcome = run(rt, alloc, streams.0, streams.1)?;
+) {
+    let outcome = run(rt, alloc, streams.0, streams.1).expect(rt, "memory for the connection");
     check_outcome(rt, &outcome, text, ended);
-    Ok(())
+    drop(outcome);
 }
 
 /// A store of 2 stripes with 12 frames each, for 2 clients.
@@ -273,24 +273,28 @@ fn run_over<D: Device>(
     requires openings { vec_len store.1 ≡ store.0.now.clients + BACKGROUND_PASSES }
 {
     let (engine, pass) = engine_of(alloc, store.0, store.1)?;
-    let (_pass, outcome) = talk(rt, alloc, (source, sink), &engine, pass);
+    let (pass, outcome) = talk(rt, alloc, (source, sink), &engine, pass);
+    drop(pass);
+    drop(engine);
     Ok(outcome)
 }
 
 /// Serves two connections over a new engine of these openings, one after the other, with the same pass.
 fn run_both_over<D: Device>(
-    rt: &impl Wait,
+    rt: &(impl Abort + Wait),
     alloc: Global,
     store: (&Limits, Vec<D>),
     first: (Source<'_>, Sink),
     second: (Source<'_>, Sink),
-) -> Result<(Outcome, Outcome), AllocError>
+) -> (Outcome, Outcome)
     requires openings { vec_len store.1 ≡ store.0.now.clients + BACKGROUND_PASSES }
 {
-    let (engine, pass) = engine_of(alloc, store.0, store.1)?;
+    let (engine, pass) = engine_of(alloc, store.0, store.1).expect(rt, "memory for an engine");
     let (pass, first) = talk(rt, alloc, first, &engine, pass);
-    let (_pass, second) = talk(rt, alloc, second, &engine, pass);
-    Ok((first, second))
+    let (pass, second) = talk(rt, alloc, second, &engine, pass);
+    drop(pass);
+    drop(engine);
+    (first, second)
 }
 
 /// An empty engine over these openings, and one of its passes.
@@ -303,6 +307,7 @@ fn engine_of<D: Device>(
     ensures rests { IfOk result (λ made. Rests D.Receipt.is_steady made.0 made.1) }
     ensures watches { IfOk result (λ made. (knows D.failures made.1).watched ≡ []) }
 {
-    let (engine, first, _second) = engine_over(alloc, limits, openings)?;
+    let (engine, first, second) = engine_over(alloc, limits, openings)?;
+    drop(second);
     Ok((engine, first))
 }

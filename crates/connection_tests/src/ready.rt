@@ -9,7 +9,6 @@ use std::alloc::{AllocError, Global};
 use std::io;
 use std::process::Abort;
 use std::sync::Wait;
-use std::test::Fail;
 use streams::Told;
 
 /// SET of 8,000 bytes.
@@ -21,7 +20,9 @@ const LONG_SET: &[(&[u8], usize)] = &[
 /// Ten requests of 8,000 bytes, and a part of another: more than four pieces.
 fn ten_sets(alloc: Global) -> io::Result<Vec<u8>> {
     let set = filled(alloc, LONG_SET)?;
-    repeated(alloc, &set, 10, b"*1\r\n$4\r\nPI")
+    let answer = repeated(alloc, &set, 10, b"*1\r\n$4\r\nPI");
+    drop(set);
+    answer
 }
 
 /// What a connection comes to whose input is there already, or is not told to be.
@@ -41,78 +42,84 @@ fn run_ready(
 }
 
 /// Asserts how many writes the replies to ten requests take.
-fn check_writes<R: Abort + Wait>(
-    rt: &R,
-    alloc: Global,
-    tells: bool,
-    writes: u64,
-) -> Result<(), Fail> {
-    let input = ten_sets(alloc)?;
-    let outcome = run_ready(rt, alloc, &input, (tells, None), None)?;
+fn check_writes<R: Abort + Wait>(rt: &R, alloc: Global, tells: bool, writes: u64) {
+    let input = ten_sets(alloc).expect(rt, "memory for a text");
+    let outcome = run_ready(rt, alloc, &input, (tells, None), None).expect(
+        rt,
+        "memory for the connection",
+    );
     let text = b"+OK\r\n+OK\r\n+OK\r\n+OK\r\n+OK\r\n+OK\r\n+OK\r\n+OK\r\n+OK\r\n+OK\r\n";
     check_outcome(rt, &outcome, text, Ended::EndOfInput);
     assert!(rt; outcome.writes == writes);
     assert!(rt; outcome.told == (Told::End, Told::Nothing));
-    Ok(())
+    drop(outcome);
+    drop(input);
 }
 
 /// Replies are written before a read that waits, and before no other.
 #[test]
-fn one_write_for_the_pieces_that_are_there(rt: HostRuntime) -> Result<(), Fail> {
-    check_writes(&rt, rt.alloc(), true, 1)?;
-    check_writes(&rt, rt.alloc(), false, 5)
+fn one_write_for_the_pieces_that_are_there(rt: HostRuntime) {
+    check_writes(&rt, rt.alloc(), true, 1);
+    check_writes(&rt, rt.alloc(), false, 5);
 }
 
 /// A read that fails after pieces that were there: what was complete is answered, and it is written.
 #[test]
-fn a_read_that_fails_after_ready_pieces(rt: HostRuntime) -> Result<(), Fail> {
+fn a_read_that_fails_after_ready_pieces(rt: HostRuntime) {
     let alloc = rt.alloc();
-    let input = ten_sets(alloc)?;
+    let input = ten_sets(alloc).expect(&rt, "memory for a text");
     for (given, count) in [(16_384, 2), (32_768, 4), (40_000, 4), (49_151, 6)] {
-        let text = repeated(alloc, b"+OK\r\n", count, b"")?;
-        let outcome = run_ready(&rt, alloc, &input, (true, Some(given)), None)?;
+        let text = repeated(alloc, b"+OK\r\n", count, b"").expect(&rt, "memory for a text");
+        let outcome = run_ready(&rt, alloc, &input, (true, Some(given)), None).expect(
+            &rt,
+            "memory for the connection",
+        );
         check_outcome(&rt, &outcome, &text, Ended::ReadFailed);
         assert!(rt; outcome.told == (Told::Failure, Told::Nothing));
     }
-    Ok(())
+    drop(input);
 }
 
 /// A write that fails after pieces that were there: the reader has told nothing, though it is at its end.
 #[test]
-fn a_write_that_fails_after_ready_pieces(rt: HostRuntime) -> Result<(), Fail> {
+fn a_write_that_fails_after_ready_pieces(rt: HostRuntime) {
     let alloc = rt.alloc();
-    let input = ten_sets(alloc)?;
-    let text = repeated(alloc, b"+OK\r\n", 10, b"")?;
+    let input = ten_sets(alloc).expect(&rt, "memory for a text");
+    let text = repeated(alloc, b"+OK\r\n", 10, b"").expect(&rt, "memory for a text");
     for room in 0..text.len() {
-        let outcome = run_ready(&rt, alloc, &input, (true, None), Some(room))?;
+        let outcome = run_ready(&rt, alloc, &input, (true, None), Some(room)).expect(
+            &rt,
+            "memory for the connection",
+        );
         check_outcome(&rt, &outcome, &text[..room], Ended::WriteFailed);
         assert!(rt; outcome.told == (Told::Nothing, Told::Failure));
     }
-    Ok(())
+    drop(text);
+    drop(input);
 }
 
 /// Asserts what replies of more than the output buffer holds come to, where a write fails after so many bytes
 /// or none does.
-fn check_long<R: Abort + Wait>(
-    rt: &R,
-    alloc: Global,
-    written: Option<usize>,
-    ended: Ended,
-) -> Result<(), Fail> {
-    let input = long_words(alloc)?;
-    let text = long_replies(alloc, b"-ERR key is too long\r\n+OK\r\n", 5)?;
-    let outcome = run_ready(rt, alloc, &input, (true, None), written)?;
+fn check_long<R: Abort + Wait>(rt: &R, alloc: Global, written: Option<usize>, ended: Ended) {
+    let input = long_words(rt, alloc);
+    let text = long_replies(rt, alloc, b"-ERR key is too long\r\n+OK\r\n", 5);
+    let outcome = run_ready(rt, alloc, &input, (true, None), written).expect(
+        rt,
+        "memory for the connection",
+    );
     let count = text.len().min(written.unwrap_or(text.len()));
     check_outcome(rt, &outcome, &text[..count], ended);
-    Ok(())
+    drop(outcome);
+    drop(text);
+    drop(input);
 }
 
 /// Replies that do not fit into the output buffer are written while more pieces are there, whether a write
 /// fails or not.
 #[test]
-fn long_replies_to_pieces_that_are_there(rt: HostRuntime) -> Result<(), Fail> {
-    check_long(&rt, rt.alloc(), None, Ended::EndOfInput)?;
-    check_long(&rt, rt.alloc(), Some(100_000), Ended::WriteFailed)
+fn long_replies_to_pieces_that_are_there(rt: HostRuntime) {
+    check_long(&rt, rt.alloc(), None, Ended::EndOfInput);
+    check_long(&rt, rt.alloc(), Some(100_000), Ended::WriteFailed);
 }
 
 /// The last of the requests that fill a piece to its last byte, behind a thousand PINGs.
@@ -122,21 +129,28 @@ const LAST_OF_PIECE: &[(&[u8], usize)] = &[(b"*2\r\n$4\r\nPING\r\n$2361\r\n", 2_
 const LAST_REPLY: &[(&[u8], usize)] = &[(b"$2361\r\n", 2_361), (b"\r\n", 0)];
 
 /// A thousand times the one, and then the other.
-fn thousand(alloc: Global, each: &[u8], last: &[(&[u8], usize)]) -> io::Result<Vec<u8>> {
-    let last = filled(alloc, last)?;
-    repeated(alloc, each, 1_000, &last)
+fn thousand(rt: &impl Abort, alloc: Global, each: &[u8], last: &[(&[u8], usize)]) -> Vec<u8> {
+    let last = filled(alloc, last).expect(rt, "memory for a text");
+    let answer = repeated(alloc, each, 1_000, &last).expect(rt, "memory for a text");
+    drop(last);
+    answer
 }
 
 /// Whole requests that end where a piece ends, and nothing after them.
 #[test]
-fn requests_that_end_where_a_piece_ends(rt: HostRuntime) -> Result<(), Fail> {
+fn requests_that_end_where_a_piece_ends(rt: HostRuntime) {
     let alloc = rt.alloc();
-    let input = thousand(alloc, PING, LAST_OF_PIECE)?;
-    let text = thousand(alloc, b"+PONG\r\n", LAST_REPLY)?;
-    let outcome = run_ready(&rt, alloc, &input, (true, None), None)?;
+    let input = thousand(&rt, alloc, PING, LAST_OF_PIECE);
+    let text = thousand(&rt, alloc, b"+PONG\r\n", LAST_REPLY);
+    let outcome = run_ready(&rt, alloc, &input, (true, None), None).expect(
+        &rt,
+        "memory for the connection",
+    );
     assert!(rt; input.len() == 16_384);
     check_outcome(&rt, &outcome, &text, Ended::EndOfInput);
-    Ok(())
+    drop(outcome);
+    drop(text);
+    drop(input);
 }
 
 /// How many requests are answered, each by OK or by the out-of-memory line; `None` where the text is
@@ -167,7 +181,9 @@ fn ended_rightly(outcome: &Outcome) -> bool {
 /// What a connection comes to that sends ten requests, where there is memory for them.
 fn ten_answered(rt: &impl Wait, alloc: Global) -> io::Result<Outcome> {
     let input = ten_sets(alloc)?;
-    Ok(run_ready(rt, alloc, &input, (true, None), None)?)
+    let answer = run_ready(rt, alloc, &input, (true, None), None)?;
+    drop(input);
+    Ok(answer)
 }
 
 /// With each allocation refused in turn (`rt try --test --fail-alloc`), the requests before the one that found

@@ -4,10 +4,8 @@ use crate::keys::repeated;
 use crate::pieces::{Sink, Source, came_to, check_run, cut_streams, run};
 use connection::Ended;
 use std::alloc::Global;
-use std::io;
 use std::process::Abort;
 use std::sync::Wait;
-use std::test::Fail;
 use streams::Told;
 
 pub(crate) const PING: &[u8] = b"*1\r\n$4\r\nPING\r\n";
@@ -206,96 +204,101 @@ const ROWS: &[(&[u8], &[u8], Ended)] = &[
 /// The rows answer so however the input is cut, whatever the writer takes at a time, and where calls
 /// are interrupted. None meets a fault, and nothing is kept back.
 #[test]
-fn ample_memory_answers(rt: HostRuntime) -> Result<(), Fail> {
+fn ample_memory_answers(rt: HostRuntime) {
     let alloc = rt.alloc();
     for &(input, text, ended) in ROWS {
         for most in [16_384, 31, 7, 1] {
             for interrupts in [false, true] {
-                let streams = cut_streams(alloc, input, most, interrupts)?;
-                check_run(&rt, alloc, streams, text, ended)?;
+                let streams = cut_streams(&rt, alloc, input, most, interrupts);
+                check_run(&rt, alloc, streams, text, ended);
             }
         }
     }
-    Ok(())
 }
 
 /// The rows answer so where the first read gives any beginning of the input.
 #[test]
-fn rows_that_are_cut_in_two(rt: HostRuntime) -> Result<(), Fail> {
+fn rows_that_are_cut_in_two(rt: HostRuntime) {
     let alloc = rt.alloc();
     for &(input, text, ended) in ROWS {
         for at in 0..input.len() {
             let mut source = Source::new(input, 16_384);
             source.cut_after = at;
-            let sink = Sink::new(alloc, 16_384)?;
-            check_run(&rt, alloc, (source, sink), text, ended)?;
+            let sink = Sink::new(alloc, 16_384).expect(&rt, "memory for a sink");
+            check_run(&rt, alloc, (source, sink), text, ended);
         }
     }
-    Ok(())
 }
 
 /// How many writes the replies to 64 requests take where a read gives at most so many bytes.
-fn writes_of(rt: &impl Wait, alloc: Global, most: usize) -> io::Result<u64> {
-    let input = repeated(alloc, PING, 64, b"")?;
-    let sink = Sink::new(alloc, 16_384)?;
-    let outcome = run(rt, alloc, Source::new(&input, most), sink)?;
-    Ok(outcome.writes)
+fn writes_of(rt: &(impl Abort + Wait), alloc: Global, most: usize) -> u64 {
+    let input = repeated(alloc, PING, 64, b"").expect(rt, "memory for a text");
+    let sink = Sink::new(alloc, 16_384).expect(rt, "memory for a sink");
+    let outcome = run(rt, alloc, Source::new(&input, most), sink).expect(
+        rt,
+        "memory for the connection",
+    );
+    let answer = outcome.writes;
+    drop(outcome);
+    drop(input);
+    answer
 }
 
 /// The replies of one read take one write.
 #[test]
-fn one_write_for_one_read(rt: HostRuntime) -> Result<(), Fail> {
+fn one_write_for_one_read(rt: HostRuntime) {
     let alloc = rt.alloc();
-    let one = writes_of(&rt, alloc, 16_384)?;
-    let many = writes_of(&rt, alloc, PING.len())?;
+    let one = writes_of(&rt, alloc, 16_384);
+    let many = writes_of(&rt, alloc, PING.len());
     assert_eq!(rt; (one, many), (1, 64));
-    Ok(())
 }
 
 /// A read that fails after a complete request: it is answered, and the answer is written.
 #[test]
-fn a_read_that_fails(rt: HostRuntime) -> Result<(), Fail> {
+fn a_read_that_fails(rt: HostRuntime) {
     let alloc = rt.alloc();
     let mut source = Source::new(SET_AND_GET, 16_384);
     source.fails_after = Some(SET.len());
-    let outcome = run(&rt, alloc, source, Sink::new(alloc, 16_384)?)?;
+    let outcome = run(
+        &rt,
+        alloc,
+        source,
+        Sink::new(alloc, 16_384).expect(&rt, "memory for a sink"),
+    )
+    .expect(&rt, "memory for the connection");
     assert!(rt; came_to(&outcome, b"+OK\r\n", Ended::ReadFailed));
     assert!(rt; outcome.told == (Told::Failure, Told::Nothing));
-    Ok(())
+    drop(outcome);
 }
 
 /// Asserts what is written where writes fail after so many bytes.
-fn check_cut<R: Abort + Wait>(
-    rt: &R,
-    alloc: Global,
-    input: &[u8],
-    text: &[u8],
-    most: usize,
-) -> Result<(), Fail> {
-    let mut sink = Sink::new(alloc, most)?;
+fn check_cut<R: Abort + Wait>(rt: &R, alloc: Global, input: &[u8], text: &[u8], most: usize) {
+    let mut sink = Sink::new(alloc, most).expect(rt, "memory for a sink");
     sink.fails_after = Some(text.len());
-    let outcome = run(rt, alloc, Source::new(input, 16_384), sink)?;
+    let outcome = run(rt, alloc, Source::new(input, 16_384), sink).expect(
+        rt,
+        "memory for the connection",
+    );
     assert!(rt; came_to(&outcome, text, Ended::WriteFailed), "{input:?}");
     assert!(rt; outcome.told == (Told::Nothing, Told::Failure), "{input:?}");
-    Ok(())
+    drop(outcome);
 }
 
 /// A write that fails after each number of bytes: a beginning of the text is written.
 #[test]
-fn a_write_that_fails(rt: HostRuntime) -> Result<(), Fail> {
+fn a_write_that_fails(rt: HostRuntime) {
     for &(input, text, _) in ROWS {
         for room in 0..text.len() {
             for most in [16_384, 1] {
-                check_cut(&rt, rt.alloc(), input, &text[..room], most)?;
+                check_cut(&rt, rt.alloc(), input, &text[..room], most);
             }
         }
     }
-    Ok(())
 }
 
 /// A write that takes no byte has failed.
 #[test]
-fn a_write_that_takes_nothing(rt: HostRuntime) -> Result<(), Fail> {
+fn a_write_that_takes_nothing(rt: HostRuntime) {
     let alloc = rt.alloc();
     for &(input, text, ended) in ROWS {
         let ended = if text.is_empty() {
@@ -303,10 +306,12 @@ fn a_write_that_takes_nothing(rt: HostRuntime) -> Result<(), Fail> {
         } else {
             Ended::WriteFailed
         };
-        let streams = (Source::new(input, 16_384), Sink::new(alloc, 0)?);
-        check_run(&rt, alloc, streams, b"", ended)?;
+        let streams = (
+            Source::new(input, 16_384),
+            Sink::new(alloc, 0).expect(&rt, "memory for a sink"),
+        );
+        check_run(&rt, alloc, streams, b"", ended);
     }
-    Ok(())
 }
 
 /// What comes after the first reply of a text: that reply, or the out-of-memory line.
@@ -346,41 +351,51 @@ fn answered_below(text: &[u8]) -> Option<usize> {
 /// Where an allocation is refused (`rt try --test --fail-alloc`), each request has its reply or the
 /// out-of-memory line, in order, or the connection ends before it. No reply is lost or doubled.
 #[test]
-fn a_refused_allocation(rt: HostRuntime) -> Result<(), Fail> {
+fn a_refused_allocation(rt: HostRuntime) {
     let alloc = rt.alloc();
     let input =
         b"*3\r\n$3\r\nSET\r\n$24\r\nkkkkkkkkkkkkkkkkkkkkkkkk\r\n$30\r\nvvvvvvvvvvvvvvvvvvvvvvvvvvvvvv\r\n*2\r\n$3\r\nGET\r\n$24\r\nkkkkkkkkkkkkkkkkkkkkkkkk\r\n*2\r\n$4\r\nPING\r\n$25\r\nttttttttttttttttttttttttt\r\n";
     let Ok(sink) = Sink::new(alloc, 16_384) else {
-        return Ok(());
+        return;
     };
     let Ok(outcome) = run(&rt, alloc, Source::new(input, 100), sink) else {
-        return Ok(());
+        return;
     };
     let ended = match answered_below(&outcome.text) {
         Some(3) => Ended::EndOfInput,
         Some(_) => Ended::NoMemory,
-        None => return Err(Fail::from("another text")),
+        None => panic!(rt; "another text"),
     };
     assert_eq!(rt; outcome.ended, ended);
-    Ok(())
 }
 
 /// More requests than a block has bytes for, and then a part of one with most of a long word.
-fn many_bytes(alloc: Global) -> io::Result<Vec<u8>> {
-    let part = repeated(alloc, b"*2\r\n$4\r\nECHO\r\n$32768\r\n", 1, b"")?;
-    let word = repeated(alloc, b"xxxxxxxx", 4_000, b"")?;
-    let part = repeated(alloc, &part, 1, &word)?;
-    repeated(alloc, PING, 5_000, &part)
+fn many_bytes(rt: &impl Abort, alloc: Global) -> Vec<u8> {
+    let part = repeated(alloc, b"*2\r\n$4\r\nECHO\r\n$32768\r\n", 1, b"").expect(
+        rt,
+        "memory for a text",
+    );
+    let word = repeated(alloc, b"xxxxxxxx", 4_000, b"").expect(rt, "memory for a text");
+    let part = repeated(alloc, &part, 1, &word).expect(rt, "memory for a text");
+    let answer = repeated(alloc, PING, 5_000, &part).expect(rt, "memory for a text");
+    drop(part);
+    drop(word);
+    answer
 }
 
 /// A client that sends one byte at a time. Pieces of one byte share a block, and blocks are used again.
 #[test]
-fn many_pieces_of_one_byte(rt: HostRuntime) -> Result<(), Fail> {
+fn many_pieces_of_one_byte(rt: HostRuntime) {
     let alloc = rt.alloc();
-    let input = many_bytes(alloc)?;
-    let text = repeated(alloc, b"+PONG\r\n", 5_000, b"")?;
-    let streams = (Source::new(&input, 1), Sink::new(alloc, 16_384)?);
-    check_run(&rt, alloc, streams, &text, Ended::EndOfInput)
+    let input = many_bytes(&rt, alloc);
+    let text = repeated(alloc, b"+PONG\r\n", 5_000, b"").expect(&rt, "memory for a text");
+    let streams = (
+        Source::new(&input, 1),
+        Sink::new(alloc, 16_384).expect(&rt, "memory for a sink"),
+    );
+    check_run(&rt, alloc, streams, &text, Ended::EndOfInput);
+    drop(text);
+    drop(input);
 }
 
 /// The numbers by which endings are listed.

@@ -4,42 +4,41 @@ use crate::requests::{add_reply, add_request, add_word};
 use crate::talks::{Source, run, run_two};
 use connection::Ended;
 use std::alloc::Global;
-use std::io;
 use std::io::Write;
 use std::process::Abort;
 use std::sync::Wait;
-use std::test::Fail;
 
 /// A request, and its reply.
 type Row = (&'static str, &'static str);
 
 /// The requests of these rows, where a value has so many bytes.
-fn requests(alloc: Global, rows: &[Row], size: usize) -> io::Result<Vec<u8>> {
+fn requests(rt: &impl Abort, alloc: Global, rows: &[Row], size: usize) -> Vec<u8> {
     let mut all = Vec::new(alloc);
     for (request, _) in rows {
-        add_request(alloc, &mut all, request, size)?;
+        add_request(alloc, &mut all, request, size).expect(rt, "memory for a text");
     }
-    Ok(all)
+    all
 }
 
 /// The replies of these rows, where a value has so many bytes.
-fn replies(alloc: Global, rows: &[Row], size: usize) -> io::Result<Vec<u8>> {
+fn replies(rt: &impl Abort, alloc: Global, rows: &[Row], size: usize) -> Vec<u8> {
     let mut all = Vec::new(alloc);
     for (_, reply) in rows {
-        add_reply(alloc, &mut all, reply, size)?;
+        add_reply(alloc, &mut all, reply, size).expect(rt, "memory for a text");
     }
-    Ok(all)
+    all
 }
 
 /// Asserts that requests are answered so over a new engine.
-fn check<R: Abort + Wait>(rt: &R, alloc: Global, rows: &[Row], size: usize) -> Result<(), Fail> {
-    let input = requests(alloc, rows, size)?;
-    let outcome = run(rt, alloc, Source::new(&input))?;
+fn check<R: Abort + Wait>(rt: &R, alloc: Global, rows: &[Row], size: usize) {
+    let input = requests(rt, alloc, rows, size);
+    let outcome = run(rt, alloc, Source::new(&input));
     assert!(rt;
-        outcome.is(&replies(alloc, rows, size)?, Ended::EndOfInput),
+        outcome.is(&replies(rt, alloc, rows, size), Ended::EndOfInput),
         "values of {size} bytes"
     );
-    Ok(())
+    drop(outcome);
+    drop(input);
 }
 
 /// Each command that can make a value, and then what is found.
@@ -79,11 +78,10 @@ const MADE: &[Row] = &[
 ];
 
 #[test]
-fn each_command_makes_a_value_of_the_most_bytes(rt: HostRuntime) -> Result<(), Fail> {
+fn each_command_makes_a_value_of_the_most_bytes(rt: HostRuntime) {
     for size in [32_767, 32_768] {
-        check(&rt, rt.alloc(), MADE, size)?;
+        check(&rt, rt.alloc(), MADE, size);
     }
-    Ok(())
 }
 
 /// A value of all bytes but one takes one more byte, and no further one.
@@ -104,8 +102,8 @@ const GROWN: &[Row] = &[
 ];
 
 #[test]
-fn a_value_grows_to_the_most_bytes_and_no_further(rt: HostRuntime) -> Result<(), Fail> {
-    check(&rt, rt.alloc(), GROWN, 32_767)
+fn a_value_grows_to_the_most_bytes_and_no_further(rt: HostRuntime) {
+    check(&rt, rt.alloc(), GROWN, 32_767);
 }
 
 /// No command makes a value of the most bytes longer, or begins one that would be.
@@ -140,8 +138,8 @@ const TOO_LONG: &[Row] = &[
 ];
 
 #[test]
-fn a_value_of_one_byte_more_is_too_long(rt: HostRuntime) -> Result<(), Fail> {
-    check(&rt, rt.alloc(), TOO_LONG, 32_768)
+fn a_value_of_one_byte_more_is_too_long(rt: HostRuntime) {
+    check(&rt, rt.alloc(), TOO_LONG, 32_768);
 }
 
 /// Requests with a word of one byte more.
@@ -171,35 +169,37 @@ const BEFORE: &[Row] = &[("SET a v", "+OK")];
 const AFTER: &[Row] = &[("MGET a b c", "*3,$1,v,$-1,$-1")];
 
 /// Asserts that a request with a word of one byte more is a protocol fault, and that it changes nothing.
-fn check_longer<R: Abort + Wait>(rt: &R, alloc: Global, request: &str) -> Result<(), Fail> {
-    let mut input = requests(alloc, BEFORE, 0)?;
-    add_request(alloc, &mut input, request, 32_769)?;
-    let again = requests(alloc, AFTER, 0)?;
-    let (first, second) = run_two(rt, alloc, Source::new(&input), Source::new(&again))?;
+fn check_longer<R: Abort + Wait>(rt: &R, alloc: Global, request: &str) {
+    let mut input = requests(rt, alloc, BEFORE, 0);
+    add_request(alloc, &mut input, request, 32_769).expect(rt, "memory for a text");
+    let again = requests(rt, alloc, AFTER, 0);
+    let (first, second) = run_two(rt, alloc, Source::new(&input), Source::new(&again));
     let fault = b"+OK\r\n-ERR Protocol error: bad length\r\n";
     assert!(rt; first.is(fault, Ended::ProtocolFault), "{request}");
     assert!(rt;
-        second.is(&replies(alloc, AFTER, 0)?, Ended::EndOfInput),
+        second.is(&replies(rt, alloc, AFTER, 0), Ended::EndOfInput),
         "{request}"
     );
-    Ok(())
+    drop(second);
+    drop(first);
+    drop(again);
+    drop(input);
 }
 
 #[test]
-fn a_word_of_one_byte_more_is_a_fault_of_each_request(rt: HostRuntime) -> Result<(), Fail> {
+fn a_word_of_one_byte_more_is_a_fault_of_each_request(rt: HostRuntime) {
     for request in LONGER {
-        check_longer(&rt, rt.alloc(), request)?;
+        check_longer(&rt, rt.alloc(), request);
     }
-    Ok(())
 }
 
 /// Five values of 8,192 bytes and one of 7,899 weigh 49,153 together: a call of values a quarter as long as the longest is
 /// far from too heavy.
 #[test]
-fn six_values_of_eight_thousand_bytes_at_once(rt: HostRuntime) -> Result<(), Fail> {
+fn six_values_of_eight_thousand_bytes_at_once(rt: HostRuntime) {
     let alloc = rt.alloc();
     let mut input = Vec::new(alloc);
-    write!(input, "*13\r\n$4\r\nMSET\r\n")?;
+    write!(input, "*13\r\n$4\r\nMSET\r\n").expect(&rt, "memory for a text");
     for (key, size) in [
         ("a", 8_192),
         ("b", 8_192),
@@ -208,10 +208,9 @@ fn six_values_of_eight_thousand_bytes_at_once(rt: HostRuntime) -> Result<(), Fai
         ("e", 8_192),
         ("f", 7_899),
     ] {
-        add_word(alloc, &mut input, key, 0)?;
-        add_word(alloc, &mut input, "#", size)?;
+        add_word(alloc, &mut input, key, 0).expect(&rt, "memory for a text");
+        add_word(alloc, &mut input, "#", size).expect(&rt, "memory for a text");
     }
-    add_request(alloc, &mut input, "EXISTS a f", 0)?;
-    run(&rt, alloc, Source::new(&input))?.check(&rt, b"+OK\r\n:2\r\n", Ended::EndOfInput);
-    Ok(())
+    add_request(alloc, &mut input, "EXISTS a f", 0).expect(&rt, "memory for a text");
+    run(&rt, alloc, Source::new(&input)).check(&rt, b"+OK\r\n:2\r\n", Ended::EndOfInput);
 }

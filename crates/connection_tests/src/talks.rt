@@ -202,27 +202,39 @@ pub(crate) fn talk<D: Device>(
 }
 
 /// Serves a connection over a new engine in memory.
-pub(crate) fn run(
-    rt: &impl Wait,
-    alloc: Global,
-    source: Source<'_>,
-) -> Result<Outcome, AllocError> {
+pub(crate) fn run(rt: &(impl Abort + Wait), alloc: Global, source: Source<'_>) -> Outcome {
     let limits = narrow();
-    let (engine, pass, _other) = engine_over(alloc, &limits, memory(alloc, &limits)?)?;
-    let (_pass, outcome) = talk(rt, alloc, source, &engine, pass);
-    Ok(outcome)
+    let (engine, pass, other) = engine_over(
+        alloc,
+        &limits,
+        memory(alloc, &limits).expect(rt, "memory for a device"),
+    )
+    .expect(rt, "memory for an engine");
+    let (pass, outcome) = talk(rt, alloc, source, &engine, pass);
+    drop(pass);
+    drop(other);
+    drop(engine);
+    outcome
 }
 
 /// Serves two connections over a new engine in memory, one after the other, each with a pass of its own.
 pub(crate) fn run_two(
-    rt: &impl Wait,
+    rt: &(impl Abort + Wait),
     alloc: Global,
     first: Source<'_>,
     second: Source<'_>,
-) -> Result<(Outcome, Outcome), AllocError> {
+) -> (Outcome, Outcome) {
     let limits = narrow();
-    let (engine, one, two) = engine_over(alloc, &limits, memory(alloc, &limits)?)?;
-    let (_one, first) = talk(rt, alloc, first, &engine, one);
-    let (_two, second) = talk(rt, alloc, second, &engine, two);
-    Ok((first, second))
+    let (engine, one, two) = engine_over(
+        alloc,
+        &limits,
+        memory(alloc, &limits).expect(rt, "memory for a device"),
+    )
+    .expect(rt, "memory for an engine");
+    let (one, first) = talk(rt, alloc, first, &engine, one);
+    let (two, second) = talk(rt, alloc, second, &engine, two);
+    drop(two);
+    drop(one);
+    drop(engine);
+    (first, second)
 }

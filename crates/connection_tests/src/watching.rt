@@ -14,7 +14,6 @@ use std::io;
 use std::io::{ErrorKind, Write};
 use std::process::Abort;
 use std::sync::Wait;
-use std::test::Fail;
 use words::limits::Limits;
 
 /// A writer into memory.
@@ -130,30 +129,35 @@ fn check_ends<D: Device, R: Abort + Wait>(
     };
     let (pass, sink, ended) = talk_to(rt, alloc, watcher.source(), sink, engine, passes.0);
     assert!(rt; ended == watcher.ended && sink.text.as_slice() == watcher.text);
-    let (_other, set) = talk(rt, alloc, Source::new(SET), engine, passes.1);
+    let (other, set) = talk(rt, alloc, Source::new(SET), engine, passes.1);
     set.check(rt, b"+OK\r\n", Ended::EndOfInput);
-    let (_pass, anew) = talk(rt, alloc, Source::new(WATCHES_ANEW), engine, pass);
+    let (pass, anew) = talk(rt, alloc, Source::new(WATCHES_ANEW), engine, pass);
     anew.check(rt, WATCHES_ANEW_ANSWER, Ended::EndOfInput);
+    drop(anew);
+    drop(set);
+    drop(pass);
+    drop(other);
+    drop(sink);
 }
 
 /// Checks each of the ways to end over a new engine.
-fn check_ends_of_new<R: Abort + Wait>(
-    rt: &R,
-    alloc: Global,
-    watcher: Watcher,
-) -> Result<(), AllocError> {
+fn check_ends_of_new<R: Abort + Wait>(rt: &R, alloc: Global, watcher: Watcher) {
     let limits = narrow();
-    let (engine, first, second) = engine_over(alloc, &limits, memory(alloc, &limits)?)?;
+    let (engine, first, second) = engine_over(
+        alloc,
+        &limits,
+        memory(alloc, &limits).expect(rt, "memory for a device"),
+    )
+    .expect(rt, "memory for an engine");
     check_ends(rt, alloc, &engine, (first, second), watcher);
-    Ok(())
+    drop(engine);
 }
 
 #[test]
-fn a_watch_ends_with_its_connection(rt: HostRuntime) -> Result<(), Fail> {
+fn a_watch_ends_with_its_connection(rt: HostRuntime) {
     for &watcher in WATCHERS {
-        check_ends_of_new(&rt, rt.alloc(), watcher)?;
+        check_ends_of_new(&rt, rt.alloc(), watcher);
     }
-    Ok(())
 }
 
 /// Openings of a device over memory. The first call of the fourth one fails, and no other.
@@ -174,14 +178,20 @@ fn failing(alloc: Global, limits: &Limits) -> Result<Vec<Faulty<MemoryDevice>>, 
 
 /// A transaction that watches a key, and whose read of another fails. Then the key is written, watched anew, and read in a
 /// transaction.
-fn watches_and_fails(alloc: Global) -> io::Result<Vec<u8>> {
+fn watches_and_fails(rt: &impl Abort, alloc: Global) -> Vec<u8> {
     let mut input = Vec::new(alloc);
-    input.extend_from_slice(b"*2\r\n$5\r\nWATCH\r\n$1\r\nk\r\n*1\r\n$5\r\nMULTI\r\n")?;
-    add_get(&mut input, 0)?;
-    input.extend_from_slice(b"*1\r\n$4\r\nEXEC\r\n")?;
-    input.extend_from_slice(SET)?;
-    input.extend_from_slice(WATCHES_ANEW)?;
-    Ok(input)
+    input
+        .extend_from_slice(b"*2\r\n$5\r\nWATCH\r\n$1\r\nk\r\n*1\r\n$5\r\nMULTI\r\n")
+        .expect(rt, "memory for a text");
+    add_get(rt, &mut input, 0);
+    input
+        .extend_from_slice(b"*1\r\n$4\r\nEXEC\r\n")
+        .expect(rt, "memory for a text");
+    input.extend_from_slice(SET).expect(rt, "memory for a text");
+    input
+        .extend_from_slice(WATCHES_ANEW)
+        .expect(rt, "memory for a text");
+    input
 }
 
 const WATCHES_AND_FAILS_ANSWER: &[u8] =
@@ -190,14 +200,21 @@ const WATCHES_AND_FAILS_ANSWER: &[u8] =
 /// The watches of a transaction end with it where a read of it fails: the key that it watched is watched anew after a write,
 /// and that write does not count.
 #[test]
-fn a_transaction_whose_read_fails_watches_no_more(rt: HostRuntime) -> Result<(), Fail> {
+fn a_transaction_whose_read_fails_watches_no_more(rt: HostRuntime) {
     let alloc = rt.alloc();
-    let (stored, input) = (sets(alloc, 3_000)?, watches_and_fails(alloc)?);
+    let (stored, input) = (sets(&rt, alloc, 3_000), watches_and_fails(&rt, alloc));
     let limits = wide();
-    let (engine, first, second) = engine_over(alloc, &limits, failing(alloc, &limits)?)?;
+    let (engine, first, second) = engine_over(
+        alloc,
+        &limits,
+        failing(alloc, &limits).expect(&rt, "memory for a device"),
+    )
+    .expect(&rt, "memory for an engine");
     let (_second, before) = talk(&rt, alloc, Source::new(&stored), &engine, second);
     assert!(rt; before.text.len() == 3_000 * 5);
     let (_first, after) = talk(&rt, alloc, Source::new(&input), &engine, first);
     after.check(&rt, WATCHES_AND_FAILS_ANSWER, Ended::EndOfInput);
-    Ok(())
+    drop(after);
+    drop(before);
+    drop(engine);
 }

@@ -48,6 +48,12 @@ impl<R: Shows> Shows for FaultyReceipt<R> {
         self.receipt.same(&other.receipt)
     }
 
+    fn hold_pages() -> bool
+        ensures { IsFalse result }
+    {
+        false
+    }
+
     fn page(&self) -> Option<&Page>
         ensures { IsNone result }
     {

@@ -1,6 +1,6 @@
 // A device that keeps its pages in a file.
 
-ghost use Rattle.std.specs.Prelude.{◌≡◌, ◌<◌, ◌≤◌, ◌+◌, ◌*◌, ◌∷◌, ℕ, true, IfOk, IfSome, IfNone, IsNone, OnOk, OnErr, All, vec_len, Some};
+ghost use Rattle.std.specs.Prelude.{◌≡◌, ◌<◌, ◌≤◌, ◌+◌, ◌*◌, ◌∷◌, ℕ, true, IsFalse, IfOk, IfSome, IfNone, IsNone, OnOk, OnErr, All, vec_len, Some};
 ghost use Rattle.records.specs.Page.{number_of, SameWithin};
 ghost use Rattle.device.specs.Written.{page_of};
 ghost use Rattle.device.specs.declared.places.TheConstants.{MAX_PLACES};
@@ -113,6 +113,12 @@ impl Shows for FileReceipt {
             × (receipt_number self.now ≡ receipt_number other.now)) }
     {
         self.place == other.place && self.number == other.number
+    }
+
+    fn hold_pages() -> bool
+        ensures { IsFalse result }
+    {
+        false
     }
 
     /// Always none: the page lies in the file.

@@ -19,7 +19,7 @@
 //! `Device` and `Shows` state this. `MemoryDevice` is steady. `FileDevice` keeps pages in a file.
 //! `Faulty` fails calls of another device on demand, and promises what that device promises.
 
-ghost use Rattle.std.specs.Prelude.{◌≡◌, ◌≢◌, ◌≤◌, ℕ, ◌+◌, List, Some, codes, IsTrue, IsSome, IfOk, IfSome, OnOk, OnErr};
+ghost use Rattle.std.specs.Prelude.{◌≡◌, ◌≢◌, ◌≤◌, ◌↔◌, ℕ, ◌+◌, List, Some, codes, IsTrue, IsSome, IfOk, IfSome, OnOk, OnErr};
 ghost use Rattle.records.specs.Page.{SameWithin};
 
 use epoch::{Drained, Retired};
@@ -87,6 +87,10 @@ pub trait Shows: Drop {
         ensures copies { identity self.now ≡ identity other.now → IsTrue result }
         ensures only_copies { is_honest → IsTrue result → identity self.now ≡ identity other.now };
 
+    /// Whether receipts of this type hold their pages.
+    fn hold_pages() -> bool
+        ensures { IsTrue result ↔ lends };
+
     /// The page shown, where the receipt holds it: either all receipts of a type do, or none does. A
     /// device's read gives no other one.
     fn page(&self) -> Option<&Page>
@@ -146,6 +150,27 @@ pub trait Device: Drop {
         ensures counted { writes self.new ≡ writes self.old + 1 }
         ensures no_read { reads self.new ≡ reads self.old }
         ensures no_release { releases self.new ≡ releases self.old };
+
+    /// The same as [`write`](Device::write) for a page that its owner gives up. The device may keep its memory, and leave
+    /// other memory in its place, so after an `Ok` it may have any bytes. After an `Err` it has those that it had.
+    ///
+    /// It counts as a write. As it stands here it writes the page; a device that keeps pages in memory has a body of its own.
+    fn exchange(&mut self, page: &mut Page) -> Result<Self::Receipt, DeviceFault>
+        ensures shown { IfOk result (λ r. Self.Receipt.shown r ≡ page.old) }
+        ensures kept { OnErr result (page.new ≡ page.old) }
+        ensures wrote { IfOk result (λ r. wrote self.old page.old r self.new) }
+        ensures fresh { IfOk result (λ r. serves self.old r → Self.Receipt.is_steady) }
+        ensures served { Self.Receipt.is_honest → IfOk result (λ r. serves self.new r) }
+        ensures still_served { (r : Self.Receipt) → serves self.old r → serves self.new r }
+
+        ensures failure { OnErr result (failures self.new ≡ failures self.old + 1) }
+        ensures no_failure { OnOk result (failures self.new ≡ failures self.old) }
+        ensures counted { writes self.new ≡ writes self.old + 1 }
+        ensures no_read { reads self.new ≡ reads self.old }
+        ensures no_release { releases self.new ≡ releases self.old }
+    {
+        self.write(page)
+    }
 
     /// Reads the page that a receipt shows into `page`. After an `Err`, and where the device does not
     /// serve the receipt, `page` may have any bytes.

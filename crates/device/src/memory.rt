@@ -1,6 +1,7 @@
 // A device that keeps its pages in memory.
 
-ghost use Rattle.std.specs.Prelude.{◌≡◌, ℕ, IfOk, IsOk, IsSome, IfSome, OnOk, OnErr, replicate};
+ghost use Rattle.std.specs.Prelude.{◌≡◌, ℕ, IfOk, IsOk, IsSome, IsTrue, IfSome, OnOk, OnErr, replicate};
+ghost use Rattle.records.specs.Page.{zero_page};
 
 use crate::copies::Copies;
 use crate::counts::CallCount;
@@ -52,6 +53,12 @@ impl Shows for MemoryReceipt {
         *self.page == *other.page
     }
 
+    fn hold_pages() -> bool
+        ensures { IsTrue result }
+    {
+        true
+    }
+
     /// Always some: a receipt holds its page.
     fn page(&self) -> Option<&Page>
         ensures holds { IsSome result }
@@ -65,7 +72,8 @@ impl Shows for MemoryReceipt {
 /// receipt, without a lock: a receipt holds its page, which is freed with its last copy. To a contract
 /// an opening is the numbers of its calls.
 ///
-/// A write takes memory for one page, and fails only where the allocator has none.
+/// A write, or an exchange, takes memory for one page, and fails only where the allocator has none. A page that is exchanged
+/// is not copied: the device keeps its memory, and leaves memory that was not touched yet.
 #[derive(Drop)]
 pub struct MemoryDevice {
     copies: Copies,
@@ -134,6 +142,24 @@ impl Device for MemoryDevice {
     {
         self.writes.note();
         match self.copies.share(page) {
+            Some(page) => Ok(MemoryReceipt { page }),
+            None => {
+                self.failures.note();
+                Err(DeviceFault)
+            }
+        }
+    }
+
+    /// Fails only where the allocator has no memory for a page. Else the page is blank afterwards.
+    fn exchange(&mut self, page: &mut Page) -> Result<MemoryReceipt, DeviceFault>
+        ensures shown { IfOk result (λ r. r ≡ page.old) }
+        ensures blank { OnOk result (page.new ≡ zero_page) }
+        ensures kept { OnErr result (page.new ≡ page.old) }
+        ensures written { OnOk result (self.new ≡ after_write self.old) }
+        ensures refused { OnErr result (self.new ≡ after_refusal self.old) }
+    {
+        self.writes.note();
+        match self.copies.take(page) {
             Some(page) => Ok(MemoryReceipt { page }),
             None => {
                 self.failures.note();

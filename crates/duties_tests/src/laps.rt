@@ -2,7 +2,6 @@
 
 ghost use Rattle.std.specs.Prelude.{◌≡◌};
 
-use std::test::Fail;
 use upkeep::{Laps, Seen};
 
 /// A stripe of 64 places, of which so many are used.
@@ -44,61 +43,71 @@ fn comes_to_a_lap(laps: &mut Laps, seen: &Seen) -> Option<(usize, usize)>
 /// Ten laps at a full store of live values that is only overwritten, each after so many looks. Such a store has no place that
 /// could come back, so a test of the thread over it would have no end to wait for: what is tested is when it tries again.
 #[test]
-fn a_full_store_of_live_values_is_tried_again_after_a_thousand_looks_at_most(
-    rt: HostRuntime,
-) -> Result<(), Fail> {
+fn a_full_store_of_live_values_is_tried_again_after_a_thousand_looks_at_most(rt: HostRuntime) {
     let mut laps = Laps::new();
-    assert_eq!(rt; comes_to_a_lap(&mut laps, &used(64)), Some((1, 256)));
+    assert!(rt; comes_to_a_lap(&mut laps, &used(64)) == Some((1, 256)));
     for looks in [10, 20, 40, 80, 160, 320, 640, 1_000, 1_000] {
-        assert_eq!(rt; comes_to_a_lap(&mut laps, &used(64)), Some((looks, 256)));
+        assert!(rt;
+            comes_to_a_lap(&mut laps, &used(64)) == Some((looks, 256)),
+            "after {looks} looks"
+        );
     }
-    Ok(())
+    drop(laps);
 }
 
 /// A lap that gives three places back of 64 is not in vain: the next one begins at once, and patience is ten looks again.
 #[test]
-fn a_lap_that_gains_brings_patience_back(rt: HostRuntime) -> Result<(), Fail> {
+fn a_lap_that_gains_brings_patience_back(rt: HostRuntime) {
     let mut laps = Laps::new();
     for looks in [1, 10, 20, 40] {
-        assert_eq!(rt; comes_to_a_lap(&mut laps, &used(64)), Some((looks, 256)));
+        assert!(rt;
+            comes_to_a_lap(&mut laps, &used(64)) == Some((looks, 256)),
+            "after {looks} looks"
+        );
     }
-    assert_eq!(rt; comes_to_a_lap(&mut laps, &used(61)), Some((1, 244)));
+    assert!(rt; comes_to_a_lap(&mut laps, &used(61)) == Some((1, 244)));
     for looks in [10, 20] {
-        assert_eq!(rt; comes_to_a_lap(&mut laps, &used(64)), Some((looks, 256)));
+        assert!(rt;
+            comes_to_a_lap(&mut laps, &used(64)) == Some((looks, 256)),
+            "after {looks} looks"
+        );
     }
-    Ok(())
+    drop(laps);
 }
 
 /// Where a store is not full, a lap in vain is followed by another only once more places are used, by more than two of 64.
 #[test]
-fn a_store_that_does_not_grow_is_left_alone(rt: HostRuntime) -> Result<(), Fail> {
+fn a_store_that_does_not_grow_is_left_alone(rt: HostRuntime) {
     let mut laps = Laps::new();
-    assert_eq!(rt; comes_to_a_lap(&mut laps, &used(40)), Some((1, 160)));
-    assert_eq!(rt; comes_to_a_lap(&mut laps, &used(40)), None);
-    assert_eq!(rt; comes_to_a_lap(&mut laps, &used(42)), None);
-    assert_eq!(rt; comes_to_a_lap(&mut laps, &used(43)), Some((1, 172)));
-    Ok(())
+    assert!(rt; comes_to_a_lap(&mut laps, &used(40)) == Some((1, 160)));
+    assert!(rt; comes_to_a_lap(&mut laps, &used(40)) == None);
+    assert!(rt; comes_to_a_lap(&mut laps, &used(42)) == None);
+    assert!(rt; comes_to_a_lap(&mut laps, &used(43)) == Some((1, 172)));
+    drop(laps);
 }
 
 /// A deletion at a full store begins a short lap at once, and where its page is not had back, a whole one after ten looks.
 #[test]
-fn a_deletion_begins_a_short_lap(rt: HostRuntime) -> Result<(), Fail> {
+fn a_deletion_begins_a_short_lap(rt: HostRuntime) {
     let mut laps = Laps::new();
     let mut seen = used(64);
     for looks in [1, 10, 20, 40] {
-        assert_eq!(rt; comes_to_a_lap(&mut laps, &seen), Some((looks, 256)));
+        assert!(rt;
+            comes_to_a_lap(&mut laps, &seen) == Some((looks, 256)),
+            "after {looks} looks"
+        );
     }
     assert!(rt; !laps.begins(&seen));
     laps.stop();
     seen.opened = true;
-    assert_eq!(rt; comes_to_a_lap(&mut laps, &seen), Some((1, 64)));
-    assert_eq!(rt; comes_to_a_lap(&mut laps, &seen), Some((10, 256)));
-    Ok(())
+    assert!(rt; comes_to_a_lap(&mut laps, &seen) == Some((1, 64)));
+    assert!(rt; comes_to_a_lap(&mut laps, &seen) == Some((10, 256)));
+    drop(laps);
 }
 
 /// Who writes waits only where a lap has steps left, and an eighth of the places or less are left.
 #[test]
-fn a_lap_is_behind_where_few_places_are_left(rt: HostRuntime) -> Result<(), Fail> {
+fn a_lap_is_behind_where_few_places_are_left(rt: HostRuntime) {
     let mut laps = Laps::new();
     laps.note_behind(64, 64);
     assert!(rt; !laps.is_behind());
@@ -111,5 +120,5 @@ fn a_lap_is_behind_where_few_places_are_left(rt: HostRuntime) -> Result<(), Fail
     assert!(rt; laps.is_behind());
     laps.note_level();
     assert!(rt; !laps.is_behind());
-    Ok(())
+    drop(laps);
 }

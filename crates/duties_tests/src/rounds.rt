@@ -14,11 +14,13 @@ use std::io;
 use std::rt::Clock;
 use std::sync::Wait;
 use std::sync::atomic::{AtomicU64, Ordering};
-use std::test::Fail;
 use std::time::Duration;
 use upkeep::{Chores, Duty, Surroundings, keep_up, round};
 use words::limits::{FRAMES_MIN, KEY_BYTES_MAX, Limits, VALUE_BYTES_MAX};
 use words::word::Word;
+
+/// How many openings a device has: one for a client, and those of the background.
+const OPENINGS: usize = 1 + BACKGROUND_PASSES;
 
 /// The value of these tests.
 const VALUE: [u8; 1000] = [b'v'; 1000];
@@ -105,19 +107,26 @@ fn are_all_used<R: Wait, D: Device>(rt: &R, engine: &Engine<D>, pass: &mut Pass<
 
 /// One round of a flusher writes pages at each of three stripes, and the next has nothing to do.
 #[test]
-fn a_round_works_at_each_stripe(rt: HostRuntime) -> Result<(), Fail> {
+fn a_round_works_at_each_stripe(rt: HostRuntime) {
     let alloc = rt.alloc();
-    let openings = MemoryDevice::openings(alloc, 1 + BACKGROUND_PASSES)?;
-    let (engine, mut passes) = engine_over(alloc, 3, openings).ok_or("no engine")?;
+    let openings = MemoryDevice::openings(alloc, OPENINGS).expect(&rt, "memory for a device");
+    let (engine, mut passes) = engine_over(alloc, 3, openings).expect(&rt, "an engine");
     let mut pass = passes.swap_remove(0);
     let background = passes.swap_remove(0);
-    assert_eq!(rt; fills(&rt, alloc, &engine, &mut pass, 1_800), Some(true));
-    let mut chores = Chores::new(alloc, Duty::Flush, engine.stripes(), 64)?;
+    assert!(rt; fills(&rt, alloc, &engine, &mut pass, 1_800) == Some(true));
+    let mut chores = Chores::new(alloc, Duty::Flush, engine.stripes(), 64).expect(
+        &rt,
+        "memory for the chores",
+    );
     let mut site = Site::new(&rt, &engine, background);
     assert!(rt; round(&mut site, &mut chores));
     assert!(rt; !round(&mut site, &mut chores));
     assert!(rt; are_all_used(&rt, &engine, &mut pass));
-    Ok(())
+    drop(site);
+    drop(chores);
+    drop(pass);
+    drop(passes);
+    drop(engine);
 }
 
 /// What a thread hears and says beside the stripes, by the test: serving is over at the sixth time that it is asked, and a
@@ -183,28 +192,36 @@ impl Surroundings for Hours {
 /// A flusher with work for one round goes on through a lull, in which nobody is served, until serving is over: after the round
 /// with work it does not rest, and then twice for 10 milliseconds and three times for 50.
 #[test]
-fn a_thread_goes_on_through_a_lull(rt: HostRuntime) -> Result<(), Fail> {
+fn a_thread_goes_on_through_a_lull(rt: HostRuntime) {
     let alloc = rt.alloc();
-    let openings = MemoryDevice::openings(alloc, 1 + BACKGROUND_PASSES)?;
-    let (engine, mut passes) = engine_over(alloc, 1, openings).ok_or("no engine")?;
+    let openings = MemoryDevice::openings(alloc, OPENINGS).expect(&rt, "memory for a device");
+    let (engine, mut passes) = engine_over(alloc, 1, openings).expect(&rt, "an engine");
     let mut pass = passes.swap_remove(0);
     let background = passes.swap_remove(0);
-    assert_eq!(rt; fills(&rt, alloc, &engine, &mut pass, 600), Some(true));
-    let mut chores = Chores::new(alloc, Duty::Flush, engine.stripes(), 64)?;
+    assert!(rt; fills(&rt, alloc, &engine, &mut pass, 600) == Some(true));
+    let mut chores = Chores::new(alloc, Duty::Flush, engine.stripes(), 64).expect(
+        &rt,
+        "memory for the chores",
+    );
     let mut site = Site::new(&rt, &engine, background);
     let mut hours = Hours::new();
     keep_up(&rt, &mut site, &mut hours, &mut chores);
-    assert_eq!(rt; hours.asked, 6);
-    assert_eq!(rt; hours.time, 2 * 10 + 3 * 50);
+    assert!(rt; hours.asked == 6);
+    assert!(rt; hours.time == 2 * 10 + 3 * 50);
     assert!(rt; engine.used_places(&rt, &mut pass, 0) > 0);
-    Ok(())
+    drop(hours);
+    drop(site);
+    drop(chores);
+    drop(pass);
+    drop(passes);
+    drop(engine);
 }
 
 /// The openings of a device in memory. The first three calls of each fail.
 fn failing_openings(alloc: Global) -> Result<Vec<Faulty<MemoryDevice>>, AllocError>
     ensures { IfOk result (λ openings. vec_len openings ≡ 4) }
 {
-    let mut below = MemoryDevice::openings(alloc, 1 + BACKGROUND_PASSES)?;
+    let mut below = MemoryDevice::openings(alloc, OPENINGS)?;
     let mut openings = Vec::new(alloc);
     while let Some(device) = below.pop() {
         let mut calls = Vec::new(alloc);
@@ -218,21 +235,28 @@ fn failing_openings(alloc: Global) -> Result<Vec<Faulty<MemoryDevice>>, AllocErr
 
 /// A flusher whose first three writes fail has done nothing in three rounds, and writes the pages in the fourth.
 #[test]
-fn a_flusher_goes_on_after_faults(rt: HostRuntime) -> Result<(), Fail> {
+fn a_flusher_goes_on_after_faults(rt: HostRuntime) {
     let alloc = rt.alloc();
-    let openings = failing_openings(alloc)?;
-    let (engine, mut passes) = engine_over(alloc, 1, openings).ok_or("no engine")?;
+    let openings = failing_openings(alloc).expect(&rt, "memory for a device");
+    let (engine, mut passes) = engine_over(alloc, 1, openings).expect(&rt, "an engine");
     let mut pass = passes.swap_remove(0);
     let background = passes.swap_remove(0);
-    assert_eq!(rt; fills(&rt, alloc, &engine, &mut pass, 600), Some(true));
-    let mut chores = Chores::new(alloc, Duty::Flush, engine.stripes(), 64)?;
+    assert!(rt; fills(&rt, alloc, &engine, &mut pass, 600) == Some(true));
+    let mut chores = Chores::new(alloc, Duty::Flush, engine.stripes(), 64).expect(
+        &rt,
+        "memory for the chores",
+    );
     let mut site = Site::new(&rt, &engine, background);
     for _ in 0..3 {
         assert!(rt; !round(&mut site, &mut chores));
     }
     assert!(rt; round(&mut site, &mut chores));
     assert!(rt; engine.used_places(&rt, &mut pass, 0) > 0);
-    Ok(())
+    drop(site);
+    drop(chores);
+    drop(pass);
+    drop(passes);
+    drop(engine);
 }
 
 /// Whether an engine of one stripe comes to be full, by writes of the same keys. They are five pages, so that a key's last
@@ -272,34 +296,42 @@ fn cleans<R: Clock + Wait, D: Device>(
 
 /// A cleaner at a full store of old records tells all who serve that it is behind after a round.
 #[test]
-fn a_cleaner_tells_that_it_is_behind(rt: HostRuntime) -> Result<(), Fail> {
+fn a_cleaner_tells_that_it_is_behind(rt: HostRuntime) {
     let alloc = rt.alloc();
-    let openings = MemoryDevice::openings(alloc, 1 + BACKGROUND_PASSES)?;
-    let (engine, mut passes) = engine_over(alloc, 1, openings).ok_or("no engine")?;
+    let openings = MemoryDevice::openings(alloc, OPENINGS).expect(&rt, "memory for a device");
+    let (engine, mut passes) = engine_over(alloc, 1, openings).expect(&rt, "an engine");
     let mut pass = passes.swap_remove(0);
     let serving = Serving::new(&rt);
     serving.close();
-    assert_eq!(rt;
-        comes_to_be_full(&rt, alloc, &engine, &mut pass),
-        Some(true)
+    assert!(rt; comes_to_be_full(&rt, alloc, &engine, &mut pass) == Some(true));
+    cleans(&rt, alloc, &engine, passes.swap_remove(0), &serving).expect(
+        &rt,
+        "memory for the chores",
     );
-    cleans(&rt, alloc, &engine, passes.swap_remove(0), &serving)?;
     assert!(rt; serving.is_behind());
-    Ok(())
+    drop(serving);
+    drop(pass);
+    drop(passes);
+    drop(engine);
 }
 
 /// A cleaner with nothing to do takes it back after a round.
 #[test]
-fn a_cleaner_takes_it_back(rt: HostRuntime) -> Result<(), Fail> {
+fn a_cleaner_takes_it_back(rt: HostRuntime) {
     let alloc = rt.alloc();
-    let openings = MemoryDevice::openings(alloc, 1 + BACKGROUND_PASSES)?;
-    let (engine, mut passes) = engine_over(alloc, 1, openings).ok_or("no engine")?;
+    let openings = MemoryDevice::openings(alloc, OPENINGS).expect(&rt, "memory for a device");
+    let (engine, mut passes) = engine_over(alloc, 1, openings).expect(&rt, "an engine");
     let serving = Serving::new(&rt);
     serving.set_behind(true);
     serving.close();
-    cleans(&rt, alloc, &engine, passes.swap_remove(0), &serving)?;
+    cleans(&rt, alloc, &engine, passes.swap_remove(0), &serving).expect(
+        &rt,
+        "memory for the chores",
+    );
     assert!(rt; !serving.is_behind());
-    Ok(())
+    drop(serving);
+    drop(passes);
+    drop(engine);
 }
 
 /// A clock whose rests take no time. It counts them and their milliseconds. At the third the connection that is served ends, and
@@ -336,10 +368,10 @@ impl<W> Clock for Rested<'_, W> {
 
 /// A thread with nothing to do rests by the clock: for 10 milliseconds while a connection is served, and else for 50.
 #[test]
-fn a_thread_rests_by_the_clock(rt: HostRuntime) -> Result<(), Fail> {
+fn a_thread_rests_by_the_clock(rt: HostRuntime) {
     let alloc = rt.alloc();
-    let openings = MemoryDevice::openings(alloc, 1 + BACKGROUND_PASSES)?;
-    let (engine, mut passes) = engine_over(alloc, 1, openings).ok_or("no engine")?;
+    let openings = MemoryDevice::openings(alloc, OPENINGS).expect(&rt, "memory for a device");
+    let (engine, mut passes) = engine_over(alloc, 1, openings).expect(&rt, "an engine");
     let serving = Serving::new(&rt);
     serving.begin();
     let clock = Rested {
@@ -348,8 +380,14 @@ fn a_thread_rests_by_the_clock(rt: HostRuntime) -> Result<(), Fail> {
         rests: AtomicU64::new(0),
         time: AtomicU64::new(0),
     };
-    cleans(&clock, alloc, &engine, passes.swap_remove(0), &serving)?;
-    assert_eq!(rt; clock.rests.load(Ordering::SeqCst), 5);
-    assert_eq!(rt; clock.time.load(Ordering::SeqCst), 3 * 10 + 2 * 50);
-    Ok(())
+    cleans(&clock, alloc, &engine, passes.swap_remove(0), &serving).expect(
+        &rt,
+        "memory for the chores",
+    );
+    assert!(rt; clock.rests.load(Ordering::SeqCst) == 5);
+    assert!(rt; clock.time.load(Ordering::SeqCst) == 3 * 10 + 2 * 50);
+    drop(clock);
+    drop(serving);
+    drop(passes);
+    drop(engine);
 }

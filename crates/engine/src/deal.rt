@@ -73,7 +73,7 @@ fn pass_of<R: Shows, D: Device<Receipt = R>>(
     ensures hands { IfOk result (λ pass. (hands : Hands R EpochSeat) × (pass.hands ≡ Some hands)
         × (hands.own ≡ seat) × (hands.staged ≡ [])) }
 {
-    let page = Page::new(alloc, 0)?;
+    let page = Page::blank(alloc)?;
     let hands = Hands {
         alloc,
         staged: Staged::new(alloc),

@@ -44,7 +44,7 @@ pub fn is_due<R: Wait, L: Latch>(
     ensures { Rests ⊤ engine.now pass.new }
 {
     match answer_of(rt, alloc, latch, engine, pass, exchange.request) {
-        Some(answer) => compare(&answer, exchange.due) == Outcome::Due,
+        Some(answer) => compare(answer, exchange.due) == Outcome::Due,
         None => false,
     }
 }

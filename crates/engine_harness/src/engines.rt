@@ -53,9 +53,14 @@ pub fn narrow_over<D: Device>(
     ensures rest { IfSome result (λ made. All (Rests D.Receipt.is_steady made.0) made.1.items) }
     ensures watch { IfSome result (λ made. All (λ pass. (knows (λ device. 0) pass).watched ≡ []) made.1.items) }
 {
-    let limits = Limits::new(1, 64, FRAMES_MIN, places, 1)?;
-    match Engine::new(alloc, &limits, openings) {
-        Ok(made) => Some(made),
-        Err(_) => None,
+    match Limits::new(1, 64, FRAMES_MIN, places, 1) {
+        Some(limits) => match Engine::new(alloc, &limits, openings) {
+            Ok(made) => Some(made),
+            Err(_) => None,
+        },
+        None => {
+            drop(openings);
+            None
+        }
     }
 }

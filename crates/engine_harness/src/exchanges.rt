@@ -30,13 +30,21 @@ pub enum Outcome {
     Other,
 }
 
+/// Adds a word to a request, where it has room for one. `None` where there was no memory.
+fn add_word(alloc: Global, words: &mut Words, text: &str) -> Option<()> {
+    let word = Word::from_slice(alloc, text.as_bytes()).ok()?;
+    if words.as_slice().len() < WORDS_MAX {
+        words.push(word).ok()
+    } else {
+        drop(word);
+        Some(())
+    }
+}
+
 /// Adds words to a request. `None` where there was no memory.
 fn add_words(alloc: Global, words: &mut Words, texts: &str) -> Option<()> {
     for text in texts.split(' ') {
-        let word = Word::from_slice(alloc, text.as_bytes()).ok()?;
-        if words.as_slice().len() < WORDS_MAX {
-            words.push(word).ok()?;
-        }
+        add_word(alloc, words, text)?;
     }
     Some(())
 }
@@ -46,14 +54,21 @@ fn words_of(alloc: Global, request: &str) -> Option<Words> {
     let (name, others) = request.split_once(' ')?;
     let name = Word::from_slice(alloc, name.as_bytes()).ok()?;
     let mut words = Words::one(alloc, name);
-    add_words(alloc, &mut words, others)?;
-    Some(words)
+    match add_words(alloc, &mut words, others) {
+        Some(()) => Some(words),
+        None => {
+            drop(words);
+            None
+        }
+    }
 }
 
 /// The command of a request. `None` where there was no memory, or where it is no command.
 fn command_of(alloc: Global, request: &str) -> Option<Command> {
     let words = words_of(alloc, request)?;
-    Command::of(alloc, &words).ok()?.ok()
+    let command = Command::of(alloc, &words);
+    drop(words);
+    command.ok()?.ok()
 }
 
 /// Whether a command has its place in a history: it names a key, and is within the limits.
@@ -114,7 +129,7 @@ fn are_items(items: &[Item], texts: &str) -> bool {
 }
 
 /// Whether an answer is the one that is due, or out of memory.
-pub fn compare(answer: &Answer, due: &str) -> Outcome {
+fn outcome_of(answer: &Answer, due: &str) -> Outcome {
     let is_due = match answer {
         Answer::Fault(Fault::OutOfMemory) => return Outcome::OutOfMemory,
         Answer::Reply(Reply::Single(CommandReply::One(item))) => is_item(item, due.as_bytes()),
@@ -124,4 +139,11 @@ pub fn compare(answer: &Answer, due: &str) -> Outcome {
         _ => false,
     };
     if is_due { Outcome::Due } else { Outcome::Other }
+}
+
+/// Whether an answer is the one that is due, or out of memory. It is let go then.
+pub fn compare(answer: Answer, due: &str) -> Outcome {
+    let outcome = outcome_of(&answer, due);
+    drop(answer);
+    outcome
 }

@@ -42,7 +42,9 @@ fn sets_key<R: Wait, D: Device>(
     ensures rests { Rests D.Receipt.is_steady engine.now pass.new }
 {
     let key = key_of(alloc, number)?;
-    Some(sets_to(rt, engine, pass, &key, value, &Open))
+    let is_set = sets_to(rt, engine, pass, &key, value, &Open);
+    drop(key);
+    Some(is_set)
 }
 
 /// How many of so many keys can be set to a value, one after the other, until one can not. `None` where there was no memory.
@@ -78,5 +80,7 @@ pub fn fill<R: Wait, D: Device>(
     ensures rests { Rests D.Receipt.is_steady engine.now pass.new }
 {
     let value = Word::from_slice(alloc, value).ok()?;
-    fill_with(rt, alloc, engine, pass, &value, count)
+    let count = fill_with(rt, alloc, engine, pass, &value, count);
+    drop(value);
+    count
 }

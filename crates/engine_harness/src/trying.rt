@@ -61,7 +61,7 @@ pub fn is_answered(
     ensures rests { Rests ⊤ engine.now pass.new }
 {
     match tried_answer(alloc, engine, pass, exchange.request) {
-        Some(answer) => compare(&answer, exchange.due) == Outcome::Due,
+        Some(answer) => compare(answer, exchange.due) == Outcome::Due,
         None => false,
     }
 }

@@ -15,6 +15,7 @@ use engine_harness::calls::is_due;
 use engine_harness::filling::{KEYS, VALUE, fill};
 use gates::Open;
 use std::alloc::Global;
+use std::process::Abort;
 use std::sync::Wait;
 use std::sync::atomic::{AtomicBool, Ordering};
 use std::thread::{Threads, join};
@@ -65,7 +66,7 @@ fn works_until<R: Wait>(
 }
 
 /// Two passes move and a third reads, while the background works: how often each was done.
-fn all_move_beside<R: Threads + Wait + Sync>(
+fn all_move_beside<R: Abort + Threads + Wait + Sync>(
     rt: &R,
     alloc: Global,
     engine: &Engine<MemoryDevice>,
@@ -110,7 +111,7 @@ fn all_move_beside<R: Threads + Wait + Sync>(
 
 /// Whether each of two passes moved beside the background, a third one found the whole each time, and once they have met
 /// the one that moved first and the one that reads find what is left.
-fn whole_is_kept_over<R: Threads + Wait + Sync>(
+fn whole_is_kept_over<R: Abort + Threads + Wait + Sync>(
     rt: &R,
     alloc: Global,
     engine: &Engine<MemoryDevice>,
@@ -134,22 +135,22 @@ fn whole_is_kept_over<R: Threads + Wait + Sync>(
     left && done > 0 && have_all_moved(set, (moved, also, found))
 }
 
-/// Whether it is so of a new engine. `None` where there was no memory.
-fn whole_is_kept_beside<R: Threads + Wait + Sync>(rt: &R, alloc: Global) -> Option<bool> {
-    let (engine, passes) = narrow_with_four(alloc)?;
+/// Whether it is so of a new engine.
+fn whole_is_kept_beside<R: Abort + Threads + Wait + Sync>(rt: &R, alloc: Global) -> bool {
+    let (engine, passes) = narrow_with_four(rt, alloc);
     let is_kept = whole_is_kept_over(rt, alloc, &engine, passes);
     drop(engine);
-    Some(is_kept)
+    is_kept
 }
 
 /// Pages are written, leave their frames and are cleaned while two passes move and a third one reads.
 #[test]
 fn transfers_beside_the_background_keep_the_whole(rt: HostRuntime) {
-    assert!(rt; whole_is_kept_beside(&rt, rt.alloc()) == Some(true));
+    assert!(rt; whole_is_kept_beside(&rt, rt.alloc()));
 }
 
 /// Two passes add to a key that they watch, while the background works: how often each has set it.
-fn both_add_beside<R: Threads + Wait + Sync>(
+fn both_add_beside<R: Abort + Threads + Wait + Sync>(
     rt: &R,
     alloc: Global,
     engine: &Engine<MemoryDevice>,
@@ -191,7 +192,7 @@ fn both_add_beside<R: Threads + Wait + Sync>(
 }
 
 /// Whether each addition that was not null counts beside the background. `None` where an answer was not as is due.
-fn all_count_over<R: Threads + Wait + Sync>(
+fn all_count_over<R: Abort + Threads + Wait + Sync>(
     rt: &R,
     alloc: Global,
     engine: &Engine<MemoryDevice>,
@@ -212,10 +213,10 @@ fn all_count_over<R: Threads + Wait + Sync>(
     Some(all? && done > 0)
 }
 
-/// Whether it is so of a new engine. `None` also where there was no memory.
-fn is_counted_beside<R: Threads + Wait + Sync>(rt: &R, alloc: Global) -> Option<bool> {
-    let key = Word::from_slice(alloc, b"n").ok()?;
-    let (engine, passes) = narrow_with_four(alloc)?;
+/// Whether it is so of a new engine.
+fn is_counted_beside<R: Abort + Threads + Wait + Sync>(rt: &R, alloc: Global) -> Option<bool> {
+    let key = Word::from_slice(alloc, b"n").expect(rt, "memory for a key");
+    let (engine, passes) = narrow_with_four(rt, alloc);
     let counts = all_count_over(rt, alloc, &engine, passes, &key);
     drop(key);
     drop(engine);

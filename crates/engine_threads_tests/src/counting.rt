@@ -10,11 +10,10 @@ use engine_harness::calls::{answer_of, is_due};
 use engine_harness::exchanges::Exchange;
 use gates::Open;
 use std::alloc::Global;
+use std::process::Abort;
 use std::sync::Wait;
-use std::test::Fail;
 use std::thread::{Threads, join};
 use transact::call::Answer;
-use words::word::OutOfMemory;
 
 /// How often each of two threads adds to a key.
 pub(crate) const TIMES: u64 = 1_000;
@@ -112,35 +111,33 @@ pub(crate) fn both_read<R: Wait>(
 
 /// Whether no addition is lost where two threads make these requests, of which there are `count`: by either pass the
 /// reading is answered as is due then, once both have met.
-fn counts_to<R: Threads + Wait + Sync>(
+fn counts_to<R: Abort + Threads + Wait + Sync>(
     rt: &R,
     alloc: Global,
     requests: &str,
     count: u64,
     reading: Exchange<'_>,
-) -> Result<bool, OutOfMemory> {
-    let (engine, one, two) = with_two(alloc)?;
+) -> bool {
+    let (engine, one, two) = with_two(rt, alloc);
     let ((first, a), (second, b)) = both_count_up(rt, alloc, &engine, one, two, requests);
     let is_all = both_read(rt, alloc, &engine, first, second, reading);
     drop(engine);
-    Ok(a == b && a.checked_div(count) == Some(TIMES) && is_all)
+    a == b && a.checked_div(count) == Some(TIMES) && is_all
 }
 
 #[test]
-fn two_threads_add_to_one_key(rt: HostRuntime) -> Result<(), Fail> {
+fn two_threads_add_to_one_key(rt: HostRuntime) {
     let request = "MGET n";
     let due = "$2000";
     let reading = Exchange { request, due };
-    assert!(rt; counts_to(&rt, rt.alloc(), "INCR n", 1, reading)?);
-    Ok(())
+    assert!(rt; counts_to(&rt, rt.alloc(), "INCR n", 1, reading));
 }
 
 #[test]
-fn two_threads_add_to_several_keys(rt: HostRuntime) -> Result<(), Fail> {
+fn two_threads_add_to_several_keys(rt: HostRuntime) {
     let request = "MGET a b n z";
     let due = "$2000 $2000 $2000 $2000";
     let reading = Exchange { request, due };
     let requests = "INCR a,INCR b,INCR n,INCR z";
-    assert!(rt; counts_to(&rt, rt.alloc(), requests, 4, reading)?);
-    Ok(())
+    assert!(rt; counts_to(&rt, rt.alloc(), requests, 4, reading));
 }

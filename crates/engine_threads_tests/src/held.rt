@@ -14,11 +14,10 @@ use engine_harness::filling::{KEYS, VALUE, fill};
 use engine_harness::steps::{cleans, evicts, flushes};
 use gates::{Latch, Open, Point};
 use std::alloc::Global;
+use std::process::Abort;
 use std::sync::Wait;
-use std::test::Fail;
 use std::thread::{Threads, join};
 use std::time::Clock;
-use words::word::OutOfMemory;
 
 /// Holds the call of pass 0 up at this point, until another was answered.
 #[derive(Drop)]
@@ -143,26 +142,29 @@ fn both_are_answered<R: Threads + Wait + Clock + Sync>(
     let due = held.end;
     let exchange = Exchange { request, due };
     let ends = is_due(rt, alloc, &Open, engine, &mut pass, exchange);
+    let in_time = latch.holds.is_in_time();
     drop(pass);
-    late && meanwhile && ends && latch.holds.is_in_time()
+    drop(latch);
+    late && meanwhile && ends && in_time
 }
 
 /// Whether it is so of a new engine.
-fn goes_on_beside<R: Threads + Wait + Clock + Sync>(
+fn goes_on_beside<R: Abort + Threads + Wait + Clock + Sync>(
     rt: &R,
     alloc: Global,
     held: Held,
-) -> Result<bool, OutOfMemory> {
-    let (engine, one, two) = with_two(alloc)?;
-    Ok(both_are_answered(rt, alloc, &engine, one, two, held))
+) -> bool {
+    let (engine, one, two) = with_two(rt, alloc);
+    let goes_on = both_are_answered(rt, alloc, &engine, one, two, held);
+    drop(engine);
+    goes_on
 }
 
 #[test]
-fn a_call_that_is_held_at_each_point_does_not_stop_another(rt: HostRuntime) -> Result<(), Fail> {
+fn a_call_that_is_held_at_each_point_does_not_stop_another(rt: HostRuntime) {
     for held in ALL {
-        assert!(rt; goes_on_beside(&rt, rt.alloc(), held)?, "{held:?}");
+        assert!(rt; goes_on_beside(&rt, rt.alloc(), held), "{held:?}");
     }
-    Ok(())
 }
 
 /// How often the keys of `filling` are set beside additions. Each time they take ten pages.
@@ -272,22 +274,20 @@ fn both_add_beside<R: Threads + Wait + Sync>(
     )
 }
 
-/// Whether no addition of two passes is lost beside these, by either pass once both have met. `None` where there was no
-/// memory.
-fn counts_beside<R: Threads + Wait + Sync>(rt: &R, alloc: Global) -> Option<bool> {
-    let (engine, passes) = narrow_with_four(alloc)?;
+/// Whether no addition of two passes is lost beside these, by either pass once both have met.
+fn counts_beside<R: Abort + Threads + Wait + Sync>(rt: &R, alloc: Global) -> bool {
+    let (engine, passes) = narrow_with_four(rt, alloc);
     let ((first, a), ((second, b), done)) = both_add_beside(rt, alloc, &engine, passes);
     let request = "GET n";
     let due = "$2000";
     let reading = Exchange { request, due };
     let is_all = both_read(rt, alloc, &engine, first, second, reading);
     drop(engine);
-    Some(a == TIMES && b == TIMES && is_all && done > 0)
+    a == TIMES && b == TIMES && is_all && done > 0
 }
 
 /// One stripe of 12 frames: pages are written, leave their frames and are cleaned while two threads add.
 #[test]
-fn additions_beside_the_background_all_count(rt: HostRuntime) -> Result<(), Fail> {
-    assert!(rt; counts_beside(&rt, rt.alloc()) == Some(true));
-    Ok(())
+fn additions_beside_the_background_all_count(rt: HostRuntime) {
+    assert!(rt; counts_beside(&rt, rt.alloc()));
 }

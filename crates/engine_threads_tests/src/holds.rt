@@ -10,12 +10,11 @@ use engine_harness::calls::is_due;
 use engine_harness::exchanges::Exchange;
 use gates::{Latch, Open, Point};
 use std::alloc::Global;
+use std::process::Abort;
 use std::sync::Wait;
 use std::sync::atomic::{AtomicBool, Ordering};
-use std::test::Fail;
 use std::thread::{Threads, join, sleep};
 use std::time::{Clock, Duration};
-use words::word::OutOfMemory;
 
 /// How many turns of a millisecond a thread waits for the other.
 const TURNS: u64 = 10_000;
@@ -142,17 +141,20 @@ fn both_call<R: Threads + Wait + Clock + Sync>(
             requires { Rests ⊤ engine.now two }
         { call_after(rt, alloc, held, engine, two) },
     );
-    first && second && latch.is_in_time()
+    let in_time = latch.is_in_time();
+    drop(latch);
+    first && second && in_time
 }
 
 /// Whether it is so of a new engine.
-fn two_calls<R: Threads + Wait + Clock + Sync>(rt: &R, alloc: Global) -> Result<bool, OutOfMemory> {
-    let (engine, one, two) = with_two(alloc)?;
-    Ok(both_call(rt, alloc, &engine, one, two))
+fn two_calls<R: Abort + Threads + Wait + Clock + Sync>(rt: &R, alloc: Global) -> bool {
+    let (engine, one, two) = with_two(rt, alloc);
+    let answered = both_call(rt, alloc, &engine, one, two);
+    drop(engine);
+    answered
 }
 
 #[test]
-fn call_two_is_answered_while_call_one_is_held(rt: HostRuntime) -> Result<(), Fail> {
-    assert!(rt; two_calls(&rt, rt.alloc())?);
-    Ok(())
+fn call_two_is_answered_while_call_one_is_held(rt: HostRuntime) {
+    assert!(rt; two_calls(&rt, rt.alloc()));
 }

@@ -1,6 +1,6 @@
 //! Transactions that move a number from one key to another, and a pass that reads both.
 
-ghost use Rattle.std.specs.Prelude.{⊤, ◌≡◌, [], IfSome};
+ghost use Rattle.std.specs.Prelude.{⊤, ◌≡◌, []};
 ghost use Rattle.words.specs.Bounds.{AreBounded};
 ghost use Rattle.words.specs.History.{MayAllBeQueued};
 ghost use Rattle.engine.specs.Passes.{knows, Rests};
@@ -13,15 +13,15 @@ use engine_harness::calls::{answer_of, is_due};
 use engine_harness::exchanges::Exchange;
 use gates::Open;
 use std::alloc::Global;
+use std::process::Abort;
 use std::sync::Wait;
-use std::test::Fail;
 use std::thread::{Threads, join};
 use transact::call::{Answer, Call, Watching};
 use words::command::Command;
 use words::history::Commands;
 use words::number;
 use words::reply::{CommandReply, Item, Reply};
-use words::word::{OutOfMemory, Word};
+use words::word::Word;
 
 /// How often each of two passes moves, and a third one reads.
 const MOVES: u64 = 500;
@@ -40,18 +40,18 @@ pub(crate) const AFTER: Exchange<'static> = Exchange {
     due: "$0 $1000",
 };
 
-/// The commands that move 1 from the key `a` to the key `b`. `None` where there was no memory.
-fn moving(alloc: Global) -> Option<Commands>
-    ensures { IfSome result (λ commands. MayAllBeQueued commands × AreBounded commands) }
+/// The commands that move 1 from the key `a` to the key `b`.
+fn moving(rt: &impl Abort, alloc: Global) -> Commands
+    ensures { MayAllBeQueued result × AreBounded result }
 {
-    let from = Word::from_slice(alloc, b"a").ok()?;
-    let to = Word::from_slice(alloc, b"b").ok()?;
+    let from = Word::from_slice(alloc, b"a").expect(rt, "memory for a key");
+    let to = Word::from_slice(alloc, b"b").expect(rt, "memory for a key");
     let commands = vec![in alloc; Command::Subtract(from, 1), Command::Add(to, 1)];
-    Some(Commands::from_vec(commands.ok()?))
+    Commands::from_vec(commands.expect(rt, "memory for commands"))
 }
 
 /// Moves 1 once, and says whether it was done.
-fn moves<R: Wait>(
+fn moves<R: Abort + Wait>(
     rt: &R,
     alloc: Global,
     engine: &Engine<MemoryDevice>,
@@ -62,9 +62,7 @@ fn moves<R: Wait>(
     ensures rests { Rests ⊤ engine.now pass.new }
     ensures nothing { (knows (λ device. 0) pass.new).watched ≡ [] }
 {
-    let Some(commands) = moving(alloc) else {
-        return false;
-    };
+    let commands = moving(rt, alloc);
     let watching = Watching::none(alloc);
     let answer = engine.submit(rt, pass, Call::Exec(commands, watching));
     let moved = matches!(&answer, Answer::Reply(Reply::Array(_)));
@@ -73,7 +71,7 @@ fn moves<R: Wait>(
 }
 
 /// Moves 1 over and over, and says how often it was done.
-fn moves_often<R: Wait>(
+fn moves_often<R: Abort + Wait>(
     rt: &R,
     alloc: Global,
     engine: &Engine<MemoryDevice>,
@@ -154,7 +152,7 @@ fn sums_often<R: Wait>(
 pub(crate) type Told = (Pass<MemoryDevice>, u64);
 
 /// One pass moves while another reads: how often each was done.
-fn moves_and_reads<R: Threads + Wait + Sync>(
+fn moves_and_reads<R: Abort + Threads + Wait + Sync>(
     rt: &R,
     alloc: Global,
     engine: &Engine<MemoryDevice>,
@@ -182,7 +180,7 @@ fn moves_and_reads<R: Threads + Wait + Sync>(
 }
 
 /// Two passes move while a third reads: how often each was done.
-pub(crate) fn all_move<R: Threads + Wait + Sync>(
+pub(crate) fn all_move<R: Abort + Threads + Wait + Sync>(
     rt: &R,
     alloc: Global,
     engine: &Engine<MemoryDevice>,
@@ -218,7 +216,7 @@ pub(crate) fn all_move<R: Threads + Wait + Sync>(
 
 /// Whether each of two passes moved beside the other, a third one found the whole each time, and once they have met the one that
 /// moved first and the one that reads find what is left.
-fn whole_is_kept_over<R: Threads + Wait + Sync>(
+fn whole_is_kept_over<R: Abort + Threads + Wait + Sync>(
     rt: &R,
     alloc: Global,
     engine: &Engine<MemoryDevice>,
@@ -242,9 +240,11 @@ fn whole_is_kept_over<R: Threads + Wait + Sync>(
 }
 
 /// Whether it is so of a new engine.
-fn whole_is_kept<R: Threads + Wait + Sync>(rt: &R, alloc: Global) -> Result<bool, OutOfMemory> {
-    let (engine, one, two, three) = with_three(alloc)?;
-    Ok(whole_is_kept_over(rt, alloc, &engine, one, two, three))
+fn whole_is_kept<R: Abort + Threads + Wait + Sync>(rt: &R, alloc: Global) -> bool {
+    let (engine, one, two, three) = with_three(rt, alloc);
+    let is_kept = whole_is_kept_over(rt, alloc, &engine, one, two, three);
+    drop(engine);
+    is_kept
 }
 
 /// Whether all was set before, and two passes moved and a third one found the whole each time.
@@ -253,7 +253,6 @@ pub(crate) fn have_all_moved(set: bool, counts: (u64, u64, u64)) -> bool {
 }
 
 #[test]
-fn two_passes_move_and_a_third_finds_the_whole(rt: HostRuntime) -> Result<(), Fail> {
-    assert!(rt; whole_is_kept(&rt, rt.alloc())?);
-    Ok(())
+fn two_passes_move_and_a_third_finds_the_whole(rt: HostRuntime) {
+    assert!(rt; whole_is_kept(&rt, rt.alloc()));
 }

@@ -1,6 +1,6 @@
 //! A transaction whose watched key another pass wrote, or not: by two passes in turn.
 
-ghost use Rattle.std.specs.Prelude.{◌≡◌, ◌∷◌, [], ⊤, IfSome, IsTrue};
+ghost use Rattle.std.specs.Prelude.{◌≡◌, ◌∷◌, [], ⊤, IsTrue};
 ghost use Rattle.words.specs.History.{keys_of_pairs};
 ghost use Rattle.engine.specs.Passes.{knows, Rests};
 
@@ -11,6 +11,7 @@ use engine_harness::calls::is_due;
 use engine_harness::exchanges::Exchange;
 use gates::Open;
 use std::alloc::Global;
+use std::process::Abort;
 use std::sync::Wait;
 use transact::call::{Answer, Call, Watching};
 use words::command::Keys;
@@ -18,19 +19,18 @@ use words::history::Commands;
 use words::reply::Reply;
 use words::word::Word;
 
-/// A list of one key. `None` where there was no memory.
-fn list_of(alloc: Global, key: &Word) -> Option<Keys>
-    ensures { IfSome result (λ keys. keys ≡ key.now ∷ []) }
+/// A list of one key.
+fn list_of(rt: &impl Abort, alloc: Global, key: &Word) -> Keys
+    ensures { result ≡ key.now ∷ [] }
 {
-    let mut keys = Vec::new(alloc);
-    let key = key.clone().ok()?;
-    keys.push(key).ok()?;
-    Some(Keys::from_vec(keys))
+    let key = key.clone().expect(rt, "memory for a key");
+    let keys = vec![in alloc; key].expect(rt, "memory for a list");
+    Keys::from_vec(keys)
 }
 
 /// Watches this key alone, and says whether it does.
 #[tactic(auto, using(crate::proofs::Watching::watches_one))]
-pub(crate) fn watches<R: Wait>(
+pub(crate) fn watches<R: Abort + Wait>(
     rt: &R,
     alloc: Global,
     engine: &Engine<MemoryDevice>,
@@ -42,26 +42,27 @@ pub(crate) fn watches<R: Wait>(
     ensures rests { Rests ⊤ engine.now pass.new }
     ensures watches { IsTrue result → keys_of_pairs (knows (λ device. 0) pass.new).watched ≡ key.now ∷ [] }
 {
-    let Some(keys) = list_of(alloc, key) else {
-        return false;
-    };
+    let keys = list_of(rt, alloc, key);
     match engine.submit(rt, pass, Call::Watch(keys)) {
-        Answer::Reply(_) => true,
+        Answer::Reply(reply) => {
+            drop(reply);
+            true
+        }
         Answer::Fault(_) => false,
     }
 }
 
-/// What a session that watches this key alone hands in. `None` where there was no memory.
-pub(crate) fn watching_of(alloc: Global, key: &Word) -> Option<Watching>
-    ensures { IfSome result (λ watching. watching ≡ key.now ∷ []) }
+/// What a session that watches this key alone hands in.
+pub(crate) fn watching_of(rt: &impl Abort, alloc: Global, key: &Word) -> Watching
+    ensures { result ≡ key.now ∷ [] }
 {
-    let keys = list_of(alloc, key)?;
+    let keys = list_of(rt, alloc, key);
     let mut watching = Watching::none(alloc);
-    if let Err(_) = watching.add(keys.as_slice()) {
-        drop(watching.into_keys());
-        return None;
-    }
-    Some(watching)
+    watching
+        .add(keys.as_slice())
+        .expect(rt, "memory for a watch");
+    drop(keys);
+    watching
 }
 
 /// Whether a reply is the null array.
@@ -72,7 +73,7 @@ fn is_null_array(reply: Reply) -> bool {
 }
 
 /// Whether a transaction of no commands is answered by the null array.
-fn is_null<R: Wait>(
+fn is_null<R: Abort + Wait>(
     rt: &R,
     alloc: Global,
     engine: &Engine<MemoryDevice>,
@@ -82,7 +83,7 @@ fn is_null<R: Wait>(
     requires rests { Rests ⊤ engine.now pass.old }
     requires watches { keys_of_pairs (knows (λ device. 0) pass.old).watched ≡ key.now ∷ [] }
 {
-    let watching = watching_of(alloc, key)?;
+    let watching = watching_of(rt, alloc, key);
     let commands = Commands::from_vec(Vec::new(alloc));
     match engine.submit(rt, pass, Call::Exec(commands, watching)) {
         Answer::Reply(reply) => Some(is_null_array(reply)),
@@ -92,7 +93,7 @@ fn is_null<R: Wait>(
 
 /// Whether the transaction of the first pass, which watches a key, is answered by the null array after a
 /// call of the second. `None` where the call is not answered as is due.
-fn null_after<R: Wait>(
+fn null_after<R: Abort + Wait>(
     rt: &R,
     alloc: Global,
     engine: &Engine<MemoryDevice>,
@@ -115,11 +116,43 @@ fn null_after<R: Wait>(
     }
 }
 
-/// [`null_after`], over a new engine and the key `k`.
-fn null_of_new<R: Wait>(rt: &R, alloc: Global, exchange: Exchange<'_>) -> Option<bool> {
-    let key = Word::from_slice(alloc, b"k").ok()?;
-    let (engine, mut first, mut second) = with_two(alloc).ok()?;
-    let null = null_after(rt, alloc, &engine, &mut first, &mut second, &key, exchange);
+/// [`null_after`], where the second pass made a call before the watch began, if one is given.
+fn null_between<R: Abort + Wait>(
+    rt: &R,
+    alloc: Global,
+    engine: &Engine<MemoryDevice>,
+    first: &mut Pass<MemoryDevice>,
+    second: &mut Pass<MemoryDevice>,
+    key: &Word,
+    exchanges: (Option<Exchange<'_>>, Exchange<'_>),
+) -> Option<bool>
+    requires first { Rests ⊤ engine.now first.old }
+    requires second { Rests ⊤ engine.now second.old }
+    requires nothing { (knows (λ device. 0) first.old).watched ≡ [] }
+{
+    let (before, exchange) = exchanges;
+    let came = match before {
+        Some(before) => is_due(rt, alloc, &Open, engine, second, before),
+        None => true,
+    };
+    if came {
+        null_after(rt, alloc, engine, first, second, key, exchange)
+    } else {
+        None
+    }
+}
+
+/// [`null_between`], over a new engine and the key `k`.
+fn null_of_new<R: Abort + Wait>(
+    rt: &R,
+    alloc: Global,
+    before: Option<Exchange<'_>>,
+    exchange: Exchange<'_>,
+) -> Option<bool> {
+    let key = Word::from_slice(alloc, b"k").expect(rt, "memory for a key");
+    let (engine, mut first, mut second) = with_two(rt, alloc);
+    let exchanges = (before, exchange);
+    let null = null_between(rt, alloc, &engine, &mut first, &mut second, &key, exchanges);
     drop(key);
     drop(first);
     drop(second);
@@ -131,51 +164,13 @@ fn null_of_new<R: Wait>(rt: &R, alloc: Global, exchange: Exchange<'_>) -> Option
 fn exec_is_null_where_another_pass_wrote_the_watched_key(rt: HostRuntime) {
     let request = "SET k value";
     let due = "+OK";
-    assert!(rt; null_of_new(&rt, rt.alloc(), Exchange { request, due }) == Some(true));
-}
-
-/// [`null_of_new`], where the second pass made a call before the watch began.
-fn null_after_two<R: Wait>(
-    rt: &R,
-    alloc: Global,
-    before: Exchange<'_>,
-    exchange: Exchange<'_>,
-) -> Option<bool> {
-    let key = Word::from_slice(alloc, b"k").ok()?;
-    let (engine, mut first, mut second) = with_two(alloc).ok()?;
-    let exchanges = (before, exchange);
-    let null = null_between(rt, alloc, &engine, &mut first, &mut second, &key, exchanges);
-    drop(key);
-    drop(first);
-    drop(second);
-    drop(engine);
-    null
-}
-
-/// [`null_after`], where the second pass made a call before the watch began.
-fn null_between<R: Wait>(
-    rt: &R,
-    alloc: Global,
-    engine: &Engine<MemoryDevice>,
-    first: &mut Pass<MemoryDevice>,
-    second: &mut Pass<MemoryDevice>,
-    key: &Word,
-    exchanges: (Exchange<'_>, Exchange<'_>),
-) -> Option<bool>
-    requires first { Rests ⊤ engine.now first.old }
-    requires second { Rests ⊤ engine.now second.old }
-    requires nothing { (knows (λ device. 0) first.old).watched ≡ [] }
-{
-    let (before, exchange) = exchanges;
-    if !is_due(rt, alloc, &Open, engine, second, before) {
-        return None;
-    }
-    null_after(rt, alloc, engine, first, second, key, exchange)
+    let exchange = Exchange { request, due };
+    assert!(rt; null_of_new(&rt, rt.alloc(), None, exchange) == Some(true));
 }
 
 /// What a RENAME by another pass is answered after SET of a key, and whether it writes the key `k`, which is watched
 /// between them.
-const RENAMES: [(&str, &str, &str, bool); 6] = [
+const RENAMES: &[(&str, &str, &str, bool)] = &[
     ("SET k value", "RENAME k j", "+OK", true),
     ("SET j value", "RENAME j k", "+OK", true),
     ("SET k value", "RENAME k k", "+OK", false),
@@ -184,25 +179,21 @@ const RENAMES: [(&str, &str, &str, bool); 6] = [
     ("SET j value", "RENAME j i", "+OK", false),
 ];
 
-/// Whether the transaction goes by a row of these.
-fn goes_by<R: Wait>(rt: &R, alloc: Global, rename: (&str, &str, &str, bool)) -> bool {
-    let (set, request, due, is_written) = rename;
+/// Tests that the transaction goes by a row of these.
+fn check_renamed<R: Abort + Wait>(rt: &R, alloc: Global, rename: &(&str, &str, &str, bool)) {
+    let (set, request, due, is_written) = *rename;
     let before = Exchange {
         request: set,
         due: "+OK",
     };
-    null_after_two(rt, alloc, before, Exchange { request, due }) == Some(is_written)
+    let null = null_of_new(rt, alloc, Some(before), Exchange { request, due });
+    assert!(rt; null == Some(is_written), "{set} {request}");
 }
 
 #[test]
 fn exec_goes_by_what_another_pass_renamed(rt: HostRuntime) {
     for rename in RENAMES {
-        assert!(rt;
-            goes_by(&rt, rt.alloc(), rename),
-            "{} {}",
-            rename.0,
-            rename.1
-        );
+        check_renamed(&rt, rt.alloc(), rename);
     }
 }
 
@@ -210,5 +201,6 @@ fn exec_goes_by_what_another_pass_renamed(rt: HostRuntime) {
 fn exec_is_run_where_another_pass_deleted_the_watched_key_that_was_missing(rt: HostRuntime) {
     let request = "DEL k";
     let due = ":0";
-    assert!(rt; null_of_new(&rt, rt.alloc(), Exchange { request, due }) == Some(false));
+    let exchange = Exchange { request, due };
+    assert!(rt; null_of_new(&rt, rt.alloc(), None, exchange) == Some(false));
 }

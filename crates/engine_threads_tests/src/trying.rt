@@ -12,11 +12,10 @@ use engine_harness::exchanges::Exchange;
 use engine_harness::trying::{is_answered, is_busy};
 use gates::Open;
 use std::alloc::Global;
+use std::process::Abort;
 use std::sync::Wait;
-use std::test::Fail;
 use std::thread::{Threads, join};
 use std::time::Clock;
-use words::word::OutOfMemory;
 
 /// Tries two calls once another pass holds stripe 12: whether that of the key `a` is handed back, that of the
 /// key `b`, which is of stripe 5, is answered, and the key `a` is read where its stripe was given back.
@@ -65,20 +64,20 @@ fn tries_beside<R: Threads + Wait + Clock + Sync>(
             requires { Rests ⊤ engine.now two }
         { tries_both(rt, alloc, held, engine, two) },
     );
-    first && second && latch.is_in_time()
+    let in_time = latch.is_in_time();
+    drop(latch);
+    first && second && in_time
 }
 
 /// The same of a new engine.
-fn tries_while_held<R: Threads + Wait + Clock + Sync>(
-    rt: &R,
-    alloc: Global,
-) -> Result<bool, OutOfMemory> {
-    let (engine, one, two) = with_two(alloc)?;
-    Ok(tries_beside(rt, alloc, &engine, one, two))
+fn tries_while_held<R: Abort + Threads + Wait + Clock + Sync>(rt: &R, alloc: Global) -> bool {
+    let (engine, one, two) = with_two(rt, alloc);
+    let is_so = tries_beside(rt, alloc, &engine, one, two);
+    drop(engine);
+    is_so
 }
 
 #[test]
-fn a_held_stripe_does_not_stop_another(rt: HostRuntime) -> Result<(), Fail> {
-    assert!(rt; tries_while_held(&rt, rt.alloc())?);
-    Ok(())
+fn a_held_stripe_does_not_stop_another(rt: HostRuntime) {
+    assert!(rt; tries_while_held(&rt, rt.alloc()));
 }

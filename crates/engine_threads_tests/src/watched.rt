@@ -1,7 +1,7 @@
 //! Passes that add to a number which they watch: each reads it and sets it to 1 more in a transaction, which is null where
 //! another wrote the number in between.
 
-ghost use Rattle.std.specs.Prelude.{⊤, ◌≡◌, ◌∷◌, [], IfSome, IsSome, IsTrue};
+ghost use Rattle.std.specs.Prelude.{⊤, ◌≡◌, ◌∷◌, [], IsSome, IsTrue};
 ghost use Rattle.words.specs.Bounds.{AreBounded, IsBounded};
 ghost use Rattle.words.specs.Commands.{touches_keys};
 ghost use Rattle.words.specs.History.{MayAllBeQueued, keys_of_pairs};
@@ -13,10 +13,10 @@ use device::MemoryDevice;
 use engine::{Engine, Pass};
 use engine_harness::exchanges::placed;
 use std::alloc::Global;
+use std::process::Abort;
 use std::sync::Wait;
-use std::test::Fail;
 use std::thread::{Threads, join};
-use transact::call::{Answer, Call, Watching};
+use transact::call::{Answer, Call};
 use words::command::{Command, When};
 use words::history::Commands;
 use words::number;
@@ -54,15 +54,16 @@ fn number_of(reply: &Reply) -> Option<i64> {
     }
 }
 
-/// The command that gets a key. `None` where there was no memory.
-fn getting(key: &Word) -> Option<Command>
-    ensures { IfSome result (λ command. IsTrue (touches_keys command) × IsBounded command) }
+/// The command that gets a key.
+fn getting(rt: &impl Abort, key: &Word) -> Command
+    ensures { IsTrue (touches_keys result) × IsBounded result }
 {
-    placed(Command::Get(key.clone().ok()?))
+    let key = key.clone().expect(rt, "memory for a key");
+    placed(Command::Get(key)).expect(rt, "a key within the limits")
 }
 
 /// The number that a key has, which is 0 where it is missing. The pass watches what it did.
-fn number_at<R: Wait>(
+fn number_at<R: Abort + Wait>(
     rt: &R,
     engine: &Engine<MemoryDevice>,
     pass: &mut Pass<MemoryDevice>,
@@ -72,43 +73,30 @@ fn number_at<R: Wait>(
     ensures rests { Rests ⊤ engine.now pass.new }
     ensures watches { IsSome result → (knows (λ device. 0) pass.new).watched ≡ (knows (λ device. 0) pass.old).watched }
 {
-    let reply = reply_to(rt, engine, pass, getting(key)?)?;
+    let reply = reply_to(rt, engine, pass, getting(rt, key))?;
     let number = number_of(&reply);
     drop(reply);
     number
 }
 
-/// The command that sets a key to a number. `None` where there was no memory.
-fn setting_one(alloc: Global, key: &Word, number: i64) -> Option<Command>
-    ensures { IfSome result (λ command. IsTrue (touches_keys command) × IsBounded command) }
+/// The command that sets a key to a number.
+fn setting_one(rt: &impl Abort, alloc: Global, key: &Word, number: i64) -> Command
+    ensures { IsTrue (touches_keys result) × IsBounded result }
 {
-    let text = format!(in alloc; "{number}").ok()?;
-    let value = Word::from_slice(alloc, text.as_bytes()).ok()?;
-    placed(Command::Set(key.clone().ok()?, value, When::Always))
+    let text = format!(in alloc; "{number}").expect(rt, "memory for a text");
+    let value = Word::from_slice(alloc, text.as_bytes()).expect(rt, "memory for a value");
+    drop(text);
+    let key = key.clone().expect(rt, "memory for a key");
+    placed(Command::Set(key, value, When::Always)).expect(rt, "a key within the limits")
 }
 
-/// The commands of a transaction that sets a key to a number. `None` where there was no memory.
-fn setting(alloc: Global, key: &Word, number: i64) -> Option<Commands>
-    ensures { IfSome result (λ commands. MayAllBeQueued commands × AreBounded commands) }
+/// The commands of a transaction that sets a key to a number.
+fn setting(rt: &impl Abort, alloc: Global, key: &Word, number: i64) -> Commands
+    ensures { MayAllBeQueued result × AreBounded result }
 {
-    let command = setting_one(alloc, key, number)?;
+    let command = setting_one(rt, alloc, key, number);
     let commands = vec![in alloc; command];
-    Some(Commands::from_vec(commands.ok()?))
-}
-
-/// The same, with what a session that watches the key hands in.
-fn setting_watched(alloc: Global, key: &Word, number: i64) -> Option<(Commands, Watching)>
-    ensures commands { IfSome result (λ made. MayAllBeQueued made.0 × AreBounded made.0) }
-    ensures watching { IfSome result (λ made. made.1 ≡ key.now ∷ []) }
-{
-    let commands = setting(alloc, key, number)?;
-    match watching_of(alloc, key) {
-        Some(watching) => Some((commands, watching)),
-        None => {
-            drop(commands);
-            None
-        }
-    }
+    Commands::from_vec(commands.expect(rt, "memory for commands"))
 }
 
 /// Whether a transaction was done by this reply, or not. `None` where it is no reply to one.
@@ -122,9 +110,9 @@ fn was_set(reply: Reply) -> Option<bool> {
     was_set
 }
 
-/// Sets the key that is watched to a number, and says whether it was done, or the answer null. `None` where there was no
-/// memory.
-fn sets_watched<R: Wait>(
+/// Sets the key that is watched to a number, and says whether it was done, or the answer null. `None` where it is answered
+/// neither.
+fn sets_watched<R: Abort + Wait>(
     rt: &R,
     alloc: Global,
     engine: &Engine<MemoryDevice>,
@@ -137,7 +125,8 @@ fn sets_watched<R: Wait>(
     ensures rests { Rests ⊤ engine.now pass.new }
     ensures nothing { IsSome result → (knows (λ device. 0) pass.new).watched ≡ [] }
 {
-    let (commands, watching) = setting_watched(alloc, key, number)?;
+    let commands = setting(rt, alloc, key, number);
+    let watching = watching_of(rt, alloc, key);
     match engine.submit(rt, pass, Call::Exec(commands, watching)) {
         Answer::Reply(reply) => was_set(reply),
         Answer::Fault(_) => None,
@@ -145,7 +134,7 @@ fn sets_watched<R: Wait>(
 }
 
 /// Watches a key, reads its number, and sets it to 1 more: whether it was set.
-fn adds_watched<R: Wait>(
+fn adds_watched<R: Abort + Wait>(
     rt: &R,
     alloc: Global,
     engine: &Engine<MemoryDevice>,
@@ -168,7 +157,7 @@ fn adds_watched<R: Wait>(
 pub(crate) type Added = (Pass<MemoryDevice>, Option<u64>);
 
 /// Adds to a key over and over, and says how often it was set.
-fn adds_often<R: Wait>(
+fn adds_often<R: Abort + Wait>(
     rt: &R,
     alloc: Global,
     engine: &Engine<MemoryDevice>,
@@ -191,7 +180,7 @@ fn adds_often<R: Wait>(
 }
 
 /// Two passes add to a key: how often each has set it.
-pub(crate) fn both_add<R: Threads + Wait + Sync>(
+pub(crate) fn both_add<R: Abort + Threads + Wait + Sync>(
     rt: &R,
     alloc: Global,
     engine: &Engine<MemoryDevice>,
@@ -222,7 +211,7 @@ pub(crate) fn both_add<R: Threads + Wait + Sync>(
 }
 
 /// Whether a key has as often 1 as two passes have set it, by either once both have met.
-pub(crate) fn counts_all<R: Wait>(
+pub(crate) fn counts_all<R: Abort + Wait>(
     rt: &R,
     engine: &Engine<MemoryDevice>,
     added: (Added, Added),
@@ -248,9 +237,9 @@ fn is_sum(found: (Option<i64>, Option<i64>), set: (Option<u64>, Option<u64>)) ->
 }
 
 /// Whether it is so of an engine of sixteen stripes. `None` where an answer was not as is due.
-fn is_counted<R: Threads + Wait + Sync>(rt: &R, alloc: Global) -> Option<bool> {
-    let key = Word::from_slice(alloc, b"n").ok()?;
-    let (engine, one, two) = with_two(alloc).ok()?;
+fn is_counted<R: Abort + Threads + Wait + Sync>(rt: &R, alloc: Global) -> Option<bool> {
+    let key = Word::from_slice(alloc, b"n").expect(rt, "memory for a key");
+    let (engine, one, two) = with_two(rt, alloc);
     let added = both_add(rt, alloc, &engine, one, two, &key);
     let counts = counts_all(rt, &engine, added, &key);
     drop(key);
@@ -260,7 +249,6 @@ fn is_counted<R: Threads + Wait + Sync>(rt: &R, alloc: Global) -> Option<bool> {
 
 /// Of two transactions that both watch a number and set it, at least one is done.
 #[test]
-fn watched_additions_that_are_not_null_all_count(rt: HostRuntime) -> Result<(), Fail> {
+fn watched_additions_that_are_not_null_all_count(rt: HostRuntime) {
     assert!(rt; is_counted(&rt, rt.alloc()) == Some(true));
-    Ok(())
 }

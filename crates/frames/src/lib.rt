@@ -6,11 +6,11 @@
 
 #![tactic(auto)]
 
-ghost use Rattle.std.specs.Prelude.{◌≡◌, ◌+◌, ◌-◌, ◌^◌, ◌<◌, ◌≤◌, ◌↔◌, [], length, IsTrue, IsSome, IsErr, IfOk, IfSome, OnOk, OnErr, MatchOption};
+ghost use Rattle.std.specs.Prelude.{◌≡◌, ◌+◌, ◌-◌, ◌^◌, ◌<◌, ◌≤◌, ◌↔◌, ℕ, List, [], length, IsTrue, IsSome, IsErr, IfOk, IfSome, OnOk, OnErr, MatchOption};
 ghost use Rattle.std.specs.Bool.{OnTrue, OnFalse};
 ghost use Rattle.std.specs.Borrow.{sem};
 ghost use Rattle.records.specs.Page.{empty_page};
-ghost use Rattle.frames.specs.Resident.{next_number, IsEmptyPage, IsResident, IsMutable, page_of, first_mutable, with_opened, without_oldest};
+ghost use Rattle.frames.specs.Resident.{next_number, IsEmptyPage, IsResident, IsMutable, page_of, first_mutable, with_opened, with_page, without_oldest};
 ghost use Rattle.frames.specs.Ring.{IsSlotAfter};
 ghost use Rattle.frames.specs.Lends.{LendsPage, LendsPageIf};
 
@@ -58,14 +58,15 @@ impl Model for Frames {
 
 #[tactic(auto, using(crate::proofs::Windows::frames_steps))]
 impl Frames {
-    /// This many frames, at least 3, and no resident page. The only call that takes memory.
+    /// This many frames, at least 3, and no resident page. The only call that takes memory; that of a frame is touched when its
+    /// first page is opened.
     pub fn new(alloc: Global, frames: usize) -> Result<Self, AllocError>
         requires { 3 ≤ frames }
         ensures { IfOk result (λ made. made ≡ record { oldest = 0; pages = []; frames = frames }) }
     {
         let mut pages = Vec::with_capacity(alloc, frames)?;
         for _ in 0..frames {
-            pages.push_reserved(Page::new(alloc, 0)?);
+            pages.push_reserved(Page::blank(alloc)?);
         }
         Ok(Frames {
             frames: pages,
@@ -146,6 +147,19 @@ impl Frames {
             return None;
         }
         Some(self.lend(number))
+    }
+
+    /// The oldest page to write to, whether it is in the mutable part or not: for who writes it to a device and drops it then.
+    pub fn oldest_mut(&mut self) -> &mut Page
+        requires { 0 < length self.old.pages }
+        ensures* writes_back { sem 𝓛 (LendsPage self.entry self.entry.now.oldest result) }
+        ensures bytes { result.now ≡ page_of self.old self.old.oldest }
+        // Once it is dropped, what was written is gone; and a page that was not written is as it was.
+        ensures dropped { (bytes : List ℕ) → without_oldest (with_page self.old self.old.oldest bytes) ≡ without_oldest self.old }
+        ensures unwritten { with_page self.old self.old.oldest (page_of self.old self.old.oldest) ≡ self.old }
+    {
+        let oldest = self.oldest;
+        self.lend(oldest)
     }
 
     // The page of this number, which is resident, to write to.

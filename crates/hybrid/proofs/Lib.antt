@@ -17,6 +17,7 @@ pub mod Staging
 pub mod Dropping
 pub mod Reserving
 pub mod Keeping
+pub mod Leaving
 pub mod Opening
 pub mod Tail
 pub mod Putting

@@ -1,9 +1,19 @@
 -- What is kept of the pages that leave their frames.
-use Rattle.std.proofs.Common.{◌≡◌, ℕ, suc, ◌<◌, ◌≤◌, List, sym, subst, ◌∙◌}
+use Rattle.std.proofs.Common.{◌≡◌, ℕ, suc, ◌<◌, ◌≤◌, List, inl, inr, sym, subst, ◌∙◌}
 use Rattle.frames.specs.Resident.{first_mutable, next_number}
 use Rattle.hybrid.specs.declared.stripe.TheConstants.{LAST_PAGE}
 use Rattle.hybrid.specs.HybridLog.{HybridLog, Kept, with_dropped}
+use Rattle.hybrid.specs.Reserving.{IsFlushed}
 use Rattle.hybrid.specs.Shedding.{HasShed, IsFlushedBy}
+
+-- what the device wrote is left out
+pub flushed-by : {D R : Type 0} (wrote : D → List ℕ → R → D → Type 0) (view : R → Kept) (old new : HybridLog) (before after : D) → IsFlushedBy wrote view old before new after → IsFlushed old new
+flushed-by wrote view old new before after by = record {
+  how = elim by.how [
+    | inl had ↦ inl had.1
+    | inr written ↦ inr (view written.0, written.1, written.4)
+  ];
+}
 
 pub shed-more : {D R : Type 0} (wrote : D → List ℕ → R → D → Type 0) (view : R → Kept) (first old mid new : HybridLog) (begin before after : D)
     → HasShed wrote view first begin old before → old.resident.oldest < first_mutable old.resident → next_number old.resident ≤ LAST_PAGE → IsFlushedBy wrote view old before mid after

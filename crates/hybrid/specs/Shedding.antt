@@ -2,7 +2,8 @@
 use Rattle.std.specs.Prelude.{◌≡◌, ◌⊎◌, ℕ, zero, suc, ◌+◌, ◌<◌, ◌≤◌, List, None, IsSome}
 use Rattle.frames.specs.Resident.{first_mutable, next_number, page_of}
 use Rattle.hybrid.specs.declared.stripe.TheConstants.{LAST_PAGE}
-use Rattle.hybrid.specs.HybridLog.{HybridLog, Kept, receipt_of, with_dropped, with_receipt}
+use Rattle.hybrid.specs.HybridLog.{HybridLog, Kept, log_of, receipt_of, with_dropped, with_receipt}
+use Rattle.hybrid.specs.Reserving.{AreNewServed}
 
 -- `wrote` is the device's: what a write of a page that gave a receipt makes of it. `view` shows a receipt.
 module _ {D R : Type 0} (wrote : D → List ℕ → R → D → Type 0) (view : R → Kept) where
@@ -30,3 +31,14 @@ module _ {D R : Type 0} (wrote : D → List ℕ → R → D → Type 0) (view : 
   pub record HasShed (old : HybridLog) (before : D) (new : HybridLog) (after : D) : Type 0 where
     pub count : ℕ
     pub all : ShedsAll count old before new after
+
+-- The oldest resident page has left its frame: it had a receipt or was written, to one place more, and then it was dropped. The log stays.
+-- `serves` is the device's.
+pub record HasLeft {D R : Type 0} (wrote : D → List ℕ → R → D → Type 0) (serves : D → R → Type 0) (view : R → Kept) (honest : Type 0)
+    (old : HybridLog) (before : D) (new : HybridLog) (after : D) : Type 0 where
+  pub mid : HybridLog
+  pub flushed : IsFlushedBy wrote view old before mid after
+  pub kept : log_of mid ≡ log_of old
+  pub served : honest → AreNewServed serves view old mid after
+  pub dropped : new ≡ with_dropped mid
+  pub log : log_of new ≡ log_of mid

@@ -51,7 +51,7 @@ append_none : {X : Type 0} (a : List X) → a ≡ a ++ []
 append_none [] = refl
 append_none (x ∷ a) = ap (λ l. x ∷ l) (append_none a)
 
-short_more : (ws : List Write) (w : Write) → AreShort ws → IsShort w.1 → AreShort (ws ++ w ∷ [])
+pub short_more : (ws : List Write) (w : Write) → AreShort ws → IsShort w.1 → AreShort (ws ++ w ∷ [])
 short_more [] w short brief = (brief, tt)
 short_more (first ∷ ws) w short brief = (short.0, short_more ws w short.1 brief)
 

@@ -10,6 +10,7 @@ pub mod Grown
 pub mod Making
 pub mod Covered
 pub mod Found
+pub mod Run
 pub mod Unread
 pub mod Sized
 pub mod Hand

@@ -94,7 +94,7 @@ abbrev items : List CommandReply → Reply → List CommandReply
 items other (reply.Array said) = said
 items other _ = other
 
-answer_same : Depends → (command : Command) (one other : Store) → AreSameAt (keys_of command) one other → answer one command ≡ answer other command
+pub answer_same : Depends → (command : Command) (one other : Store) → AreSameAt (keys_of command) one other → answer one command ≡ answer other command
 answer_same law command one other same =
     let is = law (Run command) one other same in λ i. (single (answer one command).0 (is i).0, (is i).1)
 
@@ -191,6 +191,31 @@ module _ {T : Type 0} (contents : Meaning T) (n : ℕ) (parts : ℕ → Option T
   plan_of_all law seen commands watched found start done planned_reply planned_writes clean none found_is done_is reads there reply_is writes_are =
       let all : done ≡ answers (after seen) commands =
       done_is ∙ answers_same law commands (written empty found) (after seen) (found_shows (keys_of_all commands) (after seen) found start none found_is reads there) in
+      is_plan seen (Exec commands watched) planned_reply (reply.Array done.0) planned_writes done.1 (nat_lt WEIGHT_MAX (weight done.1)) clean
+      (ap (λ (a : List CommandReply × List Write). (reply.Array a.0, a.1)) (sym all)) refl reply_is writes_are refl
+
+  -- a command that was run on what the parts have together
+  pub plan_of_answer : Depends → (seen : History) (command : Command) (done : CommandReply × List Write) (planned_reply : Reply) (planned_writes : List Write)
+      → touches_keys command ≡ true → done ≡ answer (joined contents n parts) command
+      → AllRead contents n parts (after seen) → AreThere n parts (keys_of command)
+      → planned_reply ≡ cond (nat_lt WEIGHT_MAX (weight done.1)) too_much (reply.Single done.0) → planned_writes ≡ cond (nat_lt WEIGHT_MAX (weight done.1)) [] done.1
+      → IsPlan seen (Run command) planned_reply planned_writes
+  plan_of_answer law seen command done planned_reply planned_writes touches done_is reads there reply_is writes_are =
+      let all : done ≡ answer (after seen) command =
+      done_is ∙ answer_same law command (joined contents n parts) (after seen) (joined_same contents n parts (keys_of command) (after seen) reads there) in
+      is_plan seen (Run command) planned_reply (reply.Single done.0) planned_writes done.1 (nat_lt WEIGHT_MAX (weight done.1)) refl
+      (ap (λ (a : CommandReply × List Write). (reply.Single a.0, a.1)) (sym all)) refl reply_is writes_are
+      (ap (λ (a : CommandReply × List Write). was_not_done (reply.Single a.0)) all ∙ answer_ran command (after seen) touches)
+
+  -- commands that were run on what the parts have together
+  pub plan_of_run : Depends → (seen : History) (commands : List Command) (watched : List Pair) (done : List CommandReply × List Write) (planned_reply : Reply) (planned_writes : List Write)
+      → is_dirty seen watched ≡ false → done ≡ answers (joined contents n parts) commands
+      → AllRead contents n parts (after seen) → AreThere n parts (keys_of_all commands)
+      → planned_reply ≡ cond (nat_lt WEIGHT_MAX (weight done.1)) too_much (reply.Array done.0) → planned_writes ≡ cond (nat_lt WEIGHT_MAX (weight done.1)) [] done.1
+      → IsPlan seen (Exec commands watched) planned_reply planned_writes
+  plan_of_run law seen commands watched done planned_reply planned_writes clean done_is reads there reply_is writes_are =
+      let all : done ≡ answers (after seen) commands =
+      done_is ∙ answers_same law commands (joined contents n parts) (after seen) (joined_same contents n parts (keys_of_all commands) (after seen) reads there) in
       is_plan seen (Exec commands watched) planned_reply (reply.Array done.0) planned_writes done.1 (nat_lt WEIGHT_MAX (weight done.1)) clean
       (ap (λ (a : List CommandReply × List Write). (reply.Array a.0, a.1)) (sym all)) refl reply_is writes_are refl
 

@@ -4,5 +4,6 @@ pub mod Reading
 pub mod Memory
 pub mod Planning
 pub mod Finding
+pub mod Running
 pub mod Reserving
 pub mod Holding

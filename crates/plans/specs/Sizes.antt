@@ -5,7 +5,7 @@ use Rattle.words.specs.declared.command.Command.{Command}
 use Rattle.words.specs.Store.{Bytes, Store, Write}
 use Rattle.words.specs.declared.history.Operation.TheVariants.{Run, Exec}
 use Rattle.words.specs.History.{HasPlace}
-use Rattle.words.specs.Answers.{answer, answers}
+use Rattle.words.specs.Answers.{answer}
 use Rattle.hybrid.specs.Writing.{AreFit}
 use Rattle.transact.specs.declared.call.Call.{Call}
 use Rattle.transact.specs.declared.call.Call.TheVariants as call
@@ -27,9 +27,10 @@ AreShort (write ∷ writes) = IsShort write.1 × AreShort writes
 abbrev pub IsSized : Command → Type 0
 IsSized command = (store : Store) → AllShort store → AreFit (answer store command).1
 
--- the same of commands that run one after the other
+-- the same of each of these commands
 abbrev pub AreSized : List Command → Type 0
-AreSized commands = (store : Store) → AllShort store → AreFit (answers store commands).1
+AreSized [] = Unit {0}
+AreSized (command ∷ commands) = IsSized command × AreSized commands
 
 -- A call has its place in a history, whatever its session watches: what it stores is within the limits.
 abbrev pub IsPlaced : Call → Type 0

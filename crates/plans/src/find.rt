@@ -85,6 +85,16 @@ pub(crate) fn find_commands<R: Shows, P: Parts<Shard<R>>>(
     Ok(())
 }
 
+/// An empty list with room for so many, or with none where that was refused: then it grows.
+pub(crate) fn room_for<T>(alloc: Global, count: usize) -> Vec<T>
+    ensures { result.items ≡ [] }
+{
+    match Vec::with_capacity(alloc, count) {
+        Ok(list) => list,
+        Err(_) => Vec::new(alloc),
+    }
+}
+
 /// Adds the values of these keys, as items. Each is copied once, from where it lies. False where a page is wanted, or memory:
 /// the items are then some of them.
 pub(crate) fn add_values<R: Shows, P: Parts<Shard<R>>>(

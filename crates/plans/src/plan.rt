@@ -22,10 +22,12 @@ ghost use Rattle.plans.specs.Holding.{AreMarkedFor};
 
 use crate::find::{
     add_values, answer_all, answer_key, answer_one, answer_unread, find_command, find_commands,
+    room_for,
 };
 use crate::marks::{any_marked, begin_all, clear_all};
 use crate::planned::Planned;
 use crate::room::reserve_all;
+use crate::running::{answer_each, run_next};
 use crate::short::value_of;
 use crate::stop::{Receipts, Stop};
 use device::{Device, Shows};
@@ -112,7 +114,7 @@ fn plan_one<R: Shows, D: Device<Receipt = R>, P: Parts<Shard<R>>>(
             if key_count(command) == 1 {
                 plan_key(alloc, parts, command, key_at(command, 0), staged, device)
             } else {
-                plan_copied(alloc, parts, command, staged, device)
+                plan_several(alloc, parts, command, staged, device)
             }
         }
     }
@@ -165,6 +167,32 @@ fn plan_key<R: Shows, D: Device<Receipt = R>, P: Parts<Shard<R>>>(
     }
 }
 
+/// Plans a command on what its keys have where it lies, as far as it wants that. Where a page is wanted, or memory, it is planned on
+/// copies.
+fn plan_several<R: Shows, D: Device<Receipt = R>, P: Parts<Shard<R>>>(
+    alloc: Global,
+    parts: &mut P,
+    command: &Command,
+    staged: &Staged<R>,
+    device: &mut D,
+) -> Result<Planned, Stop<R>>
+    requires may { MayLookUp (P.is_open parts.old) (P.stripes_of parts.old) (P.part_of parts.old) (keys_of command.now) }
+    requires touches { touches_keys command.now ≡ true }
+    requires sized { IsSized command.now }
+    ensures { CameOfPlan D.wrote D.serves D.releases D.failures R.identity R.shown R.is_steady R.is_honest R.lends
+        P.is_open P.keeps P.stripes_of P.part_of staged.now (asks_copied R.is_steady P.stripes_of P.part_of parts.old command.now)
+        (parts.old, device.old) (parts.new, device.new) result }
+{
+    depends_on_named_keys();
+    writes_named_keys();
+    let mut writes = Writes::new(alloc);
+    if let Some(reply) = run_next(alloc, parts, command, staged, &mut writes) {
+        return settle(alloc, parts, Reply::Single(reply), writes, device);
+    }
+    drop(writes);
+    plan_copied(alloc, parts, command, staged, device)
+}
+
 /// Plans a command on copies of the values of its keys.
 fn plan_copied<R: Shows, D: Device<Receipt = R>, P: Parts<Shard<R>>>(
     alloc: Global,
@@ -215,7 +243,7 @@ fn plan_values<R: Shows, D: Device<Receipt = R>, P: Parts<Shard<R>>>(
         P.is_open P.keeps P.stripes_of P.part_of staged.now (asks_copied R.is_steady P.stripes_of P.part_of parts.old command.now)
         (parts.old, device.old) (parts.new, device.new) result }
 {
-    let mut items = Vec::new(alloc);
+    let mut items = room_for(alloc, keys.len());
     if add_values(alloc, parts, keys, staged, &mut items) {
         let reply = CommandReply::Array(Sequence::from_vec(items));
         return Ok(answered(alloc, Reply::Single(reply)));
@@ -247,8 +275,31 @@ fn plan_unread<R: Shows, D: Device<Receipt = R>, P: Parts<Shard<R>>>(
     settle(alloc, parts, Reply::Single(reply), writes, device)
 }
 
-/// Plans the commands of a transaction none of whose watched keys was written.
+/// Plans the commands of a transaction none of whose watched keys was written, each on what its keys have where it lies. Where a page
+/// is wanted, or memory, they are planned on copies.
 fn plan_all<R: Shows, D: Device<Receipt = R>, P: Parts<Shard<R>>>(
+    alloc: Global,
+    parts: &mut P,
+    commands: &[Command],
+    staged: &Staged<R>,
+    device: &mut D,
+) -> Result<Planned, Stop<R>>
+    requires may { MayLookUp (P.is_open parts.old) (P.stripes_of parts.old) (P.part_of parts.old) (keys_of_all commands.now) }
+    requires sized { AreSized commands.now }
+    ensures { CameOfPlan D.wrote D.serves D.releases D.failures R.identity R.shown R.is_steady R.is_honest R.lends
+        P.is_open P.keeps P.stripes_of P.part_of staged.now (asks_commands R.is_steady P.stripes_of P.part_of parts.old commands.now)
+        (parts.old, device.old) (parts.new, device.new) result }
+{
+    depends_on_named_keys();
+    if let Some((replies, writes)) = answer_each(alloc, parts, commands, staged) {
+        let reply = Reply::Array(CommandReplies::from_vec(replies));
+        return settle(alloc, parts, reply, writes, device);
+    }
+    plan_all_copied(alloc, parts, commands, staged, device)
+}
+
+/// Plans the commands of a transaction none of whose watched keys was written, on copies of the values of all their keys.
+fn plan_all_copied<R: Shows, D: Device<Receipt = R>, P: Parts<Shard<R>>>(
     alloc: Global,
     parts: &mut P,
     commands: &[Command],
@@ -280,6 +331,7 @@ fn plan_all<R: Shows, D: Device<Receipt = R>, P: Parts<Shard<R>>>(
 }
 
 /// Plans a transaction of a session that watches these keys. One that is dirty is null, and looks nothing up.
+#[inline(never)]
 fn plan_exec<R: Shows, D: Device<Receipt = R>, P: Parts<Shard<R>>>(
     alloc: Global,
     parts: &mut P,

@@ -84,7 +84,9 @@ fn words_of(alloc: Global, line: &str) -> Option<Words> {
 /// The command of a line. `None` where there was no memory, or where it is no command.
 fn command_of(alloc: Global, line: &str) -> Option<Command> {
     let words = words_of(alloc, line)?;
-    Command::of(alloc, &words).ok()?.ok()
+    let command = Command::of(alloc, &words).ok()?.ok();
+    drop(words);
+    command
 }
 
 /// The commands of these lines.
@@ -263,13 +265,17 @@ fn answer_lines<D: Device>(alloc: Global, store: &mut Store<D>, lines: &str) -> 
 /// What the command of a line is due to be answered.
 fn due_line(alloc: Global, plain: &mut Plain, line: &str) -> Option<CommandReply> {
     let command = command_of(alloc, line)?;
-    run_plain(alloc, plain, &command)
+    let due = run_plain(alloc, plain, &command);
+    drop(command);
+    due
 }
 
 /// What the commands of lines are due to be answered.
 fn due_lines(alloc: Global, plain: &mut Plain, lines: &str) -> Option<Vec<CommandReply>> {
     let commands = commands_of(alloc, lines)?;
-    run_all_plain(alloc, plain, commands.as_slice())
+    let due = run_all_plain(alloc, plain, commands.as_slice());
+    drop(commands);
+    due
 }
 
 /// A store, and a plain map.
@@ -292,14 +298,20 @@ fn both_of<D: Device>(alloc: Global, count: usize, places: usize, device: D) -> 
 fn run_one_both<D: Device>(alloc: Global, both: &mut Both<D>, line: &str) -> Option<bool> {
     let due = due_line(alloc, &mut both.plain, line)?;
     let told = answer_line(alloc, &mut both.store, line)?;
-    Some(is_single(&told, &due))
+    let is_same = is_single(&told, &due);
+    drop(told);
+    drop(due);
+    Some(is_same)
 }
 
 /// Runs the commands of lines on both, as one transaction on the store, and tells whether both answer the same.
 fn run_all_both<D: Device>(alloc: Global, both: &mut Both<D>, lines: &str) -> Option<bool> {
     let due = due_lines(alloc, &mut both.plain, lines)?;
     let told = answer_lines(alloc, &mut both.store, lines)?;
-    Some(is_array(&told, due.as_slice()))
+    let is_same = is_array(&told, due.as_slice());
+    drop(told);
+    drop(due);
+    Some(is_same)
 }
 
 /// Runs a line on both; several lines are a transaction. It tells whether both answer the same.

@@ -1,11 +1,10 @@
 //! The bytes of replies of each form, by the tables of lines and of the protocol.
 
 use resp_write::{encode, encode_line_within, encode_value_within, encode_within, send};
-use std::alloc::{AllocError, Global};
+use std::alloc::Global;
 use std::io;
 use std::io::{ErrorKind, Write};
 use std::process::Abort;
-use std::test::Fail;
 use streams::{Noted, WriteFault};
 use words::reply::{
     CommandReply, Fault, Item, Line, ProtocolFault, Refusal, Reply, TransactionError,
@@ -37,34 +36,34 @@ impl Write for Paper {
 }
 
 /// Whether a reply is encoded so into an empty buffer.
-fn encodes(alloc: Global, reply: &Reply, text: &[u8]) -> Result<bool, AllocError> {
+fn encodes(rt: &impl Abort, alloc: Global, reply: &Reply, text: &[u8]) -> bool {
     let mut out = Vec::new(alloc);
-    encode(reply, &mut out)?;
-    Ok(out.as_slice() == text)
+    encode(reply, &mut out).expect(rt, "memory for a reply");
+    out.as_slice() == text
 }
 
 /// Whether a reply is encoded so into a buffer with just the room for it, and then no more.
-fn encodes_within(alloc: Global, reply: &Reply, text: &[u8]) -> Result<bool, AllocError> {
-    let mut out = Vec::with_capacity(alloc, text.len())?;
+fn encodes_within(rt: &impl Abort, alloc: Global, reply: &Reply, text: &[u8]) -> bool {
+    let mut out = Vec::with_capacity(alloc, text.len()).expect(rt, "memory for a text");
     let first = encode_within(reply, &mut out);
     let second = encode_within(reply, &mut out);
-    Ok(first && !second && out.as_slice() == text)
+    first && !second && out.as_slice() == text
 }
 
 /// Whether a line is encoded so into a buffer with just the room for it, and then no more.
-fn line_goes_within(alloc: Global, line: Line, text: &[u8]) -> Result<bool, AllocError> {
-    let mut out = Vec::with_capacity(alloc, text.len())?;
+fn line_goes_within(rt: &impl Abort, alloc: Global, line: Line, text: &[u8]) -> bool {
+    let mut out = Vec::with_capacity(alloc, text.len()).expect(rt, "memory for a text");
     let first = encode_line_within(line, &mut out);
     let second = encode_line_within(line, &mut out);
-    Ok(first && !second && out.as_slice() == text)
+    first && !second && out.as_slice() == text
 }
 
 /// Whether what a GET found is encoded so into a buffer with just the room for it, and then no more.
-fn value_goes_within(alloc: Global, value: &Option<Word>, text: &[u8]) -> Result<bool, AllocError> {
-    let mut out = Vec::with_capacity(alloc, text.len())?;
+fn value_goes_within(rt: &impl Abort, alloc: Global, value: &Option<Word>, text: &[u8]) -> bool {
+    let mut out = Vec::with_capacity(alloc, text.len()).expect(rt, "memory for a text");
     let first = encode_value_within(value, &mut out);
     let second = encode_value_within(value, &mut out);
-    Ok(first && !second && out.as_slice() == text)
+    first && !second && out.as_slice() == text
 }
 
 /// Whether a reply is sent so where so many bytes are taken: all of it, or what has room.
@@ -85,21 +84,21 @@ fn sends(alloc: Global, reply: &Reply, text: &[u8], room: usize) -> bool {
 
 /// Whether a reply has these bytes: in an empty buffer, in one with room for them, and sent. Where a
 /// byte of room is wanting it is not encoded, and a writer that fails has a beginning of it.
-fn has_bytes(alloc: Global, reply: Reply, text: &[u8]) -> Result<bool, AllocError> {
-    shows(alloc, &reply, text)
+fn has_bytes(rt: &impl Abort, alloc: Global, reply: Reply, text: &[u8]) -> bool {
+    shows(rt, alloc, &reply, text)
 }
 
-fn shows(alloc: Global, reply: &Reply, text: &[u8]) -> Result<bool, AllocError> {
-    let mut has = encodes(alloc, reply, text)? && encodes_within(alloc, reply, text)?;
+fn shows(rt: &impl Abort, alloc: Global, reply: &Reply, text: &[u8]) -> bool {
+    let mut has = encodes(rt, alloc, reply, text) && encodes_within(rt, alloc, reply, text);
     for room in 0..=text.len() {
         has = has && sends(alloc, reply, text, room);
     }
-    Ok(has)
+    has
 }
 
 /// A bulk string.
-fn bulk(alloc: Global, text: &[u8]) -> Result<Item, AllocError> {
-    Ok(Item::Bulk(Word::from_slice(alloc, text)?))
+fn bulk(rt: &impl Abort, alloc: Global, text: &[u8]) -> Item {
+    Item::Bulk(Word::from_slice(alloc, text).expect(rt, "memory for a word"))
 }
 
 /// Lines of what is done or refused.
@@ -144,20 +143,18 @@ const ANSWERS: [(Line, &[u8]); 13] = [
 ];
 
 #[test]
-fn answers_and_refusals(rt: HostRuntime) -> Result<(), Fail> {
+fn answers_and_refusals(rt: HostRuntime) {
     for (line, text) in &ANSWERS {
-        let has = has_bytes(rt.alloc(), Reply::line(*line), text)?;
+        let has = has_bytes(&rt, rt.alloc(), Reply::line(*line), text);
         assert!(rt; has, "{line:?}");
     }
-    Ok(())
 }
 
 #[test]
-fn lines_without_a_reply(rt: HostRuntime) -> Result<(), Fail> {
+fn lines_without_a_reply(rt: HostRuntime) {
     for (line, text) in &ANSWERS {
-        assert!(rt; line_goes_within(rt.alloc(), *line, text)?, "{line:?}");
+        assert!(rt; line_goes_within(&rt, rt.alloc(), *line, text), "{line:?}");
     }
-    Ok(())
 }
 
 /// Lines of requests that do not fit their session's transaction.
@@ -193,12 +190,11 @@ const MISPLACED: [(Line, &[u8]); 7] = [
 ];
 
 #[test]
-fn transaction_errors(rt: HostRuntime) -> Result<(), Fail> {
+fn transaction_errors(rt: HostRuntime) {
     for (line, text) in &MISPLACED {
-        let has = has_bytes(rt.alloc(), Reply::line(*line), text)?;
+        let has = has_bytes(&rt, rt.alloc(), Reply::line(*line), text);
         assert!(rt; has, "{line:?}");
     }
-    Ok(())
 }
 
 /// Lines of what the server could not answer, and of bytes that are no requests.
@@ -237,12 +233,11 @@ const FAULTS: [(Line, &[u8]); 10] = [
 ];
 
 #[test]
-fn faults(rt: HostRuntime) -> Result<(), Fail> {
+fn faults(rt: HostRuntime) {
     for (line, text) in &FAULTS {
-        let has = has_bytes(rt.alloc(), Reply::line(*line), text)?;
+        let has = has_bytes(&rt, rt.alloc(), Reply::line(*line), text);
         assert!(rt; has, "{line:?}");
     }
-    Ok(())
 }
 
 /// Integers, with the least and the greatest.
@@ -255,13 +250,12 @@ const INTEGERS: [(i64, &[u8]); 5] = [
 ];
 
 #[test]
-fn integers(rt: HostRuntime) -> Result<(), Fail> {
+fn integers(rt: HostRuntime) {
     for (number, text) in INTEGERS {
         let reply = Reply::Single(CommandReply::integer(number));
-        let has = has_bytes(rt.alloc(), reply, text)?;
+        let has = has_bytes(&rt, rt.alloc(), reply, text);
         assert!(rt; has, "{number}");
     }
-    Ok(())
 }
 
 /// Bulk strings: an empty one, and one that looks like the beginning of a request.
@@ -272,101 +266,105 @@ const BULKS: [(&[u8], &[u8]); 3] = [
 ];
 
 #[test]
-fn bulk_strings(rt: HostRuntime) -> Result<(), Fail> {
+fn bulk_strings(rt: HostRuntime) {
     for (bytes, text) in BULKS {
-        let reply = Reply::Single(CommandReply::One(bulk(rt.alloc(), bytes)?));
-        let has = has_bytes(rt.alloc(), reply, text)?;
+        let reply = Reply::Single(CommandReply::One(bulk(&rt, rt.alloc(), bytes)));
+        let has = has_bytes(&rt, rt.alloc(), reply, text);
         assert!(rt; has, "{bytes:?}");
     }
-    Ok(())
 }
 
 #[test]
-fn values_without_a_reply(rt: HostRuntime) -> Result<(), Fail> {
+fn values_without_a_reply(rt: HostRuntime) {
     for (bytes, text) in BULKS {
-        let value = Some(Word::from_slice(rt.alloc(), bytes)?);
-        assert!(rt; value_goes_within(rt.alloc(), &value, text)?, "{bytes:?}");
+        let value = Some(Word::from_slice(rt.alloc(), bytes).expect(&rt, "memory for a word"));
+        assert!(rt;
+            value_goes_within(&rt, rt.alloc(), &value, text),
+            "{bytes:?}"
+        );
     }
-    assert!(rt; value_goes_within(rt.alloc(), &None, b"$-1\r\n")?);
-    Ok(())
+    assert!(rt; value_goes_within(&rt, rt.alloc(), &None, b"$-1\r\n"));
 }
 
 /// A value of the most bytes, 32,768.
-fn longest(alloc: Global) -> Result<Reply, AllocError> {
-    let value = bulk(alloc, &[b'x'; 32_768])?;
-    Ok(Reply::Single(CommandReply::One(value)))
+fn longest(rt: &impl Abort, alloc: Global) -> Reply {
+    let value = bulk(rt, alloc, &[b'x'; 32_768]);
+    Reply::Single(CommandReply::One(value))
 }
 
-fn encoded_len(alloc: Global, reply: &Reply) -> Result<usize, AllocError> {
+fn encoded_len(rt: &impl Abort, alloc: Global, reply: &Reply) -> usize {
     let mut out = Vec::new(alloc);
-    encode(reply, &mut out)?;
-    Ok(out.len())
+    encode(reply, &mut out).expect(rt, "memory for a reply");
+    out.len()
 }
 
 #[test]
-fn the_longest_bulk_string(rt: HostRuntime) -> Result<(), Fail> {
-    let reply = longest(rt.alloc())?;
-    let len = encoded_len(rt.alloc(), &reply)?;
-    assert_eq!(rt; len, 32_778);
-    Ok(())
+fn the_longest_bulk_string(rt: HostRuntime) {
+    let reply = longest(&rt, rt.alloc());
+    let len = encoded_len(&rt, rt.alloc(), &reply);
+    assert!(rt; len == 32_778);
+    drop(reply);
 }
 
 /// No such key.
 #[test]
-fn a_null(rt: HostRuntime) -> Result<(), Fail> {
+fn a_null(rt: HostRuntime) {
     let reply = Reply::Single(CommandReply::bulk(None));
-    let has = has_bytes(rt.alloc(), reply, b"$-1\r\n")?;
+    let has = has_bytes(&rt, rt.alloc(), reply, b"$-1\r\n");
     assert!(rt; has);
-    Ok(())
 }
 
 /// A transaction that was not run.
 #[test]
-fn a_null_array(rt: HostRuntime) -> Result<(), Fail> {
-    let has = has_bytes(rt.alloc(), Reply::NullArray, b"*-1\r\n")?;
+fn a_null_array(rt: HostRuntime) {
+    let has = has_bytes(&rt, rt.alloc(), Reply::NullArray, b"*-1\r\n");
     assert!(rt; has);
-    Ok(())
 }
 
 /// An array of a bulk string and a null, as MGET answers it.
-fn values(alloc: Global) -> Result<CommandReply, AllocError> {
-    let mut items = Vec::with_capacity(alloc, 2)?;
-    items.push(bulk(alloc, b"2")?)?;
-    items.push(Item::Null)?;
-    Ok(CommandReply::Array(Sequence::from_vec(items)))
+fn values(rt: &impl Abort, alloc: Global) -> CommandReply {
+    let mut items = Vec::with_capacity(alloc, 2).expect(rt, "memory for two items");
+    items
+        .push(bulk(rt, alloc, b"2"))
+        .expect(rt, "memory for one more");
+    items.push(Item::Null).expect(rt, "memory for one more");
+    CommandReply::Array(Sequence::from_vec(items))
 }
 
 #[test]
-fn an_array_of_values(rt: HostRuntime) -> Result<(), Fail> {
-    let reply = Reply::Single(values(rt.alloc())?);
-    let has = has_bytes(rt.alloc(), reply, b"*2\r\n$1\r\n2\r\n$-1\r\n")?;
+fn an_array_of_values(rt: HostRuntime) {
+    let reply = Reply::Single(values(&rt, rt.alloc()));
+    let has = has_bytes(&rt, rt.alloc(), reply, b"*2\r\n$1\r\n2\r\n$-1\r\n");
     assert!(rt; has);
-    Ok(())
 }
 
 /// A transaction whose commands answered a line, an array and a number.
-fn transaction(alloc: Global) -> Result<Reply, AllocError> {
-    let mut replies = Vec::with_capacity(alloc, 3)?;
-    replies.push(CommandReply::line(Line::Done))?;
-    replies.push(values(alloc)?)?;
-    replies.push(CommandReply::integer(-7))?;
-    Ok(Reply::Array(Sequence::from_vec(replies)))
+fn transaction(rt: &impl Abort, alloc: Global) -> Reply {
+    let mut replies = Vec::with_capacity(alloc, 3).expect(rt, "memory for three replies");
+    replies
+        .push(CommandReply::line(Line::Done))
+        .expect(rt, "memory for one more");
+    replies
+        .push(values(rt, alloc))
+        .expect(rt, "memory for one more");
+    replies
+        .push(CommandReply::integer(-7))
+        .expect(rt, "memory for one more");
+    Reply::Array(Sequence::from_vec(replies))
 }
 
 #[test]
-fn an_array_of_arrays(rt: HostRuntime) -> Result<(), Fail> {
+fn an_array_of_arrays(rt: HostRuntime) {
     let text = b"*3\r\n+OK\r\n*2\r\n$1\r\n2\r\n$-1\r\n:-7\r\n";
-    let reply = transaction(rt.alloc())?;
-    let has = has_bytes(rt.alloc(), reply, text)?;
+    let reply = transaction(&rt, rt.alloc());
+    let has = has_bytes(&rt, rt.alloc(), reply, text);
     assert!(rt; has);
-    Ok(())
 }
 
 /// A transaction without a command.
 #[test]
-fn an_empty_array(rt: HostRuntime) -> Result<(), Fail> {
+fn an_empty_array(rt: HostRuntime) {
     let reply = Reply::Array(Sequence::from_vec(Vec::new(rt.alloc())));
-    let has = has_bytes(rt.alloc(), reply, b"*0\r\n")?;
+    let has = has_bytes(&rt, rt.alloc(), reply, b"*0\r\n");
     assert!(rt; has);
-    Ok(())
 }

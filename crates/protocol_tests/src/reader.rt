@@ -4,7 +4,6 @@ use bytes::Bytes;
 use resp_read::{ReadFault, Reader};
 use std::alloc::Global;
 use std::process::Abort;
-use std::test::Fail;
 use words::reply::ProtocolFault;
 use words::word::{Word, Words};
 
@@ -26,71 +25,75 @@ impl Log {
         }
     }
 
-    fn write(&mut self, words: &Words) -> Result<(), Fail> {
+    fn write(&mut self, rt: &impl Abort, words: &Words) {
         for word in words.as_slice() {
-            self.text.extend_from_slice(word.as_slice())?;
-            self.text.extend_from_slice(b",")?;
+            self.add(rt, word.as_slice());
+            self.add(rt, b",");
         }
-        self.text.extend_from_slice(b";")?;
-        Ok(())
+        self.add(rt, b";");
+    }
+
+    fn add(&mut self, rt: &impl Abort, text: &[u8]) {
+        self.text
+            .extend_from_slice(text)
+            .expect(rt, "memory for the log");
     }
 
     /// Notes the fault, if it is the first.
-    fn note(&mut self, fault: ReadFault) -> Result<(), Fail> {
+    fn note(&mut self, rt: &impl Abort, fault: ReadFault) {
         if self.faulty {
-            return Ok(());
+            return;
         }
         self.faulty = true;
         match fault {
-            ReadFault::Protocol(fault) => self.text.extend_from_slice(fault.text())?,
-            ReadFault::OutOfMemory => self.text.extend_from_slice(b"no memory")?,
+            ReadFault::Protocol(fault) => self.add(rt, fault.text()),
+            ReadFault::OutOfMemory => self.add(rt, b"no memory"),
         }
-        Ok(())
     }
 
     /// Notes what is given next, and says whether it was a request.
-    fn step(&mut self) -> Result<bool, Fail> {
+    fn step(&mut self, rt: &impl Abort) -> bool {
         match self.reader.next() {
             Ok(Some(words)) => {
-                self.write(&words)?;
-                Ok(true)
+                self.write(rt, &words);
+                drop(words);
+                true
             }
-            Ok(None) => Ok(false),
+            Ok(None) => false,
             Err(fault) => {
-                self.note(fault)?;
-                Ok(false)
+                self.note(rt, fault);
+                false
             }
         }
     }
 
     /// Feeds a piece, and notes what is given then.
-    fn feed(&mut self, piece: &[u8]) -> Result<(), Fail> {
-        let copy = Bytes::copy_from_slice(*self.text.allocator(), piece)?;
-        if let Err(_) = self.reader.feed(copy) {
-            return Err(Fail::from("no memory for a piece"));
-        }
+    fn feed(&mut self, rt: &impl Abort, piece: &[u8]) {
+        let copy = Bytes::copy_from_slice(*self.text.allocator(), piece).expect(
+            rt,
+            "memory for a copy of a piece",
+        );
+        assert!(rt; self.reader.feed(copy).is_ok(), "memory for a piece");
         for _ in 0..=piece.len() {
-            if !self.step()? {
-                return Ok(());
+            if !self.step(rt) {
+                return;
             }
         }
-        Ok(())
     }
 }
 
 /// Feeds the stream in pieces of this size.
-fn feed_in_pieces(log: &mut Log, stream: &[u8], size: usize) -> Result<(), Fail> {
+fn feed_in_pieces(rt: &impl Abort, log: &mut Log, stream: &[u8], size: usize) {
     for piece in stream.chunks(size.max(1)) {
-        log.feed(piece)?;
+        log.feed(rt, piece);
     }
-    Ok(())
 }
 
 /// Feeds the stream cut in two at this place.
-fn feed_in_two(log: &mut Log, stream: &[u8], at: usize) -> Result<(), Fail> {
+fn feed_in_two(rt: &impl Abort, log: &mut Log, stream: &[u8], at: usize) {
     let at = at.min(stream.len());
-    log.feed(&stream[..at])?;
-    log.feed(&stream[at..])
+    log.feed(rt, &stream[..at]);
+    log.feed(rt, &stream[at..]);
 }
 
 /// How a stream is cut.
@@ -103,89 +106,76 @@ enum Cut {
 }
 
 /// Feeds the stream, and asserts what the reader has given.
-fn check_log(
-    rt: &impl Abort,
-    log: &mut Log,
-    stream: &[u8],
-    cut: Cut,
-    given: &[u8],
-) -> Result<(), Fail> {
+fn check_log(rt: &impl Abort, log: &mut Log, stream: &[u8], cut: Cut, given: &[u8]) {
     match cut {
         Cut::Pieces(size) => {
-            feed_in_pieces(log, stream, size)?;
+            feed_in_pieces(rt, log, stream, size);
             assert!(rt; log.text.as_slice() == given, "in pieces of {size}");
         }
         Cut::Two(at) => {
-            feed_in_two(log, stream, at)?;
+            feed_in_two(rt, log, stream, at);
             assert!(rt; log.text.as_slice() == given, "cut at {at}");
         }
     }
-    Ok(())
 }
 
 /// Asserts what a reader gives for the stream that is cut so.
-fn check_cut(
-    rt: &impl Abort,
-    alloc: Global,
-    stream: &[u8],
-    cut: Cut,
-    given: &[u8],
-) -> Result<(), Fail> {
+fn check_cut(rt: &impl Abort, alloc: Global, stream: &[u8], cut: Cut, given: &[u8]) {
     let mut log = Log::new(alloc);
-    check_log(rt, &mut log, stream, cut, given)
+    check_log(rt, &mut log, stream, cut, given);
+    drop(log);
 }
 
 /// Asserts what a reader gives for the stream that is cut in two, at every place.
-fn check_each_cut(rt: &impl Abort, alloc: Global, stream: &[u8], given: &[u8]) -> Result<(), Fail> {
+fn check_each_cut(rt: &impl Abort, alloc: Global, stream: &[u8], given: &[u8]) {
     for at in 0..stream.len() {
-        check_cut(rt, alloc, stream, Cut::Two(at), given)?;
+        check_cut(rt, alloc, stream, Cut::Two(at), given);
     }
-    Ok(())
 }
 
 /// Asserts what a reader gives for the stream as one piece, in pieces of 1, 2, 3 and 7 bytes, and cut in
 /// two at every place.
-fn check(rt: &impl Abort, alloc: Global, stream: &[u8], given: &[u8]) -> Result<(), Fail> {
+fn check(rt: &impl Abort, alloc: Global, stream: &[u8], given: &[u8]) {
     for size in [1, 2, 3, 7, stream.len()] {
-        check_cut(rt, alloc, stream, Cut::Pieces(size), given)?;
+        check_cut(rt, alloc, stream, Cut::Pieces(size), given);
     }
-    check_each_cut(rt, alloc, stream, given)
+    check_each_cut(rt, alloc, stream, given);
 }
 
 #[test]
-fn ping(rt: HostRuntime) -> Result<(), Fail> {
-    check(&rt, rt.alloc(), b"*1\r\n$4\r\nPING\r\n", b"PING,;")
+fn ping(rt: HostRuntime) {
+    check(&rt, rt.alloc(), b"*1\r\n$4\r\nPING\r\n", b"PING,;");
 }
 
 #[test]
-fn set_then_get_in_any_pieces(rt: HostRuntime) -> Result<(), Fail> {
+fn set_then_get_in_any_pieces(rt: HostRuntime) {
     check(
         &rt,
         rt.alloc(),
         b"*3\r\n$3\r\nSET\r\n$1\r\nk\r\n$5\r\nhello\r\n*2\r\n$3\r\nGET\r\n$1\r\nk\r\n*1\r\n$4\r\nPI",
         b"SET,k,hello,;GET,k,;",
-    )
+    );
 }
 
 /// A value that looks like the beginning of a request.
 #[test]
-fn a_value_with_line_ends_in_any_pieces(rt: HostRuntime) -> Result<(), Fail> {
+fn a_value_with_line_ends_in_any_pieces(rt: HostRuntime) {
     check(
         &rt,
         rt.alloc(),
         b"*3\r\n$3\r\nSET\r\n$1\r\nk\r\n$5\r\na\r\n*1\r\n*2\r\n$3\r\nGET\r\n$1\r\nk\r\n",
         b"SET,k,a\r\n*1,;GET,k,;",
-    )
+    );
 }
 
 #[test]
-fn length_with_leading_zero(rt: HostRuntime) -> Result<(), Fail> {
+fn length_with_leading_zero(rt: HostRuntime) {
     check(
         &rt,
         rt.alloc(),
         b"*1\r\n$04\r\nPING\r\n",
         b"-ERR Protocol error: bad length",
-    )
+    );
 }
 
 /// Streams with the text of the fault that stands in each.
@@ -227,107 +217,116 @@ const FAULTS: &[(&[u8], &[u8])] = &[
 ];
 
 #[test]
-fn each_place_has_its_fault(rt: HostRuntime) -> Result<(), Fail> {
+fn each_place_has_its_fault(rt: HostRuntime) {
     for &(stream, given) in FAULTS {
-        check(&rt, rt.alloc(), stream, given)?;
+        check(&rt, rt.alloc(), stream, given);
     }
-    Ok(())
 }
 
 #[test]
-fn a_part_of_a_request_gives_nothing(rt: HostRuntime) -> Result<(), Fail> {
+fn a_part_of_a_request_gives_nothing(rt: HostRuntime) {
     let stream = b"*2\r\n$4\r\nECHO\r\n$10\r\n0123456789\r\n";
     for end in 0..stream.len() {
-        check(&rt, rt.alloc(), &stream[..end], b"")?;
+        check(&rt, rt.alloc(), &stream[..end], b"");
     }
-    check(&rt, rt.alloc(), stream, b"ECHO,0123456789,;")
+    check(&rt, rt.alloc(), stream, b"ECHO,0123456789,;");
 }
 
 /// So many times this text, after and before others.
 fn repeated(
+    rt: &impl Abort,
     alloc: Global,
     before: &[u8],
     text: &[u8],
     count: u32,
     after: &[u8],
-) -> Result<Vec<u8>, Fail> {
-    let mut all = before.to_vec(alloc)?;
+) -> Vec<u8> {
+    let mut all = before.to_vec(alloc).expect(rt, "memory for a text");
     for _ in 0..count {
-        all.extend_from_slice(text)?;
+        all.extend_from_slice(text).expect(rt, "memory for a text");
     }
-    all.extend_from_slice(after)?;
-    Ok(all)
+    all.extend_from_slice(after).expect(rt, "memory for a text");
+    all
 }
 
 #[test]
-fn the_most_words(rt: HostRuntime) -> Result<(), Fail> {
+fn the_most_words(rt: HostRuntime) {
     let alloc = rt.alloc();
-    let stream = repeated(alloc, b"*128\r\n", b"$2\r\nab\r\n", 128, b"")?;
-    let given = repeated(alloc, b"", b"ab,", 128, b";")?;
-    check(&rt, alloc, &stream, &given)
+    let stream = repeated(&rt, alloc, b"*128\r\n", b"$2\r\nab\r\n", 128, b"");
+    let given = repeated(&rt, alloc, b"", b"ab,", 128, b";");
+    check(&rt, alloc, &stream, &given);
+    drop(given);
+    drop(stream);
 }
 
 /// Four words of 32,768 bytes, which have as many as the words of a request may have, and what stands
 /// after them.
-fn five_words(alloc: Global, last: &[u8]) -> Result<Vec<u8>, Fail> {
-    let word = repeated(alloc, b"$32768\r\n", b"wwwwwwww", 4096, b"\r\n")?;
-    repeated(alloc, b"*5\r\n", &word, 4, last)
+fn five_words(rt: &impl Abort, alloc: Global, last: &[u8]) -> Vec<u8> {
+    let word = repeated(rt, alloc, b"$32768\r\n", b"wwwwwwww", 4096, b"\r\n");
+    repeated(rt, alloc, b"*5\r\n", &word, 4, last)
 }
 
 /// Asserts what a reader gives for the long stream, in pieces, and cut in two at every place of the lines
 /// and their neighbourhood and at some in between: one place among the bytes of a word is like another.
-fn check_long(rt: &impl Abort, alloc: Global, stream: &[u8], given: &[u8]) -> Result<(), Fail> {
+fn check_long(rt: &impl Abort, alloc: Global, stream: &[u8], given: &[u8]) {
     for size in [1, 2, 3, 7, 16_384] {
-        check_cut(rt, alloc, stream, Cut::Pieces(size), given)?;
+        check_cut(rt, alloc, stream, Cut::Pieces(size), given);
     }
     for at in 0..stream.len() {
         if at % 32_778 < 16 || at % 32_778 > 32_768 || at % 4_093 == 0 {
-            check_cut(rt, alloc, stream, Cut::Two(at), given)?;
+            check_cut(rt, alloc, stream, Cut::Two(at), given);
         }
     }
-    Ok(())
 }
 
 #[test]
-fn five_words_that_pass_the_most_bytes(rt: HostRuntime) -> Result<(), Fail> {
+fn five_words_that_pass_the_most_bytes(rt: HostRuntime) {
     let alloc = rt.alloc();
-    let stream = five_words(alloc, b"$1")?;
+    let stream = five_words(&rt, alloc, b"$1");
     check_long(
         &rt,
         alloc,
         &stream,
         b"-ERR Protocol error: request too large",
-    )
+    );
+    drop(stream);
 }
 
 #[test]
-fn five_words_of_the_most_bytes(rt: HostRuntime) -> Result<(), Fail> {
+fn five_words_of_the_most_bytes(rt: HostRuntime) {
     let alloc = rt.alloc();
-    let word = repeated(alloc, b"", b"wwwwwwww", 4096, b",")?;
-    let given = repeated(alloc, b"", &word, 4, b",;")?;
-    let stream = five_words(alloc, b"$0\r\n\r\n")?;
-    check_cut(&rt, alloc, &stream, Cut::Pieces(16_384), &given)
+    let word = repeated(&rt, alloc, b"", b"wwwwwwww", 4096, b",");
+    let given = repeated(&rt, alloc, b"", &word, 4, b",;");
+    let stream = five_words(&rt, alloc, b"$0\r\n\r\n");
+    check_cut(&rt, alloc, &stream, Cut::Pieces(16_384), &given);
+    drop(stream);
+    drop(given);
+    drop(word);
 }
 
 /// 128 words of 1,024 bytes, each of a byte of its own, with texts around each.
-fn longest(alloc: Global, first: &[u8], before: &[u8], after: &[u8]) -> Result<Vec<u8>, Fail> {
-    let mut all = first.to_vec(alloc)?;
+fn longest(rt: &impl Abort, alloc: Global, first: &[u8], before: &[u8], after: &[u8]) -> Vec<u8> {
+    let mut all = first.to_vec(alloc).expect(rt, "memory for a text");
     for byte in 0..128_u8 {
-        all.extend_from_slice(before)?;
-        all.extend_from_slice(&[byte; 1024])?;
-        all.extend_from_slice(after)?;
+        all.extend_from_slice(before)
+            .expect(rt, "memory for a text");
+        all.extend_from_slice(&[byte; 1024])
+            .expect(rt, "memory for a text");
+        all.extend_from_slice(after).expect(rt, "memory for a text");
     }
-    Ok(all)
+    all
 }
 
 /// A request has no more words, and no more bytes in all of them.
 #[test]
-fn the_longest_request_is_given_however_it_is_cut(rt: HostRuntime) -> Result<(), Fail> {
+fn the_longest_request_is_given_however_it_is_cut(rt: HostRuntime) {
     let alloc = rt.alloc();
-    let stream = longest(alloc, b"*128\r\n", b"$1024\r\n", b"\r\n")?;
-    let mut given = longest(alloc, b"", b"", b",")?;
-    given.push(b';')?;
-    check_each_cut(&rt, alloc, &stream, &given)
+    let stream = longest(&rt, alloc, b"*128\r\n", b"$1024\r\n", b"\r\n");
+    let mut given = longest(&rt, alloc, b"", b"", b",");
+    given.push(b';').expect(&rt, "memory for one more");
+    check_each_cut(&rt, alloc, &stream, &given);
+    drop(given);
+    drop(stream);
 }
 
 /// Asserts which pieces a reader keeps, from the oldest on.
@@ -339,26 +338,27 @@ fn check_kept(rt: &impl Abort, reader: &Reader, kept: &[&[u8]]) {
 }
 
 /// Feeds these bytes as a piece.
-fn feed(reader: &mut Reader, piece: &'static [u8]) -> Result<(), Fail> {
-    reader
-        .feed(Bytes::from_static(piece))
-        .map_err(|refused| Fail::from(refused.1))
+fn feed(rt: &impl Abort, reader: &mut Reader, piece: &'static [u8]) {
+    assert!(rt;
+        reader.feed(Bytes::from_static(piece)).is_ok(),
+        "memory for a piece"
+    );
 }
 
 /// Feeds four pieces, one of them empty.
-fn feed_four(rt: &impl Abort, reader: &mut Reader) -> Result<(), Fail> {
+fn feed_four(rt: &impl Abort, reader: &mut Reader) {
     check_kept(rt, reader, &[]);
     for piece in [b"*".as_slice(), b"2", b"", b"\r\n$3\r\nGET\r\n$1\r\nk\r"] {
-        feed(reader, piece)?;
+        feed(rt, reader, piece);
     }
     check_kept(rt, reader, &[b"*", b"2", b"\r\n$3\r\nGET\r\n$1\r\nk\r"]);
-    Ok(())
 }
 
 #[test]
-fn pieces_stay_as_they_were_fed(rt: HostRuntime) -> Result<(), Fail> {
+fn pieces_stay_as_they_were_fed(rt: HostRuntime) {
     let mut reader = Reader::new(rt.alloc());
-    feed_four(&rt, &mut reader)
+    feed_four(&rt, &mut reader);
+    drop(reader);
 }
 
 /// Whether the reader waits for more.
@@ -378,30 +378,31 @@ fn check_waits(rt: &impl Abort, reader: &mut Reader, kept: &[&[u8]]) {
 }
 
 /// The count and the first word are kept as words, the second word stays with its length line.
-fn feed_two_requests(rt: &impl Abort, reader: &mut Reader) -> Result<(), Fail> {
-    feed(reader, b"*2\r\n$3\r\nGET\r\n$5\r\nhe")?;
+fn feed_two_requests(rt: &impl Abort, reader: &mut Reader) {
+    feed(rt, reader, b"*2\r\n$3\r\nGET\r\n$5\r\nhe");
     check_waits(rt, reader, &[b"$5\r\nhe"]);
-    feed(reader, b"llo\r")?;
+    feed(rt, reader, b"llo\r");
     check_waits(rt, reader, &[b"$5\r\nhe", b"llo\r"]);
-    feed(reader, b"\n*1\r\n$4")?;
+    feed(rt, reader, b"\n*1\r\n$4");
     assert!(rt; gives(reader));
     check_kept(rt, reader, &[b"*1\r\n$4"]);
-    Ok(())
 }
 
 #[test]
-fn whole_words_are_taken_off_and_parts_are_not(rt: HostRuntime) -> Result<(), Fail> {
+fn whole_words_are_taken_off_and_parts_are_not(rt: HostRuntime) {
     let mut reader = Reader::new(rt.alloc());
-    feed_two_requests(&rt, &mut reader)
+    feed_two_requests(&rt, &mut reader);
+    drop(reader);
 }
 
 /// A long word is taken off too. Where memory is refused for it once (`rt try --test --fail-alloc`) the reader
 /// tells it, and takes the word off when it is asked again.
-fn wait_after_a_long_word(rt: &impl Abort, reader: &mut Reader) -> Result<(), Fail> {
+fn wait_after_a_long_word(rt: &impl Abort, reader: &mut Reader) {
     feed(
+        rt,
         reader,
         b"*3\r\n$3\r\nSET\r\n$26\r\nabcdefghijklmnopqrstuvwxyz\r\n$5\r\nhe",
-    )?;
+    );
     assert!(rt; waits(reader));
     if reader.lacks_memory() {
         check_kept(
@@ -413,31 +414,33 @@ fn wait_after_a_long_word(rt: &impl Abort, reader: &mut Reader) -> Result<(), Fa
     }
     assert!(rt; !reader.lacks_memory());
     check_kept(rt, reader, &[b"$5\r\nhe"]);
-    Ok(())
 }
 
 #[test]
-fn long_words_are_taken_off_while_more_is_due(rt: HostRuntime) -> Result<(), Fail> {
+fn long_words_are_taken_off_while_more_is_due(rt: HostRuntime) {
     let mut reader = Reader::new(rt.alloc());
-    wait_after_a_long_word(&rt, &mut reader)
+    wait_after_a_long_word(&rt, &mut reader);
+    drop(reader);
 }
 
 /// Every byte once, after and before others.
-fn every_byte(alloc: Global, before: &[u8], after: &[u8]) -> Result<Vec<u8>, Fail> {
-    let mut all = before.to_vec(alloc)?;
+fn every_byte(rt: &impl Abort, alloc: Global, before: &[u8], after: &[u8]) -> Vec<u8> {
+    let mut all = before.to_vec(alloc).expect(rt, "memory for a text");
     for byte in 0..=255_u8 {
-        all.push(byte)?;
+        all.push(byte).expect(rt, "memory for one more");
     }
-    all.extend_from_slice(after)?;
-    Ok(all)
+    all.extend_from_slice(after).expect(rt, "memory for a text");
+    all
 }
 
 #[test]
-fn data_of_line_ends_and_every_byte(rt: HostRuntime) -> Result<(), Fail> {
+fn data_of_line_ends_and_every_byte(rt: HostRuntime) {
     let alloc = rt.alloc();
-    let stream = every_byte(alloc, b"*2\r\n$4\r\n\r\n\r\n\r\n$256\r\n", b"\r\n")?;
-    let given = every_byte(alloc, b"\r\n\r\n,", b",;")?;
-    check(&rt, alloc, &stream, &given)
+    let stream = every_byte(&rt, alloc, b"*2\r\n$4\r\n\r\n\r\n\r\n$256\r\n", b"\r\n");
+    let given = every_byte(&rt, alloc, b"\r\n\r\n,", b",;");
+    check(&rt, alloc, &stream, &given);
+    drop(given);
+    drop(stream);
 }
 
 /// The fault that the reader answers.
@@ -449,7 +452,7 @@ fn fault_of(reader: &mut Reader) -> Option<ReadFault> {
 }
 
 /// Asserts that each piece leaves the fault as it is.
-fn feed_after_fault(rt: &impl Abort, reader: &mut Reader) -> Result<(), Fail> {
+fn feed_after_fault(rt: &impl Abort, reader: &mut Reader) {
     let fault = Some(ReadFault::Protocol(ProtocolFault::BadLength));
     for piece in [
         b"*1\r\n$-".as_slice(),
@@ -457,17 +460,17 @@ fn feed_after_fault(rt: &impl Abort, reader: &mut Reader) -> Result<(), Fail> {
         b"",
         b"*1\r\n$4\r\nPING\r\n",
     ] {
-        feed(reader, piece)?;
+        feed(rt, reader, piece);
         assert!(rt; fault_of(reader) == fault);
         assert!(rt; fault_of(reader) == fault);
     }
-    Ok(())
 }
 
 #[test]
-fn a_fault_stays(rt: HostRuntime) -> Result<(), Fail> {
+fn a_fault_stays(rt: HostRuntime) {
     let mut reader = Reader::new(rt.alloc());
-    feed_after_fault(&rt, &mut reader)
+    feed_after_fault(&rt, &mut reader);
+    drop(reader);
 }
 
 /// The words of the request that is cut below.
@@ -515,67 +518,63 @@ fn check_given(rt: &impl Abort, reader: &mut Reader) {
 }
 
 /// Feeds a piece, and once more where it came back.
-fn feed_again(reader: &mut Reader, piece: &'static [u8]) -> Result<(), Fail> {
+fn feed_again(rt: &impl Abort, reader: &mut Reader, piece: &'static [u8]) {
     match reader.feed(Bytes::from_static(piece)) {
-        Ok(()) => Ok(()),
-        Err(_) => feed(reader, piece),
+        Ok(()) => {}
+        Err(_) => feed(rt, reader, piece),
     }
 }
 
 /// Asserts that the reader waits before each piece, and feeds it.
-fn feed_while_waiting(
-    rt: &impl Abort,
-    reader: &mut Reader,
-    pieces: &[&'static [u8]],
-) -> Result<(), Fail> {
+fn feed_while_waiting(rt: &impl Abort, reader: &mut Reader, pieces: &[&'static [u8]]) {
     for &piece in pieces {
         assert!(rt; waits(reader));
-        feed_again(reader, piece)?;
+        feed_again(rt, reader, piece);
     }
-    Ok(())
 }
 
 /// Each allocation may fail once (`rt try --test --fail-alloc`). While a part of the request is there the
 /// reader waits all the same, since the words can stay in the pieces; where it is whole the same call
 /// then succeeds.
 #[test]
-fn a_refused_allocation_changes_nothing(rt: HostRuntime) -> Result<(), Fail> {
+fn a_refused_allocation_changes_nothing(rt: HostRuntime) {
     let mut reader = Reader::new(rt.alloc());
     let pieces: &[&'static [u8]] = &[
         b"*6\r\n$1\r\na\r\n$26\r\nabcdefghijklmnopqrstuvwxyz\r\n$1\r\nc\r\n$0\r\n\r\n$1\r\n",
         b"e\r\n$30\r\n012345678901234",
         b"567890123456789\r\n",
     ];
-    feed_while_waiting(&rt, &mut reader, pieces)?;
+    feed_while_waiting(&rt, &mut reader, pieces);
     check_given(&rt, &mut reader);
-    Ok(())
+    drop(reader);
 }
 
 /// A request of one piece takes as much memory, and its reader is unchanged where that is refused.
 #[test]
-fn a_refused_allocation_of_a_whole_request(rt: HostRuntime) -> Result<(), Fail> {
+fn a_refused_allocation_of_a_whole_request(rt: HostRuntime) {
     let mut reader = Reader::new(rt.alloc());
     let piece: &'static [u8] =
         b"*6\r\n$1\r\na\r\n$26\r\nabcdefghijklmnopqrstuvwxyz\r\n$1\r\nc\r\n$0\r\n\r\n$1\r\ne\r\n$30\r\n012345678901234567890123456789\r\n";
-    feed_while_waiting(&rt, &mut reader, &[piece])?;
+    feed_while_waiting(&rt, &mut reader, &[piece]);
     check_given(&rt, &mut reader);
     check_waits(&rt, &mut reader, &[]);
-    Ok(())
+    drop(reader);
 }
 
 /// Feeds a piece and asks the reader with these words, which are used again. Whether it gives the words that
 /// are wanted, or none where none are.
 fn gives_into(
+    rt: &impl Abort,
     reader: &mut Reader,
     words: &mut Words,
     piece: &'static [u8],
     wanted: &[&[u8]],
-) -> Result<bool, Fail> {
-    feed_again(reader, piece)?;
+) -> bool {
+    feed_again(rt, reader, piece);
     match reader.next_into(words) {
-        Ok(true) => Ok(are(words, wanted)),
-        Ok(false) => Ok(wanted.is_empty()),
-        Err(_) => Err(Fail::from("a fault")),
+        Ok(true) => are(words, wanted),
+        Ok(false) => wanted.is_empty(),
+        Err(_) => panic!(rt; "a fault"),
     }
 }
 
@@ -596,25 +595,21 @@ const ONE_AFTER_ANOTHER: &[(&[u8], &[&[u8]])] = &[
 ];
 
 /// Whether the reader gives the words of each piece, all into the same.
-fn gives_one_after_another(reader: &mut Reader, words: &mut Words) -> Result<bool, Fail> {
+fn gives_one_after_another(rt: &impl Abort, reader: &mut Reader, words: &mut Words) -> bool {
     for (piece, wanted) in ONE_AFTER_ANOTHER {
-        if !gives_into(reader, words, piece, wanted)? {
-            return Ok(false);
+        if !gives_into(rt, reader, words, piece, wanted) {
+            return false;
         }
     }
-    Ok(true)
-}
-
-/// Asserts that all was given.
-fn all_given(rt: &impl Abort, given: Result<bool, Fail>) -> Result<(), Fail> {
-    assert!(rt; given?);
-    Ok(())
+    true
 }
 
 #[test]
-fn words_are_used_again(rt: HostRuntime) -> Result<(), Fail> {
+fn words_are_used_again(rt: HostRuntime) {
     let alloc = rt.alloc();
     let mut reader = Reader::new(alloc);
     let mut words = Words::one(alloc, Word::empty(alloc));
-    all_given(&rt, gives_one_after_another(&mut reader, &mut words))
+    assert!(rt; gives_one_after_another(&rt, &mut reader, &mut words));
+    drop(words);
+    drop(reader);
 }

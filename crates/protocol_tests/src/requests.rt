@@ -5,47 +5,52 @@ ghost use Rattle.std.specs.Prelude.{◌<◌, ◌≤◌};
 
 use std::alloc::Global;
 use std::cmp::Ordering;
-use std::test::Fail;
+use std::process::Abort;
 use words::command::{Brief, Command, SessionCommand, When};
 use words::limits::{Limits, WORDS_MAX};
 use words::reply::Refusal;
 use words::word::{Word, Words};
 
 /// The request of these words.
-fn request(alloc: Global, words: &[&[u8]]) -> Result<Words, Fail> {
+fn request(rt: &impl Abort, alloc: Global, words: &[&[u8]]) -> Words {
     let Some((name, arguments)) = words.split_first() else {
-        return Ok(Words::one(alloc, Word::empty(alloc)));
+        return Words::one(alloc, Word::empty(alloc));
     };
-    let mut request = Words::one(alloc, Word::from_slice(alloc, name)?);
+    let mut request = Words::one(
+        alloc,
+        Word::from_slice(alloc, name).expect(rt, "memory for a word"),
+    );
     for argument in arguments {
         if request.as_slice().len() < WORDS_MAX {
-            request.push(Word::from_slice(alloc, argument)?)?;
+            request
+                .push(Word::from_slice(alloc, argument).expect(rt, "memory for a word"))
+                .expect(rt, "memory for a request");
         }
     }
-    Ok(request)
+    request
 }
 
 /// What words are.
 type Read = Result<Command, Refusal>;
 
 /// Whether what this request is is as `fits` says.
-fn request_reads(alloc: Global, request: &Words, fits: fn(&Read) -> bool) -> Result<bool, Fail>
+fn request_reads(rt: &impl Abort, alloc: Global, request: &Words, fits: fn(&Read) -> bool) -> bool
     requires { IsAlwaysCallable fits }
 {
-    let read = Command::of(alloc, request)?;
+    let read = Command::of(alloc, request).expect(rt, "memory for the command");
     let is_fit = fits(&read);
     if let Ok(command) = read {
         drop(command);
     }
-    Ok(is_fit)
+    is_fit
 }
 
 /// Whether what these words are is as `fits` says.
-fn reads(alloc: Global, words: &[&[u8]], fits: fn(&Read) -> bool) -> Result<bool, Fail>
+fn reads(rt: &impl Abort, alloc: Global, words: &[&[u8]], fits: fn(&Read) -> bool) -> bool
     requires { IsAlwaysCallable fits }
 {
-    let request = request(alloc, words)?;
-    request_reads(alloc, &request, fits)
+    let request = request(rt, alloc, words);
+    request_reads(rt, alloc, &request, fits)
 }
 
 /// Whether a word is this text.
@@ -80,20 +85,20 @@ fn are_settings(settings: &[(Word, Word)], texts: &[(&[u8], &[u8])]) -> bool {
 }
 
 #[test]
-fn a_word_past_its_inline_room(rt: HostRuntime) -> Result<(), Fail> {
+fn a_word_past_its_inline_room(rt: HostRuntime) {
     let bytes = [7u8; 23];
-    let word = Word::from_slice(rt.alloc(), &bytes)?;
-    assert!(rt; word.clone()? == word);
-    assert_eq!(rt; word.len(), 23);
-    Ok(())
+    let word = Word::from_slice(rt.alloc(), &bytes).expect(&rt, "memory for a word");
+    assert!(rt; word.clone().expect(&rt, "memory for a word") == word);
+    assert!(rt; word.len() == 23);
+    drop(word);
 }
 
 /// MSET of two short keys: five words.
 #[test]
-fn a_request_past_its_inline_room(rt: HostRuntime) -> Result<(), Fail> {
-    let words = request(rt.alloc(), &[b"MSET", b"a", b"1", b"b", b"2"])?;
+fn a_request_past_its_inline_room(rt: HostRuntime) {
+    let words = request(&rt, rt.alloc(), &[b"MSET", b"a", b"1", b"b", b"2"]);
     assert!(rt; are(words.as_slice(), &[b"MSET", b"a", b"1", b"b", b"2"]));
-    Ok(())
+    drop(words);
 }
 
 fn is_get(read: &Read) -> bool {
@@ -225,85 +230,103 @@ fn is_no_option(read: &Read) -> bool {
 }
 
 #[test]
-fn one_key(rt: HostRuntime) -> Result<(), Fail> {
-    assert!(rt; reads(rt.alloc(), &[b"gEt", b"k"], is_get)?);
-    assert!(rt; reads(rt.alloc(), &[b"GETDEL", b"k"], is_get_del)?);
-    assert!(rt; reads(rt.alloc(), &[b"STRLEN", b"k"], is_str_len)?);
-    Ok(())
+fn one_key(rt: HostRuntime) {
+    assert!(rt; reads(&rt, rt.alloc(), &[b"gEt", b"k"], is_get));
+    assert!(rt; reads(&rt, rt.alloc(), &[b"GETDEL", b"k"], is_get_del));
+    assert!(rt; reads(&rt, rt.alloc(), &[b"STRLEN", b"k"], is_str_len));
 }
 
 #[test]
-fn values(rt: HostRuntime) -> Result<(), Fail> {
-    assert!(rt; reads(rt.alloc(), &[b"sEt", b"k", b"v", b"xX"], is_set)?);
-    assert!(rt; reads(rt.alloc(), &[b"SET", b"k", b"v", b"gEt", b"nX"], is_set_get)?);
-    assert!(rt; reads(rt.alloc(), &[b"SETNX", b"k", b"v"], is_set_nx)?);
-    assert!(rt; reads(rt.alloc(), &[b"GETSET", b"k", b"v"], is_get_set)?);
-    assert!(rt; reads(rt.alloc(), &[b"APPEND", b"k", b"v"], is_append)?);
-    Ok(())
+fn values(rt: HostRuntime) {
+    assert!(rt; reads(&rt, rt.alloc(), &[b"sEt", b"k", b"v", b"xX"], is_set));
+    assert!(rt;
+        reads(
+            &rt,
+            rt.alloc(),
+            &[b"SET", b"k", b"v", b"gEt", b"nX"],
+            is_set_get
+        )
+    );
+    assert!(rt; reads(&rt, rt.alloc(), &[b"SETNX", b"k", b"v"], is_set_nx));
+    assert!(rt; reads(&rt, rt.alloc(), &[b"GETSET", b"k", b"v"], is_get_set));
+    assert!(rt; reads(&rt, rt.alloc(), &[b"APPEND", b"k", b"v"], is_append));
 }
 
 #[test]
-fn ranges(rt: HostRuntime) -> Result<(), Fail> {
-    assert!(rt; reads(rt.alloc(), &[b"SETRANGE", b"k", b"5", b"v"], is_set_range)?);
-    assert!(rt; reads(rt.alloc(), &[b"GETRANGE", b"k", b"1", b"-2"], is_get_range)?);
-    Ok(())
+fn ranges(rt: HostRuntime) {
+    assert!(rt;
+        reads(
+            &rt,
+            rt.alloc(),
+            &[b"SETRANGE", b"k", b"5", b"v"],
+            is_set_range
+        )
+    );
+    assert!(rt;
+        reads(
+            &rt,
+            rt.alloc(),
+            &[b"GETRANGE", b"k", b"1", b"-2"],
+            is_get_range
+        )
+    );
 }
 
 #[test]
-fn counters(rt: HostRuntime) -> Result<(), Fail> {
-    assert!(rt; reads(rt.alloc(), &[b"INCR", b"k"], is_incr)?);
-    assert!(rt; reads(rt.alloc(), &[b"DECR", b"k"], is_decr)?);
-    assert!(rt; reads(rt.alloc(), &[b"INCRBY", b"k", b"-7"], is_incr_by)?);
-    assert!(rt; reads(rt.alloc(), &[b"DECRBY", b"k", b"7"], is_decr_by)?);
-    Ok(())
+fn counters(rt: HostRuntime) {
+    assert!(rt; reads(&rt, rt.alloc(), &[b"INCR", b"k"], is_incr));
+    assert!(rt; reads(&rt, rt.alloc(), &[b"DECR", b"k"], is_decr));
+    assert!(rt; reads(&rt, rt.alloc(), &[b"INCRBY", b"k", b"-7"], is_incr_by));
+    assert!(rt; reads(&rt, rt.alloc(), &[b"DECRBY", b"k", b"7"], is_decr_by));
 }
 
 #[test]
-fn several_keys(rt: HostRuntime) -> Result<(), Fail> {
-    assert!(rt; reads(rt.alloc(), &[b"EXISTS", b"a", b"b", b"a"], is_exists)?);
-    assert!(rt; reads(rt.alloc(), &[b"DEL", b"a"], is_del)?);
-    assert!(rt; reads(rt.alloc(), &[b"MGET", b"a", b"z"], is_m_get)?);
-    assert!(rt; reads(rt.alloc(), &[b"WATCH", b"a", b"b"], is_watch)?);
-    assert!(rt; reads(rt.alloc(), &[b"rename", b"k", b"n"], is_rename)?);
-    Ok(())
+fn several_keys(rt: HostRuntime) {
+    assert!(rt; reads(&rt, rt.alloc(), &[b"EXISTS", b"a", b"b", b"a"], is_exists));
+    assert!(rt; reads(&rt, rt.alloc(), &[b"DEL", b"a"], is_del));
+    assert!(rt; reads(&rt, rt.alloc(), &[b"MGET", b"a", b"z"], is_m_get));
+    assert!(rt; reads(&rt, rt.alloc(), &[b"WATCH", b"a", b"b"], is_watch));
+    assert!(rt; reads(&rt, rt.alloc(), &[b"rename", b"k", b"n"], is_rename));
 }
 
 #[test]
-fn settings(rt: HostRuntime) -> Result<(), Fail> {
-    assert!(rt; reads(rt.alloc(), &[b"MSET", b"a", b"1", b"b", b"2"], is_m_set)?);
-    assert!(rt; reads(rt.alloc(), &[b"MSETNX", b"a", b"1"], is_m_set_nx)?);
-    Ok(())
+fn settings(rt: HostRuntime) {
+    assert!(rt;
+        reads(
+            &rt,
+            rt.alloc(),
+            &[b"MSET", b"a", b"1", b"b", b"2"],
+            is_m_set
+        )
+    );
+    assert!(rt; reads(&rt, rt.alloc(), &[b"MSETNX", b"a", b"1"], is_m_set_nx));
 }
 
 #[test]
-fn texts(rt: HostRuntime) -> Result<(), Fail> {
-    assert!(rt; reads(rt.alloc(), &[b"PING"], is_ping)?);
-    assert!(rt; reads(rt.alloc(), &[b"PING", b"hi"], is_ping_with_text)?);
-    assert!(rt; reads(rt.alloc(), &[b"ECHO", b"hi"], is_echo)?);
-    Ok(())
+fn texts(rt: HostRuntime) {
+    assert!(rt; reads(&rt, rt.alloc(), &[b"PING"], is_ping));
+    assert!(rt; reads(&rt, rt.alloc(), &[b"PING", b"hi"], is_ping_with_text));
+    assert!(rt; reads(&rt, rt.alloc(), &[b"ECHO", b"hi"], is_echo));
 }
 
 #[test]
-fn sessions(rt: HostRuntime) -> Result<(), Fail> {
-    assert!(rt; reads(rt.alloc(), &[b"MULTI"], is_multi)?);
-    assert!(rt; reads(rt.alloc(), &[b"EXEC"], is_exec)?);
-    assert!(rt; reads(rt.alloc(), &[b"DISCARD"], is_discard)?);
-    Ok(())
+fn sessions(rt: HostRuntime) {
+    assert!(rt; reads(&rt, rt.alloc(), &[b"MULTI"], is_multi));
+    assert!(rt; reads(&rt, rt.alloc(), &[b"EXEC"], is_exec));
+    assert!(rt; reads(&rt, rt.alloc(), &[b"DISCARD"], is_discard));
 }
 
 #[test]
-fn ends(rt: HostRuntime) -> Result<(), Fail> {
-    assert!(rt; reads(rt.alloc(), &[b"UNWATCH"], is_unwatch)?);
-    assert!(rt; reads(rt.alloc(), &[b"QUIT"], is_quit)?);
-    Ok(())
+fn ends(rt: HostRuntime) {
+    assert!(rt; reads(&rt, rt.alloc(), &[b"UNWATCH"], is_unwatch));
+    assert!(rt; reads(&rt, rt.alloc(), &[b"QUIT"], is_quit));
 }
 
 #[test]
-fn refusals(rt: HostRuntime) -> Result<(), Fail> {
-    assert!(rt; reads(rt.alloc(), &[b"FLUSHALL"], is_unknown_name)?);
-    assert!(rt; reads(rt.alloc(), &[b"GET"], is_too_few_words)?);
-    assert!(rt; reads(rt.alloc(), &[b"SET", b"k", b"v", b"EX"], is_no_option)?);
-    Ok(())
+fn refusals(rt: HostRuntime) {
+    assert!(rt; reads(&rt, rt.alloc(), &[b"FLUSHALL"], is_unknown_name));
+    assert!(rt; reads(&rt, rt.alloc(), &[b"GET"], is_too_few_words));
+    assert!(rt; reads(&rt, rt.alloc(), &[b"SET", b"k", b"v", b"EX"], is_no_option));
 }
 
 /// How many words of each kind stand among the option words of a SET.
@@ -354,8 +377,8 @@ impl Counts {
 const OPTIONS: [&[u8]; 8] = [b"GET", b"gEt", b"NX", b"nX", b"XX", b"xx", b"EX", b""];
 
 /// Whether a SET with so many option words, those that the digits of a number to base 8 name, is what it is to be.
-fn takes_options(alloc: Global, number: usize, count: usize) -> Result<bool, Fail> {
-    let mut words = request(alloc, &[b"SET", b"k", b"v"])?;
+fn takes_options(rt: &impl Abort, alloc: Global, number: usize, count: usize) -> bool {
+    let mut words = request(rt, alloc, &[b"SET", b"k", b"v"]);
     let mut counts = Counts {
         get: 0,
         nx: 0,
@@ -368,40 +391,41 @@ fn takes_options(alloc: Global, number: usize, count: usize) -> Result<bool, Fai
         rest /= 8;
         counts.add(option);
         if words.as_slice().len() < WORDS_MAX {
-            words.push(Word::from_slice(alloc, option)?)?;
+            words
+                .push(Word::from_slice(alloc, option).expect(rt, "memory for a word"))
+                .expect(rt, "memory for a request");
         }
     }
-    let read = Command::of(alloc, &words)?;
+    let read = Command::of(alloc, &words).expect(rt, "memory for the command");
     let is_fit = counts.fit(&read);
     if let Ok(command) = read {
         drop(command);
     }
-    Ok(is_fit)
+    is_fit
 }
 
 /// Each list of up to four option words, of 4,681.
 #[test]
-fn option_words_of_set(rt: HostRuntime) -> Result<(), Fail> {
+fn option_words_of_set(rt: HostRuntime) {
     for (count, lists) in [(0, 1), (1, 8), (2, 64), (3, 512), (4, 4_096)] {
         for number in 0..lists {
             assert!(rt;
-                takes_options(rt.alloc(), number, count)?,
+                takes_options(&rt, rt.alloc(), number, count),
                 "{number} {count}"
             );
         }
     }
-    Ok(())
 }
 
 /// Which of the commands that are asked most these words are.
-fn brief(alloc: Global, words: &[&[u8]]) -> Result<Brief, Fail> {
-    let request = request(alloc, words)?;
-    Ok(Brief::of(&request))
+fn brief(rt: &impl Abort, alloc: Global, words: &[&[u8]]) -> Brief {
+    let request = request(rt, alloc, words);
+    Brief::of(&request)
 }
 
 /// Those that are asked most, in any case, and requests that are like them.
 #[test]
-fn briefs(rt: HostRuntime) -> Result<(), Fail> {
+fn briefs(rt: HostRuntime) {
     let rows: [(&[&[u8]], Brief); 11] = [
         (&[b"GET", b"k"], Brief::Get),
         (&[b"get", b"k"], Brief::Get),
@@ -416,14 +440,13 @@ fn briefs(rt: HostRuntime) -> Result<(), Fail> {
         (&[b"EXEC"], Brief::Other),
     ];
     for (words, wanted) in rows {
-        assert!(rt; brief(rt.alloc(), words)? == wanted, "{wanted:?}");
+        assert!(rt; brief(&rt, rt.alloc(), words) == wanted, "{wanted:?}");
     }
-    Ok(())
 }
 
 /// Each number at both ends of its range, and one past each.
 #[test]
-fn limits_at_the_ends_of_their_ranges(rt: HostRuntime) -> Result<(), Fail> {
+fn limits_at_the_ends_of_their_ranges(rt: HostRuntime) {
     let cases = [
         (1, 1, 12, 64, 1, true),
         (64, 65_536, 256, 65_536, 64, true),
@@ -440,13 +463,11 @@ fn limits_at_the_ends_of_their_ranges(rt: HostRuntime) -> Result<(), Fail> {
     ];
     for (stripes, buckets, frames, places, clients, fits) in cases {
         let limits = Limits::new(stripes, buckets, frames, places, clients);
-        assert_eq!(rt;
-            limits.is_some(),
-            fits,
+        assert!(rt;
+            limits.is_some() == fits,
             "{stripes} {buckets} {frames} {places} {clients}"
         );
     }
-    Ok(())
 }
 
 /// How two texts stand, byte by byte.
@@ -460,21 +481,22 @@ fn order_of(a: &[u8], b: &[u8]) -> Ordering {
 }
 
 /// Whether the words of two texts stand as the texts do, either way round.
-fn stand_alike(alloc: Global, a: &[u8], b: &[u8]) -> Result<bool, Fail> {
-    let x = Word::from_slice(alloc, a)?;
-    let y = Word::from_slice(alloc, b)?;
-    Ok(x.cmp(&y) == order_of(a, b) && y.cmp(&x) == order_of(b, a))
+fn stand_alike(rt: &impl Abort, alloc: Global, a: &[u8], b: &[u8]) -> bool {
+    let x = Word::from_slice(alloc, a).expect(rt, "memory for a word");
+    let y = Word::from_slice(alloc, b).expect(rt, "memory for a word");
+    x.cmp(&y) == order_of(a, b) && y.cmp(&x) == order_of(b, a)
 }
 
 /// Whether words stand as their texts do where these have one beginning, then a lesser and a greater
 /// byte, and past these the greatest and the least.
 fn differ_at(
+    rt: &impl Abort,
     alloc: Global,
     place: usize,
     length: usize,
     lesser: u8,
     greater: u8,
-) -> Result<bool, Fail>
+) -> bool
     requires { (place < length) × (length ≤ 24) }
 {
     let mut a = [0xff; 24];
@@ -483,31 +505,30 @@ fn differ_at(
     b[..place].fill(b'k');
     a[place] = lesser;
     b[place] = greater;
-    Ok(stand_alike(alloc, &a[..length], &b[..length])? && stand_alike(alloc, &a, &b[..length])?)
+    stand_alike(rt, alloc, &a[..length], &b[..length]) && stand_alike(rt, alloc, &a, &b[..length])
 }
 
 /// Whether words of this length differ as their texts do, at each place, and where one text is the beginning of the
 /// other.
-fn differ_within(alloc: Global, length: usize) -> Result<bool, Fail>
+fn differ_within(rt: &impl Abort, alloc: Global, length: usize) -> bool
     requires { length ≤ 24 }
 {
     let text = [b'k'; 24];
     for place in 0..length {
-        if !differ_at(alloc, place, length, 0x7f, 0x80)?
-            || !differ_at(alloc, place, length, 0x80, 0xff)?
-            || !stand_alike(alloc, &text[..place], &text[..length])?
+        if !differ_at(rt, alloc, place, length, 0x7f, 0x80)
+            || !differ_at(rt, alloc, place, length, 0x80, 0xff)
+            || !stand_alike(rt, alloc, &text[..place], &text[..length])
         {
-            return Ok(false);
+            return false;
         }
     }
-    stand_alike(alloc, &text[..length], &text[..length])
+    stand_alike(rt, alloc, &text[..length], &text[..length])
 }
 
 /// Lengths on either side of each multiple of four and eight.
 #[test]
-fn words_stand_as_their_bytes_do(rt: HostRuntime) -> Result<(), Fail> {
+fn words_stand_as_their_bytes_do(rt: HostRuntime) {
     for length in 0..25 {
-        assert!(rt; differ_within(rt.alloc(), length)?, "{length}");
+        assert!(rt; differ_within(&rt, rt.alloc(), length), "{length}");
     }
-    Ok(())
 }

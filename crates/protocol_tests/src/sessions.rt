@@ -6,9 +6,8 @@ ghost use Rattle.words.specs.Bounds.{IsBounded};
 ghost use Rattle.words.specs.Commands.{command_of};
 
 use session::modes::{AnySession, Called, Closed, Session, Step};
-use std::alloc::{AllocError, Global};
+use std::alloc::Global;
 use std::process::Abort;
-use std::test::Fail;
 use transact::call::{Answer, Call, Watching};
 use words::command::Command;
 use words::history::Commands;
@@ -239,20 +238,20 @@ fn end(talking: Talking, notes: &mut Vec<u8>) {
 }
 
 /// An empty list with room for notes, tried again where there was no memory.
-fn room(alloc: Global) -> Result<Vec<u8>, AllocError> {
+fn room(rt: &impl Abort, alloc: Global) -> Vec<u8> {
     if let Ok(notes) = Vec::with_capacity(alloc, 16_384) {
-        return Ok(notes);
+        return notes;
     }
-    Ok(Vec::with_capacity(alloc, 16_384)?)
+    Vec::with_capacity(alloc, 16_384).expect(rt, "memory for a text")
 }
 
 /// What a new session says to requests between which stand semicolons.
-fn talk(alloc: Global, text: &[u8], given: Given) -> Result<Vec<u8>, AllocError> {
-    let mut notes = room(alloc)?;
+fn talk(rt: &impl Abort, alloc: Global, text: &[u8], given: Given) -> Vec<u8> {
+    let mut notes = room(rt, alloc);
     let session = AnySession::Idle(Session::new(alloc));
     let talking = ask_all(alloc, session, text, given, &mut notes);
     end(talking, &mut notes);
-    Ok(notes)
+    notes
 }
 
 /// Requests, what their calls are answered, and what is said and asked.
@@ -361,43 +360,42 @@ const SPOILED: [Row; 4] = [
 ];
 
 /// Sees that each row is said so by a new session.
-fn check_rows(rt: &impl Abort, alloc: Global, rows: &[Row]) -> Result<(), Fail> {
+fn check_rows(rt: &impl Abort, alloc: Global, rows: &[Row]) {
     for (place, (requests, given, said)) in rows.iter().enumerate() {
-        assert!(rt; is_said(alloc, requests, *given, said)?, "at {place}");
+        assert!(rt; is_said(rt, alloc, requests, *given, said), "at {place}");
     }
-    Ok(())
 }
 
 /// Whether a new session says this to these requests.
-fn is_said(alloc: Global, requests: &[u8], given: Given, said: &[u8]) -> Result<bool, AllocError> {
-    let notes = talk(alloc, requests, given)?;
-    Ok(notes.as_slice() == said)
+fn is_said(rt: &impl Abort, alloc: Global, requests: &[u8], given: Given, said: &[u8]) -> bool {
+    let notes = talk(rt, alloc, requests, given);
+    notes.as_slice() == said
 }
 
 #[test]
-fn requests_of_an_idle_session(rt: HostRuntime) -> Result<(), Fail> {
-    check_rows(&rt, rt.alloc(), &IDLE)
+fn requests_of_an_idle_session(rt: HostRuntime) {
+    check_rows(&rt, rt.alloc(), &IDLE);
 }
 
 #[test]
-fn requests_in_a_transaction(rt: HostRuntime) -> Result<(), Fail> {
-    check_rows(&rt, rt.alloc(), &QUEUEING)
+fn requests_in_a_transaction(rt: HostRuntime) {
+    check_rows(&rt, rt.alloc(), &QUEUEING);
 }
 
 #[test]
-fn requests_in_a_spoiled_transaction(rt: HostRuntime) -> Result<(), Fail> {
-    check_rows(&rt, rt.alloc(), &SPOILED)
+fn requests_in_a_spoiled_transaction(rt: HostRuntime) {
+    check_rows(&rt, rt.alloc(), &SPOILED);
 }
 
 /// Whether a session that watches says this where its EXEC is answered so.
-fn is_exec_said(alloc: Global, given: Given, said: &[u8]) -> Result<bool, AllocError> {
-    let notes = exec_of_watched(alloc, given)?;
-    Ok(notes.as_slice() == said)
+fn is_exec_said(rt: &impl Abort, alloc: Global, given: Given, said: &[u8]) -> bool {
+    let notes = exec_of_watched(rt, alloc, given);
+    notes.as_slice() == said
 }
 
 /// What a session that watches says to a transaction whose EXEC is answered so.
-fn exec_of_watched(alloc: Global, given: Given) -> Result<Vec<u8>, AllocError> {
-    let mut notes = room(alloc)?;
+fn exec_of_watched(rt: &impl Abort, alloc: Global, given: Given) -> Vec<u8> {
+    let mut notes = room(rt, alloc);
     let session = AnySession::Idle(Session::new(alloc));
     let talking = match ask_all(
         alloc,
@@ -410,70 +408,69 @@ fn exec_of_watched(alloc: Global, given: Given) -> Result<Vec<u8>, AllocError> {
         closed => closed,
     };
     end(talking, &mut notes);
-    Ok(notes)
+    notes
 }
 
 #[test]
-fn nothing_is_watched_after_exec(rt: HostRuntime) -> Result<(), Fail> {
+fn nothing_is_watched_after_exec(rt: HostRuntime) {
     let null = b"watch 01 +OK\n+OK\n+QUEUED\nexec 01 watching 01 (null)\n+OK\nend";
-    assert!(rt; is_exec_said(rt.alloc(), Given::Null, null)?);
+    assert!(rt; is_exec_said(&rt, rt.alloc(), Given::Null, null));
     let full = b"watch 01 +OK\n+OK\n+QUEUED\nexec 01 watching 01 -FULL store is full\n+OK\nend";
-    assert!(rt; is_exec_said(rt.alloc(), Given::Full, full)?);
-    Ok(())
+    assert!(rt; is_exec_said(&rt, rt.alloc(), Given::Full, full));
 }
 
 /// A first text, another one so many times, and a last one.
 fn repeated(
+    rt: &impl Abort,
     alloc: Global,
     first: &[u8],
     text: &[u8],
     count: usize,
     last: &[u8],
-) -> Result<Vec<u8>, AllocError> {
-    let mut all = Vec::with_capacity(alloc, 131_072)?;
+) -> Vec<u8> {
+    let mut all = Vec::with_capacity(alloc, 131_072).expect(rt, "memory for a text");
     note(&mut all, first);
     for _ in 0..count {
         note(&mut all, text);
     }
     note(&mut all, last);
-    Ok(all)
+    all
 }
 
 /// Whether what is said to a text, another one so many times, and a last one ends so.
 fn ends_so(
+    rt: &impl Abort,
     alloc: Global,
     first: &[u8],
     text: &[u8],
     count: usize,
     last: &[u8],
     end: &[u8],
-) -> Result<bool, AllocError> {
-    let requests = repeated(alloc, first, text, count, last)?;
-    let said = talk(alloc, &requests, Given::Done)?;
-    Ok(said.as_slice().ends_with(end))
+) -> bool {
+    let requests = repeated(rt, alloc, first, text, count, last);
+    let said = talk(rt, alloc, &requests, Given::Done);
+    said.as_slice().ends_with(end)
 }
 
 /// Whether so many of these requests are queued and run, and this one is not queued after them.
 fn is_most(
+    rt: &impl Abort,
     alloc: Global,
     request: &[u8],
     count: usize,
     more: &[u8],
     run: &[u8],
-) -> Result<bool, AllocError> {
+) -> bool {
     let too_large = b"+QUEUED\n-ERR transaction is too large\n\
           -EXECABORT transaction discarded because of earlier errors\nend";
-    Ok(
-        ends_so(alloc, b"MULTI;", request, count, b"EXEC", run)?
-            && ends_so(alloc, b"MULTI;", request, count, more, too_large)?,
-    )
+    ends_so(rt, alloc, b"MULTI;", request, count, b"EXEC", run)
+        && ends_so(rt, alloc, b"MULTI;", request, count, more, too_large)
 }
 
 #[test]
-fn a_transaction_of_too_many_commands(rt: HostRuntime) -> Result<(), Fail> {
+fn a_transaction_of_too_many_commands(rt: HostRuntime) {
     let run = b"+QUEUED\nexec 28 watching 00 +OK\nend";
-    assert!(rt; is_most(rt.alloc(), b"PING;", 128, b"PING;EXEC", run)?);
-    Ok(())
+    assert!(rt; is_most(&rt, rt.alloc(), b"PING;", 128, b"PING;EXEC", run));
 }
 
 /// The end of what is said where a transaction of 8 requests is run.
@@ -482,71 +479,97 @@ const RUN: &[u8] = b"+QUEUED\nexec 08 watching 00 +OK\nend";
 /// Whether 8 requests of a first text and another one so many times are queued and run, and these are not
 /// queued after them.
 fn are_most(
+    rt: &impl Abort,
     alloc: Global,
     first: &[u8],
     text: &[u8],
     count: usize,
     more: &[u8],
-) -> Result<bool, AllocError> {
-    let request = repeated(alloc, first, text, count, b";")?;
-    is_most(alloc, &request, 8, more, RUN)
+) -> bool {
+    let request = repeated(rt, alloc, first, text, count, b";");
+    is_most(rt, alloc, &request, 8, more, RUN)
 }
 
 /// A transaction of 8 requests of 128 words each is as large as one may be.
 #[test]
-fn a_transaction_of_too_many_words(rt: HostRuntime) -> Result<(), Fail> {
-    assert!(rt; are_most(rt.alloc(), b"MGET", b" k", 127, b"UNWATCH;EXEC")?);
-    Ok(())
+fn a_transaction_of_too_many_words(rt: HostRuntime) {
+    assert!(rt; are_most(&rt, rt.alloc(), b"MGET", b" k", 127, b"UNWATCH;EXEC"));
 }
 
 /// A transaction of 8 requests of 16,384 bytes each, their names counted, is as large as one may be.
 #[test]
-fn a_transaction_of_too_many_bytes(rt: HostRuntime) -> Result<(), Fail> {
-    assert!(rt; are_most(rt.alloc(), b"ECHO ", b"x", 16_380, b"PING;EXEC")?);
-    Ok(())
+fn a_transaction_of_too_many_bytes(rt: HostRuntime) {
+    assert!(rt; are_most(&rt, rt.alloc(), b"ECHO ", b"x", 16_380, b"PING;EXEC"));
 }
 
 /// A WATCH of so many keys, of two bytes each, and a last text.
-fn watch_of(alloc: Global, count: u8, last: &[u8]) -> Result<Vec<u8>, AllocError> {
-    let mut request = Vec::with_capacity(alloc, 16_384)?;
+fn watch_of(rt: &impl Abort, alloc: Global, count: u8, last: &[u8]) -> Vec<u8> {
+    let mut request = Vec::with_capacity(alloc, 16_384).expect(rt, "memory for a text");
     note(&mut request, b"WATCH");
     for key in 0..count {
         note(&mut request, &[b' ', b'k', 128 | key]);
     }
     note(&mut request, last);
-    Ok(request)
+    request
 }
 
 /// Whether this is said to a WATCH of so many keys, and a last text.
-fn is_watch_said(alloc: Global, count: u8, last: &[u8], said: &[u8]) -> Result<bool, AllocError> {
-    let requests = watch_of(alloc, count, last)?;
-    is_said(alloc, &requests, Given::Done, said)
+fn is_watch_said(rt: &impl Abort, alloc: Global, count: u8, last: &[u8], said: &[u8]) -> bool {
+    let requests = watch_of(rt, alloc, count, last);
+    is_said(rt, alloc, &requests, Given::Done, said)
 }
 
 #[test]
-fn too_many_watched_keys(rt: HostRuntime) -> Result<(), Fail> {
+fn too_many_watched_keys(rt: HostRuntime) {
     let more = b";WATCH k\x80 x1 x1;WATCH k\x81 x1;WATCH x2;WATCH k\x80 x3 x1";
     let said = b"watch 27 +OK\nwatch 03 +OK\nwatch 02 +OK\n-ERR too many watched keys\n\
           -ERR too many watched keys\nforget 28 end";
-    assert!(rt; is_watch_said(rt.alloc(), 127, more, said)?);
-    Ok(())
+    assert!(rt; is_watch_said(&rt, rt.alloc(), 127, more, said));
 }
 
 /// A key of 512 bytes is watched. One of 513 bytes is refused.
 #[test]
-fn too_long_watched_keys(rt: HostRuntime) -> Result<(), Fail> {
+fn too_long_watched_keys(rt: HostRuntime) {
     let longest = b"watch 02 +OK\nforget 02 +OK\nend";
-    assert!(rt; ends_so(rt.alloc(), b"WATCH a ", b"k", 512, b";UNWATCH", longest)?);
+    assert!(rt;
+        ends_so(
+            &rt,
+            rt.alloc(),
+            b"WATCH a ",
+            b"k",
+            512,
+            b";UNWATCH",
+            longest
+        )
+    );
     let too_long = b"-ERR key is too long\n+OK\nend";
-    assert!(rt; ends_so(rt.alloc(), b"WATCH a ", b"k", 513, b";UNWATCH", too_long)?);
-    Ok(())
+    assert!(rt;
+        ends_so(
+            &rt,
+            rt.alloc(),
+            b"WATCH a ",
+            b"k",
+            513,
+            b";UNWATCH",
+            too_long
+        )
+    );
 }
 
 #[test]
-fn a_long_key_is_not_looked_at_in_a_transaction(rt: HostRuntime) -> Result<(), Fail> {
+fn a_long_key_is_not_looked_at_in_a_transaction(rt: HostRuntime) {
     let inside = b"+OK\n-ERR WATCH inside MULTI\nexec 00 watching 00 +OK\nend";
-    assert!(rt; ends_so(rt.alloc(), b"MULTI;WATCH ", b"k", 513, b";EXEC", inside)?);
-    Ok(())
+    assert!(rt;
+        ends_so(
+            &rt,
+            rt.alloc(),
+            b"MULTI;WATCH ",
+            b"k",
+            513,
+            b";EXEC",
+            inside
+        )
+    );
 }
 
 /// What is said to `WATCH a;MULTI;SET a 1;SET b 2;EXEC;EXEC` with memory for all, and where there is none
@@ -562,9 +585,9 @@ const WANTS: [&[u8]; 4] = [
 ];
 
 /// Whether what is said to these requests is one of those texts.
-fn is_one_said(alloc: Global, requests: &[u8], texts: &[&[u8]]) -> Result<bool, AllocError> {
-    let said = talk(alloc, requests, Given::Done)?;
-    Ok(is_among(said.as_slice(), texts))
+fn is_one_said(rt: &impl Abort, alloc: Global, requests: &[u8], texts: &[&[u8]]) -> bool {
+    let said = talk(rt, alloc, requests, Given::Done);
+    is_among(said.as_slice(), texts)
 }
 
 /// Whether a text is one of those.
@@ -578,8 +601,7 @@ fn is_among(text: &[u8], texts: &[&[u8]]) -> bool {
 }
 
 #[test]
-fn want_of_memory_spoils_or_is_answered(rt: HostRuntime) -> Result<(), Fail> {
+fn want_of_memory_spoils_or_is_answered(rt: HostRuntime) {
     let requests = b"WATCH a;MULTI;SET a 1;SET b 2;EXEC;EXEC";
-    assert!(rt; is_one_said(rt.alloc(), requests, &WANTS)?);
-    Ok(())
+    assert!(rt; is_one_said(&rt, rt.alloc(), requests, &WANTS));
 }

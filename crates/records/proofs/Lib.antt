@@ -8,6 +8,7 @@ pub mod Rewritten
 pub mod Laid
 pub mod After
 pub mod Lent
+pub mod Memory
 pub mod There
 pub mod Piece
 pub mod SizeRows

@@ -3,3 +3,4 @@ pub mod Page
 pub mod Records
 pub mod Read
 pub mod Lends
+pub mod Memory

@@ -12,6 +12,10 @@ header number used = u64_bytes number ++ (u32_bytes used ++ u32_bytes PAGE_FORM)
 unfoldable pub empty_page : ℕ → List ℕ
 empty_page number = header number HEADER_SIZE ++ replicate (PAGE_SIZE - HEADER_SIZE) 0
 
+-- the page whose bytes are all zero: no record can be read in it
+abbrev pub zero_page : List ℕ
+zero_page = replicate PAGE_SIZE 0
+
 -- the number in a page's header
 unfoldable pub number_of : List ℕ → ℕ
 number_of page = u64_at page 0

@@ -11,7 +11,7 @@
 //! each). The key follows, and then as many bytes as the capacity: the value, then zeros. A record's size
 //! is a multiple of 8.
 //!
-//! Only `Page::new` and `Page::try_clone` take memory, for the bytes of a page. A record that is read lends its
+//! Only `Page::new`, `Page::blank` and `Page::try_clone` take memory, for the bytes of a page. A record that is read lends its
 //! key and its value from there.
 
 mod entries;

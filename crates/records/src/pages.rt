@@ -1,10 +1,12 @@
 // A page and its header.
 
-ghost use Rattle.std.specs.Prelude.{◌≡◌, ◌≤◌, ℕ, List, [], length, replicate, IfOk, nat_eq, vec_len};
+ghost use Rattle.std.specs.Prelude.{◌≡◌, ◌≤◌, ℕ, List, [], length, IfOk, IsTrue, nat_eq, vec_len};
+ghost use Rattle.std.specs.Prelude.{vec_capacity};
 ghost use Rattle.std.specs.Cmp.Lexicographic.{pointwise, nat_list_eq_equiv};
 ghost use Rattle.std.specs.Cmp;
 ghost use Rattle.std.specs.Borrow.{sem};
-ghost use Rattle.records.specs.Page.{header, empty_page, number_of, used_end};
+ghost use Rattle.records.specs.Page.{header, empty_page, number_of, used_end, zero_page};
+ghost use Rattle.records.specs.Memory.{bytes_of, IsPageMemory};
 ghost use Rattle.records.specs.Records.{records_of, IsLaidOut};
 ghost use Rattle.records.specs.Lends.{LendsBytes, with_bytes};
 
@@ -29,23 +31,28 @@ pub(crate) const PAGE_FORM_AT: usize = USED_END_AT + 4;
 /// The form of the pages that this crate writes.
 const PAGE_FORM: u32 = 2;
 
+/// The bytes of a page whose memory was not touched yet.
+static ZEROS: [u8; PAGE_SIZE] = [0; PAGE_SIZE];
+
 /// A page: `PAGE_SIZE` bytes in memory of their own. A clause sees it as the list of its bytes.
 ///
 /// A move of a page copies none of its bytes. Its memory serves again: to fill it anew, write `reset` or `copy_from`.
 #[derive(Drop)]
 pub struct Page {
+    /// All of its bytes; or none where they are zero and their memory, which is taken, was not touched yet.
     bytes: Vec<u8>,
 }
 
 impl Model for Page {
-    ghost use Rattle.std.specs.Prelude.{ℕ, List, ◌≡◌, length};
-    ghost use Rattle.records.specs.declared.pages.TheConstants.{PAGE_SIZE};
+    ghost use Rattle.std.specs.Prelude.{ℕ, List};
+    ghost use Rattle.std.specs.Prelude.{vec_capacity};
+    ghost use Rattle.records.specs.Memory.{bytes_of, IsPageMemory};
 
     ghost Value = { List ℕ };
 
-    ghost view = { λ p. p.bytes.items };
+    ghost view = { λ p. bytes_of p.bytes.items };
 
-    ghost invariant = { λ p. length p.bytes.items ≡ PAGE_SIZE };
+    ghost invariant = { λ p. IsPageMemory p.bytes.items (vec_capacity p.bytes) };
 }
 
 impl PartialEq for Page {
@@ -54,7 +61,7 @@ impl PartialEq for Page {
     ghost laws = { Cmp.partial_equiv_from_equiv nat_list_eq_equiv };
 
     fn eq(&self, other: &Page) -> bool {
-        self.bytes.as_slice() == other.bytes.as_slice()
+        self.bytes() == other.bytes()
     }
 }
 
@@ -63,6 +70,18 @@ impl Eq for Page {
 }
 
 impl Page {
+    /// A page of zero bytes. Its memory is taken, and is touched when the page is written for the first time, which takes none.
+    ///
+    /// # Errors
+    ///
+    /// No memory for `PAGE_SIZE` bytes.
+    pub fn blank(alloc: Global) -> Result<Page, AllocError>
+        ensures { IfOk result (λ page. page ≡ zero_page) }
+    {
+        let bytes = Vec::with_capacity(alloc, PAGE_SIZE)?;
+        Ok(Page { bytes })
+    }
+
     /// The page with this number and no record.
     ///
     /// # Errors
@@ -75,9 +94,9 @@ impl Page {
         ensures records { IfOk result (λ page. records_of page ≡ []) }
         ensures laid_out { IfOk result (λ page. IsLaidOut page) }
     {
-        let mut bytes = zeros(alloc)?;
-        begin(bytes.as_mut_slice(), number);
-        Ok(Page { bytes })
+        let mut page = Page::blank(alloc)?;
+        page.reset(number);
+        Ok(page)
     }
 
     /// A page with the bytes of this one.
@@ -88,7 +107,7 @@ impl Page {
     pub fn try_clone(&self, alloc: Global) -> Result<Page, AllocError>
         ensures { IfOk result (λ copy. copy ≡ self.now) }
     {
-        let bytes = Vec::from_slice(alloc, self.bytes.as_slice())?;
+        let bytes = Vec::from_slice(alloc, self.bytes())?;
         Ok(Page { bytes })
     }
 
@@ -100,7 +119,8 @@ impl Page {
         ensures records { records_of self.new ≡ [] }
         ensures laid_out { IsLaidOut self.new }
     {
-        empty(self.bytes_mut(), number);
+        let is_zero = self.bytes.is_empty();
+        empty(self.bytes_mut(), number, is_zero);
     }
 
     /// The page's bytes.
@@ -109,6 +129,9 @@ impl Page {
         ensures bytes { result.now ≡ self.now }
         ensures size { length result.now ≡ PAGE_SIZE }
     {
+        if self.bytes.is_empty() {
+            return &ZEROS;
+        }
         &self.bytes[..]
     }
 
@@ -120,6 +143,7 @@ impl Page {
         ensures size { length result.now ≡ PAGE_SIZE }
         ensures as_written { (written : List ℕ) → length written ≡ PAGE_SIZE → with_bytes self.old written ≡ written }
     {
+        touch(&mut self.bytes);
         self.bytes.as_mut_slice()
     }
 
@@ -128,7 +152,7 @@ impl Page {
     pub fn copy_from(&mut self, other: &Page)
         ensures { self.new ≡ other.now }
     {
-        self.bytes.copy_from_slice(other.bytes.as_slice());
+        self.bytes_mut().copy_from_slice(other.bytes());
     }
 
     /// The number in the page's header.
@@ -137,7 +161,7 @@ impl Page {
     pub fn number(&self) -> u64
         ensures { result ≡ number_of self.now }
     {
-        fields::u64_at(self.bytes.as_slice(), 0)
+        fields::u64_at(self.bytes(), 0)
     }
 
     /// Where the page's header says that its used part ends: for a laid-out page, where the next
@@ -147,27 +171,46 @@ impl Page {
     pub fn used_end(&self) -> u32
         ensures { result ≡ used_end self.now }
     {
-        fields::u32_at(self.bytes.as_slice(), USED_END_AT)
+        fields::u32_at(self.bytes(), USED_END_AT)
     }
 }
 
-// As many zero bytes as a page has.
-fn zeros(alloc: Global) -> Result<Vec<u8>, AllocError>
-    ensures bytes { IfOk result (λ bytes. bytes.items ≡ replicate PAGE_SIZE 0) }
-    ensures size { IfOk result (λ bytes. vec_len bytes ≡ PAGE_SIZE) }
+// Fills the memory of a page with its zero bytes, where none was touched yet.
+#[inline]
+fn touch(bytes: &mut Vec<u8>)
+    requires { IsPageMemory bytes.old.items (vec_capacity bytes.old) }
+    ensures same { bytes.new.items ≡ bytes_of bytes.old.items }
+    ensures all { vec_len bytes.new ≡ PAGE_SIZE }
 {
-    let mut bytes = Vec::with_capacity(alloc, PAGE_SIZE)?;
-    bytes.resize(PAGE_SIZE, 0)?;
-    Ok(bytes)
+    if bytes.is_empty() {
+        fill(bytes);
+    }
+}
+
+// Fills the memory of a page with zero bytes. It was taken, so this takes none.
+#[cold]
+fn fill(bytes: &mut Vec<u8>)
+    requires none { bytes.old.items ≡ [] }
+    requires size { vec_len bytes.old ≡ 0 }
+    requires taken { PAGE_SIZE ≤ vec_capacity bytes.old }
+    ensures zero { bytes.new.items ≡ zero_page }
+    ensures all { vec_len bytes.new ≡ PAGE_SIZE }
+{
+    let Ok(()) = bytes.extend_from_slice(&ZEROS) else {
+        unreachable!()
+    };
 }
 
 // Makes the bytes of a page those of the page with this number and no record.
 #[inline]
-fn empty(bytes: &mut [u8], number: u64)
-    requires { length bytes.old ≡ PAGE_SIZE }
+fn empty(bytes: &mut [u8], number: u64, is_zero: bool)
+    requires size { length bytes.old ≡ PAGE_SIZE }
+    requires zero { IsTrue is_zero → bytes.old ≡ zero_page }
     ensures { bytes.new ≡ empty_page number }
 {
-    fields::fill_zeros(bytes);
+    if !is_zero {
+        fields::fill_zeros(bytes);
+    }
     begin(bytes, number);
 }
 
@@ -175,7 +218,7 @@ fn empty(bytes: &mut [u8], number: u64)
 #[inline]
 #[tactic(auto, unfolding(crate::specs::Page::empty_page))]
 fn begin(bytes: &mut [u8], number: u64)
-    requires { bytes.old ≡ replicate PAGE_SIZE 0 }
+    requires { bytes.old ≡ zero_page }
     ensures { bytes.new ≡ empty_page number }
 {
     write_header(&mut bytes[..HEADER_SIZE], number, HEADER_SIZE as u32);

@@ -1,4 +1,4 @@
-//! A server: the thread that accepts, one for each worker, one that closes, and three that work in the background.
+//! A server: the thread that accepts, one for each worker, one that closes, and up to three that work in the background.
 
 ghost use Rattle.std.specs.Prelude.{◌≡◌, ◌≢◌, ◌+◌, [], IfErr, IfOk, All, length, vec_len};
 ghost use Rattle.engine.specs.Passes.{knows, Rests, stripe_count};
@@ -10,7 +10,7 @@ use crate::ending_list::Endings;
 use crate::fault::ServerFault;
 use crate::working::{Shared, work};
 use crossbeam_channel::{Sender, bounded};
-use device::Device;
+use device::{Device, Shows};
 use duties::{Background, Chores, work_in_background};
 use engine::{BACKGROUND_PASSES, Engine, Pass};
 use gates::Latch;
@@ -36,9 +36,10 @@ pub fn opening_count(options: &Options) -> usize
 /// How each connection that was served ended goes to `endings`. It answers `Ok` when the last has ended.
 ///
 /// The pages of the store that have left their frames lie on the device of these openings, of which there are as many as
-/// [`opening_count`] says: each worker has one of its own, and so has each of three threads that work in the background: they
-/// write pages to the device, drop them from their frames and give places back, and end with the last worker. What the options
-/// say of a device is the caller's to heed.
+/// [`opening_count`] says: each worker has one of its own, and so has each of the threads that work in the background. The cleaner
+/// gives places back. The flusher writes pages to the device, and the evictor drops them from their frames; they are not started
+/// where receipts hold their pages, since there is nothing to write then. These threads end with the last worker. What the
+/// options say of a device is the caller's to heed.
 ///
 /// # Errors
 ///
@@ -201,7 +202,8 @@ fn start_closer<'s, 'e, R: AllocGlobal + Clock + Wait + Sync>(
 }
 
 /// Starts the threads that work in the background, each with one of the last passes, and gives the others back. They work until
-/// serving is over.
+/// serving is over. Where receipts hold their pages, a page leaves its frame as it is, by the call that needs the frame: then the
+/// cleaner alone is started.
 fn start_background<'s, 'e, R, D>(
     rt: &'s R,
     scope: &Scope<'s, &'e ()>,
@@ -222,6 +224,9 @@ where
 {
     let all = Background::new(rt.alloc(), engine.stripes(), options.places)?;
     let passes = start_chores(rt, scope, engine, passes, all.cleaner, serving)?;
+    if D::Receipt::hold_pages() {
+        return Ok(passes);
+    }
     let passes = start_chores(rt, scope, engine, passes, all.evictor, serving)?;
     start_chores(rt, scope, engine, passes, all.flusher, serving)
 }

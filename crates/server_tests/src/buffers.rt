@@ -8,7 +8,6 @@ use std::io::{Read, Write};
 use std::net::{Net, TcpListener, TcpStream};
 use std::rt::Clock;
 use std::sync::atomic::{AtomicU64, Ordering};
-use std::test::Fail;
 use std::thread::{Threads, available_parallelism, sleep};
 use std::time::{Duration, Instant};
 use streams::ReadReady;
@@ -27,6 +26,7 @@ where
     let listener = listen(rt, &options_with(0, 1, 1, 1)?).ok()?;
     let client = connect(rt, listener.local_addr().ok()?.port())?;
     let (served, _) = listener.accept().ok()?;
+    drop(listener);
     Some((client, served))
 }
 
@@ -49,8 +49,8 @@ fn are_sent(clock: &impl Clock, client: &TcpStream, served: &TcpStream) -> bool 
 
 /// One read takes all that is there, and so does one that does not wait.
 #[test]
-fn a_read_takes_all_that_is_there(rt: HostRuntime) -> Result<(), Fail> {
-    let (client, served) = ends(&rt).ok_or("no connection")?;
+fn a_read_takes_all_that_is_there(rt: HostRuntime) {
+    let (client, served) = ends(&rt).expect(&rt, "a connection");
     let serving = Serving::new(&rt);
     let socket = Socket::new(&served);
     let mut reader = SocketReader::new(&rt, &socket, &serving);
@@ -59,33 +59,35 @@ fn a_read_takes_all_that_is_there(rt: HostRuntime) -> Result<(), Fail> {
     assert!(rt; matches!(reader.read(&mut buffer), Ok(16_384)));
     assert!(rt; are_sent(&rt, &client, &served));
     assert!(rt; reader.read_ready(&mut buffer) == Some(16_384));
-    Ok(())
+    drop(served);
+    drop(client);
 }
 
 /// One write hands on all that there is room for.
 #[test]
-fn a_write_hands_on_all_bytes(rt: HostRuntime) -> Result<(), Fail> {
-    let (client, served) = ends(&rt).ok_or("no connection")?;
+fn a_write_hands_on_all_bytes(rt: HostRuntime) {
+    let (client, served) = ends(&rt).expect(&rt, "a connection");
     let socket = Socket::new(&served);
     let mut writer = SocketWriter::new(&socket);
     assert!(rt; matches!(writer.write(&BYTES), Ok(16_384)));
     assert!(rt; reads_at_once(rt.alloc(), &client, &BYTES));
-    Ok(())
+    drop(served);
+    drop(client);
 }
 
 /// What is written is sent at once, and does not wait for the client's acknowledgement of what was sent before.
 #[test]
-fn a_socket_sends_at_once(rt: HostRuntime) -> Result<(), Fail> {
-    let (_client, served) = ends(&rt).ok_or("no connection")?;
+fn a_socket_sends_at_once(rt: HostRuntime) {
+    let (_client, served) = ends(&rt).expect(&rt, "a connection");
     let _socket = Socket::new(&served);
     assert!(rt; matches!(served.nodelay(), Ok(true)));
-    Ok(())
+    drop(served);
 }
 
 /// Where the cleaner is behind, a read waits for it, 20 times for a millisecond, and one that does not wait finds nothing.
 #[test]
-fn a_read_waits_for_the_cleaner(rt: HostRuntime) -> Result<(), Fail> {
-    let (client, served) = ends(&rt).ok_or("no connection")?;
+fn a_read_waits_for_the_cleaner(rt: HostRuntime) {
+    let (client, served) = ends(&rt).expect(&rt, "a connection");
     let serving = Serving::new(&rt);
     let socket = Socket::new(&served);
     let mut reader = SocketReader::new(&rt, &socket, &serving);
@@ -93,10 +95,13 @@ fn a_read_waits_for_the_cleaner(rt: HostRuntime) -> Result<(), Fail> {
     assert!(rt; are_sent(&rt, &client, &served));
     serving.set_behind(true);
     assert!(rt; reader.read_ready(&mut buffer).is_none());
-    let began = Instant::now(&rt)?;
+    let began = Instant::now(&rt).expect(&rt, "the time");
     assert!(rt; matches!(reader.read(&mut buffer), Ok(16_384)));
-    assert!(rt; began.elapsed(&rt)? >= Duration::from_millis(20));
-    Ok(())
+    assert!(rt;
+        began.elapsed(&rt).expect(&rt, "the time that went by") >= Duration::from_millis(20)
+    );
+    drop(served);
+    drop(client);
 }
 
 /// A clock whose sleeps take no time. It counts their milliseconds, and once they are so many, the cleaner is not behind any more.
@@ -149,17 +154,18 @@ where
 
 /// A read waits only while the cleaner is behind, and for 20 milliseconds at most.
 #[test]
-fn a_read_waits_only_while_the_cleaner_is_behind(rt: HostRuntime) -> Result<(), Fail> {
+fn a_read_waits_only_while_the_cleaner_is_behind(rt: HostRuntime) {
     assert_eq!(rt; waits(&rt, false, 0), Some(0));
     assert_eq!(rt; waits(&rt, true, 3), Some(3));
     assert_eq!(rt; waits(&rt, true, 1_000), Some(20));
-    Ok(())
 }
 
 /// As many connections are few as the system has processors for this process, and one more are not.
 #[test]
-fn connections_are_few_up_to_the_processors(rt: HostRuntime) -> Result<(), Fail> {
-    let processors = available_parallelism(&rt)?.get();
+fn connections_are_few_up_to_the_processors(rt: HostRuntime) {
+    let processors = available_parallelism(&rt)
+        .expect(&rt, "the number of processors")
+        .get();
     let serving = Serving::new(&rt);
     for _ in 0..processors {
         serving.begin();
@@ -167,5 +173,4 @@ fn connections_are_few_up_to_the_processors(rt: HostRuntime) -> Result<(), Fail>
     assert!(rt; serving.is_few());
     serving.begin();
     assert!(rt; !serving.is_few());
-    Ok(())
 }

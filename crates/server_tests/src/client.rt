@@ -11,9 +11,9 @@ use std::alloc::{AllocError, Global};
 use std::fs::{File, Files};
 use std::io::{Read, Write};
 use std::net::{Ipv4Addr, Net, SocketAddrV4, TcpListener, TcpStream};
+use std::process::Abort;
 use std::rt::Clock;
 use std::sync::Wait;
-use std::test::Fail;
 use std::thread::Threads;
 use std::{io, str, thread};
 use words::limits::{BUCKETS_DEFAULT, FRAMES_DEFAULT, PLACES_DEFAULT};
@@ -232,9 +232,10 @@ pub(crate) fn with_server<R, F: FnOnce(&R, u16) -> Option<bool>>(
     stripes: usize,
     workers: usize,
     talk: F,
-) -> Result<Outcome, Fail>
+) -> Outcome
 where
-    R: AllocGlobal
+    R: Abort
+        + AllocGlobal
         + Clock
         + Net<Listener = TcpListener, Stream = TcpStream>
         + Threads
@@ -253,9 +254,10 @@ pub(crate) fn with_latch<R, L: Latch + Sync, F: FnOnce(&R, u16) -> Option<bool>>
     stripes: usize,
     workers: usize,
     talk: F,
-) -> Result<Outcome, Fail>
+) -> Outcome
 where
-    R: AllocGlobal
+    R: Abort
+        + AllocGlobal
         + Clock
         + Net<Listener = TcpListener, Stream = TcpStream>
         + Threads
@@ -272,9 +274,10 @@ pub(crate) fn with_options<R, L: Latch + Sync, F: FnOnce(&R, u16) -> Option<bool
     latch: &L,
     options: Option<Options>,
     talk: F,
-) -> Result<Outcome, Fail>
+) -> Outcome
 where
-    R: AllocGlobal
+    R: Abort
+        + AllocGlobal
         + Clock
         + Net<Listener = TcpListener, Stream = TcpStream>
         + Threads
@@ -282,9 +285,11 @@ where
         + Sync,
     requires { F.IsAlwaysCallable talk }
 {
-    let endings = Endings::new(rt.alloc())?;
+    let endings = Endings::new(rt.alloc()).expect(rt, "memory for the endings");
     let well = end_well_in_memory(rt, options, latch, &endings, talk);
-    Ok(outcome_of(well, &endings))
+    let told = outcome_of(well, &endings);
+    drop(endings);
+    told
 }
 
 /// A server with these options whose device lies in the file at this path.
@@ -293,9 +298,10 @@ pub(crate) fn with_file<R, F: FnOnce(&R, u16) -> Option<bool>>(
     options: Option<Options>,
     path: &str,
     talk: F,
-) -> Result<Outcome, Fail>
+) -> Outcome
 where
-    R: AllocGlobal
+    R: Abort
+        + AllocGlobal
         + Clock
         + Files<File = File>
         + Net<Listener = TcpListener, Stream = TcpStream>
@@ -304,9 +310,11 @@ where
         + Sync,
     requires { F.IsAlwaysCallable talk }
 {
-    let endings = Endings::new(rt.alloc())?;
+    let endings = Endings::new(rt.alloc()).expect(rt, "memory for the endings");
     let well = end_well_on_file(rt, options, path, &endings, talk);
-    Ok(outcome_of(well, &endings))
+    let told = outcome_of(well, &endings);
+    drop(endings);
+    told
 }
 
 /// A server with these options over these openings.
@@ -315,9 +323,10 @@ pub(crate) fn with_openings<R, D, F: FnOnce(&R, u16) -> Option<bool>>(
     options: &Options,
     openings: Vec<D>,
     talk: F,
-) -> Result<Outcome, Fail>
+) -> Outcome
 where
-    R: AllocGlobal
+    R: Abort
+        + AllocGlobal
         + Clock
         + Net<Listener = TcpListener, Stream = TcpStream>
         + Threads
@@ -328,9 +337,11 @@ where
     requires talk { F.IsAlwaysCallable talk }
     requires openings { vec_len openings ≡ options.now.workers + BACKGROUND_PASSES }
 {
-    let endings = Endings::new(rt.alloc())?;
+    let endings = Endings::new(rt.alloc()).expect(rt, "memory for the endings");
     let well = end_well(rt, options, openings, &Open, &endings, talk);
-    Ok(outcome_of(well, &endings))
+    let told = outcome_of(well, &endings);
+    drop(endings);
+    told
 }
 
 /// A client of the server at this port.
@@ -428,7 +439,9 @@ pub(crate) fn number(alloc: Global, stream: &TcpStream) -> Option<u64> {
     }
     text.clear();
     read_line(stream, &mut text)?;
-    str::from_utf8(text.as_slice()).ok()?.parse().ok()
+    let told = str::from_utf8(text.as_slice()).ok()?.parse().ok();
+    drop(text);
+    told
 }
 
 /// The number that comes next as an integer.
@@ -436,7 +449,9 @@ pub(crate) fn integer(alloc: Global, stream: &TcpStream) -> Option<u64> {
     let mut text = Vec::new(alloc);
     read_line(stream, &mut text)?;
     let digits = text.as_slice().strip_prefix(b":".as_slice())?;
-    str::from_utf8(digits).ok()?.parse().ok()
+    let told = str::from_utf8(digits).ok()?.parse().ok();
+    drop(text);
+    told
 }
 
 /// Spells a request.
@@ -456,5 +471,7 @@ pub(crate) fn answers_words(
     reply: &[u8],
 ) -> bool {
     let mut spelled = Vec::new(alloc);
-    spell(&mut spelled, words).is_ok() && answers(stream, spelled.as_slice(), reply)
+    let told = spell(&mut spelled, words).is_ok() && answers(stream, spelled.as_slice(), reply);
+    drop(spelled);
+    told
 }

@@ -7,7 +7,6 @@ use crate::client::{
 use std::alloc::Global;
 use std::io::Read;
 use std::net::{Shutdown, TcpStream};
-use std::test::Fail;
 use std::thread::sleep;
 use std::time::Duration;
 
@@ -22,19 +21,19 @@ const BAD_LENGTH_LINE: &[u8] = b"-ERR Protocol error: bad length\r\n";
 /// Each request is sent when the one before is answered.
 fn one_sets_and_gets(rt: &HostRuntime, port: u16) -> Option<bool> {
     let client = connect(rt, port)?;
-    Some(
-        answers(&client, PING, PONG)
-            && answers(&client, GET, b"$-1\r\n")
-            && answers(&client, SET, OK)
-            && answers(&client, GET, b"$5\r\na\r\n*1\r\n"),
-    )
+    let told = answers(&client, PING, PONG)
+        && answers(&client, GET, b"$-1\r\n")
+        && answers(&client, SET, OK)
+        && answers(&client, GET, b"$5\r\na\r\n*1\r\n");
+    drop(client);
+    Some(told)
 }
 
 #[test]
-fn replies_before_input_ends(rt: HostRuntime) -> Result<(), Fail> {
-    let outcome = with_server(&rt, 1, 16, 1, one_sets_and_gets)?;
+fn replies_before_input_ends(rt: HostRuntime) {
+    let outcome = with_server(&rt, 1, 16, 1, one_sets_and_gets);
     assert!(rt; outcome.ended([Some(1), None, None, None]));
-    Ok(())
+    drop(outcome);
 }
 
 /// The first sets a key and quits, and the second gets it.
@@ -42,15 +41,18 @@ fn one_sets_another_gets(rt: &HostRuntime, port: u16) -> Option<bool> {
     let first = connect(rt, port)?;
     let set = answers(&first, SET, OK) && answers(&first, QUIT, OK);
     let second = connect(rt, port)?;
-    Some(set && answers(&second, GET, b"$5\r\na\r\n*1\r\n"))
+    let told = set && answers(&second, GET, b"$5\r\na\r\n*1\r\n");
+    drop(second);
+    drop(first);
+    Some(told)
 }
 
 /// The store outlives a connection.
 #[test]
-fn a_later_connection_reads_what_an_earlier_one_set(rt: HostRuntime) -> Result<(), Fail> {
-    let outcome = with_server(&rt, 2, 16, 1, one_sets_another_gets)?;
+fn a_later_connection_reads_what_an_earlier_one_set(rt: HostRuntime) {
+    let outcome = with_server(&rt, 2, 16, 1, one_sets_another_gets);
     assert!(rt; outcome.ended([Some(2), Some(1), None, None]));
-    Ok(())
+    drop(outcome);
 }
 
 /// A transaction, each request sent when the one before is answered.
@@ -89,14 +91,17 @@ fn two_have_transactions(rt: &HostRuntime, port: u16) -> Option<bool> {
     let first = connect(rt, port)?;
     let told = answers_all(&first, TRANSACTION) && answers(&first, QUIT, OK);
     let second = connect(rt, port)?;
-    Some(told && answers_all(&second, WATCHED))
+    let told = told && answers_all(&second, WATCHED);
+    drop(second);
+    drop(first);
+    Some(told)
 }
 
 #[test]
-fn transactions_over_connections(rt: HostRuntime) -> Result<(), Fail> {
-    let outcome = with_server(&rt, 2, 16, 1, two_have_transactions)?;
+fn transactions_over_connections(rt: HostRuntime) {
+    let outcome = with_server(&rt, 2, 16, 1, two_have_transactions);
     assert!(rt; outcome.ended([Some(2), Some(1), None, None]));
-    Ok(())
+    drop(outcome);
 }
 
 /// Three clients after each other, each of whom goes away in its own manner, and a fourth.
@@ -119,6 +124,7 @@ fn goes_in_the_middle_of_a_reply(rt: &HostRuntime, port: u16) -> Option<bool> {
     let asked = sends_a_long_set(&client) && asks_often(rt.alloc(), &client);
     let begins = reads_six(&client);
     sleep(rt, Duration::from_millis(300));
+    drop(client);
     Some(asked && begins)
 }
 
@@ -156,10 +162,10 @@ fn is_refused_and_goes(rt: &HostRuntime, port: u16) -> Option<bool> {
 }
 
 #[test]
-fn a_client_that_goes_away_ends_its_own_connection_alone(rt: HostRuntime) -> Result<(), Fail> {
-    let outcome = with_server(&rt, 4, 16, 1, three_go_and_a_fourth_comes)?;
+fn a_client_that_goes_away_ends_its_own_connection_alone(rt: HostRuntime) {
+    let outcome = with_server(&rt, 4, 16, 1, three_go_and_a_fourth_comes);
     assert!(rt; outcome.ended([Some(1), Some(5), Some(3), Some(1)]));
-    Ok(())
+    drop(outcome);
 }
 
 /// A new client quits.
@@ -170,7 +176,9 @@ fn quits(rt: &HostRuntime, port: u16) -> Option<bool> {
 /// A new client closes with a part of a reply unread, so that its connection is reset.
 fn is_reset(rt: &HostRuntime, port: u16) -> Option<bool> {
     let client = connect(rt, port)?;
-    Some(sends(&client, PING) && reads(&client, &PONG[..1]))
+    let told = sends(&client, PING) && reads(&client, &PONG[..1]);
+    drop(client);
+    Some(told)
 }
 
 /// One that quits and one whose connection is reset, each with another after it.
@@ -182,10 +190,10 @@ fn one_comes_after_each(rt: &HostRuntime, port: u16) -> Option<bool> {
 
 /// The one worker serves the next client after a connection that ended by a QUIT, or by a read that failed.
 #[test]
-fn the_worker_serves_the_next_after_each_ending(rt: HostRuntime) -> Result<(), Fail> {
-    let outcome = with_server(&rt, 4, 16, 1, one_comes_after_each)?;
+fn the_worker_serves_the_next_after_each_ending(rt: HostRuntime) {
+    let outcome = with_server(&rt, 4, 16, 1, one_comes_after_each);
     assert!(rt; outcome.ended([Some(2), Some(1), Some(4), Some(1)]));
-    Ok(())
+    drop(outcome);
 }
 
 /// One that is served after each of five, each of whom ends its connection in its own manner.
@@ -200,10 +208,10 @@ fn one_is_served_after_each(rt: &HostRuntime, port: u16) -> Option<bool> {
 
 /// The one worker answers a PING on the connection after each kind of ending.
 #[test]
-fn a_ping_is_answered_after_each_ending(rt: HostRuntime) -> Result<(), Fail> {
-    let outcome = with_server(&rt, 10, 16, 1, one_is_served_after_each)?;
+fn a_ping_is_answered_after_each_ending(rt: HostRuntime) {
+    let outcome = with_server(&rt, 10, 16, 1, one_is_served_after_each);
     assert!(rt; outcome.is_well(10) && outcome.ended_each([6, 1, 1, 1, 1, 0]));
-    Ok(())
+    drop(outcome);
 }
 
 /// Sends what is no request, and far more than the sockets hold, before it reads.
@@ -230,14 +238,16 @@ fn one_sends_on_and_one_stays(rt: &HostRuntime, port: u16) -> Option<bool> {
     let told = sends_on_and_goes(rt, port)?;
     let stays = connect(rt, port)?;
     let told = told && is_refused(&stays);
-    Some(is_served(rt, port)? && told)
+    let told = is_served(rt, port)? && told;
+    drop(stays);
+    Some(told)
 }
 
 /// The line of a fault reaches a client that sends on before it reads, and a client that never closes
 /// is let go.
 #[test]
-fn a_client_that_sends_on_reads_the_last_line(rt: HostRuntime) -> Result<(), Fail> {
-    let outcome = with_server(&rt, 3, 16, 1, one_sends_on_and_one_stays)?;
+fn a_client_that_sends_on_reads_the_last_line(rt: HostRuntime) {
+    let outcome = with_server(&rt, 3, 16, 1, one_sends_on_and_one_stays);
     assert!(rt; outcome.ended([Some(3), Some(3), Some(1), None]));
-    Ok(())
+    drop(outcome);
 }

@@ -6,7 +6,6 @@ use crate::client::{
 use std::alloc::Global;
 use std::io::{Read, Write};
 use std::net::{Net, TcpStream};
-use std::test::Fail;
 use std::thread;
 use std::thread::Threads;
 
@@ -90,7 +89,10 @@ where
 {
     let first = connect(rt, port)?;
     let second = connect(rt, port)?;
-    both_add(rt, &first, &second)
+    let told = both_add(rt, &first, &second);
+    drop(second);
+    drop(first);
+    told
 }
 
 /// Whether two clients at once add 1 as often as the number at the end tells, and 500 times at least.
@@ -110,16 +112,18 @@ where
     R: AllocGlobal + Net<Stream = TcpStream> + Threads + Sync,
 {
     let third = connect(rt, port)?;
-    end_tells_additions(rt, port, &third)
+    let told = end_tells_additions(rt, port, &third);
+    drop(third);
+    told
 }
 
 /// Two clients add 1 each 500 times, by WATCH, GET, MULTI, SET and EXEC: the number at the end is the
 /// number of replies that were not null.
 #[test]
-fn each_addition_that_is_done_counts(rt: HostRuntime) -> Result<(), Fail> {
-    let outcome = with_server(&rt, 3, 16, 3, |_, port| two_add(&rt, port))?;
+fn each_addition_that_is_done_counts(rt: HostRuntime) {
+    let outcome = with_server(&rt, 3, 16, 3, |_, port| two_add(&rt, port));
     assert!(rt; outcome.is_well(3));
-    Ok(())
+    drop(outcome);
 }
 
 const FILL: &[u8] = b"*5\r\n$4\r\nMSET\r\n$1\r\na\r\n$3\r\n500\r\n$1\r\nb\r\n$3\r\n500\r\n";
@@ -196,13 +200,16 @@ where
 {
     let mover = connect(rt, port)?;
     let watcher = connect(rt, port)?;
-    Some(moves_while_one_looks(rt, &mover, &watcher))
+    let told = moves_while_one_looks(rt, &mover, &watcher);
+    drop(watcher);
+    drop(mover);
+    Some(told)
 }
 
 /// A client moves between two counters by transactions, while the sum that another reads stays the same.
 #[test]
-fn a_transaction_is_never_seen_half_done(rt: HostRuntime) -> Result<(), Fail> {
-    let outcome = with_server(&rt, 2, 64, 2, |_, port| one_moves_one_looks(&rt, port))?;
+fn a_transaction_is_never_seen_half_done(rt: HostRuntime) {
+    let outcome = with_server(&rt, 2, 64, 2, |_, port| one_moves_one_looks(&rt, port));
     assert!(rt; outcome.is_well(2));
-    Ok(())
+    drop(outcome);
 }

@@ -6,7 +6,6 @@ use crate::client::{
 };
 use std::alloc::Global;
 use std::net::{Net, TcpStream};
-use std::test::Fail;
 use std::thread;
 use std::thread::Threads;
 
@@ -23,7 +22,9 @@ fn all_are_served(clients: &[TcpStream]) -> bool {
 /// Whether a new client is turned away.
 fn is_turned_away(rt: &HostRuntime, port: u16) -> Option<bool> {
     let beyond = connect(rt, port)?;
-    Some(reads(&beyond, TURNED_AWAY) && is_at_end(&beyond))
+    let told = reads(&beyond, TURNED_AWAY) && is_at_end(&beyond);
+    drop(beyond);
+    Some(told)
 }
 
 /// 64 clients that are served at once, and one more.
@@ -31,20 +32,24 @@ fn sixty_four_and_one(rt: &HostRuntime, port: u16) -> Option<bool> {
     let clients = connect_all(rt, port, 64)?;
     let served = all_are_served(clients.as_slice());
     let told = is_turned_away(rt, port)?;
-    Some(served && told && all_are_served(clients.as_slice()))
+    let told = served && told && all_are_served(clients.as_slice());
+    drop(clients);
+    Some(told)
 }
 
 #[test]
-fn sixty_four_workers_serve_sixty_four_clients(rt: HostRuntime) -> Result<(), Fail> {
-    let outcome = with_server(&rt, 65, 64, 64, sixty_four_and_one)?;
+fn sixty_four_workers_serve_sixty_four_clients(rt: HostRuntime) {
+    let outcome = with_server(&rt, 65, 64, 64, sixty_four_and_one);
     assert!(rt; outcome.is_well(64));
-    Ok(())
+    drop(outcome);
 }
 
 /// So many clients at once, which end together.
 fn a_crowd_is_served(rt: &HostRuntime, port: u16, count: usize) -> Option<bool> {
     let clients = connect_all(rt, port, count)?;
-    Some(all_are_served(clients.as_slice()))
+    let told = all_are_served(clients.as_slice());
+    drop(clients);
+    Some(told)
 }
 
 /// Ten times as many clients as there are workers, all at once, which end together.
@@ -60,10 +65,10 @@ fn one_crowd_after_the_other(rt: &HostRuntime, port: u16) -> Option<bool> {
 /// As many new clients as there are workers come as soon as those before have ended, and none is turned
 /// away.
 #[test]
-fn new_clients_come_as_others_end(rt: HostRuntime) -> Result<(), Fail> {
-    let outcome = with_server(&rt, 40, 16, 4, one_crowd_after_the_other)?;
+fn new_clients_come_as_others_end(rt: HostRuntime) {
+    let outcome = with_server(&rt, 40, 16, 4, one_crowd_after_the_other);
     assert!(rt; outcome.is_well(40));
-    Ok(())
+    drop(outcome);
 }
 
 /// The words that a client sends in each of its rounds, each with what it reads.
@@ -132,12 +137,14 @@ where
     R: AllocGlobal + Net<Stream = TcpStream> + Threads + Sync,
 {
     let clients = connect_all(rt, port, 16)?;
-    Some(how_many_read_their_own(rt, clients.as_slice()) == Some(16))
+    let told = how_many_read_their_own(rt, clients.as_slice()) == Some(16);
+    drop(clients);
+    Some(told)
 }
 
 #[test]
-fn sixteen_clients_at_once_read_their_own_replies(rt: HostRuntime) -> Result<(), Fail> {
-    let outcome = with_server(&rt, 16, 4, 16, |_, port| sixteen(&rt, port))?;
+fn sixteen_clients_at_once_read_their_own_replies(rt: HostRuntime) {
+    let outcome = with_server(&rt, 16, 4, 16, |_, port| sixteen(&rt, port));
     assert!(rt; outcome.is_well(16));
-    Ok(())
+    drop(outcome);
 }

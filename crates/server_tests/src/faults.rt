@@ -14,10 +14,10 @@ use records::Page;
 use server::opening_count;
 use std::alloc::{AllocError, Global};
 use std::net::{Net, TcpListener, TcpStream};
+use std::process::Abort;
 use std::rt::Clock;
 use std::sync::Wait;
 use std::sync::atomic::{AtomicU64, Ordering};
-use std::test::Fail;
 use std::thread::{Threads, sleep};
 use std::time::Duration;
 use words::limits::PLACES_DEFAULT;
@@ -195,9 +195,10 @@ fn is_well_beside<R, F: FnOnce(&R, u16) -> Option<bool>>(
     clients: u32,
     of_background: &Tally,
     talk: F,
-) -> Result<bool, Fail>
+) -> bool
 where
-    R: AllocGlobal
+    R: Abort
+        + AllocGlobal
         + Clock
         + Net<Listener = TcpListener, Stream = TcpStream>
         + Threads
@@ -206,10 +207,15 @@ where
     requires { F.IsAlwaysCallable talk }
 {
     let of_workers = Tally::new();
-    let options = options(places, clients as usize, clients).ok_or("no options")?;
-    let openings = openings(rt.alloc(), &options, &of_workers, of_background)?;
-    let outcome = with_openings(rt, &options, openings, talk)?;
-    Ok(outcome.is_well(clients as usize) && of_workers.failed.load(Ordering::SeqCst) == 0)
+    let options = options(places, clients as usize, clients).expect(rt, "options");
+    let openings = openings(rt.alloc(), &options, &of_workers, of_background).expect(
+        rt,
+        "memory for a device",
+    );
+    let outcome = with_openings(rt, &options, openings, talk);
+    let told = outcome.is_well(clients as usize) && of_workers.failed.load(Ordering::SeqCst) == 0;
+    drop(outcome);
+    told
 }
 
 /// Whether so many pieces of thirty keys are stored, and each has its value then.
@@ -244,12 +250,14 @@ where
     let stream = connect(rt, port)?;
     let stores = stores_and_has(rt.alloc(), &stream, 21)?;
     let comes = tally.comes_to_write(rt);
-    Some(stores && comes && stores_and_has(rt.alloc(), &stream, 84)?)
+    let told = stores && comes && stores_and_has(rt.alloc(), &stream, 84)?;
+    drop(stream);
+    Some(told)
 }
 
 /// 630 keys fill 10 pages, of which 6 wait for the flusher. It fails three times, and then it writes them.
 #[test]
-fn a_fault_of_the_flusher_is_told_to_nobody(rt: HostRuntime) -> Result<(), Fail> {
+fn a_fault_of_the_flusher_is_told_to_nobody(rt: HostRuntime) {
     let tally = Tally::new();
     let is_well = is_well_beside(
         &rt,
@@ -257,10 +265,9 @@ fn a_fault_of_the_flusher_is_told_to_nobody(rt: HostRuntime) -> Result<(), Fail>
         1,
         &tally,
         |rt, port| stores_beside_faults(rt, port, &tally),
-    )?;
+    );
     assert!(rt; is_well);
     assert!(rt; tally.failed.load(Ordering::SeqCst) >= FAILING);
-    Ok(())
 }
 
 /// How often the keys of 20 pages are written. That takes twice as many pages as there are places.
@@ -274,13 +281,15 @@ where
     let stream = connect(rt, port)?;
     let overwrites = overwrites_often(rt, port, ROUNDS)?;
     let comes = tally.comes_to_release(rt);
-    Some(overwrites && comes && has_thirty(rt.alloc(), &stream, FIRST)?)
+    let told = overwrites && comes && has_thirty(rt.alloc(), &stream, FIRST)?;
+    drop(stream);
+    Some(told)
 }
 
 /// The flusher and the cleaner fail three times each, and then the cleaner gives places back: the store is overwritten with
 /// twice as many pages as there are places.
 #[test]
-fn a_fault_of_the_cleaner_is_told_to_nobody(rt: HostRuntime) -> Result<(), Fail> {
+fn a_fault_of_the_cleaner_is_told_to_nobody(rt: HostRuntime) {
     let tally = Tally::new();
     let is_well = is_well_beside(
         &rt,
@@ -288,9 +297,8 @@ fn a_fault_of_the_cleaner_is_told_to_nobody(rt: HostRuntime) -> Result<(), Fail>
         2,
         &tally,
         |rt, port| overwrites_beside_faults(rt, port, &tally),
-    )?;
+    );
     assert!(rt; is_well);
     assert!(rt; tally.failed.load(Ordering::SeqCst) == 2 * FAILING);
     assert!(rt; tally.released.load(Ordering::SeqCst) > 0);
-    Ok(())
 }

@@ -12,7 +12,6 @@ use std::fs::{File, Files, OpenFile};
 use std::net::{Net, TcpStream};
 use std::os::unix::fs::FileExt;
 use std::sync::Wait;
-use std::test::Fail;
 use words::limits::PLACES_DEFAULT;
 
 /// What is said where a page cannot be read or written.
@@ -33,7 +32,9 @@ where
     R: AllocGlobal + Net<Stream = TcpStream>,
 {
     let stream = connect(rt, port)?;
-    Some(stores_all(rt.alloc(), &stream)? && has_all(rt.alloc(), &stream)?)
+    let told = stores_all(rt.alloc(), &stream)? && has_all(rt.alloc(), &stream)?;
+    drop(stream);
+    Some(told)
 }
 
 /// How long a file is.
@@ -44,18 +45,18 @@ fn length_of<R: Files<File = File>>(rt: &R, path: &str) -> Option<u64> {
 /// 3,000 values of 1,000 bytes take 48 pages, of which 12 have frames. The others lie in the file, and each value is
 /// read as it was stored.
 #[test]
-fn a_store_larger_than_its_frames_lies_in_a_file(rt: HostRuntime) -> Result<(), Fail> {
+fn a_store_larger_than_its_frames_lies_in_a_file(rt: HostRuntime) {
     let path = "larger.pages";
     let outcome = with_file(
         &rt,
         options(PLACES_DEFAULT, 1, 1),
         path,
         stores_and_reads_all,
-    )?;
+    );
     assert!(rt; outcome.is_well(1));
     assert!(rt; length_of(&rt, path).is_some_and(|length| length >= 36 * PAGE));
     assert!(rt; fs::remove_file(&rt, path).is_ok());
-    Ok(())
+    drop(outcome);
 }
 
 /// What is done to the file of a server that runs.
@@ -125,13 +126,15 @@ where
     let before = stores_all(alloc, &stream)? && has(alloc, &stream, OLD)?;
     change.is_made(rt, path)?;
     let after = change.shows(alloc, &stream)? && change.shows(alloc, &stream)?;
-    Some(before && after && answers(&stream, PING, PONG) && has(alloc, &stream, LAST)?)
+    let told = before && after && answers(&stream, PING, PONG) && has(alloc, &stream, LAST)?;
+    drop(stream);
+    Some(told)
 }
 
 /// A page that cannot be read is told as a fault of the device. The server has its file open, so that another one of
 /// the same path is nothing to it.
 #[test]
-fn a_file_that_is_changed_meanwhile(rt: HostRuntime) -> Result<(), Fail> {
+fn a_file_that_is_changed_meanwhile(rt: HostRuntime) {
     let path = "changed.pages";
     for change in [Change::Cut, Change::WrittenOver, Change::Replaced] {
         let outcome = with_file(
@@ -139,11 +142,10 @@ fn a_file_that_is_changed_meanwhile(rt: HostRuntime) -> Result<(), Fail> {
             options(PLACES_DEFAULT, 1, 1),
             path,
             |rt, port| reads_before_and_after(rt, port, path, change),
-        )?;
+        );
         assert!(rt; outcome.is_well(1));
         assert!(rt; fs::remove_file(&rt, path).is_ok());
     }
-    Ok(())
 }
 
 /// How many of thirty SETs are done, where those after the first that is not are answered by a fault of the device.
@@ -204,20 +206,21 @@ where
     let key = FIRST.checked_add(done)?;
     let stored = has(alloc, &stream, FIRST)? && has(alloc, &stream, key.checked_sub(1)?)?;
     let missing = get_is_answered(alloc, &stream, key, b"$-1\r\n")?;
+    drop(stream);
     Some(done == 756 && stored && missing)
 }
 
 /// The frames hold 12 pages of 63 values. No page can be written.
 #[test]
-fn a_full_disk_is_told_of_each_write_that_needs_a_page(rt: HostRuntime) -> Result<(), Fail> {
+fn a_full_disk_is_told_of_each_write_that_needs_a_page(rt: HostRuntime) {
     let disk = FullDisk { rt: &rt };
-    let options = options(PLACES_DEFAULT, 1, 1).ok_or("no options")?;
+    let options = options(PLACES_DEFAULT, 1, 1).expect(&rt, "options");
     let Ok(openings) = openings_on(&disk, rt.alloc(), &options) else {
-        return Err(Fail::from("no openings"));
+        panic!(rt; "no openings");
     };
-    let outcome = with_openings(&rt, &options, openings, fills_the_frames)?;
+    let outcome = with_openings(&rt, &options, openings, fills_the_frames);
     assert!(rt; outcome.is_well(1));
-    Ok(())
+    drop(outcome);
 }
 
 /// Paths of which no file can be made: in a folder that there is not, of a folder, and none.

@@ -6,10 +6,10 @@ use crate::client::{
 use gates::{Latch, Point};
 use std::alloc::Global;
 use std::net::{Net, TcpListener, TcpStream};
+use std::process::Abort;
 use std::rt::Clock;
 use std::sync::Wait;
 use std::sync::atomic::{AtomicBool, AtomicU64, Ordering};
-use std::test::Fail;
 use std::thread::{Threads, sleep};
 use std::time::Duration;
 
@@ -102,13 +102,17 @@ where
     let came = wait_for(rt, &latch.came);
     let answered = another_is_answered(rt.alloc(), &two);
     latch.answered.store(true, Ordering::SeqCst);
-    Some(sent && came && answered && reads(&one, held.reply()))
+    let told = sent && came && answered && reads(&one, held.reply());
+    drop(two);
+    drop(one);
+    Some(told)
 }
 
 /// Whether calls of a second client are answered while this call of the first is held up.
-fn goes_on_beside<R>(rt: &R, held: Held) -> Result<bool, Fail>
+fn goes_on_beside<R>(rt: &R, held: Held) -> bool
 where
-    R: AllocGlobal
+    R: Abort
+        + AllocGlobal
         + Clock
         + Net<Listener = TcpListener, Stream = TcpStream>
         + Threads
@@ -128,17 +132,18 @@ where
         16,
         2,
         |rt, port| two_clients(rt, port, latch, held),
-    )?;
-    Ok(outcome.is_well(2) && !latch.late.load(Ordering::SeqCst))
+    );
+    let told = outcome.is_well(2) && !latch.late.load(Ordering::SeqCst);
+    drop(outcome);
+    told
 }
 
 /// The server takes no lock round its calls: while one has its stripe, those of other stripes go on.
 #[test]
-fn call_two_is_answered_while_call_one_is_held(rt: HostRuntime) -> Result<(), Fail> {
-    assert!(rt; goes_on_beside(&rt, Held::Command)?, "a command");
-    assert!(rt; goes_on_beside(&rt, Held::Transaction)?, "a transaction");
-    assert!(rt; goes_on_beside(&rt, Held::Watch)?, "a watch");
-    Ok(())
+fn call_two_is_answered_while_call_one_is_held(rt: HostRuntime) {
+    assert!(rt; goes_on_beside(&rt, Held::Command), "a command");
+    assert!(rt; goes_on_beside(&rt, Held::Transaction), "a transaction");
+    assert!(rt; goes_on_beside(&rt, Held::Watch), "a watch");
 }
 
 /// Remembers where calls were, by a digit each: 1 before, 2 holding, 3 after.
@@ -168,12 +173,12 @@ fn three_calls(rt: &HostRuntime, port: u16) -> Option<bool> {
 /// The latch is told once of each of a command, a watch and a transaction that it holds its stripes, after it was
 /// told that it begins, and before it is told that it has given them back.
 #[test]
-fn a_latch_is_told_where_each_call_is(rt: HostRuntime) -> Result<(), Fail> {
+fn a_latch_is_told_where_each_call_is(rt: HostRuntime) {
     let trail = &Trail {
         digits: AtomicU64::new(0),
     };
-    let outcome = with_latch(&rt, trail, 1, 16, 1, three_calls)?;
+    let outcome = with_latch(&rt, trail, 1, 16, 1, three_calls);
     assert!(rt; outcome.is_well(1));
     assert_eq!(rt; trail.digits.load(Ordering::SeqCst), 123_123_123);
-    Ok(())
+    drop(outcome);
 }

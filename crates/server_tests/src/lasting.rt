@@ -12,7 +12,6 @@ use std::fs;
 use std::net::{Net, TcpStream};
 use std::rt::Clock;
 use std::sync::Wait;
-use std::test::Fail;
 use std::thread::sleep;
 use std::time::Duration;
 use words::limits::{BUCKETS_DEFAULT, FRAMES_MIN};
@@ -55,10 +54,10 @@ where
 
 /// The keys of a piece lie in both stripes, so neither of them may stay full.
 #[test]
-fn each_stripe_of_two_stays_inside_its_places(rt: HostRuntime) -> Result<(), Fail> {
-    let outcome = with_options(&rt, &Open, two_stripes(), overwrites_two)?;
+fn each_stripe_of_two_stays_inside_its_places(rt: HostRuntime) {
+    let outcome = with_options(&rt, &Open, two_stripes(), overwrites_two);
     assert!(rt; outcome.is_well(1));
-    Ok(())
+    drop(outcome);
 }
 
 /// The bytes of a file of 64 pages.
@@ -67,14 +66,14 @@ const LENGTH_MAX: u64 = 64 * 65_536;
 /// Ten times as many pages are written as the stripe has places. Each place that comes back is used again, so the file has no
 /// more pages than that.
 #[test]
-fn a_file_that_is_overwritten_for_long_does_not_grow(rt: HostRuntime) -> Result<(), Fail> {
+fn a_file_that_is_overwritten_for_long_does_not_grow(rt: HostRuntime) {
     let path = "does_not_grow.pages";
-    let outcome = with_file(&rt, options(64, 1, 1), path, overwrites)?;
+    let outcome = with_file(&rt, options(64, 1, 1), path, overwrites);
     assert!(rt; outcome.is_well(1));
-    let length = fs::metadata(&rt, path)?.len();
+    let length = fs::metadata(&rt, path).expect(&rt, "the file").len();
     assert!(rt; 0 < length && length <= LENGTH_MAX, "{length}");
     assert!(rt; fs::remove_file(&rt, path).is_ok());
-    Ok(())
+    drop(outcome);
 }
 
 /// How often all keys are written after the lull. That takes twice as many pages as there are places.
@@ -86,11 +85,11 @@ where
     R: AllocGlobal + Net<Stream = TcpStream>,
 {
     let stream = connect(rt, port)?;
-    Some(
-        answers_words(rt.alloc(), &stream, &["SET", "k", "v"], OK)
-            && answers(&stream, QUIT, OK)
-            && is_at_end(&stream),
-    )
+    let told = answers_words(rt.alloc(), &stream, &["SET", "k", "v"], OK)
+        && answers(&stream, QUIT, OK)
+        && is_at_end(&stream);
+    drop(stream);
+    Some(told)
 }
 
 /// A client comes and goes, nobody is there for a while, and then another one overwrites the store.
@@ -105,8 +104,8 @@ where
 
 /// The threads of the background go on where nobody is served for a while.
 #[test]
-fn a_store_is_cleaned_after_a_lull(rt: HostRuntime) -> Result<(), Fail> {
-    let outcome = with_options(&rt, &Open, options(64, 1, 2), overwrites_after_a_lull)?;
+fn a_store_is_cleaned_after_a_lull(rt: HostRuntime) {
+    let outcome = with_options(&rt, &Open, options(64, 1, 2), overwrites_after_a_lull);
     assert!(rt; outcome.is_well(2));
-    Ok(())
+    drop(outcome);
 }

@@ -5,7 +5,6 @@ use crate::client::{
     with_server,
 };
 use std::net::{Shutdown, TcpStream};
-use std::test::Fail;
 use std::time::{Duration, Instant};
 
 /// Sends a PING and a QUIT, and far more than the sockets hold behind it, before it reads.
@@ -25,15 +24,17 @@ fn sends_on_behind_a_quit(client: &TcpStream) -> bool {
 fn one_quits_and_one_comes(rt: &HostRuntime, port: u16) -> Option<bool> {
     let client = connect(rt, port)?;
     let told = sends_on_behind_a_quit(&client) && client.shutdown(Shutdown::Both).is_ok();
-    Some(is_served(rt, port)? && told)
+    let told = is_served(rt, port)? && told;
+    drop(client);
+    Some(told)
 }
 
 /// What is said before the end of a connection is read, whatever stands behind its QUIT.
 #[test]
-fn a_client_that_sends_on_behind_its_quit_reads_its_replies(rt: HostRuntime) -> Result<(), Fail> {
-    let outcome = with_server(&rt, 2, 16, 1, one_quits_and_one_comes)?;
+fn a_client_that_sends_on_behind_its_quit_reads_its_replies(rt: HostRuntime) {
+    let outcome = with_server(&rt, 2, 16, 1, one_quits_and_one_comes);
     assert!(rt; outcome.ended([Some(2), Some(1), None, None]));
-    Ok(())
+    drop(outcome);
 }
 
 /// Whether a new client is turned away within two seconds.
@@ -42,7 +43,9 @@ fn is_turned_away_soon(rt: &HostRuntime, port: u16) -> Option<bool> {
     let client = connect(rt, port)?;
     let told = reads(&client, TURNED_AWAY) && is_at_end(&client);
     let took = begins.elapsed(rt).ok()?;
-    Some(told && took < Duration::from_secs(2))
+    let told = told && took < Duration::from_secs(2);
+    drop(client);
+    Some(told)
 }
 
 /// Three clients are turned away one after the other while the first is served, each of them soon.
@@ -59,8 +62,8 @@ fn three_are_turned_away(rt: &HostRuntime, port: u16) -> Option<bool> {
 
 /// The wait for a worker is a tenth of a second.
 #[test]
-fn a_client_is_turned_away_soon(rt: HostRuntime) -> Result<(), Fail> {
-    let outcome = with_server(&rt, 4, 16, 1, three_are_turned_away)?;
+fn a_client_is_turned_away_soon(rt: HostRuntime) {
+    let outcome = with_server(&rt, 4, 16, 1, three_are_turned_away);
     assert!(rt; outcome.is_well(1));
-    Ok(())
+    drop(outcome);
 }

@@ -6,7 +6,6 @@ use options::{DeviceKind, Options};
 use std::alloc::Global;
 use std::fs;
 use std::net::{Net, TcpStream};
-use std::test::Fail;
 
 /// Stripes, buckets, frames, places and workers: each of them at either end of its range.
 const SIZES: &[[usize; 5]] = &[
@@ -65,7 +64,7 @@ where
 }
 
 #[test]
-fn servers_at_both_ends_of_each_range(rt: HostRuntime) -> Result<(), Fail> {
+fn servers_at_both_ends_of_each_range(rt: HostRuntime) {
     for &sizes in SIZES {
         let count = sizes[4];
         let outcome = with_options(
@@ -73,27 +72,26 @@ fn servers_at_both_ends_of_each_range(rt: HostRuntime) -> Result<(), Fail> {
             &Open,
             options(sizes),
             |rt, port| all_keep_numbers(rt, port, count),
-        )?;
+        );
         assert!(rt; outcome.is_well(count), "{sizes:?}");
     }
-    Ok(())
 }
 
 #[test]
-fn a_server_of_a_larger_store(rt: HostRuntime) -> Result<(), Fail> {
+fn a_server_of_a_larger_store(rt: HostRuntime) {
     let count = LARGER[4];
     let outcome = with_options(
         &rt,
         &Open,
         options(LARGER),
         |rt, port| all_keep_numbers(rt, port, count),
-    )?;
+    );
     assert!(rt; outcome.is_well(count));
-    Ok(())
+    drop(outcome);
 }
 
 #[test]
-fn a_server_of_a_larger_store_in_a_file(rt: HostRuntime) -> Result<(), Fail> {
+fn a_server_of_a_larger_store_in_a_file(rt: HostRuntime) {
     let path = "larger_store.pages";
     let count = LARGER[4];
     let outcome = with_file(
@@ -101,8 +99,8 @@ fn a_server_of_a_larger_store_in_a_file(rt: HostRuntime) -> Result<(), Fail> {
         options(LARGER),
         path,
         |rt, port| all_keep_numbers(rt, port, count),
-    )?;
+    );
     assert!(rt; outcome.is_well(count));
     assert!(rt; fs::remove_file(&rt, path).is_ok());
-    Ok(())
+    drop(outcome);
 }

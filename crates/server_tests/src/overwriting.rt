@@ -7,7 +7,6 @@ use std::alloc::Global;
 use std::net::{Net, TcpStream};
 use std::rt::Clock;
 use std::sync::Wait;
-use std::test::Fail;
 use std::time::Duration;
 use std::{fs, thread};
 
@@ -97,22 +96,18 @@ where
 }
 
 #[test]
-fn a_store_that_is_overwritten_for_long_stays_inside_its_places(
-    rt: HostRuntime,
-) -> Result<(), Fail> {
-    let outcome = with_options(&rt, &Open, options(64, 1, 1), overwrites)?;
+fn a_store_that_is_overwritten_for_long_stays_inside_its_places(rt: HostRuntime) {
+    let outcome = with_options(&rt, &Open, options(64, 1, 1), overwrites);
     assert!(rt; outcome.is_well(1));
-    Ok(())
+    drop(outcome);
 }
 
 #[test]
-fn a_store_in_a_file_that_is_overwritten_for_long_stays_inside_its_places(
-    rt: HostRuntime,
-) -> Result<(), Fail> {
-    let outcome = with_file(&rt, options(64, 1, 1), "overwritten.pages", overwrites)?;
+fn a_store_in_a_file_that_is_overwritten_for_long_stays_inside_its_places(rt: HostRuntime) {
+    let outcome = with_file(&rt, options(64, 1, 1), "overwritten.pages", overwrites);
     assert!(rt; outcome.is_well(1));
     // A thread of the background may have written a page for which no place is counted yet.
     let length = fs::metadata(&rt, "overwritten.pages").map(|file| file.len());
     assert!(rt; matches!(length, Ok(bytes) if bytes <= (64 + 3) * 65_536));
-    Ok(())
+    drop(outcome);
 }

@@ -7,7 +7,6 @@ use std::alloc::Global;
 use std::io;
 use std::io::Write;
 use std::net::{Net, TcpStream};
-use std::test::Fail;
 use words::limits::{BUCKETS_DEFAULT, FRAMES_MIN};
 
 /// The key of four digits that is stored first.
@@ -87,7 +86,10 @@ fn thirty_values(alloc: Global, first: u32) -> io::Result<Vec<u8>> {
 pub(crate) fn has_thirty(alloc: Global, stream: &TcpStream, first: u32) -> Option<bool> {
     let gets = thirty_gets(alloc, first).ok()?;
     let values = thirty_values(alloc, first).ok()?;
-    Some(sends(stream, &gets) && reads_at_once(alloc, stream, &values))
+    let told = sends(stream, &gets) && reads_at_once(alloc, stream, &values);
+    drop(values);
+    drop(gets);
+    Some(told)
 }
 
 /// Whether all keys are stored.
@@ -133,14 +135,18 @@ pub(crate) fn asks(alloc: Global, stream: &TcpStream, key: u32) -> Option<bool> 
 pub(crate) fn has_value(alloc: Global, stream: &TcpStream, key: u32) -> Option<bool> {
     let mut value = Vec::new(alloc);
     add_value(&mut value, key).ok()?;
-    Some(reads(stream, &value))
+    let told = reads(stream, &value);
+    drop(value);
+    Some(told)
 }
 
 /// Whether this key has its value.
 pub(crate) fn has(alloc: Global, stream: &TcpStream, key: u32) -> Option<bool> {
     let mut value = Vec::new(alloc);
     add_value(&mut value, key).ok()?;
-    get_is_answered(alloc, stream, key, &value)
+    let told = get_is_answered(alloc, stream, key, &value);
+    drop(value);
+    told
 }
 
 /// Whether all keys are stored, and the first is read.
@@ -149,13 +155,15 @@ where
     R: AllocGlobal + Net<Stream = TcpStream>,
 {
     let stream = connect(rt, port)?;
-    Some(stores_all(rt.alloc(), &stream)? && has(rt.alloc(), &stream, FIRST)?)
+    let told = stores_all(rt.alloc(), &stream)? && has(rt.alloc(), &stream, FIRST)?;
+    drop(stream);
+    Some(told)
 }
 
 /// The stripe has frames for 12 pages: the others lie on the device.
 #[test]
-fn a_value_whose_page_has_no_frame_is_read(rt: HostRuntime) -> Result<(), Fail> {
-    let outcome = with_options(&rt, &Open, options(256, 1, 1), stores_and_reads)?;
+fn a_value_whose_page_has_no_frame_is_read(rt: HostRuntime) {
+    let outcome = with_options(&rt, &Open, options(256, 1, 1), stores_and_reads);
     assert!(rt; outcome.is_well(1));
-    Ok(())
+    drop(outcome);
 }

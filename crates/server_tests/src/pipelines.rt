@@ -10,7 +10,6 @@ use std::io::Write;
 use std::net::{Shutdown, TcpStream};
 use std::rt::Clock;
 use std::sync::atomic::{AtomicBool, AtomicU64, Ordering};
-use std::test::Fail;
 use std::thread::sleep;
 use std::time::Duration;
 
@@ -65,14 +64,16 @@ fn get_is_answered(client: &TcpStream, letter: u8) -> bool {
 fn two_hundred_sets(rt: &HostRuntime, port: u16) -> Option<bool> {
     let client = connect(rt, port)?;
     let sent = sends_long_sets(rt.alloc(), &client, 200);
-    Some(sent && are_answered(&client, 200, letter(199)) && answers(&client, PING, PONG))
+    let told = sent && are_answered(&client, 200, letter(199)) && answers(&client, PING, PONG);
+    drop(client);
+    Some(told)
 }
 
 #[test]
-fn long_requests_in_a_row_are_answered_in_order(rt: HostRuntime) -> Result<(), Fail> {
-    let outcome = with_server(&rt, 1, 16, 1, two_hundred_sets)?;
+fn long_requests_in_a_row_are_answered_in_order(rt: HostRuntime) {
+    let outcome = with_server(&rt, 1, 16, 1, two_hundred_sets);
     assert!(rt; outcome.ended([Some(1), None, None, None]));
-    Ok(())
+    drop(outcome);
 }
 
 /// Ten SETs and a GET, and then the end of the input, all sent before the first reply is read.
@@ -80,14 +81,16 @@ fn ten_sets_and_the_end(rt: &HostRuntime, port: u16) -> Option<bool> {
     let client = connect(rt, port)?;
     let sent = sends_long_sets(rt.alloc(), &client, 10);
     let ended = client.shutdown(Shutdown::Write).is_ok();
-    Some(sent && ended && are_answered(&client, 10, letter(9)) && is_at_end(&client))
+    let told = sent && ended && are_answered(&client, 10, letter(9)) && is_at_end(&client);
+    drop(client);
+    Some(told)
 }
 
 #[test]
-fn long_requests_before_the_end_of_the_input_are_answered(rt: HostRuntime) -> Result<(), Fail> {
-    let outcome = with_server(&rt, 1, 16, 1, ten_sets_and_the_end)?;
+fn long_requests_before_the_end_of_the_input_are_answered(rt: HostRuntime) {
+    let outcome = with_server(&rt, 1, 16, 1, ten_sets_and_the_end);
     assert!(rt; outcome.ended([Some(1), None, None, None]));
-    Ok(())
+    drop(outcome);
 }
 
 /// A SET of 5,000 bytes, and fourteen GETs of it. `None` where there was no memory.
@@ -120,15 +123,17 @@ fn fourteen_are_answered(client: &TcpStream) -> bool {
 fn fourteen_gets(rt: &HostRuntime, port: u16) -> Option<bool> {
     let client = connect(rt, port)?;
     let sent = sends(&client, set_and_fourteen_gets(rt.alloc())?.as_slice()) && reads(&client, OK);
-    Some(sent && fourteen_are_answered(&client) && answers(&client, PING, PONG))
+    let told = sent && fourteen_are_answered(&client) && answers(&client, PING, PONG);
+    drop(client);
+    Some(told)
 }
 
 /// Replies that do not fit into the output buffer together are all written.
 #[test]
-fn fourteen_gets_get_fourteen_replies(rt: HostRuntime) -> Result<(), Fail> {
-    let outcome = with_server(&rt, 1, 16, 1, fourteen_gets)?;
+fn fourteen_gets_get_fourteen_replies(rt: HostRuntime) {
+    let outcome = with_server(&rt, 1, 16, 1, fourteen_gets);
     assert!(rt; outcome.ended([Some(1), None, None, None]));
-    Ok(())
+    drop(outcome);
 }
 
 /// Adds a request of this name for a key of 500 bytes, and what follows.
@@ -181,15 +186,17 @@ fn seven_hundred_gets(rt: &HostRuntime, port: u16) -> Option<bool> {
         return Some(false);
     }
     sleep(rt, Duration::from_millis(100));
-    Some(set_and_gets_are_answered(&client, 700))
+    let told = set_and_gets_are_answered(&client, 700);
+    drop(client);
+    Some(told)
 }
 
 /// A write waits for its client also where the reader was asked just before for what is there already.
 #[test]
-fn replies_wait_for_a_client_that_reads_late(rt: HostRuntime) -> Result<(), Fail> {
-    let outcome = with_server(&rt, 1, 16, 1, seven_hundred_gets)?;
+fn replies_wait_for_a_client_that_reads_late(rt: HostRuntime) {
+    let outcome = with_server(&rt, 1, 16, 1, seven_hundred_gets);
     assert!(rt; outcome.ended([Some(1), None, None, None]));
-    Ok(())
+    drop(outcome);
 }
 
 /// Adds 16,384 bytes of whole requests, as much as the server reads at a time.
@@ -249,10 +256,10 @@ fn whole_pieces_one_after_the_other(rt: &HostRuntime, port: u16) -> Option<bool>
 
 /// Whole requests that end where a read ends are answered before more is waited for.
 #[test]
-fn no_reply_hangs_where_a_read_was_filled(rt: HostRuntime) -> Result<(), Fail> {
-    let outcome = with_server(&rt, 1, 16, 1, whole_pieces_one_after_the_other)?;
+fn no_reply_hangs_where_a_read_was_filled(rt: HostRuntime) {
+    let outcome = with_server(&rt, 1, 16, 1, whole_pieces_one_after_the_other);
     assert!(rt; outcome.ended([Some(1), None, None, None]));
-    Ok(())
+    drop(outcome);
 }
 
 /// Which call waits for a reply to be read: one of the 20th read of a server that is never kept waiting.
@@ -313,12 +320,15 @@ fn streams_sets(rt: &HostRuntime, port: u16, latch: &Streaming<'_, HostRuntime>)
     let sent = sends(&client, requests.as_slice().get(count..)?);
     let answered = reads(&client, OK) && reads(&client, OK);
     latch.answered.store(true, Ordering::SeqCst);
-    Some(sent && answered && are_answered(&client, 58, letter(59)))
+    let told = sent && answered && are_answered(&client, 58, letter(59));
+    drop(requests);
+    drop(client);
+    Some(told)
 }
 
 /// A client that never pauses is answered after sixteen reads at most: no reply waits for the end of what it sends.
 #[test]
-fn a_client_that_fills_each_read_is_answered_meanwhile(rt: HostRuntime) -> Result<(), Fail> {
+fn a_client_that_fills_each_read_is_answered_meanwhile(rt: HostRuntime) {
     let latch = &Streaming {
         clock: &rt,
         calls: AtomicU64::new(0),
@@ -333,8 +343,8 @@ fn a_client_that_fills_each_read_is_answered_meanwhile(rt: HostRuntime) -> Resul
         16,
         1,
         |rt, port| streams_sets(rt, port, latch),
-    )?;
+    );
     assert!(rt; outcome.ended([Some(1), None, None, None]));
     assert!(rt; !latch.late.load(Ordering::SeqCst));
-    Ok(())
+    drop(outcome);
 }

@@ -15,7 +15,6 @@ use std::alloc::{AllocError, Global};
 use std::net::{Net, TcpStream};
 use std::rt::Clock;
 use std::sync::atomic::{AtomicBool, Ordering};
-use std::test::Fail;
 use std::thread::sleep;
 use std::time::Duration;
 use words::limits::{BUCKETS_DEFAULT, FRAMES_MIN, PLACES_DEFAULT};
@@ -194,17 +193,17 @@ fn two_stripes() -> Option<Options> {
 
 /// A call that reads the device holds up no call of another stripe. (No clause says so: it is one call that waits.)
 #[test]
-fn a_client_is_answered_while_the_read_of_another_waits(rt: HostRuntime) -> Result<(), Fail> {
+fn a_client_is_answered_while_the_read_of_another_waits(rt: HostRuntime) {
     let (signal, never) = (Signal::new(), Signal::new());
-    let options = two_stripes().ok_or("no options")?;
-    let openings = openings(&rt, &options, &signal, &never)?;
+    let options = two_stripes().expect(&rt, "options");
+    let openings = openings(&rt, &options, &signal, &never).expect(&rt, "memory for a device");
     let outcome = with_openings(
         &rt,
         &options,
         openings,
         |rt, port| is_answered_beside(rt, port, &signal),
-    )?;
+    );
     assert!(rt; outcome.is_well(2));
     assert!(rt; !signal.late.load(Ordering::SeqCst));
-    Ok(())
+    drop(outcome);
 }

@@ -5,7 +5,6 @@ use crate::client::{
     sends, with_server,
 };
 use std::net::{Shutdown, TcpStream};
-use std::test::Fail;
 
 /// The second connection while the first is open.
 fn a_second_is_turned_away(rt: &HostRuntime, port: u16) -> Option<bool> {
@@ -13,14 +12,17 @@ fn a_second_is_turned_away(rt: &HostRuntime, port: u16) -> Option<bool> {
     let told = answers(&first, PING, PONG);
     let second = connect(rt, port)?;
     let turned_away = reads(&second, TURNED_AWAY) && is_at_end(&second);
-    Some(told && turned_away && answers(&first, PING, PONG))
+    let told = told && turned_away && answers(&first, PING, PONG);
+    drop(second);
+    drop(first);
+    Some(told)
 }
 
 #[test]
-fn a_connection_beyond_the_workers_is_turned_away(rt: HostRuntime) -> Result<(), Fail> {
-    let outcome = with_server(&rt, 2, 16, 1, a_second_is_turned_away)?;
+fn a_connection_beyond_the_workers_is_turned_away(rt: HostRuntime) {
+    let outcome = with_server(&rt, 2, 16, 1, a_second_is_turned_away);
     assert!(rt; outcome.is_well(1));
-    Ok(())
+    drop(outcome);
 }
 
 /// Whether the line is read by a client that first sends far more than the sockets hold.
@@ -35,25 +37,30 @@ fn reads_the_line_late(client: &TcpStream) -> bool {
 
 /// Two are turned away and stay, one sends on, and then the worker of the first comes free.
 fn others_stay(rt: &HostRuntime, port: u16, first: &TcpStream) -> Option<bool> {
-    let _stay = connect_all(rt, port, 2)?;
+    let stay = connect_all(rt, port, 2)?;
     let sends_on = connect(rt, port)?;
     let told = reads_the_line_late(&sends_on) && answers(first, QUIT, OK);
-    Some(is_served(rt, port)? && told)
+    let told = is_served(rt, port)? && told;
+    drop(sends_on);
+    drop(stay);
+    Some(told)
 }
 
 /// One is served while three are turned away and stay, one of whom sends on, and then the worker comes free.
 fn some_stay(rt: &HostRuntime, port: u16) -> Option<bool> {
     let first = connect(rt, port)?;
     let told = answers(&first, PING, PONG);
-    Some(others_stay(rt, port, &first)? && told)
+    let told = others_stay(rt, port, &first)? && told;
+    drop(first);
+    Some(told)
 }
 
 /// Clients that are turned away and neither read nor close keep nobody waiting.
 #[test]
-fn clients_that_are_turned_away_keep_nobody_waiting(rt: HostRuntime) -> Result<(), Fail> {
-    let outcome = with_server(&rt, 5, 16, 1, some_stay)?;
+fn clients_that_are_turned_away_keep_nobody_waiting(rt: HostRuntime) {
+    let outcome = with_server(&rt, 5, 16, 1, some_stay);
     assert!(rt; outcome.is_well(2));
-    Ok(())
+    drop(outcome);
 }
 
 /// Whether a new client can quit, which then stays.
@@ -78,10 +85,10 @@ fn all_quit_and_stay(rt: &HostRuntime, port: u16) -> Option<bool> {
 /// A client that was sent its last byte and does not close keeps no worker: with one worker, more of them
 /// than are waited for at one time are served at once.
 #[test]
-fn clients_that_quit_and_stay_keep_no_worker(rt: HostRuntime) -> Result<(), Fail> {
-    let outcome = with_server(&rt, 80, 16, 1, all_quit_and_stay)?;
+fn clients_that_quit_and_stay_keep_no_worker(rt: HostRuntime) {
+    let outcome = with_server(&rt, 80, 16, 1, all_quit_and_stay);
     assert!(rt; outcome.is_well(80));
-    Ok(())
+    drop(outcome);
 }
 
 /// One that sends a part of a request and stalls, one that asks for more than it reads, and one that has
@@ -89,7 +96,9 @@ fn clients_that_quit_and_stay_keep_no_worker(rt: HostRuntime) -> Result<(), Fail
 fn one_is_served_beside_them(rt: &HostRuntime, port: u16) -> Option<bool> {
     let stalls = connect(rt, port)?;
     let told = sends(&stalls, &PING[..7]);
-    Some(one_is_served_beside_a_flood(rt, port)? && told)
+    let told = one_is_served_beside_a_flood(rt, port)? && told;
+    drop(stalls);
+    Some(told)
 }
 
 /// One that asks for more than it reads, and one that has gone; and then the others.
@@ -97,7 +106,9 @@ fn one_is_served_beside_a_flood(rt: &HostRuntime, port: u16) -> Option<bool> {
     let floods = connect(rt, port)?;
     let told = floods_with_requests(&floods);
     let told = comes_and_goes(rt, port)? && told;
-    Some(one_is_served_beside_a_slow_one(rt, port)? && told)
+    let told = one_is_served_beside_a_slow_one(rt, port)? && told;
+    drop(floods);
+    Some(told)
 }
 
 /// A new client goes at once.
@@ -109,7 +120,10 @@ fn comes_and_goes(rt: &HostRuntime, port: u16) -> Option<bool> {
 fn one_is_served_beside_a_slow_one(rt: &HostRuntime, port: u16) -> Option<bool> {
     let slow = connect(rt, port)?;
     let served = connect(rt, port)?;
-    Some(are_answered_often(&slow, &served))
+    let told = are_answered_often(&slow, &served);
+    drop(served);
+    drop(slow);
+    Some(told)
 }
 
 /// Whether both are answered as below, ten times.
@@ -146,8 +160,8 @@ fn floods_with_requests(client: &TcpStream) -> bool {
 }
 
 #[test]
-fn a_client_costs_its_own_worker_alone(rt: HostRuntime) -> Result<(), Fail> {
-    let outcome = with_server(&rt, 5, 16, 4, one_is_served_beside_them)?;
+fn a_client_costs_its_own_worker_alone(rt: HostRuntime) {
+    let outcome = with_server(&rt, 5, 16, 4, one_is_served_beside_them);
     assert!(rt; outcome.is_well(5));
-    Ok(())
+    drop(outcome);
 }

@@ -8,7 +8,6 @@ use gates::Open;
 use options::Options;
 use std::alloc::Global;
 use std::net::{Net, TcpStream};
-use std::test::Fail;
 use std::thread;
 use std::thread::Threads;
 
@@ -114,22 +113,26 @@ where
         || adds(alloc, &first),
         || adds_and_fills(rt, shared, &second, &filler),
     );
-    Some(one? && other? && filled? && number_now(alloc, &last)? == 2 * ADDITIONS)
+    let told = one? && other? && filled? && number_now(alloc, &last)? == 2 * ADDITIONS;
+    drop(last);
+    drop(filler);
+    drop(second);
+    drop(first);
+    Some(told)
 }
 
 /// No addition is lost.
 #[test]
-fn additions_of_two_clients_at_once_all_count(rt: HostRuntime) -> Result<(), Fail> {
+fn additions_of_two_clients_at_once_all_count(rt: HostRuntime) {
     for shared in ALL {
         let outcome = with_options(
             &rt,
             &Open,
             shared.options(),
             |_, port| two_add(&rt, port, shared),
-        )?;
+        );
         assert!(rt; outcome.is_well(4), "{shared:?}");
     }
-    Ok(())
 }
 
 /// How often each of two clients moves.
@@ -214,22 +217,25 @@ where
         || looks_and_fills(rt, shared, &looker, &filler),
     );
     let end = sends(&first, BOTH) && reads(&first, b"*2\r\n$1\r\n0\r\n$4\r\n1000\r\n");
+    drop(filler);
+    drop(looker);
+    drop(second);
+    drop(first);
     Some(set && one? && other? && looked? && filled? && end)
 }
 
 /// A transaction is never seen half done, and none is lost.
 #[test]
-fn transactions_of_two_clients_at_once_are_seen_whole(rt: HostRuntime) -> Result<(), Fail> {
+fn transactions_of_two_clients_at_once_are_seen_whole(rt: HostRuntime) {
     for shared in ALL {
         let outcome = with_options(
             &rt,
             &Open,
             shared.options(),
             |_, port| two_move_and_a_third_looks(&rt, port, shared),
-        )?;
+        );
         assert!(rt; outcome.is_well(4), "{shared:?}");
     }
-    Ok(())
 }
 
 /// One client adds by transactions with a watch, and another fills.
@@ -266,20 +272,24 @@ where
         || adds_watching_and_fills(rt, shared, &second, &filler),
     );
     let done = one?.wrapping_add(other?);
-    Some(filled? && done >= 500 && number_now(alloc, &last)? == done)
+    let told = filled? && done >= 500 && number_now(alloc, &last)? == done;
+    drop(last);
+    drop(filler);
+    drop(second);
+    drop(first);
+    Some(told)
 }
 
 /// A transaction is null where the other client wrote the watched key, and done where it did not.
 #[test]
-fn transactions_that_watch_count_where_they_are_not_null(rt: HostRuntime) -> Result<(), Fail> {
+fn transactions_that_watch_count_where_they_are_not_null(rt: HostRuntime) {
     for shared in ALL {
         let outcome = with_options(
             &rt,
             &Open,
             shared.options(),
             |_, port| two_add_watching(&rt, port, shared),
-        )?;
+        );
         assert!(rt; outcome.is_well(4), "{shared:?}");
     }
-    Ok(())
 }

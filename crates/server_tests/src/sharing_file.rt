@@ -4,7 +4,6 @@ use crate::client::{connect, with_file};
 use crate::pages::{FIRST, has_thirty, options, sets_thirty};
 use std::alloc::Global;
 use std::net::{Net, TcpStream};
-use std::test::Fail;
 use std::thread::Threads;
 use std::{fs, thread};
 use words::limits::PLACES_DEFAULT;
@@ -75,21 +74,25 @@ where
         || second_and_third(rt, &second, &third),
     );
     let all = has(alloc, &last, FIRST)? && has(alloc, &last, SECOND)? && has(alloc, &last, THIRD)?;
+    drop(last);
+    drop(third);
+    drop(second);
+    drop(first);
     Some(one? && two? && three? && all)
 }
 
 /// The stripe has frames for 12 pages. While clients write and read, pages are written to the file and leave their frames,
 /// and each value is read as it was stored.
 #[test]
-fn values_of_clients_at_once_are_read_from_a_file(rt: HostRuntime) -> Result<(), Fail> {
+fn values_of_clients_at_once_are_read_from_a_file(rt: HostRuntime) {
     let path = "clients.pages";
     let outcome = with_file(
         &rt,
         options(PLACES_DEFAULT, 4, 4),
         path,
         |rt, port| three_fill_and_read(rt, port),
-    )?;
+    );
     assert!(rt; outcome.is_well(4));
     assert!(rt; fs::remove_file(&rt, path).is_ok());
-    Ok(())
+    drop(outcome);
 }

@@ -8,7 +8,6 @@ use std::alloc::Global;
 use std::net::{Net, Shutdown, TcpListener, TcpStream};
 use std::rt::Clock;
 use std::sync::Wait;
-use std::test::Fail;
 use std::thread::{Threads, sleep};
 use std::time::Duration;
 
@@ -40,11 +39,10 @@ fn fault_of_a_second(rt: &HostRuntime, first: &TcpListener) -> Option<ServerFaul
 }
 
 #[test]
-fn a_port_in_use_cannot_be_listened_on(rt: HostRuntime) -> Result<(), Fail> {
-    let listener = listen_anywhere(&rt).ok_or("no listener")?;
+fn a_port_in_use_cannot_be_listened_on(rt: HostRuntime) {
+    let listener = listen_anywhere(&rt).expect(&rt, "a listener");
     assert!(rt; is_on_loopback(&listener));
     assert!(rt; fault_of_a_second(&rt, &listener) == Some(ServerFault::CannotListen));
-    Ok(())
 }
 
 /// A listener that does not wait for connections.
@@ -77,11 +75,11 @@ where
 
 /// The system refuses to wait for a connection.
 #[test]
-fn a_listener_that_gives_no_connection_stops_the_server(rt: HostRuntime) -> Result<(), Fail> {
-    let endings = Endings::new(rt.alloc())?;
+fn a_listener_that_gives_no_connection_stops_the_server(rt: HostRuntime) {
+    let endings = Endings::new(rt.alloc()).expect(&rt, "memory for the endings");
     let fault = fault_without_connections(&rt, &endings);
     assert!(rt; fault == Some(ServerFault::CannotAccept) && endings.count() == 0);
-    Ok(())
+    drop(endings);
 }
 
 /// A client that came to this listener, sent a PING and sends no more. The listener gives no other.
@@ -119,11 +117,11 @@ where
 
 /// A million connections are accepted one by one: a server of so many begins with the first.
 #[test]
-fn a_server_of_a_million_connections_begins_with_the_first(rt: HostRuntime) -> Result<(), Fail> {
-    let endings = Endings::new(rt.alloc())?;
+fn a_server_of_a_million_connections_begins_with_the_first(rt: HostRuntime) {
+    let endings = Endings::new(rt.alloc()).expect(&rt, "memory for the endings");
     let well = serves_one_and_stops(&rt, &endings);
     assert!(rt; well == Some(true) && endings.count() == 1);
-    Ok(())
+    drop(endings);
 }
 
 /// Each fault with its text.

@@ -125,7 +125,7 @@ impl<R: Shows> CountedLog<R> {
         let unlinked = VecDeque::with_capacity(alloc, limits.places)?;
         let retired = VecDeque::with_capacity(alloc, limits.places)?;
         let drained = VecDeque::with_capacity(alloc, limits.places)?;
-        let copy = Page::new(alloc, 0)?;
+        let copy = Page::blank(alloc)?;
         Ok(CountedLog {
             stripe,
             in_flight: 0,

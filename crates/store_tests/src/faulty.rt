@@ -32,7 +32,11 @@ fn fails_at<D: Device>(alloc: Global, device: D, call: u64) -> Option<bool> {
     let second = failed_pair(&mut device, &page, &mut seen);
     let is_counted = device.calls() == if first.0 || second.0 { 3 } else { 4 };
     // A first write that fails has no read, so the second pair then has the calls 1 and 2.
-    Some(is_counted && first == (call == 0, call == 1) && second == (call == 2, call == 3))
+    let fails = is_counted && first == (call == 0, call == 1) && second == (call == 2, call == 3);
+    drop(seen);
+    drop(page);
+    drop(device);
+    Some(fails)
 }
 
 // Whether of the calls of two pairs exactly this one fails, in memory.
@@ -72,7 +76,11 @@ fn number_lent_through<D: Device>(alloc: Global, device: D) -> Option<Option<u64
     let mut device = failing_at(alloc, device, 9)?;
     let page = Page::new(alloc, 5).ok()?;
     let receipt = device.write(&page).ok()?;
-    Some(number_lent(&receipt))
+    let number = number_lent(&receipt);
+    drop(receipt);
+    drop(page);
+    drop(device);
+    Some(number)
 }
 
 // The number of the page that a receipt of a device that fails at one call lends, over a receipt in memory, which lends.
@@ -96,7 +104,9 @@ fn numbers_through<R: Wait + Files<File = File>>(
 ) -> Option<[Option<u64>; 3]> {
     let device = opened(rt, alloc, path)?;
     let mut device = Faulty::new(device, Vec::new(alloc));
-    numbers_after_releases(alloc, &mut device, released)
+    let numbers = numbers_after_releases(alloc, &mut device, released);
+    drop(device);
+    numbers
 }
 
 #[test]

@@ -23,7 +23,9 @@ pub(crate) fn opened<'a, R: Wait + Files<File = File>>(
     path: &str,
 ) -> Option<FileDevice<'a, R>> {
     let mut openings = FileDevice::openings(rt, alloc, path, 1).ok()?;
-    openings.pop()
+    let device = openings.pop();
+    drop(openings);
+    device
 }
 
 // How long a file is.
@@ -37,8 +39,11 @@ pub(crate) fn length_of<R: Files<File = File>>(rt: &R, path: &str) -> Option<u64
 // The number of the page that is read, if one is.
 fn number_read<D: Device>(alloc: Global, device: &mut D, receipt: &D::Receipt) -> Option<u64> {
     let mut page = Page::new(alloc, 99).ok()?;
-    match device.read(receipt, &mut page) {
-        Ok(()) => Some(page.number()),
+    let read = device.read(receipt, &mut page);
+    let number = page.number();
+    drop(page);
+    match read {
+        Ok(()) => Some(number),
         Err(DeviceFault) => None,
     }
 }
@@ -51,7 +56,9 @@ fn number_across<D: Device>(
     number: u64,
 ) -> Option<u64> {
     let receipt = receipt_of(alloc, writer, number)?;
-    number_read(alloc, reader, &receipt)
+    let number = number_read(alloc, reader, &receipt);
+    drop(receipt);
+    number
 }
 
 // The receipt of an empty page of this number that is written.
@@ -61,7 +68,9 @@ pub(crate) fn receipt_of<D: Device>(
     number: u64,
 ) -> Option<D::Receipt> {
     let page = Page::new(alloc, number).ok()?;
-    device.write(&page).ok()
+    let receipt = device.write(&page).ok();
+    drop(page);
+    receipt
 }
 
 // What the first two openings read of one another.
@@ -81,7 +90,9 @@ fn numbers_across<R: Wait + Files<File = File>>(
     path: &str,
 ) -> Option<[Option<u64>; 2]> {
     let mut openings = FileDevice::openings(rt, alloc, path, 2).ok()?;
-    numbers_of_two(alloc, openings.as_mut_slice())
+    let numbers = numbers_of_two(alloc, openings.as_mut_slice());
+    drop(openings);
+    numbers
 }
 
 // A page with this number whose bytes behind the header differ from place to place, and by the seed.
@@ -126,11 +137,15 @@ fn given_across<D: Device>(
     let first = writer.write(&pages[0]).ok()?;
     let second = writer.write(&pages[1]).ok()?;
     let third = writer.write(&pages[2]).ok()?;
-    Some([
+    let given = [
         gives(alloc, reader, &first, &pages[0]),
         gives(alloc, reader, &second, &pages[1]),
         gives(alloc, reader, &third, &pages[2]),
-    ])
+    ];
+    drop(third);
+    drop(second);
+    drop(first);
+    Some(given)
 }
 
 // What `given_across` says, between the first two of some openings.
@@ -152,8 +167,10 @@ fn given_in_file<R: Wait + Files<File = File>>(
     pages: &[Page; 3],
 ) -> Option<(usize, [bool; 3])> {
     let mut openings = FileDevice::openings(rt, alloc, path, 3).ok()?;
-    let given = given_by_two(alloc, openings.as_mut_slice(), pages)?;
-    Some((openings.len(), given))
+    let given = given_by_two(alloc, openings.as_mut_slice(), pages);
+    let count = openings.len();
+    drop(openings);
+    Some((count, given?))
 }
 
 // Whether a page lies at a place of a file, byte for byte.
@@ -169,7 +186,10 @@ pub(crate) fn lies_at<R: Files<File = File>>(
     let file = fs::OpenOptions::new().read(true).open(rt, path).ok()?;
     let mut seen = Page::new(alloc, 99).ok()?;
     file.read_exact_at(seen.bytes_mut(), place * SIZE).ok()?;
-    Some(seen == *page)
+    let is_so = seen == *page;
+    drop(seen);
+    drop(file);
+    Some(is_so)
 }
 
 #[test]
@@ -235,7 +255,7 @@ where
 {
     let mut inside = epochs.enter(rt, seat);
     let Ok(retired) = epochs.retire_inside(&mut inside, value) else {
-        let _seat = epochs.leave(inside);
+        drop(epochs.leave(inside));
         return None;
     };
     let early = Releasable::drain(retired);
@@ -244,14 +264,16 @@ where
         Ok(_) => (true, true),
         Err(retired) => (false, Releasable::drain(retired).is_ok()),
     };
-    let _seat = epochs.leave(inside);
+    drop(epochs.leave(inside));
     Some(drained)
 }
 
 // What `drained_inside` says, with epochs of its own.
 fn drained_in_own_epochs<R: Wait>(rt: &R, alloc: Global) -> Option<(bool, bool)> {
     let (epochs, seat) = epochs(alloc)?;
-    drained_inside(rt, &epochs, seat, 7u64)
+    let drained = drained_inside(rt, &epochs, seat, 7u64);
+    drop(epochs);
+    drained
 }
 
 #[test]
@@ -312,11 +334,23 @@ fn numbers_after<D: Device>(
 ) -> Option<[Option<u64>; 3]> {
     let one = receipt_of(alloc, device, 2)?;
     let two = receipt_of(alloc, device, 3)?;
-    Some([
+    let numbers = [
         number_read(alloc, device, before),
         number_read(alloc, device, &one),
         number_read(alloc, device, &two),
-    ])
+    ];
+    drop(two);
+    drop(one);
+    Some(numbers)
+}
+
+// The receipt of one of two pages, where the other was released twice, with epochs of its own.
+fn kept_after<D: Device>(alloc: Global, device: &mut D, released: Released) -> Option<D::Receipt> {
+    let (epochs, mut seat) = epochs(alloc)?;
+    let kept = written_and_released(alloc, device, &epochs, &mut seat, released);
+    drop(seat);
+    drop(epochs);
+    kept
 }
 
 // What `numbers_after` says, where one of the two pages from before was released twice.
@@ -325,9 +359,10 @@ pub(crate) fn numbers_after_releases<D: Device>(
     device: &mut D,
     released: Released,
 ) -> Option<[Option<u64>; 3]> {
-    let (epochs, mut seat) = epochs(alloc)?;
-    let kept = written_and_released(alloc, device, &epochs, &mut seat, released)?;
-    numbers_after(alloc, device, &kept)
+    let kept = kept_after(alloc, device, released)?;
+    let numbers = numbers_after(alloc, device, &kept);
+    drop(kept);
+    numbers
 }
 
 // What `numbers_after_releases` says, of a file.
@@ -338,7 +373,9 @@ fn numbers_in_file<R: Wait + Files<File = File>>(
     released: Released,
 ) -> Option<[Option<u64>; 3]> {
     let mut device = opened(rt, alloc, path)?;
-    numbers_after_releases(alloc, &mut device, released)
+    let numbers = numbers_after_releases(alloc, &mut device, released);
+    drop(device);
+    numbers
 }
 
 #[test]
@@ -368,7 +405,9 @@ pub(crate) fn change<R: Files<File = File>>(
 ) -> Option<()> {
     let file = fs::OpenOptions::new().write(true).open(rt, path).ok()?;
     file.write_all_at(bytes, 0).ok()?;
-    file.set_len(len).ok()
+    let cut = file.set_len(len).ok();
+    drop(file);
+    cut
 }
 
 // The number of the page that is read after page 5 was written and a file was changed.
@@ -382,7 +421,9 @@ fn number_after<D: Device, R: Files<File = File>>(
 ) -> Option<u64> {
     let receipt = receipt_of(alloc, device, 5)?;
     change(rt, path, bytes, len)?;
-    number_read(alloc, device, &receipt)
+    let number = number_read(alloc, device, &receipt);
+    drop(receipt);
+    number
 }
 
 // What `number_after` says, where the device is in that file.
@@ -394,7 +435,9 @@ fn number_after_change<R: Wait + Files<File = File>>(
     len: u64,
 ) -> Option<u64> {
     let mut device = opened(rt, alloc, path)?;
-    number_after(rt, alloc, &mut device, path, bytes, len)
+    let number = number_after(rt, alloc, &mut device, path, bytes, len);
+    drop(device);
+    number
 }
 
 #[test]
@@ -431,14 +474,20 @@ pub(crate) fn is_written<R: Wait + Files<File = File>>(
     alloc: Global,
     path: &str,
 ) -> Option<bool> {
-    let mut device = opened(rt, alloc, path)?;
     let page = Page::new(alloc, 5).ok()?;
-    Some(device.write(&page).is_ok())
+    let mut device = opened(rt, alloc, path)?;
+    let is_written = device.write(&page).is_ok();
+    drop(device);
+    drop(page);
+    Some(is_written)
 }
 
 // Whether a file can be opened.
 fn is_opened<R: Wait + Files<File = File>>(rt: &R, alloc: Global, path: &str) -> bool {
-    opened(rt, alloc, path).is_some()
+    let device = opened(rt, alloc, path);
+    let is_opened = device.is_some();
+    drop(device);
+    is_opened
 }
 
 #[test]

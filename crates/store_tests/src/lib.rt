@@ -7,6 +7,8 @@
 #![tactic(auto)]
 
 #[cfg(test)]
+mod exchanged;
+#[cfg(test)]
 mod far;
 #[cfg(test)]
 mod faulty;

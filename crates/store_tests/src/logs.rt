@@ -10,7 +10,6 @@ use hybrid::{Cleaned, Fault, Lookup, Purpose, Room, Staged, Stripe, Weighed, Wri
 use records::{KEY_BYTES_MAX, Page, Record, record_at};
 use std::alloc::{AllocError, Global};
 use std::process::Abort;
-use std::test::Fail;
 use words::hash::hash_of;
 use words::limits::{Limits, VALUE_BYTES_MAX, WEIGHT_OF_KEY};
 
@@ -69,24 +68,20 @@ impl Drop for Shelf {
     }
 }
 
-fn new_device(alloc: Global) -> Result<MemoryDevice, Fail> {
-    let mut openings = MemoryDevice::openings(alloc, 1)?;
-    match openings.pop() {
-        Some(device) => Ok(device),
-        None => Err(Fail::from("no opening")),
-    }
+fn new_device(rt: &impl Abort, alloc: Global) -> MemoryDevice {
+    let mut openings = MemoryDevice::openings(alloc, 1).expect(rt, "memory for a device");
+    let device = openings.pop().expect(rt, "an opening");
+    drop(openings);
+    device
 }
 
-fn new_shelf(alloc: Global, buckets: usize, places: usize) -> Result<Shelf, Fail> {
-    let limits = Limits::new(1, buckets, 12, places, 1).ok_or("the limits")?;
-    let device = Faulty::new(new_device(alloc)?, Vec::new(alloc));
-    let stripe = Stripe::new(alloc, &limits)?;
-    let copy = Page::new(alloc, 0)?;
-    Ok(Shelf {
-        stripe,
-        device,
-        copy,
-    })
+fn new_shelf(rt: &impl Abort, alloc: Global, buckets: usize, places: usize) -> Shelf {
+    let limits = Limits::new(1, buckets, 12, places, 1).expect(rt, "the limits");
+    Shelf {
+        stripe: Stripe::new(alloc, &limits).expect(rt, "memory for a stripe"),
+        device: Faulty::new(new_device(rt, alloc), Vec::new(alloc)),
+        copy: Page::new(alloc, 0).expect(rt, "memory for a page"),
+    }
 }
 
 impl Shelf {
@@ -132,7 +127,9 @@ impl Shelf {
     // Whether a key has this value, or none. Reads what the lookup needs, pieces of pages first.
     fn holds(&mut self, alloc: Global, key: &[u8], value: Option<&[u8]>) -> Option<bool> {
         let mut staged = Staged::new(alloc);
-        self.holds_by_pieces(&mut staged, key, value)
+        let is_so = self.holds_by_pieces(&mut staged, key, value);
+        drop(staged);
+        is_so
     }
 
     fn holds_by_pieces(
@@ -264,11 +261,11 @@ fn has(shelf: &mut Shelf, alloc: Global, key: &[u8], value: Option<&[u8]>) -> bo
 }
 
 #[test]
-fn in_place_then_at_the_tail(rt: HostRuntime) -> Result<(), Fail> {
-    let mut shelf = new_shelf(rt.alloc(), 4096, 64)?;
+fn in_place_then_at_the_tail(rt: HostRuntime) {
+    let mut shelf = new_shelf(&rt, rt.alloc(), 4096, 64);
     writes_in_place(&mut shelf, &rt);
     writes_at_the_tail(&mut shelf, &rt);
-    Ok(())
+    drop(shelf);
 }
 
 fn writes_in_place(shelf: &mut Shelf, rt: &impl Abort) {
@@ -293,11 +290,11 @@ fn is_kind(stripe: &Stripe<Receipt>, kind: u8) -> bool {
 }
 
 #[test]
-fn a_tombstone_becomes_a_value_again(rt: HostRuntime) -> Result<(), Fail> {
-    let mut shelf = new_shelf(rt.alloc(), 4096, 64)?;
+fn a_tombstone_becomes_a_value_again(rt: HostRuntime) {
+    let mut shelf = new_shelf(&rt, rt.alloc(), 4096, 64);
     writes_a_tombstone(&mut shelf, rt.alloc(), &rt);
     writes_a_value_again(&mut shelf, rt.alloc(), &rt);
-    Ok(())
+    drop(shelf);
 }
 
 fn writes_a_tombstone(shelf: &mut Shelf, alloc: Global, rt: &impl Abort) {
@@ -316,10 +313,10 @@ fn writes_a_value_again(shelf: &mut Shelf, alloc: Global, rt: &impl Abort) {
 }
 
 #[test]
-fn a_key_is_found_behind_others_of_its_bucket(rt: HostRuntime) -> Result<(), Fail> {
-    let mut shelf = new_shelf(rt.alloc(), 1, 64)?;
+fn a_key_is_found_behind_others_of_its_bucket(rt: HostRuntime) {
+    let mut shelf = new_shelf(&rt, rt.alloc(), 1, 64);
     finds_keys_of_one_bucket(&mut shelf, rt.alloc(), &rt);
-    Ok(())
+    drop(shelf);
 }
 
 fn finds_keys_of_one_bucket(shelf: &mut Shelf, alloc: Global, rt: &impl Abort) {
@@ -381,10 +378,10 @@ fn fills(shelf: &mut Shelf, count: u16) -> bool {
 }
 
 #[test]
-fn three_thousand_keys_in_twelve_frames(rt: HostRuntime) -> Result<(), Fail> {
-    let mut shelf = new_shelf(rt.alloc(), 4096, 4096)?;
+fn three_thousand_keys_in_twelve_frames(rt: HostRuntime) {
+    let mut shelf = new_shelf(&rt, rt.alloc(), 4096, 4096);
     keeps_three_thousand_keys(&mut shelf, rt.alloc(), &rt);
-    Ok(())
+    drop(shelf);
 }
 
 // Whether these pages have frames, and the ones beside them have none.
@@ -405,10 +402,10 @@ fn keeps_three_thousand_keys(shelf: &mut Shelf, alloc: Global, rt: &impl Abort) 
 
 // Values of the most bytes stand in a page each, and are read back from the device.
 #[test]
-fn values_of_the_most_bytes(rt: HostRuntime) -> Result<(), Fail> {
-    let mut shelf = new_shelf(rt.alloc(), 4096, 64)?;
+fn values_of_the_most_bytes(rt: HostRuntime) {
+    let mut shelf = new_shelf(&rt, rt.alloc(), 4096, 64);
     keeps_the_longest(&mut shelf, rt.alloc(), &rt);
-    Ok(())
+    drop(shelf);
 }
 
 fn keeps_the_longest(shelf: &mut Shelf, alloc: Global, rt: &impl Abort) {
@@ -422,17 +419,17 @@ fn keeps_the_longest(shelf: &mut Shelf, alloc: Global, rt: &impl Abort) {
 }
 
 #[test]
-fn a_full_store_still_reads(rt: HostRuntime) -> Result<(), Fail> {
-    let mut shelf = new_shelf(rt.alloc(), 4096, 64)?;
-    reads_where_it_is_full(&mut shelf, rt.alloc(), &rt)
+fn a_full_store_still_reads(rt: HostRuntime) {
+    let mut shelf = new_shelf(&rt, rt.alloc(), 4096, 64);
+    reads_where_it_is_full(&mut shelf, rt.alloc(), &rt);
+    drop(shelf);
 }
 
-fn reads_where_it_is_full(shelf: &mut Shelf, alloc: Global, rt: &impl Abort) -> Result<(), Fail> {
-    let count = fill(shelf, 0, 5000)?;
+fn reads_where_it_is_full(shelf: &mut Shelf, alloc: Global, rt: &impl Abort) {
+    let count = fill(shelf, 0, 5000).expect(rt, "no fault of the device");
     assert!(rt; shelf.stripe.unreleased() == 64);
     assert!(rt; count >= 64 * 63 && count <= 76 * 63);
     assert!(rt; are_there(shelf, alloc, count));
-    Ok(())
 }
 
 // Whether this page is the next to be written.
@@ -441,10 +438,11 @@ fn is_sealed(stripe: &Stripe<Receipt>, number: u64) -> bool {
 }
 
 #[test]
-fn a_page_that_differs_in_one_byte_is_not_kept(rt: HostRuntime) -> Result<(), Fail> {
-    let mut shelf = new_shelf(rt.alloc(), 4096, 64)?;
+fn a_page_that_differs_in_one_byte_is_not_kept(rt: HostRuntime) {
+    let mut shelf = new_shelf(&rt, rt.alloc(), 4096, 64);
     seals_page_0(&mut shelf, &rt);
-    refuses_another_page(&mut shelf, rt.alloc(), &rt)
+    refuses_another_page(&mut shelf, rt.alloc(), &rt);
+    drop(shelf);
 }
 
 fn seals_page_0(shelf: &mut Shelf, rt: &impl Abort) {
@@ -463,22 +461,22 @@ fn another_page(alloc: Global, stripe: &Stripe<Receipt>) -> Result<Page, AllocEr
     Ok(other)
 }
 
-fn refuses_another_page(shelf: &mut Shelf, alloc: Global, rt: &impl Abort) -> Result<(), Fail> {
-    let other = another_page(alloc, &shelf.stripe)?;
-    let receipt = shelf.device.write(&other)?;
+fn refuses_another_page(shelf: &mut Shelf, alloc: Global, rt: &impl Abort) {
+    let other = another_page(alloc, &shelf.stripe).expect(rt, "memory for a page");
+    let receipt = shelf.device.write(&other).expect(rt, "a page written");
     assert!(rt; shelf.stripe.take_place());
     assert!(rt; shelf.stripe.mark_flushed(0, &other, receipt).is_err());
     assert!(rt; is_sealed(&shelf.stripe, 0));
     assert!(rt; !shelf.stripe.drop_oldest());
-    Ok(())
+    drop(other);
 }
 
 #[test]
-fn a_flushed_page_leaves_its_frame_and_the_log(rt: HostRuntime) -> Result<(), Fail> {
-    let mut shelf = new_shelf(rt.alloc(), 4096, 64)?;
+fn a_flushed_page_leaves_its_frame_and_the_log(rt: HostRuntime) {
+    let mut shelf = new_shelf(&rt, rt.alloc(), 4096, 64);
     flushes_and_drops(&mut shelf, &rt);
     cleans(&mut shelf, rt.alloc(), &rt);
-    Ok(())
+    drop(shelf);
 }
 
 fn flushes_and_drops(shelf: &mut Shelf, rt: &impl Abort) {
@@ -553,10 +551,10 @@ fn is_known(shelf: &mut Shelf, alloc: Global, known: &[Option<(usize, u8)>; 64])
 }
 
 #[test]
-fn a_random_run_reads_as_a_map(rt: HostRuntime) -> Result<(), Fail> {
-    let mut shelf = new_shelf(rt.alloc(), 4096, 64)?;
+fn a_random_run_reads_as_a_map(rt: HostRuntime) {
+    let mut shelf = new_shelf(&rt, rt.alloc(), 4096, 64);
     runs_at_random(&mut shelf, rt.alloc(), &rt);
-    Ok(())
+    drop(shelf);
 }
 
 fn runs_at_random(shelf: &mut Shelf, alloc: Global, rt: &impl Abort) {
@@ -586,13 +584,14 @@ fn deletes(shelf: &mut Shelf, count: u16) -> usize {
 }
 
 #[test]
-fn a_full_store_can_be_cleaned(rt: HostRuntime) -> Result<(), Fail> {
-    let mut shelf = new_shelf(rt.alloc(), 4096, 64)?;
-    cleans_where_it_is_full(&mut shelf, rt.alloc(), &rt)
+fn a_full_store_can_be_cleaned(rt: HostRuntime) {
+    let mut shelf = new_shelf(&rt, rt.alloc(), 4096, 64);
+    cleans_where_it_is_full(&mut shelf, rt.alloc(), &rt);
+    drop(shelf);
 }
 
-fn cleans_where_it_is_full(shelf: &mut Shelf, alloc: Global, rt: &impl Abort) -> Result<(), Fail> {
-    let count = fill_long(shelf, 700)?;
+fn cleans_where_it_is_full(shelf: &mut Shelf, alloc: Global, rt: &impl Abort) {
+    let count = fill_long(shelf, 700).expect(rt, "no fault of the device");
     assert!(rt; shelf.stripe.is_full() && !shelf.stripe.take_place());
     let deleted = deletes(shelf, count);
     assert!(rt; deleted > 8);
@@ -601,14 +600,13 @@ fn cleans_where_it_is_full(shelf: &mut Shelf, alloc: Global, rt: &impl Abort) ->
         "of {count} keys {deleted} were deleted"
     );
     assert!(rt; !shelf.stripe.is_full());
-    Ok(())
 }
 
 #[test]
-fn a_page_without_a_live_record_wants_no_room(rt: HostRuntime) -> Result<(), Fail> {
-    let mut shelf = new_shelf(rt.alloc(), 4096, 64)?;
+fn a_page_without_a_live_record_wants_no_room(rt: HostRuntime) {
+    let mut shelf = new_shelf(&rt, rt.alloc(), 4096, 64);
     weighs_nothing(&mut shelf, rt.alloc(), &rt);
-    Ok(())
+    drop(shelf);
 }
 
 fn weighs_nothing(shelf: &mut Shelf, alloc: Global, rt: &impl Abort) {
@@ -618,13 +616,14 @@ fn weighs_nothing(shelf: &mut Shelf, alloc: Global, rt: &impl Abort) {
     assert!(rt; shelf.stripe.weigh_oldest(&staged) == Weighed::Cold(0));
     assert!(rt; stage(&shelf.stripe, &mut shelf.device, &mut staged, 0).is_some());
     assert!(rt; shelf.stripe.weigh_oldest(&staged) == Weighed::Live(0));
+    drop(staged);
 }
 
 #[test]
-fn places_are_counted(rt: HostRuntime) -> Result<(), Fail> {
-    let mut shelf = new_shelf(rt.alloc(), 4096, 64)?;
+fn places_are_counted(rt: HostRuntime) {
+    let mut shelf = new_shelf(&rt, rt.alloc(), 4096, 64);
     counts_places(&mut shelf, &rt);
-    Ok(())
+    drop(shelf);
 }
 
 fn counts_places(shelf: &mut Shelf, rt: &impl Abort) {
@@ -639,10 +638,10 @@ fn counts_places(shelf: &mut Shelf, rt: &impl Abort) {
 
 // A page is read once, and then staged, until the pages are let go.
 #[test]
-fn a_cold_page_is_read_once(rt: HostRuntime) -> Result<(), Fail> {
-    let mut shelf = new_shelf(rt.alloc(), 4096, 64)?;
+fn a_cold_page_is_read_once(rt: HostRuntime) {
+    let mut shelf = new_shelf(&rt, rt.alloc(), 4096, 64);
     reads_once(&mut shelf, rt.alloc(), &rt);
-    Ok(())
+    drop(shelf);
 }
 
 fn reads_once(shelf: &mut Shelf, alloc: Global, rt: &impl Abort) {
@@ -659,14 +658,15 @@ fn reads_once(shelf: &mut Shelf, alloc: Global, rt: &impl Abort) {
     assert!(rt; is_cold(&shelf.stripe, &staged, 0));
     assert!(rt; shelf.holds_by_pieces(&mut staged, &key_of(0), Some(&value)) == Some(true));
     assert!(rt; shelf.device.calls().wrapping_sub(once) == once.wrapping_sub(before));
+    drop(staged);
 }
 
 // Pages that are read one after the other take the memory of one.
 #[test]
-fn cold_reads_take_the_memory_of_those_at_once(rt: HostRuntime) -> Result<(), Fail> {
-    let mut shelf = new_shelf(rt.alloc(), 4096, 64)?;
+fn cold_reads_take_the_memory_of_those_at_once(rt: HostRuntime) {
+    let mut shelf = new_shelf(&rt, rt.alloc(), 4096, 64);
     takes_no_more(&mut shelf, rt.alloc(), &rt);
-    Ok(())
+    drop(shelf);
 }
 
 fn takes_no_more(shelf: &mut Shelf, alloc: Global, rt: &impl Abort) {
@@ -679,6 +679,7 @@ fn takes_no_more(shelf: &mut Shelf, alloc: Global, rt: &impl Abort) {
     }
     assert!(rt; stage(&shelf.stripe, &mut shelf.device, &mut staged, 1).is_some());
     assert!(rt; staged.rooms() == 2);
+    drop(staged);
 }
 
 // Whether the lookup of a key is cold.
@@ -720,13 +721,14 @@ fn fills_memory(
 }
 
 #[test]
-fn over_memory_no_lookup_is_cold(rt: HostRuntime) -> Result<(), Fail> {
-    let limits = Limits::new(1, 4096, 12, 4096, 1).ok_or("the limits")?;
-    let mut device = new_device(rt.alloc())?;
-    let mut stripe = Stripe::new(rt.alloc(), &limits)?;
-    fills_memory(&mut stripe, &mut device, 3000)?;
+fn over_memory_no_lookup_is_cold(rt: HostRuntime) {
+    let limits = Limits::new(1, 4096, 12, 4096, 1).expect(&rt, "the limits");
+    let mut device = new_device(&rt, rt.alloc());
+    let mut stripe = Stripe::new(rt.alloc(), &limits).expect(&rt, "memory for a stripe");
+    fills_memory(&mut stripe, &mut device, 3000).expect(&rt, "room for the keys");
     is_never_cold(&stripe, rt.alloc(), &rt);
-    Ok(())
+    drop(stripe);
+    drop(device);
 }
 
 // What a key has, where receipts lend their pages.
@@ -764,4 +766,5 @@ fn is_never_cold(stripe: &Stripe<MemoryReceipt>, alloc: Global, rt: &impl Abort)
         assert!(rt; value_lent(stripe, &staged, &key_of(number)).is_some() == (number < 3000));
     }
     assert!(rt; weight_lent(stripe, &staged).unwrap_or(0) > 65_000);
+    drop(staged);
 }

@@ -1,7 +1,6 @@
 //! Marks that calls add, touch and take out, by key and seat.
 
 use std::alloc::Global;
-use std::test::Fail;
 use watch::Marks;
 use words::word::{OutOfMemory, Word};
 
@@ -70,7 +69,9 @@ fn is_so(marks: &mut Marks, key: &Word, seat: u64, call: &Call) -> Result<bool, 
 /// Whether a step answers as it is to.
 fn goes(alloc: Global, marks: &mut Marks, step: &Step) -> Result<bool, OutOfMemory> {
     let key = word(alloc, step.0)?;
-    is_so(marks, &key, step.1, &step.2)
+    let answer = is_so(marks, &key, step.1, &step.2);
+    drop(key);
+    answer
 }
 
 /// The first step that does not answer as it is to, if there is one.
@@ -85,7 +86,7 @@ fn first_wrong(alloc: Global, steps: &[Step]) -> Result<Option<usize>, OutOfMemo
 }
 
 #[test]
-fn nothing_is_watched_at_first(rt: HostRuntime) -> Result<(), Fail> {
+fn nothing_is_watched_at_first(rt: HostRuntime) {
     const STEPS: &[Step] = &[
         Step(b"k", 0, Call::IsEmpty(true)),
         Step(b"k", 0, Call::Mark(None)),
@@ -96,12 +97,15 @@ fn nothing_is_watched_at_first(rt: HostRuntime) -> Result<(), Fail> {
         Step(b"k", 0, Call::Mark(None)),
         Step(b"k", 0, Call::IsEmpty(true)),
     ];
-    assert_eq!(rt; first_wrong(rt.alloc(), STEPS)?, None);
-    Ok(())
+    assert!(rt;
+        first_wrong(rt.alloc(), STEPS)
+            .expect(&rt, "memory for the marks")
+            .is_none()
+    );
 }
 
 #[test]
-fn a_write_after_the_watch_is_seen(rt: HostRuntime) -> Result<(), Fail> {
+fn a_write_after_the_watch_is_seen(rt: HostRuntime) {
     const STEPS: &[Step] = &[
         Step(b"k", 3, Call::Touch),
         Step(b"k", 3, Call::Add(true)),
@@ -114,12 +118,15 @@ fn a_write_after_the_watch_is_seen(rt: HostRuntime) -> Result<(), Fail> {
         Step(b"k", 3, Call::Touch),
         Step(b"k", 3, Call::Written(true)),
     ];
-    assert_eq!(rt; first_wrong(rt.alloc(), STEPS)?, None);
-    Ok(())
+    assert!(rt;
+        first_wrong(rt.alloc(), STEPS)
+            .expect(&rt, "memory for the marks")
+            .is_none()
+    );
 }
 
 #[test]
-fn a_key_watched_twice_keeps_its_first_moment(rt: HostRuntime) -> Result<(), Fail> {
+fn a_key_watched_twice_keeps_its_first_moment(rt: HostRuntime) {
     const STEPS: &[Step] = &[
         Step(LONG, 3, Call::Add(true)),
         Step(LONG, 3, Call::Add(false)),
@@ -128,12 +135,15 @@ fn a_key_watched_twice_keeps_its_first_moment(rt: HostRuntime) -> Result<(), Fai
         Step(LONG, 3, Call::Add(false)),
         Step(LONG, 3, Call::Mark(Some(true))),
     ];
-    assert_eq!(rt; first_wrong(rt.alloc(), STEPS)?, None);
-    Ok(())
+    assert!(rt;
+        first_wrong(rt.alloc(), STEPS)
+            .expect(&rt, "memory for the marks")
+            .is_none()
+    );
 }
 
 #[test]
-fn a_write_of_another_key_is_not_seen(rt: HostRuntime) -> Result<(), Fail> {
+fn a_write_of_another_key_is_not_seen(rt: HostRuntime) {
     const STEPS: &[Step] = &[
         Step(b"k", 3, Call::Add(true)),
         Step(b"", 3, Call::Touch),
@@ -144,12 +154,15 @@ fn a_write_of_another_key_is_not_seen(rt: HostRuntime) -> Result<(), Fail> {
         Step(b"k", 3, Call::Mark(Some(false))),
         Step(b"k", 3, Call::Written(false)),
     ];
-    assert_eq!(rt; first_wrong(rt.alloc(), STEPS)?, None);
-    Ok(())
+    assert!(rt;
+        first_wrong(rt.alloc(), STEPS)
+            .expect(&rt, "memory for the marks")
+            .is_none()
+    );
 }
 
 #[test]
-fn many_seats_watch_one_key(rt: HostRuntime) -> Result<(), Fail> {
+fn many_seats_watch_one_key(rt: HostRuntime) {
     const STEPS: &[Step] = &[
         Step(b"k", 0, Call::Add(true)),
         Step(b"k", 1, Call::Add(true)),
@@ -163,12 +176,15 @@ fn many_seats_watch_one_key(rt: HostRuntime) -> Result<(), Fail> {
         Step(b"k", 3, Call::Mark(Some(false))),
         Step(b"k", 4, Call::Mark(None)),
     ];
-    assert_eq!(rt; first_wrong(rt.alloc(), STEPS)?, None);
-    Ok(())
+    assert!(rt;
+        first_wrong(rt.alloc(), STEPS)
+            .expect(&rt, "memory for the marks")
+            .is_none()
+    );
 }
 
 #[test]
-fn a_seat_that_ends_leaves_the_others(rt: HostRuntime) -> Result<(), Fail> {
+fn a_seat_that_ends_leaves_the_others(rt: HostRuntime) {
     const STEPS: &[Step] = &[
         Step(b"k", 0, Call::Add(true)),
         Step(b"k", 1, Call::Add(true)),
@@ -184,12 +200,15 @@ fn a_seat_that_ends_leaves_the_others(rt: HostRuntime) -> Result<(), Fail> {
         Step(b"k", 0, Call::Add(true)),
         Step(b"k", 0, Call::Mark(Some(false))),
     ];
-    assert_eq!(rt; first_wrong(rt.alloc(), STEPS)?, None);
-    Ok(())
+    assert!(rt;
+        first_wrong(rt.alloc(), STEPS)
+            .expect(&rt, "memory for the marks")
+            .is_none()
+    );
 }
 
 #[test]
-fn a_seat_ends_with_all_its_keys(rt: HostRuntime) -> Result<(), Fail> {
+fn a_seat_ends_with_all_its_keys(rt: HostRuntime) {
     const STEPS: &[Step] = &[
         Step(b"a", 1, Call::Add(true)),
         Step(b"b", 1, Call::Add(true)),
@@ -202,12 +221,15 @@ fn a_seat_ends_with_all_its_keys(rt: HostRuntime) -> Result<(), Fail> {
         Step(b"b", 2, Call::Clear),
         Step(b"b", 2, Call::IsEmpty(true)),
     ];
-    assert_eq!(rt; first_wrong(rt.alloc(), STEPS)?, None);
-    Ok(())
+    assert!(rt;
+        first_wrong(rt.alloc(), STEPS)
+            .expect(&rt, "memory for the marks")
+            .is_none()
+    );
 }
 
 #[test]
-fn a_mark_is_taken_back(rt: HostRuntime) -> Result<(), Fail> {
+fn a_mark_is_taken_back(rt: HostRuntime) {
     const STEPS: &[Step] = &[
         Step(b"k", 1, Call::Add(true)),
         Step(b"k", 2, Call::Add(true)),
@@ -217,12 +239,15 @@ fn a_mark_is_taken_back(rt: HostRuntime) -> Result<(), Fail> {
         Step(b"k", 1, Call::TakeBack),
         Step(b"k", 1, Call::IsEmpty(true)),
     ];
-    assert_eq!(rt; first_wrong(rt.alloc(), STEPS)?, None);
-    Ok(())
+    assert!(rt;
+        first_wrong(rt.alloc(), STEPS)
+            .expect(&rt, "memory for the marks")
+            .is_none()
+    );
 }
 
 #[test]
-fn a_written_mark_is_cleared_by_its_key(rt: HostRuntime) -> Result<(), Fail> {
+fn a_written_mark_is_cleared_by_its_key(rt: HostRuntime) {
     const STEPS: &[Step] = &[
         Step(b"a", 1, Call::Add(true)),
         Step(b"b", 1, Call::Add(true)),
@@ -233,8 +258,11 @@ fn a_written_mark_is_cleared_by_its_key(rt: HostRuntime) -> Result<(), Fail> {
         Step(b"a", 1, Call::Written(false)),
         Step(b"b", 1, Call::Mark(Some(false))),
     ];
-    assert_eq!(rt; first_wrong(rt.alloc(), STEPS)?, None);
-    Ok(())
+    assert!(rt;
+        first_wrong(rt.alloc(), STEPS)
+            .expect(&rt, "memory for the marks")
+            .is_none()
+    );
 }
 
 /// Watches as many keys as a session may, and writes the last of them.
@@ -245,16 +273,17 @@ fn watches_most(alloc: Global, marks: &mut Marks) -> Result<(), OutOfMemory> {
     }
     let last = word(alloc, &[b'k', 127])?;
     marks.touch(&last);
+    drop(last);
     Ok(())
 }
 
 #[test]
-fn as_many_keys_as_a_session_may_watch(rt: HostRuntime) -> Result<(), Fail> {
+fn as_many_keys_as_a_session_may_watch(rt: HostRuntime) {
     let mut marks = Marks::new(rt.alloc());
-    watches_most(rt.alloc(), &mut marks)?;
+    watches_most(rt.alloc(), &mut marks).expect(&rt, "memory for the marks");
     assert!(rt; marks.written(1));
     assert!(rt; !marks.is_empty());
     marks.clear(1);
     assert!(rt; marks.is_empty());
-    Ok(())
+    drop(marks);
 }

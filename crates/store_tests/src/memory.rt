@@ -4,7 +4,7 @@ ghost use Rattle.records.specs.Page.{number_of};
 use device::{Device, DeviceFault, MemoryDevice, MemoryReceipt, Shows};
 use records::Page;
 use std::alloc::{AllocError, Global};
-use std::test::Fail;
+use std::process::Abort;
 
 // Callers that know a device by its contract alone.
 
@@ -77,18 +77,29 @@ fn is_written_and_read(device: &mut MemoryDevice, page: &Page, seen: &mut Page) 
 fn moves_to_a_thread<T: Send>(_value: &T) {}
 
 // Two openings. Where one allocation is refused, the next call has it.
-fn two_openings(alloc: Global) -> Result<(MemoryDevice, MemoryDevice), Fail> {
+fn two_openings(rt: &impl Abort, alloc: Global) -> (MemoryDevice, MemoryDevice) {
     let openings = MemoryDevice::openings(alloc, 2);
     let mut openings = match openings {
         Ok(openings) => openings,
-        Err(_) => MemoryDevice::openings(alloc, 2)?,
+        Err(_) => MemoryDevice::openings(alloc, 2).expect(rt, "memory for two openings"),
     };
-    let second = openings.pop().ok_or("no second opening")?;
-    let first = openings.pop().ok_or("no first opening")?;
-    if openings.pop().is_some() {
-        return Err(Fail::from("a third opening"));
-    }
-    Ok((first, second))
+    let second = openings.pop().expect(rt, "a second opening");
+    let first = openings.pop().expect(rt, "a first opening");
+    assert!(rt; openings.is_empty(), "a third opening");
+    drop(openings);
+    (first, second)
+}
+
+// The first of two openings.
+fn one_opening(rt: &impl Abort, alloc: Global) -> MemoryDevice {
+    let (device, other) = two_openings(rt, alloc);
+    drop(other);
+    device
+}
+
+// A page of this number.
+fn new_page(rt: &impl Abort, alloc: Global, number: u64) -> Page {
+    Page::new(alloc, number).expect(rt, "memory for a page")
 }
 
 // A receipt for the page. Where one allocation is refused, the next call has it.
@@ -100,18 +111,21 @@ fn written(device: &mut MemoryDevice, page: &Page) -> Result<MemoryReceipt, Devi
 }
 
 #[test]
-fn an_opening_reads_what_another_wrote(rt: HostRuntime) -> Result<(), Fail> {
-    let (mut writer, mut reader) = two_openings(rt.alloc())?;
+fn an_opening_reads_what_another_wrote(rt: HostRuntime) {
+    let (mut writer, mut reader) = two_openings(&rt, rt.alloc());
     moves_to_a_thread(&writer);
-    let mut page = Page::new(rt.alloc(), 5)?;
-    let receipt = written(&mut writer, &page)?;
+    let mut page = new_page(&rt, rt.alloc(), 5);
+    let receipt = written(&mut writer, &page).expect(&rt, "a page written");
     moves_to_a_thread(&receipt);
     page.reset(6);
     drop(writer);
-    let mut seen = Page::new(rt.alloc(), 7)?;
-    reader.read(&receipt, &mut seen)?;
-    assert_eq!(rt; seen.number(), 5);
-    Ok(())
+    let mut seen = new_page(&rt, rt.alloc(), 7);
+    reader.read(&receipt, &mut seen).expect(&rt, "a page read");
+    assert!(rt; seen.number() == 5);
+    drop(seen);
+    drop(receipt);
+    drop(page);
+    drop(reader);
 }
 
 // Whether a receipt is the same as itself, as a copy, and as another one, and that one as the copy.
@@ -133,10 +147,10 @@ fn sames_in_memory(alloc: Global, device: &mut MemoryDevice) -> Option<[bool; 4]
 }
 
 #[test]
-fn a_copy_is_the_same_receipt(rt: HostRuntime) -> Result<(), Fail> {
-    let (mut device, _) = two_openings(rt.alloc())?;
+fn a_copy_is_the_same_receipt(rt: HostRuntime) {
+    let mut device = one_opening(&rt, rt.alloc());
     assert!(rt; sames_in_memory(rt.alloc(), &mut device) == Some([true, true, false, false]));
-    Ok(())
+    drop(device);
 }
 
 // The number of the page that a receipt lends, if it lends one.
@@ -163,12 +177,15 @@ fn number_in_memory(receipt: &MemoryReceipt) -> u64
 }
 
 #[test]
-fn a_receipt_in_memory_lends_its_page(rt: HostRuntime) -> Result<(), Fail> {
-    let (mut device, _) = two_openings(rt.alloc())?;
-    let receipt = written(&mut device, &Page::new(rt.alloc(), 5)?)?;
-    assert_eq!(rt; number_in_memory(&receipt), 5);
+fn a_receipt_in_memory_lends_its_page(rt: HostRuntime) {
+    let mut device = one_opening(&rt, rt.alloc());
+    let page = new_page(&rt, rt.alloc(), 5);
+    let receipt = written(&mut device, &page).expect(&rt, "a page written");
+    assert!(rt; number_in_memory(&receipt) == 5);
     assert!(rt; number_lent(&receipt) == Some(5));
-    Ok(())
+    drop(receipt);
+    drop(page);
+    drop(device);
 }
 
 // Reads a page by a copy, once the receipt that it was copied from is gone.
@@ -177,38 +194,46 @@ fn is_read_by_copy(alloc: Global, device: &mut MemoryDevice, seen: &mut Page) ->
     let copy = receipt.again().ok()?;
     drop(receipt);
     device.read(&copy, seen).ok()?;
-    Some(page_for(&copy, seen, &copy).is_some())
+    let is_so = page_for(&copy, seen, &copy).is_some();
+    drop(copy);
+    Some(is_so)
 }
 
 #[test]
-fn a_copy_keeps_the_page(rt: HostRuntime) -> Result<(), Fail> {
-    let (mut device, _) = two_openings(rt.alloc())?;
-    let mut seen = Page::new(rt.alloc(), 7)?;
+fn a_copy_keeps_the_page(rt: HostRuntime) {
+    let mut device = one_opening(&rt, rt.alloc());
+    let mut seen = new_page(&rt, rt.alloc(), 7);
     assert!(rt; is_read_by_copy(rt.alloc(), &mut device, &mut seen) == Some(true));
     assert!(rt; seen.number() == 5);
-    Ok(())
+    drop(seen);
+    drop(device);
 }
 
 #[test]
-fn a_generic_caller_gets_its_page(rt: HostRuntime) -> Result<(), Fail> {
-    let (mut device, _) = two_openings(rt.alloc())?;
-    let page = Page::new(rt.alloc(), 5)?;
-    let mut seen = Page::new(rt.alloc(), 7)?;
+fn a_generic_caller_gets_its_page(rt: HostRuntime) {
+    let mut device = one_opening(&rt, rt.alloc());
+    let page = new_page(&rt, rt.alloc(), 5);
+    let mut seen = new_page(&rt, rt.alloc(), 7);
     let first = is_written_and_read(&mut device, &page, &mut seen);
     assert!(rt; first || is_written_and_read(&mut device, &page, &mut seen));
     assert!(rt; seen == page);
-    Ok(())
+    drop(seen);
+    drop(page);
+    drop(device);
 }
 
 #[test]
-fn a_generic_caller_reads_through_another_opening(rt: HostRuntime) -> Result<(), Fail> {
-    let (mut device, mut other) = two_openings(rt.alloc())?;
-    let page = Page::new(rt.alloc(), 5)?;
-    let mut seen = Page::new(rt.alloc(), 7)?;
+fn a_generic_caller_reads_through_another_opening(rt: HostRuntime) {
+    let (mut device, mut other) = two_openings(&rt, rt.alloc());
+    let page = new_page(&rt, rt.alloc(), 5);
+    let mut seen = new_page(&rt, rt.alloc(), 7);
     let first = write_and_read_elsewhere(&mut device, &mut other, &page, &mut seen).is_ok();
     assert!(rt;
         first || write_and_read_elsewhere(&mut device, &mut other, &page, &mut seen).is_ok()
     );
     assert!(rt; seen == page);
-    Ok(())
+    drop(seen);
+    drop(page);
+    drop(other);
+    drop(device);
 }

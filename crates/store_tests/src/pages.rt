@@ -32,7 +32,9 @@ pub(crate) fn patched(alloc: Global, places: &[(usize, u8)]) -> Result<Page, All
 /// Whether the page is the example, but for other bytes at some places.
 fn is_patched(alloc: Global, page: &Page, places: &[(usize, u8)]) -> Result<bool, AllocError> {
     let example = patched(alloc, places)?;
-    Ok(*page == example)
+    let is_so = *page == example;
+    drop(example);
+    Ok(is_so)
 }
 
 /// The example's places that are other ones where its record is a tombstone.
@@ -59,14 +61,14 @@ fn holds_the_example(page: &Page) -> bool {
 }
 
 #[test]
-fn the_example_of_the_format(rt: HostRuntime) -> Result<(), AllocError> {
-    let mut page = Page::new(rt.alloc(), 0)?;
+fn the_example_of_the_format(rt: HostRuntime) {
+    let mut page = Page::new(rt.alloc(), 0).expect(&rt, "memory for a page");
     assert!(rt; page.used_end() == 16);
     let put = put_record(&mut page, 0, HASH, b"a", Some(b"1"));
     assert!(rt; is_put_at(put, 16) && page.used_end() == 48);
-    assert!(rt; is_patched(rt.alloc(), &page, &[])?);
+    assert!(rt; is_patched(rt.alloc(), &page, &[]).expect(&rt, "memory for the example"));
     assert!(rt; holds_the_example(&page));
-    Ok(())
+    drop(page);
 }
 
 #[test]
@@ -81,18 +83,21 @@ fn sizes(rt: HostRuntime) {
 fn is_empty_page(alloc: Global, page: &Page, number: u64) -> Result<bool, AllocError> {
     let empty = Page::new(alloc, number)?;
     let example = patched(alloc, &[])?;
-    Ok(*page == empty && *page != example)
+    let is_so = *page == empty && *page != example;
+    drop(example);
+    drop(empty);
+    Ok(is_so)
 }
 
 #[test]
-fn a_page_in_place(rt: HostRuntime) -> Result<(), AllocError> {
-    let mut page = Page::new(rt.alloc(), 0x0102_0304_0506_0708)?;
+fn a_page_in_place(rt: HostRuntime) {
+    let mut page = Page::new(rt.alloc(), 0x0102_0304_0506_0708).expect(&rt, "memory for a page");
     assert!(rt; page.number() == 0x0102_0304_0506_0708 && page.bytes()[0] == 8);
-    page.copy_from(&patched(rt.alloc(), &[])?);
-    assert!(rt; is_patched(rt.alloc(), &page, &[])?);
+    page.copy_from(&patched(rt.alloc(), &[]).expect(&rt, "memory for the example"));
+    assert!(rt; is_patched(rt.alloc(), &page, &[]).expect(&rt, "memory for the example"));
     page.reset(3);
-    assert!(rt; is_empty_page(rt.alloc(), &page, 3)?);
-    Ok(())
+    assert!(rt; is_empty_page(rt.alloc(), &page, 3).expect(&rt, "memory for two pages"));
+    drop(page);
 }
 
 /// Whether the page refuses a record with a value of 1,000 bytes, and is then as it was.
@@ -102,21 +107,25 @@ fn refuses_a_thousand_bytes(alloc: Global, page: &mut Page) -> Result<bool, Allo
 {
     let before = page.try_clone(alloc)?;
     let put = put_record(page, 0, 15, b"k0000", Some(&[b'x'; 1000]));
-    Ok(is_refused(put) && *page == before)
+    let is_so = is_refused(put) && *page == before;
+    drop(before);
+    Ok(is_so)
 }
 
 #[test]
-fn sixty_three_of_a_thousand_bytes_fill_a_page(rt: HostRuntime) -> Result<(), AllocError> {
-    let mut page = Page::new(rt.alloc(), 0)?;
+fn sixty_three_of_a_thousand_bytes_fill_a_page(rt: HostRuntime) {
+    let mut page = Page::new(rt.alloc(), 0).expect(&rt, "memory for a page");
     for at in 0..63 {
         let put = put_record(&mut page, 0, at, b"k0000", Some(&[b'x'; 1000]));
         assert!(rt; is_put_at(put, 16 + 1040 * at as usize), "at {at}");
     }
     assert!(rt; page.used_end() == 65_536);
-    assert!(rt; refuses_a_thousand_bytes(rt.alloc(), &mut page)?);
+    assert!(rt;
+        refuses_a_thousand_bytes(rt.alloc(), &mut page).expect(&rt, "memory for a copy of the page")
+    );
     let smallest = put_record(&mut page, 0, 16, b"", None);
     assert!(rt; is_refused(smallest));
-    Ok(())
+    drop(page);
 }
 
 /// Whether a value of 1,008 bytes is too long for the page, and one of 1,007 fills it.
@@ -130,14 +139,14 @@ fn is_filled_by_1007_bytes(page: &mut Page) -> bool
 }
 
 #[test]
-fn a_record_may_end_with_the_page(rt: HostRuntime) -> Result<(), AllocError> {
-    let mut page = Page::new(rt.alloc(), 0)?;
+fn a_record_may_end_with_the_page(rt: HostRuntime) {
+    let mut page = Page::new(rt.alloc(), 0).expect(&rt, "memory for a page");
     for at in 0..62 {
         let put = put_record(&mut page, 0, at, b"k0000", Some(&[b'x'; 1000]));
         assert!(rt; is_put_at(put, 16 + 1040 * at as usize), "at {at}");
     }
     assert!(rt; is_filled_by_1007_bytes(&mut page));
-    Ok(())
+    drop(page);
 }
 
 /// Whether the page's record at an offset has this value, of which so many bytes may take its place.
@@ -149,8 +158,8 @@ fn holds_at(page: &Page, offset: usize, value: &[u8], capacity: usize) -> bool {
 }
 
 #[test]
-fn the_largest_record(rt: HostRuntime) -> Result<(), AllocError> {
-    let mut page = Page::new(rt.alloc(), 0)?;
+fn the_largest_record(rt: HostRuntime) {
+    let mut page = Page::new(rt.alloc(), 0).expect(&rt, "memory for a page");
     let (key, value) = ([b'k'; 512], [b'v'; 32_768]);
     let put = put_record(&mut page, 0, 1, &key, Some(&value));
     assert!(rt; is_put_at(put, 16) && page.used_end() == 33_328);
@@ -160,7 +169,7 @@ fn the_largest_record(rt: HostRuntime) -> Result<(), AllocError> {
     assert!(rt; is_put_at(rest, 33_328) && page.used_end() == 65_536);
     assert!(rt; holds_at(&page, 16, &value, 32_772));
     assert!(rt; holds_at(&page, 33_328, &value[..31_668], 31_668));
-    Ok(())
+    drop(page);
 }
 
 /// Why no record is read, at which offset, and what is other in the example's page.
@@ -204,7 +213,9 @@ const WHOLE: [(usize, u8); 2] = [(8, 0), (10, 1)];
 /// Whether a record is read at this offset of the example with other bytes at some places.
 fn is_read(alloc: Global, offset: usize, places: &[(usize, u8)]) -> Result<bool, AllocError> {
     let page = patched(alloc, places)?;
-    Ok(record_at(&page, offset).is_ok())
+    let is_so = record_at(&page, offset).is_ok();
+    drop(page);
+    Ok(is_so)
 }
 
 /// The first reason for which a record is read all the same.
@@ -218,33 +229,38 @@ fn first_read(alloc: Global, rows: &[Row]) -> Result<Option<&'static str>, Alloc
 }
 
 #[test]
-fn each_reason_to_refuse(rt: HostRuntime) -> Result<(), AllocError> {
+fn each_reason_to_refuse(rt: HostRuntime) {
     assert!(rt;
-        is_read(rt.alloc(), 16, &WHOLE)?,
+        is_read(rt.alloc(), 16, &WHOLE).expect(&rt, "memory for a page"),
         "the used part may fill the page"
     );
-    if let Some(why) = first_read(rt.alloc(), &REFUSED)? {
+    if let Some(why) = first_read(rt.alloc(), &REFUSED).expect(&rt, "memory for the pages") {
         panic!(rt; "{why}");
     }
-    Ok(())
 }
 
 #[test]
-fn a_shorter_value_in_place(rt: HostRuntime) -> Result<(), AllocError> {
-    let mut page = Page::new(rt.alloc(), 0)?;
+fn a_shorter_value_in_place(rt: HostRuntime) {
+    let mut page = Page::new(rt.alloc(), 0).expect(&rt, "memory for a page");
     let put = put_record(&mut page, 0, HASH, b"a", Some(b"123"));
     overwrite(&mut page, 16, Some(b"1"));
-    assert!(rt; is_put_at(put, 16) && is_patched(rt.alloc(), &page, &[])?);
-    Ok(())
+    assert!(rt;
+        is_put_at(put, 16)
+            && is_patched(rt.alloc(), &page, &[]).expect(&rt, "memory for the example")
+    );
+    drop(page);
 }
 
 #[test]
-fn a_tombstone_in_place(rt: HostRuntime) -> Result<(), AllocError> {
-    let mut page = Page::new(rt.alloc(), 0)?;
+fn a_tombstone_in_place(rt: HostRuntime) {
+    let mut page = Page::new(rt.alloc(), 0).expect(&rt, "memory for a page");
     let put = put_record(&mut page, 0, HASH, b"a", Some(b"123"));
     overwrite(&mut page, 16, None);
-    assert!(rt; is_put_at(put, 16) && is_patched(rt.alloc(), &page, &TOMBSTONE)?);
-    Ok(())
+    assert!(rt;
+        is_put_at(put, 16)
+            && is_patched(rt.alloc(), &page, &TOMBSTONE).expect(&rt, "memory for the example")
+    );
+    drop(page);
 }
 
 /// Whether the page's record at offset 48 is the one that was put behind the tombstone.
@@ -257,12 +273,15 @@ fn holds_the_next(page: &Page) -> bool {
 }
 
 #[test]
-fn a_value_in_place_of_a_tombstone(rt: HostRuntime) -> Result<(), AllocError> {
-    let mut page = Page::new(rt.alloc(), 0)?;
+fn a_value_in_place_of_a_tombstone(rt: HostRuntime) {
+    let mut page = Page::new(rt.alloc(), 0).expect(&rt, "memory for a page");
     let put = put_record(&mut page, 0, HASH, b"a", None);
-    assert!(rt; is_put_at(put, 16) && is_patched(rt.alloc(), &page, &TOMBSTONE)?);
+    assert!(rt;
+        is_put_at(put, 16)
+            && is_patched(rt.alloc(), &page, &TOMBSTONE).expect(&rt, "memory for the example")
+    );
     let next = put_record(&mut page, 16, 9, b"b", Some(b"next"));
     overwrite(&mut page, 16, Some(b"123"));
     assert!(rt; is_put_at(next, 48) && holds_the_next(&page));
-    Ok(())
+    drop(page);
 }

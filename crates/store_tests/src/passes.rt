@@ -10,7 +10,6 @@ use gates::part::replace;
 use gates::{Asks, Gates, Part, Pass, Report, Sorted};
 use std::alloc::Global;
 use std::sync::Wait;
-use std::test::Fail;
 use std::thread::{Threads, join};
 use words::reply::Line;
 use words::word::OutOfMemory;
@@ -132,12 +131,11 @@ fn commit_both<R: Threads + Wait + Sync>(
 }
 
 #[test]
-fn two_threads_commit_on_one_stripe_and_on_several(rt: HostRuntime) -> Result<(), Fail> {
+fn two_threads_commit_on_one_stripe_and_on_several(rt: HostRuntime) {
     let all = Some(2 * CALLS as u64);
-    let one = commit_both(&rt, rt.alloc(), 1)?;
-    let several = commit_both(&rt, rt.alloc(), 16)?;
+    let one = commit_both(&rt, rt.alloc(), 1).expect(&rt, "memory for the gates");
+    let several = commit_both(&rt, rt.alloc(), 16).expect(&rt, "memory for the gates");
     assert!(rt; one == all && several == all);
-    Ok(())
 }
 
 /// Whether calls of two passes have the positions 0, 1 and 2, on one stripe and on another.
@@ -362,37 +360,43 @@ fn is_as_it_has_to_be<R: Wait>(rt: &R, alloc: Global, trial: Trial) -> Result<bo
 }
 
 #[test]
-fn calls_of_two_passes_have_positions_in_turn(rt: HostRuntime) -> Result<(), Fail> {
-    assert!(rt; is_as_it_has_to_be(&rt, rt.alloc(), Trial::Turns)?);
-    Ok(())
+fn calls_of_two_passes_have_positions_in_turn(rt: HostRuntime) {
+    assert!(rt;
+        is_as_it_has_to_be(&rt, rt.alloc(), Trial::Turns).expect(&rt, "memory for the gates")
+    );
 }
 
 #[test]
-fn a_part_is_replaced_and_put_back(rt: HostRuntime) -> Result<(), Fail> {
-    assert!(rt; is_as_it_has_to_be(&rt, rt.alloc(), Trial::Exchanges)?);
-    Ok(())
+fn a_part_is_replaced_and_put_back(rt: HostRuntime) {
+    assert!(rt;
+        is_as_it_has_to_be(&rt, rt.alloc(), Trial::Exchanges).expect(&rt, "memory for the gates")
+    );
 }
 
 #[test]
-fn a_held_stripe_is_busy_and_another_is_free(rt: HostRuntime) -> Result<(), Fail> {
-    assert!(rt; is_as_it_has_to_be(&rt, rt.alloc(), Trial::Busy)?);
-    Ok(())
+fn a_held_stripe_is_busy_and_another_is_free(rt: HostRuntime) {
+    assert!(rt;
+        is_as_it_has_to_be(&rt, rt.alloc(), Trial::Busy).expect(&rt, "memory for the gates")
+    );
 }
 
 #[test]
-fn a_held_stripe_does_not_stop_another(rt: HostRuntime) -> Result<(), Fail> {
-    assert!(rt; is_as_it_has_to_be(&rt, rt.alloc(), Trial::Beside)?);
-    Ok(())
+fn a_held_stripe_does_not_stop_another(rt: HostRuntime) {
+    assert!(rt;
+        is_as_it_has_to_be(&rt, rt.alloc(), Trial::Beside).expect(&rt, "memory for the gates")
+    );
 }
 
 #[test]
-fn the_empty_set_holds_nothing(rt: HostRuntime) -> Result<(), Fail> {
-    assert!(rt; is_as_it_has_to_be(&rt, rt.alloc(), Trial::Nothing)?);
-    Ok(())
+fn the_empty_set_holds_nothing(rt: HostRuntime) {
+    assert!(rt;
+        is_as_it_has_to_be(&rt, rt.alloc(), Trial::Nothing).expect(&rt, "memory for the gates")
+    );
 }
 
 #[test]
-fn all_stripes_are_taken_at_once(rt: HostRuntime) -> Result<(), Fail> {
-    assert!(rt; is_as_it_has_to_be(&rt, rt.alloc(), Trial::All)?);
-    Ok(())
+fn all_stripes_are_taken_at_once(rt: HostRuntime) {
+    assert!(rt;
+        is_as_it_has_to_be(&rt, rt.alloc(), Trial::All).expect(&rt, "memory for the gates")
+    );
 }

@@ -10,6 +10,7 @@ use records::{PAGE_SIZE, Page, put_record, record_before};
 use std::alloc::{AllocError, Global};
 use std::fs;
 use std::fs::{File, Files};
+use std::process::Abort;
 use std::sync::Wait;
 
 /// A page that has the bytes of another one from a place up to an end, and 255 everywhere else.
@@ -26,7 +27,9 @@ fn piece_of(alloc: Global, page: &Page, from: usize, to: usize) -> Result<Page, 
 /// Whether a record is read at an offset of a page of which the bytes from there up to an end are known, and no other ones.
 fn is_read(alloc: Global, page: &Page, end: usize, offset: usize) -> Result<bool, AllocError> {
     let piece = piece_of(alloc, page, offset, end)?;
-    Ok(record_before(&piece, end, offset).is_ok())
+    let is_so = record_before(&piece, end, offset).is_ok();
+    drop(piece);
+    Ok(is_so)
 }
 
 /// Whether the record at an offset of a piece has this value, of which so many bytes may take its place.
@@ -57,7 +60,9 @@ fn is_read_to(
 {
     let piece = piece_of(alloc, page, offset, end)?;
     let is_whole = holds_before(&piece, end, offset, value, capacity);
-    Ok(is_whole && !is_read(alloc, page, end - 1, offset)?)
+    let is_so = is_whole && !is_read(alloc, page, end - 1, offset)?;
+    drop(piece);
+    Ok(is_so)
 }
 
 /// Whether the piece's record at offset 16 is the example's.
@@ -70,28 +75,33 @@ fn holds_the_example(piece: &Page) -> bool {
 }
 
 #[test]
-fn a_piece_at_the_front_of_a_page(rt: HostRuntime) -> Result<(), AllocError> {
-    let page = patched(rt.alloc(), &[])?;
-    let piece = piece_of(rt.alloc(), &page, 16, 48)?;
+fn a_piece_at_the_front_of_a_page(rt: HostRuntime) {
+    let page = patched(rt.alloc(), &[]).expect(&rt, "memory for the example");
+    let piece = piece_of(rt.alloc(), &page, 16, 48).expect(&rt, "memory for a piece");
     assert!(rt; holds_the_example(&piece));
-    assert!(rt; is_read_to(rt.alloc(), &page, 16, 48, Some(b"1"), 3)?);
-    let page = patched(rt.alloc(), &TOMBSTONE)?;
-    assert!(rt; is_read_to(rt.alloc(), &page, 16, 48, None, 3)?);
-    Ok(())
+    assert!(rt;
+        is_read_to(rt.alloc(), &page, 16, 48, Some(b"1"), 3).expect(&rt, "memory for the pieces")
+    );
+    let page = patched(rt.alloc(), &TOMBSTONE).expect(&rt, "memory for the example");
+    assert!(rt;
+        is_read_to(rt.alloc(), &page, 16, 48, None, 3).expect(&rt, "memory for the pieces")
+    );
+    drop(page);
+    drop(piece);
 }
 
 #[test]
-fn a_piece_that_ends_past_the_record(rt: HostRuntime) -> Result<(), AllocError> {
-    let page = patched(rt.alloc(), &[])?;
-    assert!(rt; is_read(rt.alloc(), &page, 49, 16)?);
-    assert!(rt; is_read(rt.alloc(), &page, 4_112, 16)?);
-    assert!(rt; is_read(rt.alloc(), &page, 65_536, 16)?);
-    Ok(())
+fn a_piece_that_ends_past_the_record(rt: HostRuntime) {
+    let page = patched(rt.alloc(), &[]).expect(&rt, "memory for the example");
+    assert!(rt; is_read(rt.alloc(), &page, 49, 16).expect(&rt, "memory for a page"));
+    assert!(rt; is_read(rt.alloc(), &page, 4_112, 16).expect(&rt, "memory for a page"));
+    assert!(rt; is_read(rt.alloc(), &page, 65_536, 16).expect(&rt, "memory for a page"));
+    drop(page);
 }
 
 #[test]
-fn the_largest_record_at_the_end_of_a_page(rt: HostRuntime) -> Result<(), AllocError> {
-    let mut page = Page::new(rt.alloc(), 0)?;
+fn the_largest_record_at_the_end_of_a_page(rt: HostRuntime) {
+    let mut page = Page::new(rt.alloc(), 0).expect(&rt, "memory for a page");
     let (key, value) = ([b'k'; 512], [b'v'; 32_768]);
     let first = put_record(&mut page, 0, 1, &key, Some(&value[..31_668]));
     let largest = put_record(&mut page, 16, 1, &key, Some(&value));
@@ -104,10 +114,16 @@ fn the_largest_record_at_the_end_of_a_page(rt: HostRuntime) -> Result<(), AllocE
             32_224,
             Some(&value[..31_668]),
             31_668
-        )?
+        )
+        .expect(&rt, "memory for the pieces")
     );
-    assert!(rt; is_read_to(rt.alloc(), &page, 32_224, 65_536, Some(&value), 32_772)?);
-    Ok(())
+    assert!(rt;
+        is_read_to(rt.alloc(), &page, 32_224, 65_536, Some(&value), 32_772).expect(
+            &rt,
+            "memory for the pieces"
+        )
+    );
+    drop(page);
 }
 
 /// Why no record is read, where the piece ends, and at which offset.
@@ -139,12 +155,12 @@ fn first_read(page: &Page, rows: &[Row]) -> Option<&'static str> {
 }
 
 #[test]
-fn each_reason_to_refuse_in_a_piece(rt: HostRuntime) -> Result<(), AllocError> {
-    let page = patched(rt.alloc(), &[])?;
+fn each_reason_to_refuse_in_a_piece(rt: HostRuntime) {
+    let page = patched(rt.alloc(), &[]).expect(&rt, "memory for the example");
     if let Some(why) = first_read(&page, &REFUSED) {
         panic!(rt; "{why}");
     }
-    Ok(())
+    drop(page);
 }
 
 /// Writes a page, and reads a piece of it. It knows the device by its contract alone.
@@ -164,7 +180,9 @@ fn write_and_read_piece<D: Device>(
     ensures read_once { OnOk result (D.reads device.new ≡ D.reads device.old + 1) }
 {
     let receipt = device.write(page)?;
-    device.read_piece(&receipt, from, to, seen)
+    let read = device.read_piece(&receipt, from, to, seen);
+    drop(receipt);
+    read
 }
 
 /// From where and up to where a piece is read, and what comes of it: whether it has the bytes of the page that was written.
@@ -227,6 +245,9 @@ fn first_missing<D: Device>(alloc: Global, device: &mut D) -> Option<Option<usiz
     let receipt = device.write(&second).ok()?;
     let missing = first_other(alloc, device, &receipt, &second, &PIECES);
     drop(before);
+    drop(receipt);
+    drop(second);
+    drop(first);
     Some(missing)
 }
 
@@ -234,12 +255,16 @@ fn first_missing<D: Device>(alloc: Global, device: &mut D) -> Option<Option<usiz
 fn first_missing_through<D: Device>(alloc: Global, device: D) -> Option<(Option<usize>, u64)> {
     let mut device = Faulty::new(device, Vec::new(alloc));
     let missing = first_missing(alloc, &mut device)?;
-    Some((missing, device.calls()))
+    let answer = (missing, device.calls());
+    drop(device);
+    Some(answer)
 }
 
 fn first_missing_in_memory(alloc: Global) -> Option<Option<usize>> {
     let mut device = MemoryDevice::openings(alloc, 1).ok()?.pop()?;
-    first_missing(alloc, &mut device)
+    let missing = first_missing(alloc, &mut device);
+    drop(device);
+    missing
 }
 
 fn first_missing_through_memory(alloc: Global) -> Option<(Option<usize>, u64)> {
@@ -253,7 +278,9 @@ fn first_missing_in_file<R: Wait + Files<File = File>>(
     path: &str,
 ) -> Option<Option<usize>> {
     let mut device = opened(rt, alloc, path)?;
-    first_missing(alloc, &mut device)
+    let missing = first_missing(alloc, &mut device);
+    drop(device);
+    missing
 }
 
 fn first_missing_through_file<R: Wait + Files<File = File>>(
@@ -287,7 +314,11 @@ fn read_where<D: Device>(
     let mut seen = Page::new(alloc, 99).ok()?;
     let read = write_and_read_piece(&mut device, &page, 100, 5_000, &mut seen);
     let is_same = seen.bytes()[100..5_000] == page.bytes()[100..5_000];
-    Some((read, is_same, device.calls()))
+    let answer = (read, is_same, device.calls());
+    drop(seen);
+    drop(page);
+    drop(device);
+    Some(answer)
 }
 
 /// The same of a device in memory, where one call fails.
@@ -305,19 +336,23 @@ fn a_piece_fails_on_demand(rt: HostRuntime) {
 
 /// The number of the first case that comes otherwise, of page 5, after these bytes were written over the front of its file, and
 /// the file was cut to this length.
-fn first_other_after<R: Wait + Files<File = File>>(
+fn first_other_after<R: Abort + Wait + Files<File = File>>(
     rt: &R,
     alloc: Global,
     path: &str,
     bytes: &[u8],
     len: u64,
     cases: &[Case],
-) -> Option<Option<usize>> {
-    let mut device = opened(rt, alloc, path)?;
-    let page = filled_page(alloc, 5, 0)?;
-    let receipt = device.write(&page).ok()?;
-    change(rt, path, bytes, len)?;
-    Some(first_other(alloc, &mut device, &receipt, &page, cases))
+) -> Option<usize> {
+    let mut device = opened(rt, alloc, path).expect(rt, "an opening");
+    let page = filled_page(alloc, 5, 0).expect(rt, "memory for a page");
+    let receipt = device.write(&page).expect(rt, "a page written");
+    change(rt, path, bytes, len).expect(rt, "the file changed");
+    let other = first_other(alloc, &mut device, &receipt, &page, cases);
+    drop(receipt);
+    drop(page);
+    drop(device);
+    other
 }
 
 /// What comes of pieces of a file that is a byte too short for its page.
@@ -334,7 +369,7 @@ const CUT: [Case; 6] = [
 fn a_file_too_short_for_a_piece_is_a_fault(rt: HostRuntime) {
     let path = "cut_pieces.pages";
     let other = first_other_after(&rt, rt.alloc(), path, &[], 65_535, &CUT);
-    assert!(rt; other == Some(None));
+    assert!(rt; other.is_none());
     assert!(rt; fs::remove_file(&rt, path).is_ok());
 }
 
@@ -352,6 +387,6 @@ const RENUMBERED: [Case; 6] = [
 fn another_page_is_known_by_its_number(rt: HostRuntime) {
     let path = "renumbered.pages";
     let other = first_other_after(&rt, rt.alloc(), path, &[6], 65_536, &RENUMBERED);
-    assert!(rt; other == Some(None));
+    assert!(rt; other.is_none());
     assert!(rt; fs::remove_file(&rt, path).is_ok());
 }

@@ -6,7 +6,6 @@ ghost use Rattle.epoch.specs.Seats.{IsOutside, drained_epoch, drained_of, id_of,
 use epoch::epochs::{Drained, EpochSeat, Epochs, EpochsName, Retired, Wraps};
 use std::alloc::{AllocError, Global};
 use std::sync::Wait;
-use std::test::Fail;
 use std::thread::{Threads, join};
 
 /// How often a reader enters and leaves.
@@ -67,12 +66,12 @@ fn retire_beside_a_stay<R: Wait>(
 {
     let inside = epochs.enter(rt, reader);
     let Ok(retired) = epochs.retire(cleaner, 7) else {
-        let _reader = epochs.leave(inside);
+        drop(epochs.leave(inside));
         return None;
     };
     let stamp = retired.epoch();
     let early = epochs.drained(cleaner, stamp).is_some();
-    let _reader = epochs.leave(inside);
+    drop(epochs.leave(inside));
     let late = epochs.drained(cleaner, stamp);
     Some(Course {
         stamp,
@@ -101,7 +100,7 @@ fn retire_before_a_stay<R: Wait>(
         epochs.compare(&mut inside, drained);
     }
     let again = epochs.drained(cleaner, stamp).is_some();
-    let _reader = epochs.leave(inside);
+    drop(epochs.leave(inside));
     Some(Course {
         stamp,
         drained: (drained.is_some(), again),
@@ -121,11 +120,11 @@ fn drain_itself_beside_a_stay<R: Wait>(
 {
     let inside = epochs.enter(rt, reader);
     let Ok(mut retired) = epochs.retire(cleaner, 7) else {
-        let _reader = epochs.leave(inside);
+        drop(epochs.leave(inside));
         return None;
     };
     let early = retired.drained().is_some();
-    let _reader = epochs.leave(inside);
+    drop(epochs.leave(inside));
     let late = retired.drained();
     Some(Course {
         stamp: retired.epoch(),
@@ -153,7 +152,7 @@ fn drain_itself_before_a_stay<R: Wait>(
         epochs.compare(&mut inside, drained);
     }
     let again = retired.drained().is_some();
-    let _reader = epochs.leave(inside);
+    drop(epochs.leave(inside));
     Some(Course {
         stamp: retired.epoch(),
         drained: (drained.is_some(), again),
@@ -167,14 +166,14 @@ fn retire_inside_a_stay<R: Wait>(rt: &R, epochs: &Epochs, seat: EpochSeat) -> Op
 {
     let mut inside = epochs.enter(rt, seat);
     let Ok(retired) = epochs.retire_inside(&mut inside, 9) else {
-        let _seat = epochs.leave(inside);
+        drop(epochs.leave(inside));
         return None;
     };
     let stamp = retired.epoch();
     let early = epochs.drained_inside(&mut inside, stamp).is_some();
     let mut inside = epochs.enter(rt, epochs.leave(inside));
     let late = epochs.drained_inside(&mut inside, stamp);
-    let _seat = epochs.leave(inside);
+    drop(epochs.leave(inside));
     Some(Course {
         stamp,
         drained: (early, late.is_some()),
@@ -183,8 +182,10 @@ fn retire_inside_a_stay<R: Wait>(rt: &R, epochs: &Epochs, seat: EpochSeat) -> Op
 }
 
 #[test]
-fn a_stay_keeps_its_epoch_until_it_ends(rt: HostRuntime) -> Result<(), Fail> {
-    let (epochs, reader, mut cleaner, _) = opened(rt.alloc())?.ok_or("no seats")?;
+fn a_stay_keeps_its_epoch_until_it_ends(rt: HostRuntime) {
+    let (epochs, reader, mut cleaner, other) = opened(rt.alloc())
+        .expect(&rt, "memory for the epochs")
+        .expect(&rt, "three seats");
     let course = retire_beside_a_stay(&rt, &epochs, reader, &mut cleaner);
     let wanted = Course {
         stamp: 1,
@@ -192,12 +193,16 @@ fn a_stay_keeps_its_epoch_until_it_ends(rt: HostRuntime) -> Result<(), Fail> {
         value: Some(7),
     };
     assert!(rt; course == Some(wanted));
-    Ok(())
+    drop(other);
+    drop(cleaner);
+    drop(epochs);
 }
 
 #[test]
-fn a_stay_after_the_advance_keeps_nothing(rt: HostRuntime) -> Result<(), Fail> {
-    let (epochs, reader, mut cleaner, _) = opened(rt.alloc())?.ok_or("no seats")?;
+fn a_stay_after_the_advance_keeps_nothing(rt: HostRuntime) {
+    let (epochs, reader, mut cleaner, other) = opened(rt.alloc())
+        .expect(&rt, "memory for the epochs")
+        .expect(&rt, "three seats");
     let course = retire_before_a_stay(&rt, &epochs, reader, &mut cleaner);
     let wanted = Course {
         stamp: 1,
@@ -205,12 +210,16 @@ fn a_stay_after_the_advance_keeps_nothing(rt: HostRuntime) -> Result<(), Fail> {
         value: Some(8),
     };
     assert!(rt; course == Some(wanted));
-    Ok(())
+    drop(other);
+    drop(cleaner);
+    drop(epochs);
 }
 
 #[test]
-fn a_retirement_waits_for_a_stay(rt: HostRuntime) -> Result<(), Fail> {
-    let (epochs, reader, mut cleaner, _) = opened(rt.alloc())?.ok_or("no seats")?;
+fn a_retirement_waits_for_a_stay(rt: HostRuntime) {
+    let (epochs, reader, mut cleaner, other) = opened(rt.alloc())
+        .expect(&rt, "memory for the epochs")
+        .expect(&rt, "three seats");
     let course = drain_itself_beside_a_stay(&rt, &epochs, reader, &mut cleaner);
     let wanted = Course {
         stamp: 1,
@@ -218,12 +227,16 @@ fn a_retirement_waits_for_a_stay(rt: HostRuntime) -> Result<(), Fail> {
         value: Some(7),
     };
     assert!(rt; course == Some(wanted));
-    Ok(())
+    drop(other);
+    drop(cleaner);
+    drop(epochs);
 }
 
 #[test]
-fn a_retirement_waits_for_no_later_stay(rt: HostRuntime) -> Result<(), Fail> {
-    let (epochs, reader, mut cleaner, _) = opened(rt.alloc())?.ok_or("no seats")?;
+fn a_retirement_waits_for_no_later_stay(rt: HostRuntime) {
+    let (epochs, reader, mut cleaner, other) = opened(rt.alloc())
+        .expect(&rt, "memory for the epochs")
+        .expect(&rt, "three seats");
     let course = drain_itself_before_a_stay(&rt, &epochs, reader, &mut cleaner);
     let wanted = Course {
         stamp: 1,
@@ -231,12 +244,16 @@ fn a_retirement_waits_for_no_later_stay(rt: HostRuntime) -> Result<(), Fail> {
         value: Some(8),
     };
     assert!(rt; course == Some(wanted));
-    Ok(())
+    drop(other);
+    drop(cleaner);
+    drop(epochs);
 }
 
 #[test]
-fn the_own_stay_counts(rt: HostRuntime) -> Result<(), Fail> {
-    let (epochs, seat, _, _) = opened(rt.alloc())?.ok_or("no seats")?;
+fn the_own_stay_counts(rt: HostRuntime) {
+    let (epochs, seat, second, third) = opened(rt.alloc())
+        .expect(&rt, "memory for the epochs")
+        .expect(&rt, "three seats");
     let course = retire_inside_a_stay(&rt, &epochs, seat);
     let wanted = Course {
         stamp: 1,
@@ -244,7 +261,9 @@ fn the_own_stay_counts(rt: HostRuntime) -> Result<(), Fail> {
         value: Some(9),
     };
     assert!(rt; course == Some(wanted));
-    Ok(())
+    drop(third);
+    drop(second);
+    drop(epochs);
 }
 
 /// A value in a wrapper, retired, beside the name of its epochs.
@@ -305,10 +324,14 @@ fn keep_and_come_back(epochs: &Epochs, seat: EpochSeat, value: u64) -> Option<u6
 }
 
 #[test]
-fn what_is_kept_beside_a_name_comes_back(rt: HostRuntime) -> Result<(), Fail> {
-    let (epochs, seat, _, _) = opened(rt.alloc())?.ok_or("no seats")?;
+fn what_is_kept_beside_a_name_comes_back(rt: HostRuntime) {
+    let (epochs, seat, second, third) = opened(rt.alloc())
+        .expect(&rt, "memory for the epochs")
+        .expect(&rt, "three seats");
     assert!(rt; keep_and_come_back(&epochs, seat, 7) == Some(7));
-    Ok(())
+    drop(third);
+    drop(second);
+    drop(epochs);
 }
 
 /// A value in a wrapper, retired by epochs that are gone with their seats.
@@ -329,11 +352,12 @@ fn unwrapped_alone(retired: Retired<Wrapped>) -> Option<u64> {
 fn moves_to_a_thread<T: Send>(_value: &T) {}
 
 #[test]
-fn a_retirement_outlives_its_epochs(rt: HostRuntime) -> Result<(), Fail> {
-    let retired = outlives_its_epochs(rt.alloc(), 7)?.ok_or("no seats")?;
+fn a_retirement_outlives_its_epochs(rt: HostRuntime) {
+    let retired = outlives_its_epochs(rt.alloc(), 7)
+        .expect(&rt, "memory for the epochs")
+        .expect(&rt, "three seats");
     moves_to_a_thread(&retired);
     assert!(rt; unwrapped_alone(retired) == Some(7));
-    Ok(())
 }
 
 /// Enters and leaves many times.
@@ -425,8 +449,10 @@ fn three_threads<R: Threads + Wait + Sync>(
 }
 
 #[test]
-fn two_threads_stay_while_a_third_retires(rt: HostRuntime) -> Result<(), Fail> {
-    let (epochs, one, two, three) = opened(rt.alloc())?.ok_or("no seats")?;
+fn two_threads_stay_while_a_third_retires(rt: HostRuntime) {
+    let (epochs, one, two, three) = opened(rt.alloc())
+        .expect(&rt, "memory for the epochs")
+        .expect(&rt, "three seats");
     assert!(rt; three_threads(&rt, &epochs, one, two, three) == RETIREMENTS);
-    Ok(())
+    drop(epochs);
 }

@@ -1,7 +1,7 @@
 //! The world's device: pages in memory, place by place. A place that was released shows whatever page it is
 //! given.
 
-ghost use Rattle.std.specs.Prelude.{◌≡◌, ◌+◌, ◌<◌, [], ℕ, IfOk, IsNone, IsOk, OnOk, OnErr, length, false};
+ghost use Rattle.std.specs.Prelude.{◌≡◌, ◌+◌, ◌<◌, [], ℕ, IfOk, IsFalse, IsNone, IsOk, OnOk, OnErr, length, false};
 ghost use Rattle.std.specs.Arc.{arc_value};
 ghost use Rattle.world_log.specs.Places.{with_shelf, with_shown};
 
@@ -58,6 +58,12 @@ impl Shows for WorldReceipt {
 
     fn same(&self, other: &WorldReceipt) -> bool {
         self.place == other.place && *self.page == *other.page
+    }
+
+    fn hold_pages() -> bool
+        ensures { IsFalse result }
+    {
+        false
     }
 
     /// Always none.

@@ -11,8 +11,8 @@ use engine_harness::calls::sets_to;
 use engine_harness::filling::{fill, key_of};
 use gates::Open;
 use std::alloc::Global;
+use std::process::Abort;
 use std::sync::Wait;
-use std::test::Fail;
 use words::limits::{FRAMES_DEFAULT, KEY_BYTES_MAX, Limits, PLACES_DEFAULT};
 use words::word::{OutOfMemory, Word};
 
@@ -45,6 +45,7 @@ fn with_pass(alloc: Global, limits: &Limits) -> Option<(Engine<MemoryDevice>, Pa
 {
     let (engine, mut passes) = engine_of(alloc, limits).ok()?;
     let pass = passes.swap_remove(0);
+    drop(passes);
     Some((engine, pass))
 }
 
@@ -63,7 +64,11 @@ fn has<R: Wait>(
         return false;
     }
     match engine.get(rt, pass, key, &Open) {
-        Ok(Some(found)) => found.as_slice() == value.as_slice(),
+        Ok(Some(found)) => {
+            let is_same = found.as_slice() == value.as_slice();
+            drop(found);
+            is_same
+        }
         Ok(None) | Err(_) => false,
     }
 }
@@ -106,9 +111,10 @@ fn keeps<R: Wait>(
 }
 
 /// How many of 100 keys an engine of these sizes keeps.
-fn kept_of<R: Wait>(rt: &R, alloc: Global, sizes: &[usize; 5]) -> Option<usize> {
-    let limits = Limits::new(sizes[0], sizes[1], sizes[2], sizes[3], sizes[4])?;
-    let (engine, mut pass) = with_pass(alloc, &limits)?;
+fn kept_of<R: Abort + Wait>(rt: &R, alloc: Global, sizes: &[usize; 5]) -> Option<usize> {
+    let [stripes, buckets, frames, places, clients] = *sizes;
+    let limits = Limits::new(stripes, buckets, frames, places, clients).expect(rt, "limits");
+    let (engine, mut pass) = with_pass(alloc, &limits).expect(rt, "memory for an engine");
     let kept = keeps(rt, alloc, &engine, &mut pass, 100);
     drop(pass);
     drop(engine);
@@ -166,30 +172,30 @@ fn finds<R: Wait>(
 }
 
 /// How many of so many keys can be set, and how many of one in each hundred of them are read then.
-fn stores_and_finds<R: Wait>(
+fn stores_and_finds<R: Abort + Wait>(
     rt: &R,
     alloc: Global,
     engine: &Engine<MemoryDevice>,
     pass: &mut Pass<MemoryDevice>,
     count: usize,
-) -> Option<(usize, usize)>
+) -> (usize, Option<usize>)
     requires { Rests ⊤ engine.now pass.old }
 {
-    let stored = fill(rt, alloc, engine, pass, &VALUE, count)?;
-    let value = Word::from_slice(alloc, &VALUE).ok()?;
+    let stored = fill(rt, alloc, engine, pass, &VALUE, count).expect(rt, "memory for the keys");
+    let value = Word::from_slice(alloc, &VALUE).expect(rt, "memory for a value");
     let found = finds(rt, alloc, engine, pass, stored / 100, &value);
     drop(value);
-    Some((stored, found?))
+    (stored, found)
 }
 
 /// The same in a store of these limits.
-fn stored_and_found<R: Wait>(
+fn stored_and_found<R: Abort + Wait>(
     rt: &R,
     alloc: Global,
     limits: &Limits,
     count: usize,
-) -> Option<(usize, usize)> {
-    let (engine, mut pass) = with_pass(alloc, limits)?;
+) -> (usize, Option<usize>) {
+    let (engine, mut pass) = with_pass(alloc, limits).expect(rt, "memory for an engine");
     let came = stores_and_finds(rt, alloc, &engine, &mut pass, count);
     drop(pass);
     drop(engine);
@@ -198,10 +204,10 @@ fn stored_and_found<R: Wait>(
 
 /// More pages than a store of the defaults holds, in one stripe.
 #[test]
-fn a_store_of_more_pages_than_the_defaults_hold(rt: HostRuntime) -> Result<(), Fail> {
-    let limits = Limits::new(1, 65_536, 128, 8_192, 1).ok_or("no limits")?;
+fn a_store_of_more_pages_than_the_defaults_hold(rt: HostRuntime) {
+    let limits = Limits::new(1, 65_536, 128, 8_192, 1).expect(&rt, "limits");
     let count = PAGES + 72;
-    let came = stored_and_found(&rt, rt.alloc(), &limits, count);
-    assert!(rt; came == Some((count, 42)), "{came:?}");
-    Ok(())
+    let (stored, found) = stored_and_found(&rt, rt.alloc(), &limits, count);
+    assert!(rt; stored == count, "{stored}");
+    assert!(rt; found == Some(42), "{found:?}");
 }

@@ -15,6 +15,7 @@ use engine_harness::filling::{VALUE, key_of};
 use engine_harness::steps::{cleans, flushes, is_full_to_flush, retires_a_place};
 use gates::Open;
 use std::alloc::Global;
+use std::process::Abort;
 use std::sync::Wait;
 use transact::call::{Answer, Call};
 use words::command::{Command, When};
@@ -38,6 +39,7 @@ fn fill_in_turn<R: Wait>(
         if !sets_to(rt, engine, pass, &key, value, &Open) {
             return Some(key);
         }
+        drop(key);
     }
     None
 }
@@ -112,8 +114,13 @@ fn set_of(key: &Word, value: &Word) -> Option<Command>
     ensures { IfSome result (λ command. IsTrue (touches_keys command) × IsBounded command) }
 {
     let key = key.clone().ok()?;
-    let value = value.clone().ok()?;
-    placed(Command::Set(key, value, When::Always))
+    match value.clone() {
+        Ok(value) => placed(Command::Set(key, value, When::Always)),
+        Err(_) => {
+            drop(key);
+            None
+        }
+    }
 }
 
 /// Whether a SET is done that is submitted as any call. False also where there was no memory for its own words.
@@ -131,10 +138,10 @@ fn submits_set<R: Wait>(
     let Some(command) = set_of(key, value) else {
         return false;
     };
-    match engine.submit_with(rt, pass, Call::One(command), trail) {
-        Answer::Reply(_) => true,
-        Answer::Fault(_) => false,
-    }
+    let answer = engine.submit_with(rt, pass, Call::One(command), trail);
+    let is_done = matches!(&answer, Answer::Reply(_));
+    drop(answer);
+    is_done
 }
 
 /// Whether a SET is done by `Engine::set`, and then by `Engine::submit_with`, and where the latch is told that they are.
@@ -151,7 +158,9 @@ fn told_of_both<R: Wait>(
     let trail = Trail::new();
     let sets = sets_to(rt, engine, pass, key, value, &trail);
     let submits = submits_set(rt, engine, pass, key, value, &trail);
-    (sets, submits, trail.digits())
+    let digits = trail.digits();
+    drop(trail);
+    (sets, submits, digits)
 }
 
 /// Whether both ways of a SET are told to be at their commit once a place is retired, and not before.
@@ -221,44 +230,46 @@ fn releases<R: Wait>(
     requires rests { Rests ⊤ engine.now pass.old }
 {
     let value = Word::from_slice(alloc, &VALUE).ok()?;
-    let key = fill_in_turn(rt, alloc, engine, pass, &value)?;
-    let is_so = release.is_so(rt, engine, pass, &key, &value);
+    let key = fill_in_turn(rt, alloc, engine, pass, &value);
+    let is_so = match &key {
+        Some(key) => Some(release.is_so(rt, engine, pass, key, &value)),
+        None => None,
+    };
     drop(key);
     drop(value);
-    Some(is_so)
+    is_so
 }
 
-/// Whether it is so of a new store with 64 places. `None` where it is not full, or there was no memory.
-fn releases_when_full<R: Wait>(rt: &R, alloc: Global, release: Release) -> Option<bool> {
-    let (engine, mut pass) = with_places(alloc, 64)?;
-    let is_so = releases(rt, alloc, &engine, &mut pass, release);
+/// Tests that it is so of a new store with 64 places.
+fn check<R: Abort + Wait>(rt: &R, alloc: Global, release: Release) {
+    let (engine, mut pass) = with_places(alloc, 64).expect(rt, "memory for an engine");
+    assert!(rt; releases(rt, alloc, &engine, &mut pass, release) == Some(true));
     drop(pass);
     drop(engine);
-    is_so
 }
 
 #[test]
 fn a_full_stripe_releases_a_retired_place_for_a_value(rt: HostRuntime) {
-    assert!(rt; releases_when_full(&rt, rt.alloc(), Release::RetiredForValue) == Some(true));
+    check(&rt, rt.alloc(), Release::RetiredForValue);
 }
 
 #[test]
 fn a_full_stripe_releases_an_unlinked_place_for_a_value(rt: HostRuntime) {
-    assert!(rt; releases_when_full(&rt, rt.alloc(), Release::UnlinkedForValue) == Some(true));
+    check(&rt, rt.alloc(), Release::UnlinkedForValue);
 }
 
 #[test]
 fn the_flusher_releases_a_retired_place_for_its_page(rt: HostRuntime) {
-    assert!(rt; releases_when_full(&rt, rt.alloc(), Release::RetiredForPage) == Some(true));
+    check(&rt, rt.alloc(), Release::RetiredForPage);
 }
 
 #[test]
 fn one_try_of_the_flusher_releases_an_unlinked_place(rt: HostRuntime) {
-    assert!(rt; releases_when_full(&rt, rt.alloc(), Release::UnlinkedForPage) == Some(true));
+    check(&rt, rt.alloc(), Release::UnlinkedForPage);
 }
 
 /// A SET that finds no room is never told to be at its commit. One that releases a place for itself is told so once.
 #[test]
 fn a_set_holds_only_once_it_has_room(rt: HostRuntime) {
-    assert!(rt; releases_when_full(&rt, rt.alloc(), Release::RetiredForCommit) == Some(true));
+    check(&rt, rt.alloc(), Release::RetiredForCommit);
 }

@@ -9,7 +9,6 @@ use engine_harness::engines::narrow_engine;
 use engine_harness::filling::{KEYS, VALUE, fill};
 use std::alloc::Global;
 use std::sync::Wait;
-use std::test::Fail;
 
 /// An engine of one stripe with so many places, and a pass of it. `None` where there was no memory.
 pub(super) fn with_places(
@@ -21,6 +20,7 @@ pub(super) fn with_places(
 {
     let (engine, mut passes) = narrow_engine(alloc, places)?;
     let pass = passes.swap_remove(0);
+    drop(passes);
     Some((engine, pass))
 }
 
@@ -65,21 +65,19 @@ fn come_back<R: Wait>(
 }
 
 #[test]
-fn a_place_comes_back_in_six_tries(rt: HostRuntime) -> Result<(), Fail> {
-    let (engine, mut pass) = with_places(rt.alloc(), 4096).ok_or("no engine")?;
+fn a_place_comes_back_in_six_tries(rt: HostRuntime) {
+    let (engine, mut pass) = with_places(rt.alloc(), 4096).expect(&rt, "memory for an engine");
     assert!(rt; come_back(&rt, rt.alloc(), &engine, &mut pass));
     drop(pass);
     drop(engine);
-    Ok(())
 }
 
 #[test]
-fn nothing_is_done_in_an_empty_store(rt: HostRuntime) -> Result<(), Fail> {
-    let (engine, mut pass) = with_places(rt.alloc(), 4096).ok_or("no engine")?;
+fn nothing_is_done_in_an_empty_store(rt: HostRuntime) {
+    let (engine, mut pass) = with_places(rt.alloc(), 4096).expect(&rt, "memory for an engine");
     assert!(rt; six_tries(&engine, &mut pass) == [false; 6]);
     drop(pass);
     drop(engine);
-    Ok(())
 }
 
 /// Whether no place of an empty stripe is used and it is not half used, and all 64 are and it is once it is full.
@@ -103,10 +101,9 @@ fn is_half_used_once_full<R: Wait>(
 }
 
 #[test]
-fn a_full_stripe_is_half_used(rt: HostRuntime) -> Result<(), Fail> {
-    let (engine, mut pass) = with_places(rt.alloc(), 64).ok_or("no engine")?;
+fn a_full_stripe_is_half_used(rt: HostRuntime) {
+    let (engine, mut pass) = with_places(rt.alloc(), 64).expect(&rt, "memory for an engine");
     assert!(rt; is_half_used_once_full(&rt, rt.alloc(), &engine, &mut pass));
     drop(pass);
     drop(engine);
-    Ok(())
 }

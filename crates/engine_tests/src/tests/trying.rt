@@ -41,13 +41,12 @@ fn lines_are_answered<R: Abort>(
     }
 }
 
-/// Tries them at a new engine. `None` where there was no memory for it.
-fn all_are_answered<R: Abort>(rt: &R, alloc: Global, lines: &str) -> Option<()> {
-    let (engine, mut pass) = with_pass(alloc)?;
+/// Tries them at a new engine.
+fn all_are_answered<R: Abort>(rt: &R, alloc: Global, lines: &str) {
+    let (engine, mut pass) = with_pass(alloc).expect(rt, "memory for an engine");
     lines_are_answered(rt, alloc, &engine, &mut pass, lines);
     drop(pass);
     drop(engine);
-    Some(())
 }
 
 #[test]
@@ -73,5 +72,5 @@ fn calls_that_are_tried_are_answered_as_those_that_wait(rt: HostRuntime) {
         MGET a z -> $2 null\n\
         MSETNX a 3 y 4 -> :0\n\
         EXISTS y -> :0";
-    assert!(rt; all_are_answered(&rt, rt.alloc(), lines).is_some());
+    all_are_answered(&rt, rt.alloc(), lines);
 }

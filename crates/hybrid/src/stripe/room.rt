@@ -4,8 +4,8 @@ ghost use Rattle.std.specs.Prelude.{if◌then◌else◌, nat_lt, ◌≡◌, ◌�
 ghost use Rattle.std.specs.Bool.{OnTrue, OnFalse};
 ghost use Rattle.frames.specs.Resident.{first_mutable, next_number};
 ghost use Rattle.hybrid.specs.HybridLog.{log_of, tail_bytes, HasRoom, IsHybridLog, expected, free, pages_for, with_dropped, receipt_of};
-ghost use Rattle.hybrid.specs.Reserving.{AreNewServed, IsFlushed, IsReserved, KeepsBack, KeepsSpare, MatchFault, IsFull, beside, frames_for, spare};
-ghost use Rattle.hybrid.specs.Shedding.{HasShed, IsFlushedBy};
+ghost use Rattle.hybrid.specs.Reserving.{AreNewServed, IsReserved, KeepsBack, KeepsSpare, MatchFault, IsFull, beside, frames_for, spare};
+ghost use Rattle.hybrid.specs.Shedding.{HasLeft, HasShed};
 
 use crate::stripe::{CALL_PAGES, CLEAN_PAGES, CLOSED_MIN, LAST_PAGE, Stripe};
 use device::{Device, Shows};
@@ -114,8 +114,7 @@ impl<R: Shows> Stripe<R> {
             return Err(Fault::StoreFull);
         }
         while self.may_free(wanted) {
-            self.flush_oldest(device)?;
-            self.drop_oldest();
+            self.shed_oldest(device)?;
         }
         Ok(Room { weight })
     }
@@ -209,38 +208,35 @@ impl<R: Shows> Stripe<R> {
         let _dropped = self.frames.drop_oldest();
     }
 
-    // Sees to it that the oldest resident page, which is read-only, has a receipt.
-    fn flush_oldest<D: Device<Receipt = R>>(&mut self, device: &mut D) -> Result<(), Fault>
+    // Drops the oldest resident page, which is read-only, from its frame. Where it has no receipt it is written to the device
+    // first, which may keep its memory and leave other in the frame.
+    fn shed_oldest<D: Device<Receipt = R>>(&mut self, device: &mut D) -> Result<(), Fault>
         requires { self.old.resident.oldest < first_mutable self.old.resident }
-        ensures flushed { OnOk result (IsFlushed self.old self.new) }
-        ensures by_device { OnOk result (IsFlushedBy D.wrote (λ r. record { identity = R.identity r; shown = R.shown r }) self.old device.old self.new device.new) }
+        ensures left { OnOk result (HasLeft D.wrote D.serves (λ r. record { identity = R.identity r; shown = R.shown r }) R.is_honest
+            self.old device.old self.new device.new) }
+
         ensures same { OnErr result (D.failures device.new ≡ D.failures device.old → device.new ≡ device.old) }
         ensures unchanged { OnErr result (self.new ≡ self.old) }
         ensures bare { OnErr result (receipt_of self.old self.old.resident.oldest ≡ None) }
-        ensures receipt { OnOk result (IsSome (receipt_of self.new self.new.resident.oldest)) }
-        ensures log { log_of self.new ≡ log_of self.old }
         ensures fault { IfErr result (λ fault. MatchFault fault (D.failures device.new ≡ D.failures device.old + 1) ((self.new.unreleased ≡ self.new.places) × (D.failures device.new ≡ D.failures device.old))) }
         ensures no_fault { OnOk result (D.failures device.new ≡ D.failures device.old) }
         ensures no_release { D.releases device.new ≡ D.releases device.old }
         ensures still_served { (r : R) → D.serves device.old r → D.serves device.new r }
-        ensures new_served { R.is_honest → OnOk result (AreNewServed D.serves (λ r. record { identity = R.identity r; shown = R.shown r }) self.old self.new device.new) }
         ensures writes { OnOk result (D.writes device.new + self.old.unreleased ≡ D.writes device.old + self.new.unreleased) }
         ensures asked { IfErr result (λ fault. MatchFault fault (D.writes device.new ≡ D.writes device.old + 1) (D.writes device.new ≡ D.writes device.old)) }
     {
         if self.has_receipt() {
+            self.drop_frame();
             return Ok(());
         }
         if self.unreleased == self.places {
             return Err(Fault::StoreFull);
         }
-        let number = self.frames.oldest();
-        let Some(page) = self.frames.page(number) else {
-            unreachable!()
-        };
-        let Ok(receipt) = device.write(page) else {
+        let first = (self.frames.oldest() - self.oldest) as usize;
+        let Ok(receipt) = device.exchange(self.frames.oldest_mut()) else {
             return Err(Fault::DeviceFault);
         };
-        let first = (number - self.oldest) as usize;
+        let _dropped = self.frames.drop_oldest();
         self.receipts[first] = Some(receipt);
         self.kept += 1;
         self.unreleased += 1;

@@ -6,7 +6,6 @@ use super::{Both, away, both_of, have_flushed, memory, run_both};
 use device::Device;
 use std::alloc::Global;
 use std::process::Abort;
-use std::test::Fail;
 
 /// Numbers as a linear congruential generator draws them (Knuth, "MMIX").
 #[derive(Drop)]
@@ -129,7 +128,9 @@ fn fill(line: &mut String, form: &str, texts: &Texts) -> Option<()> {
 fn draw_line(alloc: Global, draw: &mut Draw, lines: &mut String) -> Option<()> {
     let texts = draw_texts(alloc, draw)?;
     let form = LINES[draw.below(25) as usize];
-    fill(lines, form, &texts)
+    let filled = fill(lines, form, &texts);
+    drop(texts);
+    filled
 }
 
 /// One line, or up to five.
@@ -197,37 +198,33 @@ fn run_and_compare<D: Device>(
 }
 
 #[test]
-fn drawn_calls_on_one_stripe(rt: HostRuntime) -> Result<(), Fail> {
+fn drawn_calls_on_one_stripe(rt: HostRuntime) {
     let alloc = rt.alloc();
-    let device = memory(alloc).ok_or("no device")?;
-    let both = both_of(alloc, 1, 5_000, device).ok_or("no store")?;
+    let device = memory(alloc).expect(&rt, "memory for a device");
+    let both = both_of(alloc, 1, 5_000, device).expect(&rt, "memory for a store");
     run_and_compare(&rt, alloc, both, 1, 2500);
-    Ok(())
 }
 
 #[test]
-fn drawn_calls_on_three_stripes(rt: HostRuntime) -> Result<(), Fail> {
+fn drawn_calls_on_three_stripes(rt: HostRuntime) {
     let alloc = rt.alloc();
-    let device = memory(alloc).ok_or("no device")?;
-    let both = both_of(alloc, 3, 5_000, device).ok_or("no store")?;
+    let device = memory(alloc).expect(&rt, "memory for a device");
+    let both = both_of(alloc, 3, 5_000, device).expect(&rt, "memory for a store");
     run_and_compare(&rt, alloc, both, 3, 2500);
-    Ok(())
 }
 
 #[test]
-fn drawn_calls_on_one_stripe_that_is_read(rt: HostRuntime) -> Result<(), Fail> {
+fn drawn_calls_on_one_stripe_that_is_read(rt: HostRuntime) {
     let alloc = rt.alloc();
-    let device = away(alloc).ok_or("no device")?;
-    let both = both_of(alloc, 1, 5_000, device).ok_or("no store")?;
+    let device = away(alloc).expect(&rt, "memory for a device");
+    let both = both_of(alloc, 1, 5_000, device).expect(&rt, "memory for a store");
     run_and_compare(&rt, alloc, both, 5, 700);
-    Ok(())
 }
 
 #[test]
-fn drawn_calls_on_three_stripes_that_are_read(rt: HostRuntime) -> Result<(), Fail> {
+fn drawn_calls_on_three_stripes_that_are_read(rt: HostRuntime) {
     let alloc = rt.alloc();
-    let device = away(alloc).ok_or("no device")?;
-    let both = both_of(alloc, 3, 5_000, device).ok_or("no store")?;
+    let device = away(alloc).expect(&rt, "memory for a device");
+    let both = both_of(alloc, 3, 5_000, device).expect(&rt, "memory for a store");
     run_and_compare(&rt, alloc, both, 7, 2800);
-    Ok(())
 }

@@ -10,7 +10,6 @@ use epoch::{EpochSeat, Epochs};
 use shards::freeing::Freed;
 use shards::retires::Retires;
 use std::alloc::Global;
-use std::test::Fail;
 
 /// Epochs with two seats.
 fn two_seats(alloc: Global) -> Option<(Epochs, EpochSeat, EpochSeat)>
@@ -48,54 +47,63 @@ fn free<D: Device, S: Retires>(store: &mut Store<D>, epochs: &Epochs, own: &mut 
 }
 
 #[test]
-fn a_retired_place_is_released_and_a_value_is_taken(rt: HostRuntime) -> Result<(), Fail> {
+fn a_retired_place_is_released_and_a_value_is_taken(rt: HostRuntime) {
     let alloc = rt.alloc();
-    let mut both = small(alloc).ok_or("no store")?;
-    let (epochs, mut seat, _other) = two_seats(alloc).ok_or("no seats")?;
-    let time = fill_in_turn(alloc, &mut both).ok_or("not full")?;
-    let freed = free(&mut both.store, &epochs, &mut seat).ok_or("no stripe")?;
+    let mut both = small(alloc).expect(&rt, "memory for a store");
+    let (epochs, mut seat, other) = two_seats(alloc).expect(&rt, "two seats");
+    let time = fill_in_turn(alloc, &mut both).expect(&rt, "a full stripe");
+    let freed = free(&mut both.store, &epochs, &mut seat).expect(&rt, "a stripe");
     assert!(rt; !freed.released);
     let unlinked = clean_once(alloc, &mut both.store, &epochs, &mut seat);
     let retired = clean_once(alloc, &mut both.store, &epochs, &mut seat);
     assert!(rt; unlinked && retired);
     assert!(rt; set(alloc, &mut both, time % 400, 1) == Some(false));
-    let freed = free(&mut both.store, &epochs, &mut seat).ok_or("no stripe")?;
+    let freed = free(&mut both.store, &epochs, &mut seat).expect(&rt, "a stripe");
     assert!(rt; freed.released && !freed.refused.drain && !freed.refused.retire);
     assert!(rt; set(alloc, &mut both, time % 400, 1) == Some(true));
-    Ok(())
+    drop(other);
+    drop(seat);
+    drop(epochs);
+    drop(both);
 }
 
 #[test]
-fn a_stay_of_another_seat_keeps_a_retired_place(rt: HostRuntime) -> Result<(), Fail> {
+fn a_stay_of_another_seat_keeps_a_retired_place(rt: HostRuntime) {
     let alloc = rt.alloc();
-    let mut both = small(alloc).ok_or("no store")?;
-    let (epochs, mut seat, other) = two_seats(alloc).ok_or("no seats")?;
-    fill_in_turn(alloc, &mut both).ok_or("not full")?;
+    let mut both = small(alloc).expect(&rt, "memory for a store");
+    let (epochs, mut seat, other) = two_seats(alloc).expect(&rt, "two seats");
+    fill_in_turn(alloc, &mut both).expect(&rt, "a full stripe");
     assert!(rt; clean_once(alloc, &mut both.store, &epochs, &mut seat));
     let inside = epochs.enter(&rt, other);
     let freed = free(&mut both.store, &epochs, &mut seat);
     let other = epochs.leave(inside);
-    let freed = freed.ok_or("no stripe")?;
+    let freed = freed.expect(&rt, "a stripe");
     assert!(rt; !freed.released && freed.refused.drain);
     let mut inside = epochs.enter(&rt, other);
     let freed = free(&mut both.store, &epochs, &mut inside);
-    let _other = epochs.leave(inside);
-    let freed = freed.ok_or("no stripe")?;
+    let other = epochs.leave(inside);
+    let freed = freed.expect(&rt, "a stripe");
     assert!(rt; freed.released && !freed.refused.drain);
-    Ok(())
+    drop(other);
+    drop(seat);
+    drop(epochs);
+    drop(both);
 }
 
 #[test]
-fn the_own_stay_keeps_a_place_that_is_retired_inside_it(rt: HostRuntime) -> Result<(), Fail> {
+fn the_own_stay_keeps_a_place_that_is_retired_inside_it(rt: HostRuntime) {
     let alloc = rt.alloc();
-    let mut both = small(alloc).ok_or("no store")?;
-    let (epochs, mut seat, other) = two_seats(alloc).ok_or("no seats")?;
-    fill_in_turn(alloc, &mut both).ok_or("not full")?;
+    let mut both = small(alloc).expect(&rt, "memory for a store");
+    let (epochs, mut seat, other) = two_seats(alloc).expect(&rt, "two seats");
+    fill_in_turn(alloc, &mut both).expect(&rt, "a full stripe");
     assert!(rt; clean_once(alloc, &mut both.store, &epochs, &mut seat));
     let mut inside = epochs.enter(&rt, other);
     let freed = free(&mut both.store, &epochs, &mut inside);
-    let _other = epochs.leave(inside);
-    let freed = freed.ok_or("no stripe")?;
+    let other = epochs.leave(inside);
+    let freed = freed.expect(&rt, "a stripe");
     assert!(rt; !freed.released && freed.refused.drain);
-    Ok(())
+    drop(other);
+    drop(seat);
+    drop(epochs);
+    drop(both);
 }

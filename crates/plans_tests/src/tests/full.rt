@@ -11,7 +11,6 @@ use epoch::{EpochSeat, Epochs};
 use hybrid::Staged;
 use shards::cleaning::Stepped;
 use std::alloc::Global;
-use std::test::Fail;
 
 /// A store of one stripe with 64 places over memory, and a plain map.
 pub(super) type Small = Both<MemoryDevice>;
@@ -129,10 +128,13 @@ fn run_full(alloc: Global, both: &mut Small) -> Option<(u64, Option<bool>, u64, 
 }
 
 #[test]
-fn a_full_stripe_serves_again_once_keys_are_deleted(rt: HostRuntime) -> Result<(), Fail> {
+fn a_full_stripe_serves_again_once_keys_are_deleted(rt: HostRuntime) {
     let alloc = rt.alloc();
-    let mut both = small(alloc).ok_or("no store")?;
-    let (first, again, taken, steps, next) = run_full(alloc, &mut both).ok_or("not full")?;
+    let mut both = small(alloc).expect(&rt, "memory for a store");
+    let (first, again, taken, steps, next) = run_full(alloc, &mut both).expect(
+        &rt,
+        "a full stripe",
+    );
     assert!(rt; 4032 <= first && first <= 4788, "{first}");
     assert!(rt; again == Some(false));
     assert!(rt; taken == 480, "{taken}");
@@ -140,7 +142,7 @@ fn a_full_stripe_serves_again_once_keys_are_deleted(rt: HostRuntime) -> Result<(
     assert!(rt; first.wrapping_add(240) <= next, "{next}");
     let is_same = agree(alloc, &mut both, next);
     assert!(rt; is_same);
-    Ok(())
+    drop(both);
 }
 
 /// Sets each of 420 keys in turn, so many times, with four steps of the cleaner for each page. It tells how many were not taken.
@@ -160,14 +162,14 @@ fn overwrite(alloc: Global, both: &mut Small, times: u64) -> Option<u64> {
 }
 
 #[test]
-fn a_stripe_that_is_cleaned_is_overwritten_for_ever(rt: HostRuntime) -> Result<(), Fail> {
+fn a_stripe_that_is_cleaned_is_overwritten_for_ever(rt: HostRuntime) {
     let alloc = rt.alloc();
-    let mut both = small(alloc).ok_or("no store")?;
+    let mut both = small(alloc).expect(&rt, "memory for a store");
     let refused = overwrite(alloc, &mut both, 12_600);
     assert!(rt; refused == Some(0));
     let is_same = agree(alloc, &mut both, 421);
     assert!(rt; is_same);
-    Ok(())
+    drop(both);
 }
 
 /// Deletes one key, and then gives new keys values until the stripe takes none, so often, with a few steps of the cleaner each time.
@@ -192,11 +194,11 @@ fn delete_and_fill(alloc: Global, both: &mut Small, times: u64) -> Option<(u64, 
 
 // What a deletion opens stays for deletions, so a client that deletes one key and tries again is not shut out for good.
 #[test]
-fn values_do_not_fill_the_page_that_a_deletion_opened(rt: HostRuntime) -> Result<(), Fail> {
+fn values_do_not_fill_the_page_that_a_deletion_opened(rt: HostRuntime) {
     let alloc = rt.alloc();
-    let mut both = small(alloc).ok_or("no store")?;
-    let (deleted, given) = delete_and_fill(alloc, &mut both, 400).ok_or("not full")?;
+    let mut both = small(alloc).expect(&rt, "memory for a store");
+    let (deleted, given) = delete_and_fill(alloc, &mut both, 400).expect(&rt, "a full stripe");
     assert!(rt; deleted == 400, "{deleted}");
     assert!(rt; 300 <= given, "{given}");
-    Ok(())
+    drop(both);
 }

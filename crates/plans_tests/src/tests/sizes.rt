@@ -4,7 +4,6 @@ use super::{Both, answer_lines, both_of, is_line, memory, run_both};
 use device::{Device, MemoryDevice};
 use std::alloc::Global;
 use std::process::Abort;
-use std::test::Fail;
 
 /// A text, and sixty times another.
 fn sixty(alloc: Global, first: &str, again: &str) -> Option<String> {
@@ -20,32 +19,36 @@ fn sixty(alloc: Global, first: &str, again: &str) -> Option<String> {
 fn sixty_settings(alloc: Global) -> Option<String> {
     let value = sixty(alloc, "", "0123456789")?;
     let again = format!(in alloc; " k {value}").ok()?;
-    sixty(alloc, "MSET", again.as_str())
+    let lines = sixty(alloc, "MSET", again.as_str());
+    drop(value);
+    lines
 }
 
 /// Runs lines on both, and then a line that reads. The store has two stripes.
 fn run_on_two(alloc: Global, lines: &str, reading: &str) -> Option<bool> {
     let device = memory(alloc)?;
     let mut both = both_of(alloc, 2, 64, device)?;
-    Some(run_both(alloc, &mut both, lines) && run_both(alloc, &mut both, reading))
+    let is_same = run_both(alloc, &mut both, lines) && run_both(alloc, &mut both, reading);
+    drop(both);
+    Some(is_same)
 }
 
 #[test]
-fn sixty_settings_of_one_key(rt: HostRuntime) -> Result<(), Fail> {
+fn sixty_settings_of_one_key(rt: HostRuntime) {
     let alloc = rt.alloc();
-    let lines = sixty_settings(alloc).ok_or("no memory")?;
+    let lines = sixty_settings(alloc).expect(&rt, "memory for the lines");
     let is_same = run_on_two(alloc, lines.as_str(), "GET k");
     assert!(rt; is_same == Some(true));
-    Ok(())
+    drop(lines);
 }
 
 #[test]
-fn sixty_increments_in_one_transaction(rt: HostRuntime) -> Result<(), Fail> {
+fn sixty_increments_in_one_transaction(rt: HostRuntime) {
     let alloc = rt.alloc();
-    let lines = sixty(alloc, "INCR n", "\nINCR n").ok_or("no memory")?;
+    let lines = sixty(alloc, "INCR n", "\nINCR n").expect(&rt, "memory for the lines");
     let is_same = run_on_two(alloc, lines.as_str(), "GET n");
     assert!(rt; is_same == Some(true));
-    Ok(())
+    drop(lines);
 }
 
 /// The heaviest transaction, four times.
@@ -65,7 +68,9 @@ fn refuses_heavier<D: Device>(alloc: Global, both: &mut Both<D>) -> Option<bool>
     let lines =
         "SETRANGE a 32767 y\nSETRANGE b 32767 x\nSETRANGE c 32767 x\nSETRANGE d 32767 x\nSETRANGE e 32767 x\nSETRANGE f 32474 x";
     let told = answer_lines(alloc, &mut both.store, lines)?;
-    Some(is_line(&told, "-ERR command writes too much"))
+    let is_refused = is_line(&told, "-ERR command writes too much");
+    drop(told);
+    Some(is_refused)
 }
 
 /// The heaviest transaction on so many stripes, and a heavier one; then the keys have what they had.
@@ -79,19 +84,17 @@ fn run_heaviest_on(rt: &impl Abort, alloc: Global, mut both: Both<MemoryDevice>)
 }
 
 #[test]
-fn the_heaviest_call_on_one_stripe(rt: HostRuntime) -> Result<(), Fail> {
+fn the_heaviest_call_on_one_stripe(rt: HostRuntime) {
     let alloc = rt.alloc();
-    let device = memory(alloc).ok_or("no device")?;
-    let both = both_of(alloc, 1, 1000, device).ok_or("no store")?;
+    let device = memory(alloc).expect(&rt, "memory for a device");
+    let both = both_of(alloc, 1, 1000, device).expect(&rt, "memory for a store");
     run_heaviest_on(&rt, alloc, both);
-    Ok(())
 }
 
 #[test]
-fn the_heaviest_call_on_all_stripes(rt: HostRuntime) -> Result<(), Fail> {
+fn the_heaviest_call_on_all_stripes(rt: HostRuntime) {
     let alloc = rt.alloc();
-    let device = memory(alloc).ok_or("no device")?;
-    let both = both_of(alloc, 64, 1000, device).ok_or("no store")?;
+    let device = memory(alloc).expect(&rt, "memory for a device");
+    let both = both_of(alloc, 64, 1000, device).expect(&rt, "memory for a store");
     run_heaviest_on(&rt, alloc, both);
-    Ok(())
 }

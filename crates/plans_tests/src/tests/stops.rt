@@ -9,7 +9,6 @@ use crate::held::Store;
 use device::{Device, Faulty, MemoryDevice};
 use plans::stop::Stop;
 use std::alloc::Global;
-use std::test::Fail;
 use transact::call::{Call, Watching};
 use words::command::Keys;
 use words::hash::stripe_of;
@@ -73,17 +72,17 @@ fn pages_wanted(alloc: Global, both: &mut Away, lines: &str) -> Option<usize> {
 }
 
 #[test]
-fn a_plan_names_all_pages_that_it_wants(rt: HostRuntime) -> Result<(), Fail> {
+fn a_plan_names_all_pages_that_it_wants(rt: HostRuntime) {
     let alloc = rt.alloc();
     let lines = "GET f0\nAPPEND f9 x\nGET f59\nGET f19";
-    let mut both = filled(alloc).ok_or("not filled")?;
+    let mut both = filled(alloc).expect(&rt, "a store with keys");
     let before = both.store.device.calls();
     let wanted = pages_wanted(alloc, &mut both, lines);
     assert!(rt; wanted == Some(3));
     assert!(rt; both.store.device.calls() == before);
     let is_same = run_both(alloc, &mut both, lines) && run_both(alloc, &mut both, "MGET f9 f0");
     assert!(rt; is_same);
-    Ok(())
+    drop(both);
 }
 
 /// How many pages a command wants.
@@ -94,9 +93,9 @@ fn pages_wanted_by(alloc: Global, both: &mut Away, line: &str) -> Option<usize> 
 
 /// An MSET wants no page of its keys, an MGET each that is not resident.
 #[test]
-fn an_mset_reads_nothing(rt: HostRuntime) -> Result<(), Fail> {
+fn an_mset_reads_nothing(rt: HostRuntime) {
     let alloc = rt.alloc();
-    let mut both = filled(alloc).ok_or("not filled")?;
+    let mut both = filled(alloc).expect(&rt, "a store with keys");
     let before = both.store.device.calls();
     let is_same = run_both(alloc, &mut both, "MSET f0 v f9 w f19 x");
     assert!(rt; is_same);
@@ -105,15 +104,15 @@ fn an_mset_reads_nothing(rt: HostRuntime) -> Result<(), Fail> {
     assert!(rt; wanted == Some(3));
     let is_same = run_both(alloc, &mut both, "MGET f1 f0 f9 f19 f59 f11 f1 none");
     assert!(rt; is_same);
-    Ok(())
+    drop(both);
 }
 
 /// RENAME of a key over another, neither of which is resident; of one that is missing; and of one to its own name.
 #[test]
-fn keys_without_frames_are_renamed(rt: HostRuntime) -> Result<(), Fail> {
+fn keys_without_frames_are_renamed(rt: HostRuntime) {
     let alloc = rt.alloc();
     let lines = "RENAME f0 f9\nGET f59";
-    let mut both = filled(alloc).ok_or("not filled")?;
+    let mut both = filled(alloc).expect(&rt, "a store with keys");
     let wanted = pages_wanted(alloc, &mut both, lines);
     assert!(rt; wanted == Some(2));
     for lines in [
@@ -129,7 +128,7 @@ fn keys_without_frames_are_renamed(rt: HostRuntime) -> Result<(), Fail> {
         let is_same = run_both(alloc, &mut both, lines);
         assert!(rt; is_same, "{lines}");
     }
-    Ok(())
+    drop(both);
 }
 
 /// A session watches a key.
@@ -186,16 +185,16 @@ fn dirty(alloc: Global, both: &mut Away) -> Option<bool> {
 }
 
 #[test]
-fn a_dirty_transaction_looks_nothing_up(rt: HostRuntime) -> Result<(), Fail> {
+fn a_dirty_transaction_looks_nothing_up(rt: HostRuntime) {
     let alloc = rt.alloc();
-    let mut both = filled(alloc).ok_or("not filled")?;
+    let mut both = filled(alloc).expect(&rt, "a store with keys");
     let is_dirty = dirty(alloc, &mut both);
     assert!(rt; is_dirty == Some(true));
     let is_null = is_null(alloc, &mut both, "GET f0\nSET f5 mine", "f5");
     assert!(rt; is_null);
     let is_same = run_both(alloc, &mut both, "GET f5");
     assert!(rt; is_same);
-    Ok(())
+    drop(both);
 }
 
 /// The mark that a session has of a key.
@@ -242,14 +241,14 @@ fn undone(alloc: Global) -> Option<Store<MemoryDevice>> {
 }
 
 #[test]
-fn an_undone_watch_leaves_what_was_watched(rt: HostRuntime) -> Result<(), Fail> {
+fn an_undone_watch_leaves_what_was_watched(rt: HostRuntime) {
     let alloc = rt.alloc();
-    let mut store = undone(alloc).ok_or("not undone")?;
+    let mut store = undone(alloc).expect(&rt, "a store with a watch undone");
     let mark = mark_of(alloc, &mut store, "a", 3);
     assert!(rt; mark == Some(Some(false)));
     let mark = mark_of(alloc, &mut store, "b", 3);
     assert!(rt; mark == Some(None));
-    Ok(())
+    drop(store);
 }
 
 /// What the command of a line is answered: nothing, where it is done, or the stripe that is full. `None` where something
@@ -320,13 +319,14 @@ fn small(alloc: Global) -> Option<Away> {
 }
 
 #[test]
-fn a_full_stripe_is_named_and_keys_keep_what_they_have(rt: HostRuntime) -> Result<(), Fail> {
+fn a_full_stripe_is_named_and_keys_keep_what_they_have(rt: HostRuntime) {
     let alloc = rt.alloc();
-    let mut both = small(alloc).ok_or("no store")?;
-    let (stripe, number) = fill_up(alloc, &mut both).ok_or("not full")?;
-    let key = format!(in alloc; "f{number}")?;
+    let mut both = small(alloc).expect(&rt, "memory for a store");
+    let (stripe, number) = fill_up(alloc, &mut both).expect(&rt, "a full stripe");
+    let key = format!(in alloc; "f{number}").expect(&rt, "memory for a key");
     assert!(rt; stripe == stripe_of(key.as_bytes(), 2));
     let is_same = agree(alloc, &mut both, number);
     assert!(rt; is_same);
-    Ok(())
+    drop(key);
+    drop(both);
 }

@@ -24,28 +24,35 @@ fn reads_of(
 // The same, where nothing is staged yet.
 fn reads_alone(shelf: &mut Shelf, alloc: Global, key: &[u8], value: &[u8]) -> Option<u64> {
     let mut staged = Staged::new(alloc);
-    reads_of(shelf, &mut staged, key, value)
+    let reads = reads_of(shelf, &mut staged, key, value);
+    drop(staged);
+    reads
 }
 
 // A shelf with three keys in its first pages, the longest value among them, which have left their frames. Calls of these numbers fail.
-fn with_cold_keys(alloc: Global, failing: Vec<u64>) -> Result<Shelf, Fail> {
-    let mut shelf = new_shelf(alloc, 4096, 64)?;
-    shelf.device = Faulty::new(new_device(alloc)?, failing);
+fn with_cold_keys(rt: &impl Abort, alloc: Global, failing: Vec<u64>) -> Shelf {
+    let mut shelf = new_shelf(rt, alloc, 4096, 64);
+    shelf.device = Faulty::new(new_device(rt, alloc), failing);
+    assert!(rt;
+        puts_three(&mut shelf) && fill(&mut shelf, 0, 1260).is_ok(),
+        "a write"
+    );
+    shelf
+}
+
+// Whether the three keys could be put.
+fn puts_three(shelf: &mut Shelf) -> bool {
     let value = [7; VALUE_BYTES_MAX];
-    let are_put = puts(&mut shelf, b"a1", Some(&value[..LONGEST_IN_A_PIECE]))
-        && puts(&mut shelf, b"a2", Some(&value[..LONGEST_IN_A_PIECE + 1]))
-        && puts(&mut shelf, b"a3", Some(&value));
-    if !are_put || fill(&mut shelf, 0, 1260).is_err() {
-        return Err(Fail::from("a write"));
-    }
-    Ok(shelf)
+    puts(shelf, b"a1", Some(&value[..LONGEST_IN_A_PIECE]))
+        && puts(shelf, b"a2", Some(&value[..LONGEST_IN_A_PIECE + 1]))
+        && puts(shelf, b"a3", Some(&value))
 }
 
 #[test]
-fn a_record_is_read_with_a_piece_or_with_its_page(rt: HostRuntime) -> Result<(), Fail> {
-    let mut shelf = with_cold_keys(rt.alloc(), Vec::new(rt.alloc()))?;
+fn a_record_is_read_with_a_piece_or_with_its_page(rt: HostRuntime) {
+    let mut shelf = with_cold_keys(&rt, rt.alloc(), Vec::new(rt.alloc()));
     reads_pieces_first(&mut shelf, rt.alloc(), &rt);
-    Ok(())
+    drop(shelf);
 }
 
 fn reads_pieces_first(shelf: &mut Shelf, alloc: Global, rt: &impl Abort) {
@@ -64,10 +71,10 @@ fn is_away(stripe: &Stripe<Receipt>, number: u64) -> bool {
 
 // A second record of a page is read with the whole page, which then has all of its records.
 #[test]
-fn a_page_is_read_twice_at_most(rt: HostRuntime) -> Result<(), Fail> {
-    let mut shelf = with_cold_keys(rt.alloc(), Vec::new(rt.alloc()))?;
+fn a_page_is_read_twice_at_most(rt: HostRuntime) {
+    let mut shelf = with_cold_keys(&rt, rt.alloc(), Vec::new(rt.alloc()));
     reads_twice(&mut shelf, rt.alloc(), &rt);
-    Ok(())
+    drop(shelf);
 }
 
 fn reads_twice(shelf: &mut Shelf, alloc: Global, rt: &impl Abort) {
@@ -77,23 +84,26 @@ fn reads_twice(shelf: &mut Shelf, alloc: Global, rt: &impl Abort) {
     assert!(rt; reads_of(shelf, &mut staged, b"a2", &value[..LONGEST_IN_A_PIECE + 1]) == Some(1));
     assert!(rt; reads_of(shelf, &mut staged, b"a1", &value[..LONGEST_IN_A_PIECE]) == Some(0));
     assert!(rt; reads_of(shelf, &mut staged, b"a3", &value) == Some(0));
+    drop(staged);
 }
 
 // How many calls a shelf has made once its keys are cold.
-fn calls_before(alloc: Global) -> Result<u64, Fail> {
-    let shelf = with_cold_keys(alloc, Vec::new(alloc))?;
-    Ok(shelf.device.calls())
+fn calls_before(rt: &impl Abort, alloc: Global) -> u64 {
+    let shelf = with_cold_keys(rt, alloc, Vec::new(alloc));
+    let calls = shelf.device.calls();
+    drop(shelf);
+    calls
 }
 
 // The second read of a long record fails: what was staged stays, and the record is read by another try.
 #[test]
-fn a_fault_in_the_second_read_loses_nothing(rt: HostRuntime) -> Result<(), Fail> {
-    let second = calls_before(rt.alloc())?.wrapping_add(1);
+fn a_fault_in_the_second_read_loses_nothing(rt: HostRuntime) {
+    let second = calls_before(&rt, rt.alloc()).wrapping_add(1);
     let mut failing = Vec::new(rt.alloc());
-    failing.push(second)?;
-    let mut shelf = with_cold_keys(rt.alloc(), failing)?;
+    failing.push(second).expect(&rt, "memory for a number");
+    let mut shelf = with_cold_keys(&rt, rt.alloc(), failing);
     reads_after_a_fault(&mut shelf, rt.alloc(), &rt);
-    Ok(())
+    drop(shelf);
 }
 
 fn reads_after_a_fault(shelf: &mut Shelf, alloc: Global, rt: &impl Abort) {
@@ -102,4 +112,5 @@ fn reads_after_a_fault(shelf: &mut Shelf, alloc: Global, rt: &impl Abort) {
     assert!(rt; reads_of(shelf, &mut staged, b"a3", &value).is_none());
     assert!(rt; staged.rooms() == 2);
     assert!(rt; reads_of(shelf, &mut staged, b"a3", &value) == Some(1));
+    drop(staged);
 }

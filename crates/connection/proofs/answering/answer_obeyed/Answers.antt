@@ -1,33 +1,6 @@
-use Rattle.connection.proofs.Called.{place_for, ends_all, turned_said, turned_want, turned_called, attends_turned, wants_memory}
-use Rattle.connection.proofs.Briefs.{attends_before}
+use Rattle.connection.proofs.Called.{wants_command}
 use Rattle.connection.proofs.answering.answer_obeyed.Goals as goal
 
-pub submit_with-answer-requires-clause-place : goal.submit_with-answer-requires-clause-place
-submit_with-answer-requires-clause-place g c = let up = c.in-Calls.ensures in place_for _ _ up.2.3
-
-pub submit_with-answer-requires-clause-watching : goal.submit_with-answer-requires-clause-watching
-submit_with-answer-requires-clause-watching g c = let up = c.in-Calls.ensures in ends_all _ _ _ _ _ up.2.2 c.requires.attends.watches
-
-pub returns-in-Says-clause-due : goal.returns-in-Says-clause-due
-returns-in-Says-clause-due g c = turned_said _ _ _ _ (attends_before _ _ _ c.requires.attends) c.in-Says.ensures
-
-pub returns-in-Says-clause-attends : goal.returns-in-Says-clause-attends
-returns-in-Says-clause-attends g c = attends_turned _ _ _ _ _ (returns-in-Says-clause-due g c)
-
-pub returns-in-SaysOutOfMemory-clause-due : goal.returns-in-SaysOutOfMemory-clause-due
-returns-in-SaysOutOfMemory-clause-due g c = turned_want _ _ _ _ (attends_before _ _ _ c.requires.attends) c.in-SaysOutOfMemory.ensures c.line.ensures
-
-pub returns-in-SaysOutOfMemory-clause-attends : goal.returns-in-SaysOutOfMemory-clause-attends
-returns-in-SaysOutOfMemory-clause-attends g c = attends_turned _ _ _ _ _ (returns-in-SaysOutOfMemory-clause-due g c)
-
-pub returns-in-Calls-clause-due : goal.returns-in-Calls-clause-due
-returns-in-Calls-clause-due g c =
-    turned_called _ _ _ c.in-Calls.call c.submit_with-answer.result _ _ _ _ c.watches_follow_entries.ensures.entry c.watches_follow_entries.ensures.fault
-    (attends_before _ _ _ c.requires.attends) c.in-Calls.ensures c.submit_with-answer.ensures.answered.done c.submit_with-answer.ensures.answered.undone c.resume.ensures.unread c.resume.ensures.resumes
-
-pub returns-in-Calls-clause-attends : goal.returns-in-Calls-clause-attends
-returns-in-Calls-clause-attends g c = attends_turned _ _ _ _ _ (returns-in-Calls-clause-due g c)
-
-pub returns-in-OutOfMemory-clause-turned : goal.returns-in-OutOfMemory-clause-turned
-returns-in-OutOfMemory-clause-turned g c =
-    let gives = c.in-OutOfMemory.ensures in (wants_memory _ _ gives.0 gives.1 gives.2 gives.4, gives.3)
+pub returns-in-Err-clause-turned : goal.returns-in-Err-clause-turned
+returns-in-Err-clause-turned g c =
+    (wants_command c.args.words.now c.args.client.now c.requires.request (λ asks. absurd (cc (c.in-Err.ensures.memory asks))), c.requires.is_open)

@@ -40,7 +40,7 @@ returns-then-add_values g c = record {
       planned_nothing g.D.Device.wrote (kept_by g.R.Shows.identity g.R.Shows.shown) (AreDue right (of_copied (shard_meaning g.R.Shows.is_steady) n parts c.args.command.now)) n
       (parts, c.args.device.now) (later, c.args.device.now) planned
       (λ is_right seen operation asks. subst (λ (o : Operation). IsPlan seen o planned.reply planned.writes) (sym asks.is)
-      (plan_of_items (shard_meaning g.R.Shows.is_steady) n parts seen c.args.command.now c.args.keys.now c.from_vec.result c.new-items.result.items planned.reply planned.writes c.requires.is c.new-items.ensures.items
+      (plan_of_items (shard_meaning g.R.Shows.is_steady) n parts seen c.args.command.now c.args.keys.now c.from_vec.result c.room_for-items.result.items planned.reply planned.writes c.requires.is c.room_for-items.ensures
       (c.from_vec.ensures ∙ c.if-add_values.ensures.items is_right) asks.read (subst (λ (x : Command). AreThere n parts (keys_of x)) c.requires.is c.requires.may.there) c.answered.ensures.reply c.answered.ensures.writes))
       c.answered.ensures.writes (logs_same parts later c.add_values.ensures.same) refl);
   unmarked = (record {

@@ -1,8 +1,8 @@
-use Rattle.std.proofs.Common.{rules}
+use Rattle.std.proofs.Common.{◌≡◌, ◌∙◌, length, sym, rules}
+use Rattle.records.proofs.Memory.{bytes_of-none, nothing}
 use Rattle.records.proofs.pages.Page.bytes.Goals as goal
 
-pub returns-clause-bytes : goal.returns-clause-bytes
-returns-clause-bytes c = search rules
-
-pub returns-clause-size : goal.returns-clause-size
-returns-clause-size c = search rules
+pub returns-then-is_empty-clause-bytes : goal.returns-then-is_empty-clause-bytes
+returns-then-is_empty-clause-bytes c =
+    let none : length c.self.inside.bytes.items ≡ 0 = search rules in
+    sym (bytes_of-none c.self.inside.bytes.items (nothing c.self.inside.bytes.items none)) ∙ c.self.view_is

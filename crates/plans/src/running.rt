@@ -1,0 +1,329 @@
+//! What commands answer and write that run one after the other, each on what its keys have where it lies. What one wrote the
+//! next ones find.
+
+ghost use Rattle.std.specs.Prelude.{◌≡◌, [], ◌∷◌, None, Some, if◌then◌else◌, IfSome, OnSome};
+ghost use Rattle.std.specs.Option.{option_copied};
+ghost use Rattle.words.specs.Store.{Store, empty, written};
+ghost use Rattle.words.specs.declared.command.Command.TheVariants.{MGet};
+ghost use Rattle.words.specs.Answers.{is_some, item_of};
+ghost use Rattle.words.specs.Commands.{keys_of, keys_of_all};
+ghost use Rattle.hybrid.specs.Staging.{AreRight};
+ghost use Rattle.transact.specs.Tables.{joined};
+ghost use Rattle.shards.specs.Shards.{shard_meaning, shard_store};
+ghost use Rattle.plans.specs.Planning.{IsStillHeld, MayLookUp};
+ghost use Rattle.plans.specs.Running.{AsksPresence, HasRun, HasRunIn, HasRunOn, HasShownIn, HaveRunIn, IsFound, ReadsOne};
+ghost use Rattle.plans.specs.Sizes.{AreSized};
+
+use crate::cells::stripe_at;
+use crate::find::room_for;
+use crate::looks::{Looks, looks_of};
+use device::Shows;
+use gates::Parts;
+use hybrid::{Lookup, Staged};
+use shards::shard::Shard;
+use std::alloc::Global;
+use std::mem;
+use strings::found::Findings;
+use strings::keys::{key_at, key_count};
+use strings::overlay::Overlay;
+use strings::run::run;
+use strings::writes::Writes;
+use words::command::Command;
+use words::hash::Hashed;
+use words::locality::writes_named_keys;
+use words::reply::{CommandReply, Item};
+use words::sequence::Sequence;
+use words::word::Word;
+
+/// What a command answers after these writes, where this was found of its keys. The writes gain its own. `None` where memory was
+/// refused: the writes are then lost.
+fn run_after(
+    alloc: Global,
+    found: Findings<'_>,
+    command: &Command,
+    writes: &mut Writes,
+) -> Option<CommandReply>
+    ensures { IfSome result (HasRun (written empty found.entry) command.now writes.old writes.new) }
+{
+    let mut overlay = Overlay {
+        found,
+        writes: mem::replace(writes, Writes::new(alloc)),
+    };
+    match run(alloc, command, &mut overlay) {
+        Ok(reply) => {
+            *writes = overlay.writes;
+            Some(reply)
+        }
+        Err(_) => None,
+    }
+}
+
+/// What a key has, where it lies. `None` where a page is wanted.
+fn value_at<'a, R: Shows>(
+    part: &'a Shard<R>,
+    key: &Hashed,
+    staged: &'a Staged<R>,
+) -> Option<Option<&'a [u8]>>
+    ensures { IfSome result (λ value. IsFound (R.is_honest × AreRight staged.entry.now)
+        (shard_store part.entry.now) key.now (option_copied value)) }
+{
+    match part.find(key, staged) {
+        Lookup::Found(value) => Some(Some(value)),
+        Lookup::Absent => Some(None),
+        Lookup::Cold(_, _) => None,
+    }
+}
+
+/// What a command that reads this key alone answers after these writes, on the part of its stripe: the value is read where it
+/// lies. `None` where a page is wanted, or memory: the writes are then lost.
+fn run_at<R: Shows>(
+    alloc: Global,
+    part: &Shard<R>,
+    key: &Hashed,
+    command: &Command,
+    staged: &Staged<R>,
+    writes: &mut Writes,
+) -> Option<CommandReply>
+    requires reads { ReadsOne key.now command.now }
+    ensures { (store : Store) → store key.now ≡ shard_store part.now key.now
+        → IfSome result (HasRunOn (R.is_honest × AreRight staged.now) store command.now writes.old writes.new) }
+{
+    let value = value_at(part, key, staged)?;
+    let mut found = Findings::new(alloc);
+    match found.push(key.key().as_slice(), value) {
+        Ok(()) => run_after(alloc, found, command, writes),
+        Err(_) => None,
+    }
+}
+
+/// What a command that reads this key alone answers after these writes. `None` where a page is wanted, or memory: the writes are
+/// then lost.
+fn run_key<R: Shows, P: Parts<Shard<R>>>(
+    alloc: Global,
+    parts: &mut P,
+    key: &Word,
+    command: &Command,
+    staged: &Staged<R>,
+    writes: &mut Writes,
+) -> Option<CommandReply>
+    requires reads { ReadsOne key.now command.now }
+    requires may { MayLookUp (P.is_open parts.old) (P.stripes_of parts.old) (P.part_of parts.old) (key.now ∷ []) }
+    ensures ran { IfSome result (HasRunIn R.is_steady P.stripes_of P.part_of parts.old
+        (R.is_honest × AreRight staged.now) command.now writes.old writes.new) }
+    ensures same { P.part_of parts.new ≡ P.part_of parts.old }
+    ensures held { IsStillHeld P.is_open P.keeps parts.old parts.new }
+{
+    let key = Hashed::new(key);
+    let stripe = stripe_at(&*parts, &key);
+    run_at(alloc, parts.part(stripe), &key, command, staged, writes)
+}
+
+/// Whether a key is there. `None` where a page is wanted.
+fn is_there<R: Shows, P: Parts<Shard<R>>>(
+    parts: &mut P,
+    key: &Word,
+    staged: &Staged<R>,
+) -> Option<bool>
+    requires may { MayLookUp (P.is_open parts.old) (P.stripes_of parts.old) (P.part_of parts.old) (key.now ∷ []) }
+    ensures there { IfSome result (λ there. R.is_honest × AreRight staged.now
+        → there ≡ is_some (joined (shard_meaning R.is_steady) (P.stripes_of parts.old) (P.part_of parts.old) key.now)) }
+    ensures same { P.part_of parts.new ≡ P.part_of parts.old }
+    ensures held { IsStillHeld P.is_open P.keeps parts.old parts.new }
+{
+    let key = Hashed::new(key);
+    let stripe = stripe_at(&*parts, &key);
+    Some(value_at(parts.part(stripe), &key, staged)?.is_some())
+}
+
+/// An empty value, for a key that is there.
+fn stand_in(there: bool) -> Option<&'static [u8]>
+    ensures { option_copied result ≡ (if there then Some [] else None) }
+{
+    if there { Some(b"") } else { None }
+}
+
+/// Shows which keys of a command are there: an empty value stands for the one that a key has. `None` where a page is wanted, or
+/// memory.
+fn show_present<'a, R: Shows, P: Parts<Shard<R>>>(
+    parts: &mut P,
+    command: &'a Command,
+    staged: &Staged<R>,
+    shown: &mut Findings<'a>,
+) -> Option<()>
+    requires may { MayLookUp (P.is_open parts.old) (P.stripes_of parts.old) (P.part_of parts.old) (keys_of command.now) }
+    ensures shown { OnSome result (HasShownIn R.is_steady P.stripes_of P.part_of parts.old
+        (R.is_honest × AreRight staged.now) (keys_of command.entry.now) shown.old shown.new) }
+    ensures same { P.part_of parts.new ≡ P.part_of parts.old }
+    ensures held { IsStillHeld P.is_open P.keeps parts.old parts.new }
+{
+    for place in 0..key_count(command) {
+        let key = key_at(command, place);
+        let there = is_there(parts, key, staged)?;
+        let Ok(()) = shown.push(key.as_slice(), stand_in(there)) else {
+            return None;
+        };
+    }
+    Some(())
+}
+
+/// What a command answers after these writes that depends on which of its keys are there: no value is copied. `None` where a page
+/// is wanted, or memory: the writes are then lost.
+fn run_present<R: Shows, P: Parts<Shard<R>>>(
+    alloc: Global,
+    parts: &mut P,
+    command: &Command,
+    staged: &Staged<R>,
+    writes: &mut Writes,
+) -> Option<CommandReply>
+    requires presence { AsksPresence command.now }
+    requires may { MayLookUp (P.is_open parts.old) (P.stripes_of parts.old) (P.part_of parts.old) (keys_of command.now) }
+    ensures ran { IfSome result (HasRunIn R.is_steady P.stripes_of P.part_of parts.old
+        (R.is_honest × AreRight staged.now) command.now writes.old writes.new) }
+    ensures same { P.part_of parts.new ≡ P.part_of parts.old }
+    ensures held { IsStillHeld P.is_open P.keeps parts.old parts.new }
+{
+    let mut shown = Findings::new(alloc);
+    show_present(parts, command, staged, &mut shown)?;
+    run_after(alloc, shown, command, writes)
+}
+
+/// The value of a key after these writes, as an item, where this was found of the key. The one copy is made of it. `None` where
+/// memory was refused. The writes stay.
+fn item_after(alloc: Global, found: Findings<'_>, key: &[u8], writes: &mut Writes) -> Option<Item>
+    ensures item { IfSome result (λ item. item ≡ item_of (written (written empty found.entry) writes.old key.entry.now)) }
+    ensures same { writes.new ≡ writes.old }
+{
+    let overlay = Overlay {
+        found,
+        writes: mem::replace(writes, Writes::new(alloc)),
+    };
+    let item = match overlay.value(key) {
+        Some(value) => match Word::from_slice(alloc, value) {
+            Ok(value) => Some(Item::Bulk(value)),
+            Err(_) => None,
+        },
+        None => Some(Item::Null),
+    };
+    *writes = overlay.writes;
+    item
+}
+
+/// The value of a key after these writes, as an item, on the part of its stripe. `None` where a page is wanted, or memory.
+fn item_at<R: Shows>(
+    alloc: Global,
+    part: &Shard<R>,
+    key: &Hashed,
+    staged: &Staged<R>,
+    writes: &mut Writes,
+) -> Option<Item>
+    ensures item { (store : Store) → store key.now ≡ shard_store part.now key.now
+        → IfSome result (λ item. R.is_honest × AreRight staged.now → item ≡ item_of (written store writes.old key.now)) }
+    ensures same { writes.new ≡ writes.old }
+{
+    let value = value_at(part, key, staged)?;
+    let mut found = Findings::new(alloc);
+    match found.push(key.key().as_slice(), value) {
+        Ok(()) => item_after(alloc, found, key.key().as_slice(), writes),
+        Err(_) => None,
+    }
+}
+
+/// The value of a key after these writes, as an item. `None` where a page is wanted, or memory.
+fn item_next<R: Shows, P: Parts<Shard<R>>>(
+    alloc: Global,
+    parts: &mut P,
+    key: &Word,
+    staged: &Staged<R>,
+    writes: &mut Writes,
+) -> Option<Item>
+    requires may { MayLookUp (P.is_open parts.old) (P.stripes_of parts.old) (P.part_of parts.old) (key.now ∷ []) }
+    ensures item { IfSome result (λ item. R.is_honest × AreRight staged.now → item ≡ item_of (written
+        (joined (shard_meaning R.is_steady) (P.stripes_of parts.old) (P.part_of parts.old)) writes.old key.now)) }
+    ensures writes { writes.new ≡ writes.old }
+    ensures same { P.part_of parts.new ≡ P.part_of parts.old }
+    ensures held { IsStillHeld P.is_open P.keeps parts.old parts.new }
+{
+    let key = Hashed::new(key);
+    let stripe = stripe_at(&*parts, &key);
+    item_at(alloc, parts.part(stripe), &key, staged, writes)
+}
+
+/// What an MGET of these keys answers after these writes: the one copy is made of each value. `None` where a page is wanted, or
+/// memory.
+fn run_items<R: Shows, P: Parts<Shard<R>>>(
+    alloc: Global,
+    parts: &mut P,
+    keys: &[Word],
+    staged: &Staged<R>,
+    writes: &mut Writes,
+) -> Option<CommandReply>
+    requires may { MayLookUp (P.is_open parts.old) (P.stripes_of parts.old) (P.part_of parts.old) keys.now }
+    ensures ran { IfSome result (HasRunIn R.is_steady P.stripes_of P.part_of parts.old
+        (R.is_honest × AreRight staged.now) (MGet keys.now) writes.old writes.new) }
+    ensures same { P.part_of parts.new ≡ P.part_of parts.old }
+    ensures held { IsStillHeld P.is_open P.keeps parts.old parts.new }
+{
+    let mut items = room_for(alloc, keys.len());
+    let mut left = keys;
+    while let Some((first, others)) = left.split_first() {
+        let item = item_next(alloc, parts, first, staged, writes)?;
+        let Ok(()) = items.push(item) else {
+            return None;
+        };
+        left = others;
+    }
+    Some(CommandReply::Array(Sequence::from_vec(items)))
+}
+
+/// What a command answers after these writes: of one that reads nothing no key is looked up; one that reads one key has its value
+/// where it lies; one that asks which keys are there has no value; of an MGET each value is copied once, into the reply. `None`
+/// where a page is wanted, or memory: the writes are then lost.
+pub(crate) fn run_next<R: Shows, P: Parts<Shard<R>>>(
+    alloc: Global,
+    parts: &mut P,
+    command: &Command,
+    staged: &Staged<R>,
+    writes: &mut Writes,
+) -> Option<CommandReply>
+    requires may { MayLookUp (P.is_open parts.old) (P.stripes_of parts.old) (P.part_of parts.old) (keys_of command.now) }
+    ensures ran { IfSome result (HasRunIn R.is_steady P.stripes_of P.part_of parts.old
+        (R.is_honest × AreRight staged.now) command.now writes.old writes.new) }
+    ensures same { P.part_of parts.new ≡ P.part_of parts.old }
+    ensures held { IsStillHeld P.is_open P.keeps parts.old parts.new }
+{
+    match looks_of(command) {
+        Looks::AtNothing => run_after(alloc, Findings::new(alloc), command, writes),
+        Looks::AtValue(key) => run_key(alloc, parts, key, command, staged, writes),
+        Looks::AtItems(keys) => run_items(alloc, parts, keys, staged, writes),
+        Looks::AtPresence => run_present(alloc, parts, command, staged, writes),
+    }
+}
+
+/// What commands answer and write that run one after the other, each on what its keys have where it lies. `None` where a page is
+/// wanted, or memory.
+pub(crate) fn answer_each<R: Shows, P: Parts<Shard<R>>>(
+    alloc: Global,
+    parts: &mut P,
+    commands: &[Command],
+    staged: &Staged<R>,
+) -> Option<(Vec<CommandReply>, Writes)>
+    requires may { MayLookUp (P.is_open parts.old) (P.stripes_of parts.old) (P.part_of parts.old) (keys_of_all commands.now) }
+    requires sized { AreSized commands.now }
+    ensures ran { IfSome result (λ done. HaveRunIn R.is_steady P.stripes_of P.part_of parts.old
+        (R.is_honest × AreRight staged.now) commands.now done.0.items done.1) }
+    ensures same { P.part_of parts.new ≡ P.part_of parts.old }
+    ensures held { IsStillHeld P.is_open P.keeps parts.old parts.new }
+{
+    writes_named_keys();
+    let mut replies = room_for(alloc, commands.len());
+    let mut writes = Writes::new(alloc);
+    let mut left = commands;
+    while let Some((command, others)) = left.split_first() {
+        let reply = run_next(alloc, parts, command, staged, &mut writes)?;
+        let Ok(()) = replies.push(reply) else {
+            return None;
+        };
+        left = others;
+    }
+    Some((replies, writes))
+}
