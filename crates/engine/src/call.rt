@@ -17,6 +17,7 @@ use device::{Device, Shows};
 use epoch::EpochSeat;
 use gates::{Held, Latch, Pass, Report, Sorted};
 use plans::hands::Hands;
+use plans::hashed::{HashedCall, key_of};
 use plans::laws::stripes_hold_keys;
 use plans::reading::WhenCold;
 use plans::stop::Receipts;
@@ -24,10 +25,9 @@ use shards::retires::Retires;
 use shards::shard::Shard;
 use std::sync::Wait;
 use transact::call::{Answer, Busy, Call};
-use transact::stripes::keys_of;
 use words::reply::Fault;
 
-impl Enters<Answer> for Call {
+impl Enters<Answer> for HashedCall<'_> {
     ghost use Rattle.transact.specs.declared.call.Call.{Call};
     ghost use Rattle.engine.specs.Entering.{own_answer};
 
@@ -78,9 +78,13 @@ pub(crate) fn submit<T: Wait, L: Latch, R: Shows, D: Device<Receipt = R>>(
         (stripes_asked (stripes_of site.now.gates.now) call) call result
         (know (known pass.old) (D.failures device.old)) (know (known pass.new) (D.failures device.new)) }
 {
-    let wanted = keys_of(&call, site.gates.stripes());
-    let asking = Asking {
+    let hashed = HashedCall {
         call: &call,
+        key: key_of(&call),
+    };
+    let wanted = hashed.stripes(site.gates.stripes());
+    let asking = Asking {
+        call: &hashed,
         wanted: &wanted,
     };
     let answer = run(rt, site, pass, device, hands, &asking);
@@ -115,7 +119,11 @@ pub(crate) fn try_submit<L: Latch, R: Shows, D: Device<Receipt = R>>(
 {
     stripes_hold_keys::<R>();
     let gates = site.gates;
-    let wanted = keys_of(&call, gates.stripes());
+    let hashed = HashedCall {
+        call: &call,
+        key: key_of(&call),
+    };
+    let wanted = hashed.stripes(gates.stripes());
     match gates.try_take(pass, &wanted) {
         Ok(()) => {
             let Some(mut taken) = hands.take() else {
@@ -126,7 +134,7 @@ pub(crate) fn try_submit<L: Latch, R: Shows, D: Device<Receipt = R>>(
                 answer,
                 ends,
                 report,
-            } = enter_at_once(site, &mut held, device, &mut taken, &call);
+            } = enter_at_once(site, &mut held, device, &mut taken, &hashed);
             taken.staged.clear();
             *hands = Some(taken);
             give_back(held, ends, &report);
@@ -144,7 +152,7 @@ fn abandon<T: Wait, L: Latch, R: Shows>(
     site: &Site<L, R>,
     pass: &mut Pass<Shard<R>>,
     wanted: &Sorted,
-    call: &Call,
+    call: &HashedCall,
     fault: Fault,
 ) -> Answer
     requires rests { IsResting R.is_steady site.now.gates.now pass.old }

@@ -22,6 +22,7 @@ use device::{Device, Shows};
 use gates::{Held, Latch, Point, Refused, Report};
 use plans::freeing::{Halt, plan_freeing};
 use plans::hands::Hands;
+use plans::hashed::HashedCall;
 use plans::laws::writes_install_a_call;
 use plans::marks::forget;
 use plans::reading::WhenCold;
@@ -56,7 +57,7 @@ pub(crate) fn enter_call<L: Latch, R: Shows, D: Device<Receipt = R>, S: Retires>
     held: &mut Held<'_, Shard<R>>,
     device: &mut D,
     hands: &mut Hands<R, S>,
-    call: &Call,
+    call: &HashedCall,
     cold: WhenCold,
 ) -> Result<Entered<Answer>, Receipts<R>>
     requires begin { MayBegin R.is_steady call.now held.old }
@@ -70,7 +71,7 @@ pub(crate) fn enter_call<L: Latch, R: Shows, D: Device<Receipt = R>, S: Retires>
         (held.old, D.failures device.old) (held.new, D.failures device.new)) }
     ensures outside { OnErr result (cold ≡ Stops) }
 {
-    match call {
+    match call.call() {
         Call::Forget(watching) => {
             forget(held, watching);
             Ok(Entered {
@@ -94,7 +95,7 @@ pub(crate) fn enter_call<L: Latch, R: Shows, D: Device<Receipt = R>, S: Retires>
                 report,
             })
         }
-        call => enter(site, held, device, hands, call, cold),
+        _ => enter(site, held, device, hands, call, cold),
     }
 }
 
@@ -104,7 +105,7 @@ pub(crate) fn enter_at_once<L: Latch, R: Shows, D: Device<Receipt = R>, S: Retir
     held: &mut Held<'_, Shard<R>>,
     device: &mut D,
     hands: &mut Hands<R, S>,
-    call: &Call,
+    call: &HashedCall,
 ) -> Entered<Answer>
     requires begin { MayBegin R.is_steady call.now held.old }
     requires hands { AreReady (S.is_of site.now.epochs.now) R.is_steady hands.old }
@@ -140,7 +141,7 @@ fn enter<L: Latch, R: Shows, D: Device<Receipt = R>, S: Retires>(
     held: &mut Held<'_, Shard<R>>,
     device: &mut D,
     hands: &mut Hands<R, S>,
-    call: &Call,
+    call: &HashedCall,
     cold: WhenCold,
 ) -> Result<Entered<Answer>, Receipts<R>>
     requires begin { MayBegin R.is_steady call.now held.old }
@@ -221,7 +222,7 @@ pub(crate) fn told_of<R: Shows>(stop: Stop<R>, refused: Refused) -> Stopped
 /// Answers a call by a fault. The watches of a transaction end all the same.
 pub(crate) fn refuse<R: Shows>(
     held: &mut Held<'_, Shard<R>>,
-    call: &Call,
+    call: &HashedCall,
     fault: Fault,
     report: Report,
 ) -> Entered<Answer>
@@ -235,7 +236,7 @@ pub(crate) fn refuse<R: Shows>(
     ensures report { result.report ≡ report }
     ensures known { kept result.ends [] (known_to held.new) ≡ at_fault (asked_for call.now) (known_to held.old) }
 {
-    if let Call::Exec(_, watching) = call {
+    if let Call::Exec(_, watching) = call.call() {
         forget(held, watching);
         return Entered {
             answer: Answer::Fault(fault),

@@ -8,6 +8,7 @@ pub mod Waits
 pub mod Rooms
 pub mod Grown
 pub mod Making
+pub mod One
 pub mod Covered
 pub mod Found
 pub mod Run

@@ -2,6 +2,7 @@
 
 ghost use Rattle.std.specs.Prelude.{◌≡◌, ◌+◌, ◌-◌, ◌<◌, ◌≤◌, [], ◌∷◌, IsOk, IsSome, IfErr, IfOk, OnOk};
 ghost use Rattle.std.specs.Prelude.{OnErr, length, unwrap_or, false, is_none, Some};
+ghost use Rattle.std.specs.Bool.{OnTrue};
 ghost use Rattle.words.specs.declared.limits.TheConstants.{WEIGHT_MAX};
 ghost use Rattle.words.specs.Answers as answering;
 ghost use Rattle.words.specs.Stripes as striping;
@@ -26,10 +27,9 @@ use strings::writes::{Write, Writes};
 use words::hash::{Hashed, stripe_of};
 use words::word::{OutOfMemory, Word};
 
-/// The stripe of a key that is held, for its marks, which go by no hash. Where one stripe alone is held, the key is not
-/// hashed.
+/// The stripe of a key that is held, for what goes by no hash. Where one stripe alone is held, the key is not hashed.
 #[inline]
-fn stripe_in<R: Shows, P: Parts<Shard<R>>>(parts: &P, key: &Word) -> usize
+pub(crate) fn stripe_in<R: Shows, P: Parts<Shard<R>>>(parts: &P, key: &Word) -> usize
     requires open { P.is_open parts.now }
     requires there { IsSome (P.part_of parts.now (striping.stripe_of (P.stripes_of parts.now) key.now)) }
     ensures { result ≡ striping.stripe_of (P.stripes_of parts.now) key.now }
@@ -194,8 +194,12 @@ pub(crate) fn reserve_at<R: Shows, D: Device<Receipt = R>, P: Parts<Shard<R>>>(
     parts.part(stripe).reserve(weight, purpose, device)
 }
 
-/// Writes a key for which there is room.
-pub(crate) fn write<R: Shows, P: Parts<Shard<R>>>(parts: &mut P, write: &Write)
+/// Writes a key for which there is room. Where its hash is known, it is not hashed.
+pub(crate) fn write<R: Shows, P: Parts<Shard<R>>>(
+    parts: &mut P,
+    write: &Write,
+    known: Option<&Hashed>,
+)
     requires open { P.is_open parts.old }
     requires room { IsRoomyFor (P.stripes_of parts.old) (P.part_of parts.old) write.now }
     requires fits { Fits write.now.0 write.now.1 }
@@ -205,8 +209,32 @@ pub(crate) fn write<R: Shows, P: Parts<Shard<R>>>(parts: &mut P, write: &Write)
     ensures waits { SameWaits (P.part_of parts.old) (P.part_of parts.new) }
     ensures held { IsStillHeld P.is_open P.keeps parts.old parts.new }
 {
-    let key = Hashed::new(write.key());
-    let stripe = stripe_at(&*parts, &key);
+    match known {
+        Some(key) if is_key_of(key, write) => write_at(parts, key, write),
+        _ => write_at(parts, &Hashed::new(write.key()), write),
+    }
+}
+
+/// Whether a write is to this key.
+fn is_key_of(key: &Hashed, write: &Write) -> bool
+    ensures { OnTrue result (key.now ≡ write.now.0) }
+{
+    key.key().as_slice() == write.key().as_slice()
+}
+
+/// Writes this key, for which there is room.
+fn write_at<R: Shows, P: Parts<Shard<R>>>(parts: &mut P, key: &Hashed, write: &Write)
+    requires open { P.is_open parts.old }
+    requires is { key.now ≡ write.now.0 }
+    requires room { IsRoomyFor (P.stripes_of parts.old) (P.part_of parts.old) write.now }
+    requires fits { Fits write.now.0 write.now.1 }
+    ensures became { BecomesWritten R.is_steady P.stripes_of P.part_of parts.old parts.new (write.now ∷ []) }
+    ensures room { LeavesRoom (P.stripes_of parts.old) write.now (P.part_of parts.old) (P.part_of parts.new) }
+    ensures grown { GrowsBy (P.stripes_of parts.old) write.now (P.part_of parts.old) (P.part_of parts.new) }
+    ensures waits { SameWaits (P.part_of parts.old) (P.part_of parts.new) }
+    ensures held { IsStillHeld P.is_open P.keeps parts.old parts.new }
+{
+    let stripe = stripe_at(&*parts, key);
     parts.part(stripe).write(key.hash(), write);
 }
 

@@ -202,7 +202,7 @@ fn answer_at<R: Shows>(
 pub(crate) fn answer_key<R: Shows, P: Parts<Shard<R>>>(
     alloc: Global,
     parts: &mut P,
-    key: &Word,
+    key: &Hashed,
     command: &Command,
     staged: &Staged<R>,
 ) -> Result<(CommandReply, Writes), Stop<R>>
@@ -215,9 +215,8 @@ pub(crate) fn answer_key<R: Shows, P: Parts<Shard<R>>>(
     ensures same { P.part_of parts.new ≡ P.part_of parts.old }
     ensures held { IsStillHeld P.is_open P.keeps parts.old parts.new }
 {
-    let key = Hashed::new(key);
-    let stripe = stripe_at(&*parts, &key);
-    answer_at(alloc, parts.part(stripe), &key, command, staged)
+    let stripe = stripe_at(&*parts, key);
+    answer_at(alloc, parts.part(stripe), key, command, staged)
 }
 
 /// What a command answers and writes on an empty store, where nothing is looked up.

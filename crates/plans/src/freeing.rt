@@ -13,6 +13,7 @@ ghost use Rattle.plans.specs.Stops.{IfFull};
 ghost use Rattle.plans.specs.declared.reading.WhenCold.TheVariants.{Stops};
 
 use crate::hands::Hands;
+use crate::hashed::HashedCall;
 use crate::planned::Planned;
 use crate::reading::{WhenCold, plan_staged};
 use crate::short::reserve_set;
@@ -23,7 +24,6 @@ use gates::{Parts, Refused};
 use shards::freeing::Freed;
 use shards::retires::Retires;
 use shards::shard::Shard;
-use transact::call::Call;
 use words::hash::Hashed;
 use words::word::Word;
 
@@ -44,7 +44,7 @@ pub struct Halt<R: Shows> {
 /// A [`Halt`]: with [`Stop::StoreFull`] only where no place of that stripe can be released.
 pub fn plan_freeing<R: Shows, D: Device<Receipt = R>, P: Parts<Shard<R>>, S: Retires>(
     parts: &mut P,
-    call: &Call,
+    call: &HashedCall,
     hands: &mut Hands<R, S>,
     cold: WhenCold,
     epochs: &Epochs,

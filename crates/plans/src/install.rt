@@ -15,9 +15,15 @@ use gates::Parts;
 use hybrid::laws::growth_adds_up;
 use shards::shard::Shard;
 use strings::writes::{Write, writes_to};
+use words::hash::Hashed;
 
-/// Makes a write before these others, or passes it over where one of them is to its key.
-fn write_before<R: Shows, P: Parts<Shard<R>>>(parts: &mut P, next: &Write, others: &[Write])
+/// Makes a write before these others, or passes it over where one of them is to its key. A key whose hash is known is not hashed.
+fn write_before<R: Shows, P: Parts<Shard<R>>>(
+    parts: &mut P,
+    next: &Write,
+    others: &[Write],
+    known: Option<&Hashed>,
+)
     requires open { P.is_open parts.old }
     requires room { AreRoomy (P.stripes_of parts.old) (logs_of (P.part_of parts.old)) (next.now ∷ others.now) }
     requires fits { Fits next.now.0 next.now.1 }
@@ -31,11 +37,16 @@ fn write_before<R: Shows, P: Parts<Shard<R>>>(parts: &mut P, next: &Write, other
     if writes_to(others, next.key()) {
         return;
     }
-    write(parts, next);
+    write(parts, next, known);
 }
 
-/// Makes writes for which there is room, in order. One that a later one hides is passed over. It takes no memory.
-pub(crate) fn make_writes<R: Shows, P: Parts<Shard<R>>>(parts: &mut P, writes: &[Write])
+/// Makes writes for which there is room, in order. One that a later one hides is passed over. A key whose hash is known is not
+/// hashed. It takes no memory.
+pub(crate) fn make_writes<R: Shows, P: Parts<Shard<R>>>(
+    parts: &mut P,
+    writes: &[Write],
+    known: Option<&Hashed>,
+)
     requires open { P.is_open parts.old }
     requires room { AreRoomy (P.stripes_of parts.old) (logs_of (P.part_of parts.old)) writes.now }
     requires fits { AreFit writes.now }
@@ -47,7 +58,7 @@ pub(crate) fn make_writes<R: Shows, P: Parts<Shard<R>>>(parts: &mut P, writes: &
     growth_adds_up();
     let mut left = writes;
     while let Some((first, others)) = left.split_first() {
-        write_before(parts, first, others);
+        write_before(parts, first, others, known);
         left = others;
     }
 }

@@ -10,6 +10,7 @@ mod cells;
 mod find;
 pub mod freeing;
 pub mod hands;
+pub mod hashed;
 mod install;
 pub mod laws;
 mod looks;

@@ -1,6 +1,6 @@
 //! What a call comes to, before its commit.
 
-ghost use Rattle.std.specs.Prelude.{◌≡◌, ⊤, [], ◌∷◌, true, IfOk, IfErr};
+ghost use Rattle.std.specs.Prelude.{◌≡◌, ⊤, [], ◌∷◌, true, IfOk, IfErr, IfSome};
 ghost use Rattle.words.specs.declared.command.Command.TheVariants as asked;
 ghost use Rattle.words.specs.declared.history.Operation.TheVariants.{Watch};
 ghost use Rattle.words.specs.Commands.{keys_of, keys_of_all, touches_keys};
@@ -24,6 +24,7 @@ use crate::find::{
     add_values, answer_all, answer_key, answer_one, answer_unread, find_command, find_commands,
     room_for,
 };
+use crate::hashed::HashedCall;
 use crate::marks::{any_marked, begin_all, clear_all};
 use crate::planned::Planned;
 use crate::room::reserve_all;
@@ -35,7 +36,6 @@ use gates::Parts;
 use hybrid::Staged;
 use shards::shard::Shard;
 use std::alloc::Global;
-use strings::keys::{key_at, key_count};
 use strings::writes::Writes;
 use transact::call::Call;
 use words::bounds::writes_are_bounded;
@@ -57,7 +57,7 @@ use words::word::Word;
 pub fn plan<R: Shows, D: Device<Receipt = R>, P: Parts<Shard<R>>>(
     alloc: Global,
     parts: &mut P,
-    call: &Call,
+    call: &HashedCall,
     staged: &Staged<R>,
     device: &mut D,
 ) -> Result<Planned, Stop<R>>
@@ -74,8 +74,8 @@ pub fn plan<R: Shows, D: Device<Receipt = R>, P: Parts<Shard<R>>>(
     ensures held { IsStillHeld P.is_open P.keeps parts.old parts.new }
 {
     writes_are_bounded();
-    match call {
-        Call::One(command) => plan_one(alloc, parts, command, staged, device),
+    match call.call() {
+        Call::One(command) => plan_one(alloc, parts, command, call.key.as_ref(), staged, device),
         Call::Watch(keys) => plan_watch(alloc, parts, keys),
         Call::Exec(commands, watching) => plan_exec(
             alloc,
@@ -89,15 +89,17 @@ pub fn plan<R: Shows, D: Device<Receipt = R>, P: Parts<Shard<R>>>(
     }
 }
 
-/// Plans a command.
+/// Plans a command, which may be given with the one key that it names.
 fn plan_one<R: Shows, D: Device<Receipt = R>, P: Parts<Shard<R>>>(
     alloc: Global,
     parts: &mut P,
     command: &Command,
+    key: Option<&Hashed>,
     staged: &Staged<R>,
     device: &mut D,
 ) -> Result<Planned, Stop<R>>
     requires may { MayLookUp (P.is_open parts.old) (P.stripes_of parts.old) (P.part_of parts.old) (keys_of command.now) }
+    requires key { IfSome key (λ key. keys_of command.now ≡ key.now ∷ []) }
     requires touches { touches_keys command.now ≡ true }
     requires sized { IsSized command.now }
     ensures { CameOfPlan D.wrote D.serves D.releases D.failures R.identity R.shown R.is_steady R.is_honest R.lends
@@ -110,13 +112,10 @@ fn plan_one<R: Shows, D: Device<Receipt = R>, P: Parts<Shard<R>>>(
             plan_values(alloc, parts, command, keys.as_slice(), staged, device)
         }
         Command::MSet(_) => plan_unread(alloc, parts, command, staged, device),
-        _ => {
-            if key_count(command) == 1 {
-                plan_key(alloc, parts, command, key_at(command, 0), staged, device)
-            } else {
-                plan_several(alloc, parts, command, staged, device)
-            }
-        }
+        _ => match key {
+            Some(key) => plan_key(alloc, parts, command, key, staged, device),
+            None => plan_several(alloc, parts, command, staged, device),
+        },
     }
 }
 
@@ -147,7 +146,7 @@ fn plan_key<R: Shows, D: Device<Receipt = R>, P: Parts<Shard<R>>>(
     alloc: Global,
     parts: &mut P,
     command: &Command,
-    key: &Word,
+    key: &Hashed,
     staged: &Staged<R>,
     device: &mut D,
 ) -> Result<Planned, Stop<R>>

@@ -10,13 +10,13 @@ ghost use Rattle.shards.specs.Shards.{SameLogs, SameWaits, logs_of};
 ghost use Rattle.plans.specs.Planning.{IsStillHeld};
 ghost use Rattle.plans.specs.Holding.{Becomes, EndsWatches, TakesBack};
 
+use crate::hashed::HashedCall;
 use crate::install::make_writes;
 use crate::marks::{clear_all, end_watches};
 use device::Shows;
 use gates::Parts;
 use shards::shard::Shard;
 use strings::writes::Writes;
-use transact::call::Call;
 use words::command::Keys;
 use words::reply::Reply;
 
@@ -35,7 +35,7 @@ pub struct Planned {
 impl Planned {
     /// Makes the writes, and touches the marks of all sessions at the keys that are written. Where the call ends
     /// its session's watches, they are ended. It takes no memory, and gives the reply.
-    pub fn install<R: Shows, P: Parts<Shard<R>>>(self, parts: &mut P, call: &Call) -> Reply
+    pub fn install<R: Shows, P: Parts<Shard<R>>>(self, parts: &mut P, call: &HashedCall) -> Reply
         requires open { P.is_open parts.old }
         requires room { AreRoomy (P.stripes_of parts.old) (logs_of (P.part_of parts.old)) self.writes }
         requires fits { AreFit self.writes }
@@ -52,8 +52,9 @@ impl Planned {
             writes,
             begun: _,
         } = self;
-        make_writes(parts, writes.as_slice());
-        end_watches(parts, call);
+        let asked = call.call();
+        make_writes(parts, writes.as_slice(), call.key.as_ref());
+        end_watches(parts, asked);
         drop(writes);
         reply
     }

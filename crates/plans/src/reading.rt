@@ -16,6 +16,7 @@ ghost use Rattle.shards.specs.Shards.{SameLogs, SameWaits, logs_of};
 ghost use Rattle.plans.specs.Stops.{IfCold};
 ghost use Rattle.plans.specs.Holding.{AreMarkedFor, NeedsMemory};
 
+use crate::hashed::HashedCall;
 use crate::plan::plan;
 use crate::planned::Planned;
 use crate::short::value_of;
@@ -26,7 +27,6 @@ use hybrid::Staged;
 use hybrid::laws::reading_ends;
 use shards::shard::Shard;
 use std::alloc::Global;
-use transact::call::Call;
 use words::hash::Hashed;
 use words::word::Word;
 
@@ -138,7 +138,7 @@ pub fn read_value<R: Shows, D: Device<Receipt = R>, P: Parts<Shard<R>>>(
 pub fn plan_reading<R: Shows, D: Device<Receipt = R>, P: Parts<Shard<R>>>(
     alloc: Global,
     parts: &mut P,
-    call: &Call,
+    call: &HashedCall,
     staged: &mut Staged<R>,
     device: &mut D,
 ) -> Result<Planned, Stop<R>>
@@ -189,7 +189,7 @@ pub fn plan_reading<R: Shows, D: Device<Receipt = R>, P: Parts<Shard<R>>>(
 pub fn plan_staged<R: Shows, D: Device<Receipt = R>, P: Parts<Shard<R>>>(
     alloc: Global,
     parts: &mut P,
-    call: &Call,
+    call: &HashedCall,
     staged: &mut Staged<R>,
     cold: WhenCold,
     device: &mut D,

@@ -13,7 +13,7 @@ ghost use Rattle.plans.specs.Planning.{FoundFull, HaveFailed, IsStillHeld, Match
 ghost use Rattle.plans.specs.Reserving.{HasNoRoomAt, HasRoom, HasRoomAt, HasShedShare, ReservesAt};
 ghost use Rattle.plans.specs.Holding.{Becomes};
 
-use crate::cells::reserve_at;
+use crate::cells::{reserve_at, stripe_in};
 use crate::stop::Stop;
 use device::{Device, Shows};
 use gates::Parts;
@@ -25,6 +25,53 @@ use words::limits::WEIGHT_OF_KEY;
 
 /// Makes room for writes in each stripe that they write, in rising order. What keys have and all marks stay.
 pub(crate) fn reserve_all<R: Shows, D: Device<Receipt = R>, P: Parts<Shard<R>>>(
+    parts: &mut P,
+    writes: &[Write],
+    device: &mut D,
+) -> Result<(), Stop<R>>
+    requires may { MayLookUp (P.is_open parts.old) (P.stripes_of parts.old) (P.part_of parts.old) (keys_written writes.now) }
+    requires light { weight writes.now ≤ WEIGHT_MAX }
+    ensures became { Becomes R.is_steady P.stripes_of P.part_of parts.old parts.new [] stays }
+    ensures room { OnOk result (HasRoom D.wrote (kept_by R.identity R.shown) (P.stripes_of parts.old) writes.now
+        (P.part_of parts.old, device.old) (P.part_of parts.new, device.new)) }
+    ensures stopped { IfErr result (λ stop. MatchStop stop (λ receipts. ⊥) ⊥ ⊤ (FoundFull D.wrote (kept_by R.identity R.shown)
+        (λ due. due ≡ writes.now) (P.stripes_of parts.old) (P.part_of parts.old, device.old) (P.part_of parts.new, device.new))) }
+    ensures few { ShedFew (P.stripes_of parts.old) writes.now (logs_of (P.part_of parts.old)) (logs_of (P.part_of parts.new)) }
+    ensures stands { StillStands (StillServes D.serves D.releases) (P.part_of parts.old, device.old) (P.part_of parts.new, device.new) }
+    ensures failed { HaveFailed result (D.failures device.old) (D.failures device.new) }
+    ensures held { IsStillHeld P.is_open P.keeps parts.old parts.new }
+{
+    match writes {
+        [] => Ok(()),
+        [write] => reserve_one(parts, write, device),
+        _ => reserve_each(parts, writes, device),
+    }
+}
+
+/// Makes room for a write, as [`reserve_all`] does. Where one stripe alone is held, its key is not hashed.
+fn reserve_one<R: Shows, D: Device<Receipt = R>, P: Parts<Shard<R>>>(
+    parts: &mut P,
+    write: &Write,
+    device: &mut D,
+) -> Result<(), Stop<R>>
+    requires may { MayLookUp (P.is_open parts.old) (P.stripes_of parts.old) (P.part_of parts.old) (keys_written (write.now ∷ [])) }
+    requires light { weight (write.now ∷ []) ≤ WEIGHT_MAX }
+    ensures became { Becomes R.is_steady P.stripes_of P.part_of parts.old parts.new [] stays }
+    ensures room { OnOk result (HasRoom D.wrote (kept_by R.identity R.shown) (P.stripes_of parts.old) (write.now ∷ [])
+        (P.part_of parts.old, device.old) (P.part_of parts.new, device.new)) }
+    ensures stopped { IfErr result (λ stop. MatchStop stop (λ receipts. ⊥) ⊥ ⊤ (FoundFull D.wrote (kept_by R.identity R.shown)
+        (λ due. due ≡ write.now ∷ []) (P.stripes_of parts.old) (P.part_of parts.old, device.old) (P.part_of parts.new, device.new))) }
+    ensures few { ShedFew (P.stripes_of parts.old) (write.now ∷ []) (logs_of (P.part_of parts.old)) (logs_of (P.part_of parts.new)) }
+    ensures stands { StillStands (StillServes D.serves D.releases) (P.part_of parts.old, device.old) (P.part_of parts.new, device.new) }
+    ensures failed { HaveFailed result (D.failures device.old) (D.failures device.new) }
+    ensures held { IsStillHeld P.is_open P.keeps parts.old parts.new }
+{
+    let stripe = stripe_in(&*parts, write.key());
+    reserve_share(parts, stripe, weigh(write), purpose_for(write), device)
+}
+
+/// Makes room for writes at each stripe of all, in rising order, as [`reserve_all`] does.
+fn reserve_each<R: Shows, D: Device<Receipt = R>, P: Parts<Shard<R>>>(
     parts: &mut P,
     writes: &[Write],
     device: &mut D,
@@ -102,6 +149,16 @@ fn purpose_of(writes: &[Write]) -> Purpose
         }
     }
     Purpose::Delete
+}
+
+/// For what room is made for one write.
+fn purpose_for(write: &Write) -> Purpose
+    ensures { result ≡ purpose_of (write.now ∷ []) }
+{
+    match write.value() {
+        Some(_) => Purpose::Write,
+        None => Purpose::Delete,
+    }
 }
 
 /// Makes room in a stripe for its share of writes, if it has one.

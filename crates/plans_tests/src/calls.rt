@@ -14,6 +14,7 @@ ghost use Rattle.plans_tests.specs.Held.{IsFew, count_of, part_at};
 use crate::held::Store;
 use device::Device;
 use hybrid::Staged;
+use plans::hashed::{HashedCall, key_of};
 use plans::plan::plan;
 use plans::planned::Planned;
 use plans::reading::{plan_reading, read_all};
@@ -67,7 +68,7 @@ fn can_be_planned(call: &Call) -> bool
 fn plan_call<D: Device>(
     alloc: Global,
     store: &mut Store<D>,
-    call: &Call,
+    call: &HashedCall,
 ) -> Result<Planned, Stop<D::Receipt>>
     requires few { IsFew store.old.stripes }
     requires entry { IsEntry call.now }
@@ -101,8 +102,12 @@ pub fn submit<D: Device>(
     if !store.stripes.are_few() || !can_be_planned(call) {
         return Err(Stop::OutOfMemory);
     }
-    match plan_call(alloc, store, call) {
-        Ok(planned) => Ok(planned.install(&mut store.stripes, call)),
+    let hashed = HashedCall {
+        call,
+        key: key_of(call),
+    };
+    match plan_call(alloc, store, &hashed) {
+        Ok(planned) => Ok(planned.install(&mut store.stripes, &hashed)),
         Err(stop) => Err(stop),
     }
 }
@@ -119,8 +124,18 @@ pub fn submit_once<D: Device>(
         return Err(0);
     }
     let staged = Staged::new(alloc);
-    match plan(alloc, &mut store.stripes, call, &staged, &mut store.device) {
-        Ok(planned) => Ok(planned.install(&mut store.stripes, call)),
+    let hashed = HashedCall {
+        call,
+        key: key_of(call),
+    };
+    match plan(
+        alloc,
+        &mut store.stripes,
+        &hashed,
+        &staged,
+        &mut store.device,
+    ) {
+        Ok(planned) => Ok(planned.install(&mut store.stripes, &hashed)),
         Err(Stop::Cold(receipts)) => Err(receipts.len()),
         Err(_) => Err(0),
     }
@@ -133,7 +148,17 @@ pub fn undo<D: Device>(alloc: Global, store: &mut Store<D>, seat: u64, call: &Ca
         return false;
     }
     let staged = Staged::new(alloc);
-    match plan(alloc, &mut store.stripes, call, &staged, &mut store.device) {
+    let hashed = HashedCall {
+        call,
+        key: key_of(call),
+    };
+    match plan(
+        alloc,
+        &mut store.stripes,
+        &hashed,
+        &staged,
+        &mut store.device,
+    ) {
         Ok(planned) => {
             planned.undo(&mut store.stripes);
             true

@@ -26,6 +26,7 @@ ghost use Rattle.world.specs.Planning.{HasArranged, HasCleared, HasEnded, HasMet
 use crate::desk::{Desk, Plan};
 use crate::laws::plan_laws;
 use hybrid::Staged;
+use plans::hashed::{HashedCall, key_of};
 use plans::marks::forget;
 use plans::plan::plan;
 use plans::planned::Planned;
@@ -69,7 +70,11 @@ fn plan_naming(
     ensures full { IfErr result (λ stop. IfFull stop (λ stripe. HasMet log.old client call.now stripe log.new)) }
 {
     log.stripes.act_for(client);
-    match plan(alloc, &mut log.stripes, call, staged, &mut log.device) {
+    let hashed = HashedCall {
+        call,
+        key: key_of(call),
+    };
+    match plan(alloc, &mut log.stripes, &hashed, staged, &mut log.device) {
         Ok(planned) => Ok(planned),
         Err(stop) => Err(stop),
     }
@@ -96,7 +101,11 @@ fn plan_with_reads(
 {
     plan_laws();
     log.stripes.act_for(client);
-    match plan_reading(alloc, &mut log.stripes, call, staged, &mut log.device) {
+    let hashed = HashedCall {
+        call,
+        key: key_of(call),
+    };
+    match plan_reading(alloc, &mut log.stripes, &hashed, staged, &mut log.device) {
         Ok(planned) => Ok(planned),
         Err(stop) => Err(stop),
     }
@@ -249,13 +258,17 @@ pub(crate) fn run(
 {
     log.stripes.act_for(client);
     let staged = Staged::new(alloc);
-    let Ok(planned) = plan(alloc, &mut log.stripes, call, &staged, &mut log.device) else {
+    let hashed = HashedCall {
+        call,
+        key: key_of(call),
+    };
+    let Ok(planned) = plan(alloc, &mut log.stripes, &hashed, &staged, &mut log.device) else {
         return Err(Stopped);
     };
     if !planned.writes.as_slice().is_empty() {
         return Err(Stopped);
     }
-    Ok(planned.install(&mut log.stripes, call))
+    Ok(planned.install(&mut log.stripes, &hashed))
 }
 
 /// Installs a plan of a client that holds all stripes of its call.
@@ -269,7 +282,11 @@ pub(crate) fn install(log: &mut WorldLog, client: usize, call: &Call, planned: P
     ensures put { HasPut log.old client call.now planned log.new }
 {
     log.stripes.act_for(client);
-    planned.install(&mut log.stripes, call)
+    let hashed = HashedCall {
+        call,
+        key: key_of(call),
+    };
+    planned.install(&mut log.stripes, &hashed)
 }
 
 /// Ends the watches that a call ends, whose client holds all of its stripes.

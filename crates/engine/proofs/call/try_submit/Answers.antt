@@ -15,8 +15,8 @@ use Rattle.engine.proofs.call.try_submit.Goals as goal
 pub enter_at_once-answer-requires-clause-begin : goal.enter_at_once-answer-requires-clause-begin
 enter_at_once-answer-requires-clause-begin g c =
     let taken = c.hold-held.ensures.taken _ c.in-Ok.ensures.ok in
-    may_begin g.R.Shows.is_steady c.args.call c.args.site.now.gates.now c.keys_of-wanted.result _ c.hold-held.result
-    (c.stripes_hold_keys.ensures (stripes_of c.args.site.now.gates.now) (parts_of g.R.Shows.is_steady c.hold-held.result) c.keys_of-wanted.result (call_keys c.args.call) (c.keys_of-wanted.ensures.exact ∙ ap (λ (n : ℕ). stripes_asked n c.args.call) c.stripes.ensures.count) taken.has)
+    may_begin g.R.Shows.is_steady c.args.call c.args.site.now.gates.now c.stripes-wanted.result _ c.hold-held.result
+    (c.stripes_hold_keys.ensures (stripes_of c.args.site.now.gates.now) (parts_of g.R.Shows.is_steady c.hold-held.result) c.stripes-wanted.result (call_keys c.args.call) (c.stripes-wanted.ensures.exact ∙ ap (λ (n : ℕ). stripes_asked n c.args.call) c.stripes.ensures.count) taken.has)
     taken c.requires.may
 
 pub give_back-requires : goal.give_back-requires

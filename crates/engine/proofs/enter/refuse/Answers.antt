@@ -18,7 +18,7 @@ use Rattle.engine.proofs.enter.refuse.Goals as goal
 pub forget-requires-clause-there : goal.forget-requires-clause-there
 forget-requires-clause-there g c =
     let parts : ℕ → Option (Shard _) = parts_of g.R.Shows.is_steady c.args.held.now in
-    subst (λ (x : Call). AreThere (held_stripes c.args.held.now) parts (keys_ended x)) c.in-Exec.is (ended_there (held_stripes c.args.held.now) parts c.args.call.now c.requires.may.there)
+    subst (λ (x : Call). AreThere (held_stripes c.args.held.now) parts (keys_ended x)) (sym c.call.ensures ∙ c.in-Exec.is) (ended_there (held_stripes c.args.held.now) parts c.args.call.now c.requires.may.there)
 
 pub returns-in-Exec-clause-back : goal.returns-in-Exec-clause-back
 returns-in-Exec-clause-back g c =
@@ -26,14 +26,14 @@ returns-in-Exec-clause-back g c =
     given_forgot g.R.Shows.is_steady (number_of c.args.held.now) c.in-Exec.watching c.args.report start c.forget.new.parts c.forget.ensures.held.open_still
     (told_still g.R.Shows.is_steady (held_parts start) (held_parts c.forget.new.parts) (held_taken c.forget.new.parts) c.args.report c.requires.of_call c.forget.ensures.logs c.forget.ensures.waits
     (subst (λ (l : List (ℕ × (ℕ × Shard _))). IsToldOf (shard_meaning g.R.Shows.is_steady) l (held_parts start) c.args.report) (sym c.forget.ensures.held.kept.taken) c.requires.told)) (seat_is g.R.Shows.is_steady start c.requires.may.is_open)
-    (subst (λ (x : Call). EndsAll x (known_to start).watched) c.in-Exec.is c.requires.ends)
-    (subst (λ (x : Call). AreThere (held_stripes c.args.held.now) (parts_of g.R.Shows.is_steady start) (keys_ended x)) c.in-Exec.is (ended_there (held_stripes c.args.held.now) (parts_of g.R.Shows.is_steady start) c.args.call.now c.requires.may.there))
+    (subst (λ (x : Call). EndsAll x (known_to start).watched) (sym c.call.ensures ∙ c.in-Exec.is) c.requires.ends)
+    (subst (λ (x : Call). AreThere (held_stripes c.args.held.now) (parts_of g.R.Shows.is_steady start) (keys_ended x)) (sym c.call.ensures ∙ c.in-Exec.is) (ended_there (held_stripes c.args.held.now) (parts_of g.R.Shows.is_steady start) c.args.call.now c.requires.may.there))
     c.requires.may.fit c.forget.ensures.held.kept c.forget.ensures.became
 
 pub returns-in-Exec-clause-known : goal.returns-in-Exec-clause-known
 returns-in-Exec-clause-known g c =
     ap (λ (k : Knowledge). kept true [] k) c.forget.ensures.held.kept.known
-    ∙ ap (λ (x : Call). at_fault (asked_for x) (known_to c.args.held.now)) (sym c.in-Exec.is)
+    ∙ ap (λ (x : Call). at_fault (asked_for x) (known_to c.args.held.now)) (sym (sym c.call.ensures ∙ c.in-Exec.is))
 
 pub returns-clause-back : goal.returns-clause-back
 returns-clause-back g c =

@@ -14,6 +14,6 @@ returns-clause-stopped g c =
     let parts = g.P.Parts.part_of c.args.parts.now in
     let contents = shard_meaning g.R.Shows.is_steady in
     let key : Bytes = c.args.key.now in
-    let there : parts (stripe_of n key) ≡ Some part = sym (ap parts (c.stripe_at-stripe.ensures ∙ ap (stripe_of n) c.new-key.ensures)) ∙ c.part.ensures.value in
+    let there : parts (stripe_of n key) ≡ Some part = sym (ap parts c.stripe_at-stripe.ensures) ∙ c.part.ensures.value in
     let same : shard_store part key ≡ joined contents n parts key = ap (value_in contents key) (sym there) in
-    missed_for c.answer_at.result g.R.Shows.lends (g.R.Shows.is_honest × AreRight c.args.staged.now) contents n parts key c.args.command.now part c.args.staged.now c.requires.one there same (rw c.new-key.ensures at c.answer_at.ensures.stopped)
+    missed_for c.answer_at.result g.R.Shows.lends (g.R.Shows.is_honest × AreRight c.args.staged.now) contents n parts key c.args.command.now part c.args.staged.now c.requires.one there same c.answer_at.ensures.stopped

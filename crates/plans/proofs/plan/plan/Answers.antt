@@ -1,4 +1,4 @@
-use Rattle.std.proofs.Common.{ℕ, List, refl, sym, subst, IfErr, IfOk}
+use Rattle.std.proofs.Common.{◌∙◌, ℕ, List, refl, sym, subst, IfErr, IfOk}
 use Rattle.words.specs.Store.{Bytes}
 use Rattle.words.specs.Commands.{keys_of, keys_of_all}
 use Rattle.words.specs.declared.command.Command.{Command}
@@ -24,12 +24,12 @@ use Rattle.plans.proofs.plan.plan.Goals as goal
 pub plan_one-requires-clause-may : goal.plan_one-requires-clause-may
 plan_one-requires-clause-may g c = record {
   can_lend = c.requires.may.may.can_lend;
-  there = subst (λ (x : Call). AreThere (g.P.Parts.stripes_of c.args.parts.now) (g.P.Parts.part_of c.args.parts.now) (call_keys x)) c.in-One.is c.requires.may.may.there;
+  there = subst (λ (x : Call). AreThere (g.P.Parts.stripes_of c.args.parts.now) (g.P.Parts.part_of c.args.parts.now) (call_keys x)) (sym c.call.ensures ∙ c.in-One.is) c.requires.may.may.there;
 }
 
 pub plan_one-requires-clause-sized : goal.plan_one-requires-clause-sized
 plan_one-requires-clause-sized g c =
-    sized_one c.writes_are_bounded.ensures c.in-One.command (subst IsPlaced c.in-One.is c.requires.may.place)
+    sized_one c.writes_are_bounded.ensures c.in-One.command (subst IsPlaced (sym c.call.ensures ∙ c.in-One.is) c.requires.may.place)
 
 pub plan_exec-requires-clause-may : goal.plan_exec-requires-clause-may
 plan_exec-requires-clause-may g c =
@@ -37,7 +37,7 @@ plan_exec-requires-clause-may g c =
     let parts = g.P.Parts.part_of c.args.parts.now in record {
       can_lend = c.requires.may.may.can_lend;
       there = subst (λ (l : List Command). AreThere n parts (keys_of_all l)) (sym c.as_slice.ensures)
-          (there_append (shard_meaning g.R.Shows.is_steady) n parts (keys_of_all c.in-Exec.commands) c.in-Exec.watching (subst (λ (x : Call). AreThere n parts (call_keys x)) c.in-Exec.is c.requires.may.may.there)).0;
+          (there_append (shard_meaning g.R.Shows.is_steady) n parts (keys_of_all c.in-Exec.commands) c.in-Exec.watching (subst (λ (x : Call). AreThere n parts (call_keys x)) (sym c.call.ensures ∙ c.in-Exec.is) c.requires.may.may.there)).0;
     }
 
 pub plan_exec-requires-clause-watching : goal.plan_exec-requires-clause-watching
@@ -45,12 +45,12 @@ plan_exec-requires-clause-watching g c =
     let n : ℕ = (g.P.Parts.stripes_of c.args.parts.now) in
     let parts = g.P.Parts.part_of c.args.parts.now in
     subst (λ (l : List Bytes). AreThere n parts l) (sym c.keys.ensures)
-    (there_append (shard_meaning g.R.Shows.is_steady) n parts (keys_of_all c.in-Exec.commands) c.in-Exec.watching (subst (λ (x : Call). AreThere n parts (call_keys x)) c.in-Exec.is c.requires.may.may.there)).1
+    (there_append (shard_meaning g.R.Shows.is_steady) n parts (keys_of_all c.in-Exec.commands) c.in-Exec.watching (subst (λ (x : Call). AreThere n parts (call_keys x)) (sym c.call.ensures ∙ c.in-Exec.is) c.requires.may.may.there)).1
 
 pub plan_exec-requires-clause-sized : goal.plan_exec-requires-clause-sized
 plan_exec-requires-clause-sized g c =
     subst AreSized (sym c.as_slice.ensures)
-    (sized_all c.writes_are_bounded.ensures c.in-Exec.commands (subst IsPlaced c.in-Exec.is c.requires.may.place))
+    (sized_all c.writes_are_bounded.ensures c.in-Exec.commands (subst IsPlaced (sym c.call.ensures ∙ c.in-Exec.is) c.requires.may.place))
 
 pub returns-in-One-clause-planned : goal.returns-in-One-clause-planned
 returns-in-One-clause-planned g c =
@@ -60,7 +60,7 @@ returns-in-One-clause-planned g c =
     let right = g.R.Shows.is_honest × AreRight c.args.staged.now in
     let contents = shard_meaning g.R.Shows.is_steady in
     let kept = kept_by g.R.Shows.identity g.R.Shows.shown in
-    subst (λ (x : Call). IfOk c.plan_one.result (HasPlanned g.D.Device.wrote kept (AreDue right (of_call contents n parts (g.P.Parts.holder_of c.args.parts.now) x)) n (parts, c.args.device.now) (later, c.plan_one.new.device))) (sym c.in-One.is)
+    subst (λ (x : Call). IfOk c.plan_one.result (HasPlanned g.D.Device.wrote kept (AreDue right (of_call contents n parts (g.P.Parts.holder_of c.args.parts.now) x)) n (parts, c.args.device.now) (later, c.plan_one.new.device))) (sym (sym c.call.ensures ∙ c.in-One.is))
     (all_planned_as g.D.Device.wrote kept c.plan_one.result (AreDue right (of_command contents n parts c.in-One.command)) (AreDue right (of_call contents n parts (g.P.Parts.holder_of c.args.parts.now) (call.One c.in-One.command))) n (parts, c.args.device.now) (later, c.plan_one.new.device)
     (λ said writes due is_right seen operation asks. due is_right seen operation (runs_of contents n parts (g.P.Parts.holder_of c.args.parts.now) c.in-One.command seen operation asks)) c.plan_one.ensures.planned)
 
@@ -70,7 +70,7 @@ returns-in-One-clause-marks g c =
     let a = g.P.Parts.part_of c.args.parts.now in
     let b = g.P.Parts.part_of c.plan_one.new.parts in
     let contents = shard_meaning g.R.Shows.is_steady in
-    subst (λ (x : Call). AreMarks contents n (g.P.Parts.holder_of c.args.parts.now) (keys_begun x) a b c.plan_one.result) (sym c.in-One.is)
+    subst (λ (x : Call). AreMarks contents n (g.P.Parts.holder_of c.args.parts.now) (keys_begun x) a b c.plan_one.result) (sym (sym c.call.ensures ∙ c.in-One.is))
     (marks_none contents n (g.P.Parts.holder_of c.args.parts.now) a b c.plan_one.result c.plan_one.ensures.unmarked)
 
 pub returns-in-One-clause-stopped : goal.returns-in-One-clause-stopped
@@ -81,7 +81,7 @@ returns-in-One-clause-stopped g c =
     let right = g.R.Shows.is_honest × AreRight c.args.staged.now in
     let contents = shard_meaning g.R.Shows.is_steady in
     let kept = kept_by g.R.Shows.identity g.R.Shows.shown in
-    subst (λ (x : Call). IfErr c.plan_one.result (HasStopped g.D.Device.wrote kept g.R.Shows.lends right (of_call contents n parts (g.P.Parts.holder_of c.args.parts.now) x) n c.args.staged.now (parts, c.args.device.now) (later, c.plan_one.new.device))) (sym c.in-One.is)
+    subst (λ (x : Call). IfErr c.plan_one.result (HasStopped g.D.Device.wrote kept g.R.Shows.lends right (of_call contents n parts (g.P.Parts.holder_of c.args.parts.now) x) n c.args.staged.now (parts, c.args.device.now) (later, c.plan_one.new.device))) (sym (sym c.call.ensures ∙ c.in-One.is))
     (stopped_as g.D.Device.wrote kept c.plan_one.result g.R.Shows.lends right (RunsOn contents n parts c.in-One.command) (AsksOn contents n parts (g.P.Parts.holder_of c.args.parts.now) (call.One c.in-One.command)) (keys_of c.in-One.command)
     (IsPlannedInPlace (joined contents n parts) c.in-One.command) n c.args.staged.now (parts, c.args.device.now) (later, c.plan_one.new.device) (runs_of contents n parts (g.P.Parts.holder_of c.args.parts.now) c.in-One.command) c.plan_one.ensures.stopped)
 
@@ -93,7 +93,7 @@ returns-in-Watch-clause-planned g c =
     let right = g.R.Shows.is_honest × AreRight c.args.staged.now in
     let contents = shard_meaning g.R.Shows.is_steady in
     let kept = kept_by g.R.Shows.identity g.R.Shows.shown in
-    subst (λ (x : Call). IfOk c.plan_watch.result (HasPlanned g.D.Device.wrote kept (AreDue right (of_call contents n parts (g.P.Parts.holder_of c.args.parts.now) x)) n (parts, c.args.device.now) (later, c.args.device.now))) (sym c.in-Watch.is)
+    subst (λ (x : Call). IfOk c.plan_watch.result (HasPlanned g.D.Device.wrote kept (AreDue right (of_call contents n parts (g.P.Parts.holder_of c.args.parts.now) x)) n (parts, c.args.device.now) (later, c.args.device.now))) (sym (sym c.call.ensures ∙ c.in-Watch.is))
     (ok_then_all c.plan_watch.result
     (λ planned has. planned_nothing g.D.Device.wrote kept (AreDue right (of_call contents n parts (g.P.Parts.holder_of c.args.parts.now) (call.Watch c.in-Watch.keys))) n (parts, c.args.device.now) (later, c.args.device.now) planned
     (λ is_right seen operation asks. subst (λ (o : Operation). IsPlan seen o planned.reply planned.writes) (sym (watches_of contents n parts (g.P.Parts.holder_of c.args.parts.now) c.in-Watch.keys seen operation asks)) (has.0 seen))
@@ -106,7 +106,7 @@ returns-in-Watch-clause-marks g c =
     let a = g.P.Parts.part_of c.args.parts.now in
     let b = g.P.Parts.part_of c.plan_watch.new.parts in
     let contents = shard_meaning g.R.Shows.is_steady in
-    subst (λ (x : Call). AreMarks contents n (g.P.Parts.holder_of c.args.parts.now) (keys_begun x) a b c.plan_watch.result) (sym c.in-Watch.is)
+    subst (λ (x : Call). AreMarks contents n (g.P.Parts.holder_of c.args.parts.now) (keys_begun x) a b c.plan_watch.result) (sym (sym c.call.ensures ∙ c.in-Watch.is))
     (c.plan_watch.ensures.marks)
 
 pub returns-in-Watch-clause-stopped : goal.returns-in-Watch-clause-stopped
@@ -117,7 +117,7 @@ returns-in-Watch-clause-stopped g c =
     let right = g.R.Shows.is_honest × AreRight c.args.staged.now in
     let contents = shard_meaning g.R.Shows.is_steady in
     let kept = kept_by g.R.Shows.identity g.R.Shows.shown in
-    subst (λ (x : Call). IfErr c.plan_watch.result (HasStopped g.D.Device.wrote kept g.R.Shows.lends right (of_call contents n parts (g.P.Parts.holder_of c.args.parts.now) x) n c.args.staged.now (parts, c.args.device.now) (later, c.args.device.now))) (sym c.in-Watch.is)
+    subst (λ (x : Call). IfErr c.plan_watch.result (HasStopped g.D.Device.wrote kept g.R.Shows.lends right (of_call contents n parts (g.P.Parts.holder_of c.args.parts.now) x) n c.args.staged.now (parts, c.args.device.now) (later, c.args.device.now))) (sym (sym c.call.ensures ∙ c.in-Watch.is))
     (stopped_memory g.D.Device.wrote kept c.plan_watch.result g.R.Shows.lends right (of_call contents n parts (g.P.Parts.holder_of c.args.parts.now) (call.Watch c.in-Watch.keys)) n c.args.staged.now (parts, c.args.device.now) (later, c.args.device.now)
     (record { takes = λ is_right hand brief. brief; logs = c.plan_watch.ensures.same.0; device = refl }) c.plan_watch.ensures.stop)
 
@@ -140,7 +140,7 @@ returns-in-Exec-clause-planned g c =
     let kept = kept_by g.R.Shows.identity g.R.Shows.shown in
     let commands : List Command = c.in-Exec.commands in
     let watching : List Bytes = c.in-Exec.watching in
-    subst (λ (x : Call). IfOk c.plan_exec.result (HasPlanned g.D.Device.wrote kept (AreDue right (of_call contents n parts (g.P.Parts.holder_of c.args.parts.now) x)) n (parts, c.args.device.now) (later, c.plan_exec.new.device))) (sym c.in-Exec.is)
+    subst (λ (x : Call). IfOk c.plan_exec.result (HasPlanned g.D.Device.wrote kept (AreDue right (of_call contents n parts (g.P.Parts.holder_of c.args.parts.now) x)) n (parts, c.args.device.now) (later, c.plan_exec.new.device))) (sym (sym c.call.ensures ∙ c.in-Exec.is))
     (all_planned_as g.D.Device.wrote kept c.plan_exec.result (AreDue right (of_exec contents n parts (g.P.Parts.holder_of c.args.parts.now) watching commands)) (AreDue right (of_call contents n parts (g.P.Parts.holder_of c.args.parts.now) (call.Exec commands watching))) n (parts, c.args.device.now) (later, c.plan_exec.new.device)
     (λ said writes due is_right seen operation asks. due is_right seen operation (execs_of contents n parts (g.P.Parts.holder_of c.args.parts.now) watching commands seen operation asks))
     (subst (λ (l : List Bytes). IfOk c.plan_exec.result (HasPlanned g.D.Device.wrote kept (AreDue right (of_exec contents n parts (g.P.Parts.holder_of c.args.parts.now) l commands)) n (parts, c.args.device.now) (later, c.plan_exec.new.device))) c.keys.ensures
@@ -153,7 +153,7 @@ returns-in-Exec-clause-marks g c =
     let a = g.P.Parts.part_of c.args.parts.now in
     let b = g.P.Parts.part_of c.plan_exec.new.parts in
     let contents = shard_meaning g.R.Shows.is_steady in
-    subst (λ (x : Call). AreMarks contents n (g.P.Parts.holder_of c.args.parts.now) (keys_begun x) a b c.plan_exec.result) (sym c.in-Exec.is)
+    subst (λ (x : Call). AreMarks contents n (g.P.Parts.holder_of c.args.parts.now) (keys_begun x) a b c.plan_exec.result) (sym (sym c.call.ensures ∙ c.in-Exec.is))
     (marks_none contents n (g.P.Parts.holder_of c.args.parts.now) a b c.plan_exec.result c.plan_exec.ensures.unmarked)
 
 pub returns-in-Exec-clause-stopped : goal.returns-in-Exec-clause-stopped
@@ -166,7 +166,7 @@ returns-in-Exec-clause-stopped g c =
     let kept = kept_by g.R.Shows.identity g.R.Shows.shown in
     let commands : List Command = c.in-Exec.commands in
     let watching : List Bytes = c.in-Exec.watching in
-    subst (λ (x : Call). IfErr c.plan_exec.result (HasStopped g.D.Device.wrote kept g.R.Shows.lends right (of_call contents n parts (g.P.Parts.holder_of c.args.parts.now) x) n c.args.staged.now (parts, c.args.device.now) (later, c.plan_exec.new.device))) (sym c.in-Exec.is)
+    subst (λ (x : Call). IfErr c.plan_exec.result (HasStopped g.D.Device.wrote kept g.R.Shows.lends right (of_call contents n parts (g.P.Parts.holder_of c.args.parts.now) x) n c.args.staged.now (parts, c.args.device.now) (later, c.plan_exec.new.device))) (sym (sym c.call.ensures ∙ c.in-Exec.is))
     (stopped_as g.D.Device.wrote kept c.plan_exec.result g.R.Shows.lends right (ExecsWatching contents n parts (g.P.Parts.holder_of c.args.parts.now) watching commands) (AsksOn contents n parts (g.P.Parts.holder_of c.args.parts.now) (call.Exec commands watching)) (keys_of_all commands) ⊥ n c.args.staged.now
     (parts, c.args.device.now) (later, c.plan_exec.new.device) (execs_of contents n parts (g.P.Parts.holder_of c.args.parts.now) watching commands)
     (subst (λ (l : List Bytes). IfErr c.plan_exec.result (HasStopped g.D.Device.wrote kept g.R.Shows.lends right (of_exec contents n parts (g.P.Parts.holder_of c.args.parts.now) l commands) n c.args.staged.now (parts, c.args.device.now) (later, c.plan_exec.new.device))) c.keys.ensures

@@ -1,12 +1,10 @@
-use Rattle.std.proofs.Common.{rules, sym, subst, refl, arith, IfErr}
+use Rattle.std.proofs.Common.{rules, sym, subst, refl, IfErr}
 use Rattle.words.specs.declared.command.Command.{Command}
 use Rattle.hybrid.specs.Staging.{AreRight}
 use Rattle.shards.specs.Receipts.{kept_by}
 use Rattle.shards.specs.Shards.{logs_of, shard_meaning}
 use Rattle.plans.specs.Planning.{AreDue, AreWanted, HasStopped, TakesMemory, of_command, of_get}
-use Rattle.words.specs.Commands.{keys_of}
 use Rattle.plans.proofs.Become.{became_same}
-use Rattle.plans.proofs.Keys.{only_one}
 use Rattle.plans.proofs.Logs.{logs_same}
 use Rattle.plans.proofs.Questions.{failed_none, planned_nothing, stands_same, stop_of_read}
 use Rattle.plans.proofs.Stores.{ok_then_all}
@@ -14,7 +12,7 @@ use Rattle.plans.proofs.plan.plan_one.Goals as goal
 
 pub plan_key-requires : goal.plan_key-requires
 plan_key-requires g c = record {
-  one = only_one (keys_of c.args.command.now) c.key_at.result.now (omega (arith, c.if-key_count-eq1.true, c.key_count.ensures)) c.key_at.ensures;
+  one = rw c.in-Some.is at c.requires.key;
   may = c.requires.may;
   touches = c.requires.touches;
   sized = c.requires.sized;

@@ -1,6 +1,7 @@
-use Rattle.std.proofs.Common.{List, subst}
+use Rattle.std.proofs.Common.{List, subst, sym}
 use Rattle.words.specs.Store.{Write}
-use Rattle.transact.specs.Tables.{Became, touches}
+use Rattle.transact.specs.declared.call.Call.{Call}
+use Rattle.transact.specs.Tables.{AreThere, Became, touches}
 use Rattle.shards.specs.Rooms.{HaveGrown}
 use Rattle.shards.specs.Shards.{logs_of, shard_meaning}
 use Rattle.transact.specs.Plans.{keys_ended}
@@ -13,13 +14,14 @@ use Rattle.plans.proofs.planned.Planned.install.Goals as goal
 pub end_watches-requires-clause-there : goal.end_watches-requires-clause-there
 end_watches-requires-clause-there g c =
     let count = g.met.P.Parts.same_stripes c.args.parts.now c.make_writes.new.parts c.make_writes.ensures.held.kept in
-    rw count (there_after (shard_meaning g.R.Shows.is_steady) (g.P.Parts.stripes_of c.args.parts.now) (keys_ended c.args.call.now) (g.P.Parts.part_of c.args.parts.now) (g.P.Parts.part_of c.make_writes.new.parts) c.make_writes.ensures.became.there c.requires.there)
+    subst (λ (x : Call). AreThere (g.P.Parts.stripes_of c.make_writes.new.parts) (g.P.Parts.part_of c.make_writes.new.parts) (keys_ended x)) (sym c.call-asked.ensures)
+    (rw count (there_after (shard_meaning g.R.Shows.is_steady) (g.P.Parts.stripes_of c.args.parts.now) (keys_ended c.args.call.now) (g.P.Parts.part_of c.args.parts.now) (g.P.Parts.part_of c.make_writes.new.parts) c.make_writes.ensures.became.there c.requires.there))
 
 pub returns-clause-became : goal.returns-clause-became
 returns-clause-became g c =
     let count = g.met.P.Parts.same_stripes c.args.parts.now c.make_writes.new.parts c.make_writes.ensures.held.kept in
     let holder = g.met.P.Parts.same_holder c.args.parts.now c.make_writes.new.parts c.make_writes.ensures.held.kept in
-    let ended = rw (count, holder) at c.end_watches.ensures.became in
+    let ended = rw (count, holder, c.call-asked.ensures) at c.end_watches.ensures.became in
     touched_cleared (shard_meaning g.R.Shows.is_steady) (g.P.Parts.stripes_of c.args.parts.now) (g.P.Parts.holder_of c.args.parts.now) c.args.self.writes (keys_ended c.args.call.now)
     (g.P.Parts.part_of c.args.parts.now) (g.P.Parts.part_of c.make_writes.new.parts) (g.P.Parts.part_of c.end_watches.new.parts) (subst (λ (ws : List Write). Became (shard_meaning g.R.Shows.is_steady) (g.P.Parts.stripes_of c.args.parts.now) ws (touches ws) (g.P.Parts.part_of c.args.parts.now) (g.P.Parts.part_of c.make_writes.new.parts)) c.as_slice.ensures c.make_writes.ensures.became) ended
 

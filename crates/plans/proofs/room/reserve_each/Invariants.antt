@@ -5,7 +5,7 @@ use Rattle.shards.specs.Rooms.{IsRoomyAt, MakesRoom, ShedFew, share}
 use Rattle.shards.specs.Devices.{StillServes}
 use Rattle.shards.specs.Shards.{SameWaits, logs_of, shard_meaning}
 use Rattle.plans.proofs.Few.{LeftBelow}
-use Rattle.plans.proofs.room.reserve_all.Given as goal
+use Rattle.plans.proofs.room.reserve_each.Given as goal
 
 abbrev pub invariant-loop-stripe : goal.invariant-loop-stripe
 invariant-loop-stripe g l = record {

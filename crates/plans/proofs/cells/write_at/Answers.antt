@@ -5,13 +5,13 @@ use Rattle.plans.proofs.Become.{wrote_one}
 use Rattle.plans.proofs.Logs.{log_at, logs_as}
 use Rattle.plans.proofs.Rooms.{room_of}
 use Rattle.plans.proofs.Waits.{waits_one}
-use Rattle.plans.proofs.cells.write.Goals as goal
+use Rattle.plans.proofs.cells.write_at.Goals as goal
 
 pub write-requires-clause-room : goal.write-requires-clause-room
 write-requires-clause-room g c =
     let s : ℕ = stripe_of (g.P.Parts.stripes_of c.args.parts.now) c.args.write.now.0 in
     let parts = g.P.Parts.part_of c.args.parts.now in
-    let at : stripe_of (g.P.Parts.stripes_of c.args.parts.now) c.args.write.now.0 ≡ c.stripe_at-stripe.result = ap (stripe_of (g.P.Parts.stripes_of c.args.parts.now)) (sym (c.new-key.ensures ∙ c.key.ensures)) ∙ sym c.stripe_at-stripe.ensures in
+    let at : stripe_of (g.P.Parts.stripes_of c.args.parts.now) c.args.write.now.0 ≡ c.stripe_at-stripe.result = ap (stripe_of (g.P.Parts.stripes_of c.args.parts.now)) (sym c.requires.is) ∙ sym c.stripe_at-stripe.ensures in
     room_of (logs_of parts) s (weigh c.args.write.now) (shard_log c.part.result.now) c.requires.room (ap (logs_of parts) at ∙ log_at parts c.stripe_at-stripe.result c.part.result.now c.part.ensures.value)
 
 pub returns-clause-became : goal.returns-clause-became
@@ -20,7 +20,7 @@ returns-clause-became g c =
     let i : ℕ = c.stripe_at-stripe.result in
     let new = c.write.new.self in
     wrote_one (shard_meaning g.R.Shows.is_steady) n i c.args.write.now (g.P.Parts.part_of c.args.parts.now) (g.P.Parts.part_of (g.P.Parts.with_part c.args.parts.now i new)) c.part.result.now new
-    c.part.ensures.value (c.part.ensures.written new) (c.part.ensures.others new) (ap (stripe_of n) (sym (c.new-key.ensures ∙ c.key.ensures)) ∙ sym c.stripe_at-stripe.ensures) c.write.ensures.value c.write.ensures.marks
+    c.part.ensures.value (c.part.ensures.written new) (c.part.ensures.others new) (ap (stripe_of n) (sym c.requires.is) ∙ sym c.stripe_at-stripe.ensures) c.write.ensures.value c.write.ensures.marks
 
 pub returns-clause-room : goal.returns-clause-room
 returns-clause-room g c = λ weight light has.
@@ -29,7 +29,7 @@ returns-clause-room g c = λ weight light has.
     let new = c.write.new.self in
     let before = g.P.Parts.part_of c.args.parts.now in
     let later = g.P.Parts.part_of (g.P.Parts.with_part c.args.parts.now i new) in
-    let at : s ≡ i = ap (stripe_of (g.P.Parts.stripes_of c.args.parts.now)) (sym (c.new-key.ensures ∙ c.key.ensures)) ∙ sym c.stripe_at-stripe.ensures in
+    let at : s ≡ i = ap (stripe_of (g.P.Parts.stripes_of c.args.parts.now)) (sym c.requires.is) ∙ sym c.stripe_at-stripe.ensures in
     record {
       log = shard_log new;
       there = ap (logs_of later) at ∙ log_at later i new (c.part.ensures.written new);
@@ -43,7 +43,7 @@ returns-clause-grown g c =
     let new = c.write.new.self in
     let before = g.P.Parts.part_of c.args.parts.now in
     let later = g.P.Parts.part_of (g.P.Parts.with_part c.args.parts.now i new) in
-    let at : s ≡ i = ap (stripe_of (g.P.Parts.stripes_of c.args.parts.now)) (sym (c.new-key.ensures ∙ c.key.ensures)) ∙ sym c.stripe_at-stripe.ensures in
+    let at : s ≡ i = ap (stripe_of (g.P.Parts.stripes_of c.args.parts.now)) (sym c.requires.is) ∙ sym c.stripe_at-stripe.ensures in
     record {
       old = shard_log c.part.result.now;
       was = ap (logs_of before) at ∙ log_at before i c.part.result.now c.part.ensures.value;
