@@ -15,4 +15,8 @@ mod refused;
 #[cfg(test)]
 mod rounds;
 #[cfg(test)]
+mod scenes;
+#[cfg(test)]
+mod stores;
+#[cfg(test)]
 mod waiting;

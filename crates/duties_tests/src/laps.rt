@@ -2,6 +2,7 @@
 
 ghost use Rattle.std.specs.Prelude.{◌≡◌};
 
+use std::process::Abort;
 use upkeep::{Laps, Seen};
 
 /// A stripe of 64 places, of which so many are used.
@@ -40,18 +41,34 @@ fn comes_to_a_lap(laps: &mut Laps, seen: &Seen) -> Option<(usize, usize)>
     None
 }
 
+/// A lap of so many steps begins after so many looks at a stripe in which nothing changes.
+fn has_lap(rt: &impl Abort, laps: &mut Laps, seen: &Seen, looks: usize, steps: usize)
+    requires { laps.old.left ≡ 0 }
+    ensures { laps.new.left ≡ 0 }
+{
+    assert!(rt;
+        comes_to_a_lap(laps, seen) == Some((looks, steps)),
+        "after {looks} looks"
+    );
+}
+
+/// Laps of 256 steps begin one after the other, each after so many looks.
+fn has_laps(rt: &impl Abort, laps: &mut Laps, seen: &Seen, all: &[usize])
+    requires { laps.old.left ≡ 0 }
+    ensures { laps.new.left ≡ 0 }
+{
+    for looks in all {
+        has_lap(rt, laps, seen, *looks, 256);
+    }
+}
+
 /// Ten laps at a full store of live values that is only overwritten, each after so many looks. Such a store has no place that
 /// could come back, so a test of the thread over it would have no end to wait for: what is tested is when it tries again.
 #[test]
 fn a_full_store_of_live_values_is_tried_again_after_a_thousand_looks_at_most(rt: HostRuntime) {
     let mut laps = Laps::new();
-    assert!(rt; comes_to_a_lap(&mut laps, &used(64)) == Some((1, 256)));
-    for looks in [10, 20, 40, 80, 160, 320, 640, 1_000, 1_000] {
-        assert!(rt;
-            comes_to_a_lap(&mut laps, &used(64)) == Some((looks, 256)),
-            "after {looks} looks"
-        );
-    }
+    let looks = [1, 10, 20, 40, 80, 160, 320, 640, 1_000, 1_000];
+    has_laps(&rt, &mut laps, &used(64), &looks);
     drop(laps);
 }
 
@@ -59,19 +76,9 @@ fn a_full_store_of_live_values_is_tried_again_after_a_thousand_looks_at_most(rt:
 #[test]
 fn a_lap_that_gains_brings_patience_back(rt: HostRuntime) {
     let mut laps = Laps::new();
-    for looks in [1, 10, 20, 40] {
-        assert!(rt;
-            comes_to_a_lap(&mut laps, &used(64)) == Some((looks, 256)),
-            "after {looks} looks"
-        );
-    }
-    assert!(rt; comes_to_a_lap(&mut laps, &used(61)) == Some((1, 244)));
-    for looks in [10, 20] {
-        assert!(rt;
-            comes_to_a_lap(&mut laps, &used(64)) == Some((looks, 256)),
-            "after {looks} looks"
-        );
-    }
+    has_laps(&rt, &mut laps, &used(64), &[1, 10, 20, 40]);
+    has_lap(&rt, &mut laps, &used(61), 1, 244);
+    has_laps(&rt, &mut laps, &used(64), &[10, 20]);
     drop(laps);
 }
 
@@ -79,10 +86,10 @@ fn a_lap_that_gains_brings_patience_back(rt: HostRuntime) {
 #[test]
 fn a_store_that_does_not_grow_is_left_alone(rt: HostRuntime) {
     let mut laps = Laps::new();
-    assert!(rt; comes_to_a_lap(&mut laps, &used(40)) == Some((1, 160)));
-    assert!(rt; comes_to_a_lap(&mut laps, &used(40)) == None);
-    assert!(rt; comes_to_a_lap(&mut laps, &used(42)) == None);
-    assert!(rt; comes_to_a_lap(&mut laps, &used(43)) == Some((1, 172)));
+    has_lap(&rt, &mut laps, &used(40), 1, 160);
+    assert!(rt; comes_to_a_lap(&mut laps, &used(40)).is_none());
+    assert!(rt; comes_to_a_lap(&mut laps, &used(42)).is_none());
+    has_lap(&rt, &mut laps, &used(43), 1, 172);
     drop(laps);
 }
 
@@ -91,17 +98,12 @@ fn a_store_that_does_not_grow_is_left_alone(rt: HostRuntime) {
 fn a_deletion_begins_a_short_lap(rt: HostRuntime) {
     let mut laps = Laps::new();
     let mut seen = used(64);
-    for looks in [1, 10, 20, 40] {
-        assert!(rt;
-            comes_to_a_lap(&mut laps, &seen) == Some((looks, 256)),
-            "after {looks} looks"
-        );
-    }
+    has_laps(&rt, &mut laps, &seen, &[1, 10, 20, 40]);
     assert!(rt; !laps.begins(&seen));
     laps.stop();
     seen.opened = true;
-    assert!(rt; comes_to_a_lap(&mut laps, &seen) == Some((1, 64)));
-    assert!(rt; comes_to_a_lap(&mut laps, &seen) == Some((10, 256)));
+    has_lap(&rt, &mut laps, &seen, 1, 64);
+    has_lap(&rt, &mut laps, &seen, 10, 256);
     drop(laps);
 }
 

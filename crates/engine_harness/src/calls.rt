@@ -3,10 +3,10 @@
 ghost use Rattle.std.specs.Prelude.{⊤};
 ghost use Rattle.engine.specs.Passes.{Rests};
 
-use crate::exchanges::{Exchange, Outcome, compare, keyed};
+use crate::exchanges::{Exchange, Outcome, compare, exchange_of, keyed};
 use device::{Device, MemoryDevice};
 use engine::{Engine, Pass};
-use gates::Latch;
+use gates::{Latch, Open};
 use std::alloc::Global;
 use std::sync::Wait;
 use transact::call::{Answer, Call};
@@ -47,6 +47,42 @@ pub fn is_due<R: Wait, L: Latch>(
         Some(answer) => compare(answer, exchange.due) == Outcome::Due,
         None => false,
     }
+}
+
+/// Whether the request of a line is answered as is due.
+fn line_is_due<R: Wait>(
+    rt: &R,
+    alloc: Global,
+    engine: &Engine<MemoryDevice>,
+    pass: &mut Pass<MemoryDevice>,
+    line: &str,
+) -> bool
+    requires { Rests ⊤ engine.now pass.old }
+    ensures { Rests ⊤ engine.now pass.new }
+{
+    match exchange_of(line) {
+        Some(exchange) => is_due(rt, alloc, &Open, engine, pass, exchange),
+        None => false,
+    }
+}
+
+/// Whether the requests of some lines are answered as is due, one after the other.
+pub fn lines_are_due<R: Wait>(
+    rt: &R,
+    alloc: Global,
+    engine: &Engine<MemoryDevice>,
+    pass: &mut Pass<MemoryDevice>,
+    lines: &str,
+) -> bool
+    requires { Rests ⊤ engine.now pass.old }
+    ensures { Rests ⊤ engine.now pass.new }
+{
+    for line in lines.split('\n') {
+        if !line_is_due(rt, alloc, engine, pass, line) {
+            return false;
+        }
+    }
+    true
 }
 
 /// Whether a key within the limits is set to a value within them.

@@ -19,8 +19,14 @@ pub struct Exchange<'a> {
     pub due: &'a str,
 }
 
+/// The exchange of a line, as `request -> what it is answered`.
+pub fn exchange_of(line: &str) -> Option<Exchange<'_>> {
+    let (request, due) = line.split_once(" -> ")?;
+    Some(Exchange { request, due })
+}
+
 /// How a request was answered.
-#[derive(Clone, Copy, Debug, PartialEq, Eq)]
+#[derive(Clone, Copy, PartialEq, Eq)]
 pub enum Outcome {
     /// With what is due.
     Due,
@@ -146,4 +152,11 @@ pub fn compare(answer: Answer, due: &str) -> Outcome {
     let outcome = outcome_of(&answer, due);
     drop(answer);
     outcome
+}
+
+/// Whether an answer is a reply. It is let go then.
+pub fn is_reply(answer: Answer) -> bool {
+    let is_reply = matches!(&answer, Answer::Reply(_));
+    drop(answer);
+    is_reply
 }

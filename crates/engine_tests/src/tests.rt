@@ -8,16 +8,18 @@ ghost use Rattle.engine.specs.Passes.{Rests};
 use device::MemoryDevice;
 use engine::{Engine, Pass};
 use engine_harness::calls::{is_due, sets_to};
-use engine_harness::engines::new_engine;
-use engine_harness::exchanges::{Exchange, Outcome, compare, keyed, placed};
+use engine_harness::ends::{end_pass, end_passes, end_word};
+use engine_harness::engines::{engine_of, with_pass};
+use engine_harness::exchanges::{Exchange, Outcome, compare, exchange_of, keyed};
+use engine_harness::reading::gets;
 use gates::{Latch, Point};
 use std::alloc::Global;
 use std::process::Abort;
 use std::sync::Wait;
 use std::sync::atomic::{AtomicU64, Ordering};
 use transact::call::Call;
-use words::command::{Command, When};
-use words::limits::KEY_BYTES_MAX;
+use words::command::Command;
+use words::limits::Limits;
 use words::word::Word;
 
 mod limits;
@@ -25,18 +27,7 @@ mod releasing;
 mod steps;
 mod trying;
 
-/// A new engine, and one pass of it. `None` where there was no memory.
-fn with_pass(alloc: Global) -> Option<(Engine<MemoryDevice>, Pass<MemoryDevice>)>
-    ensures { IfSome result (λ made. Rests ⊤ made.0 made.1) }
-{
-    let (engine, mut passes) = new_engine(alloc).ok()?;
-    let pass = passes.swap_remove(0);
-    drop(passes);
-    Some((engine, pass))
-}
-
 /// An engine with a pass of it.
-#[derive(Drop)]
 struct Client {
     alloc: Global,
     engine: Engine<MemoryDevice>,
@@ -46,27 +37,41 @@ struct Client {
 }
 
 impl Client {
-    /// An engine that holds nothing. `None` where there was no memory.
-    fn of_new_engine(alloc: Global) -> Option<Client>
+    /// An engine of these limits that holds nothing. `None` where there was no memory.
+    fn of_new_engine(alloc: Global, limits: &Limits) -> Option<Client>
         ensures { IfSome result (λ client. Rests ⊤ client.engine client.pass) }
     {
-        let (engine, pass) = with_pass(alloc)?;
-        Some(Client {
-            alloc,
-            engine,
-            pass,
-            refusals: 0,
-        })
+        match with_pass(alloc, limits) {
+            Some((engine, pass)) => Some(Client {
+                alloc,
+                engine,
+                pass,
+                refusals: 0,
+            }),
+            None => None,
+        }
     }
 
     /// A client of a new engine, made again where there was no memory for it.
-    fn new(alloc: Global) -> Option<Client>
-        ensures { IfSome result (λ client. Rests ⊤ client.engine client.pass) }
+    fn new(rt: &impl Abort, alloc: Global, limits: &Limits) -> Client
+        ensures { Rests ⊤ result.engine result.pass }
     {
-        match Client::of_new_engine(alloc) {
-            Some(client) => Some(client),
-            None => Client::of_new_engine(alloc),
+        match Client::of_new_engine(alloc, limits) {
+            Some(client) => client,
+            None => Client::of_new_engine(alloc, limits).expect(rt, "memory for an engine"),
         }
+    }
+
+    /// Lets it go.
+    fn end(self) {
+        let Client {
+            alloc: _,
+            engine,
+            pass,
+            refusals: _,
+        } = self;
+        end_pass(pass);
+        engine.end();
     }
 
     /// How a command is answered.
@@ -134,12 +139,6 @@ impl Client {
     }
 }
 
-/// A line of a text, as `request -> what it is answered`.
-fn exchange_of(text: &str) -> Option<Exchange<'_>> {
-    let (request, due) = text.split_once(" -> ")?;
-    Some(Exchange { request, due })
-}
-
 /// Makes the request of a text, and reads the keys. The text is a line, ` -> ` and what reading the keys is
 /// answered after it, which is given back; `None` where an answer is not as is due.
 fn state_after<'a>(
@@ -163,34 +162,35 @@ fn state_after<'a>(
     }
 }
 
-/// Makes the requests of some lines, one after the other.
+/// Makes the requests of some lines, one after the other. The lines are set apart by a character.
 fn answer_all<'a, R: Abort + Wait>(
     rt: &R,
     client: &mut Client,
     mut reading: Exchange<'a>,
+    between: char,
     lines: &'a str,
 )
     requires rests { Rests ⊤ client.old.engine client.old.pass }
 {
-    for line in lines.split('\n') {
+    for line in lines.split(between) {
         reading.due = state_after(rt, client, line, reading).expect(rt, line);
     }
     assert!(rt; client.refusals <= 1);
 }
 
 /// The reading of a text's first line, and the lines below it.
-fn reading_of(text: &str) -> Option<(Exchange<'_>, &str)> {
-    let (first, lines) = text.split_once('\n')?;
+fn reading_of(text: &str, between: char) -> Option<(Exchange<'_>, &str)> {
+    let (first, lines) = text.split_once(between)?;
     Some((exchange_of(first)?, lines))
 }
 
 /// Makes the requests of a text, one after the other, below the line that reads their keys. Meant for runs
 /// in which one growth is refused: then out of memory is answered once at most.
-fn all_answered<R: Abort + Wait>(rt: &R, alloc: Global, text: &str) {
-    let (reading, lines) = reading_of(text).expect(rt, "a reading");
-    let mut client = Client::new(alloc).expect(rt, "memory for an engine");
-    answer_all(rt, &mut client, reading, lines);
-    drop(client);
+fn all_answered<R: Abort + Wait>(rt: &R, alloc: Global, between: char, text: &str) {
+    let (reading, lines) = reading_of(text, between).expect(rt, "a reading");
+    let mut client = Client::new(rt, alloc, &Limits::default());
+    answer_all(rt, &mut client, reading, between, lines);
+    client.end();
 }
 
 #[test]
@@ -209,7 +209,7 @@ fn one_key_with_each_growth_refused(rt: HostRuntime) {
         SET key-of-more-than-22-bytes one-of-more-than-22-bytes NX -> +OK -> $one-of-more-than-22-bytes\n\
         DEL key-of-more-than-22-bytes key-of-more-than-22-bytes -> :1 -> null\n\
         GETSET key-of-more-than-22-bytes one-of-more-than-22-bytes -> null -> $one-of-more-than-22-bytes";
-    all_answered(&rt, rt.alloc(), text);
+    all_answered(&rt, rt.alloc(), '\n', text);
 }
 
 #[test]
@@ -220,7 +220,7 @@ fn old_values_with_each_growth_refused(rt: HostRuntime) {
         SET key-of-more-than-22-bytes two-of-more-than-22-bytes NX GET -> $one-of-more-than-22-bytes -> $one-of-more-than-22-bytes\n\
         SET key-of-more-than-22-bytes two-of-more-than-22-bytes get -> $one-of-more-than-22-bytes -> $two-of-more-than-22-bytes\n\
         SET key-of-more-than-22-bytes 3 GET XX -> $two-of-more-than-22-bytes -> $3";
-    all_answered(&rt, rt.alloc(), text);
+    all_answered(&rt, rt.alloc(), '\n', text);
 }
 
 #[test]
@@ -235,7 +235,7 @@ fn renamed_keys_with_each_growth_refused(rt: HostRuntime) {
         RENAME the-third-of-these-keys the-second-of-these-keys -> +OK -> null $one-of-more-than-22-bytes null\n\
         RENAME the-third-of-these-keys the-second-of-these-keys -> -ERR no such key -> null $one-of-more-than-22-bytes null\n\
         RENAME the-second-of-these-keys key-of-more-than-22-bytes -> +OK -> $one-of-more-than-22-bytes null null";
-    all_answered(&rt, rt.alloc(), text);
+    all_answered(&rt, rt.alloc(), '\n', text);
 }
 
 #[test]
@@ -253,7 +253,7 @@ fn growing_values_with_each_growth_refused(rt: HostRuntime) {
         GETRANGE key-of-more-than-22-bytes 5 4 -> $ -> $one-of-more-than-33-bytes,twree\0\0z\n\
         DEL key-of-more-than-22-bytes -> :1 -> null\n\
         SETRANGE key-of-more-than-22-bytes 2 two-of-more-than-22-bytes -> :27 -> $\0\0two-of-more-than-22-bytes";
-    all_answered(&rt, rt.alloc(), text);
+    all_answered(&rt, rt.alloc(), '\n', text);
 }
 
 #[test]
@@ -267,7 +267,7 @@ fn counters_with_each_growth_refused(rt: HostRuntime) {
         DECR key-of-more-than-22-bytes -> :-42 -> $-42\n\
         SET key-of-more-than-22-bytes one-of-more-than-22-bytes -> +OK -> $one-of-more-than-22-bytes\n\
         INCR key-of-more-than-22-bytes -> -ERR value is not an integer or out of range -> $one-of-more-than-22-bytes";
-    all_answered(&rt, rt.alloc(), text);
+    all_answered(&rt, rt.alloc(), '\n', text);
 }
 
 #[test]
@@ -287,16 +287,20 @@ fn several_keys_with_each_growth_refused(rt: HostRuntime) {
         MSET the-third-of-these-keys 3 the-third-of-these-keys one-of-more-than-22-bytes \
         -> +OK -> $two-of-more-than-22-bytes $2 $one-of-more-than-22-bytes\n\
         DEL key-of-more-than-22-bytes the-second-of-these-keys the-third-of-these-keys -> :3 -> null null null";
-    all_answered(&rt, rt.alloc(), text);
+    all_answered(&rt, rt.alloc(), '\n', text);
 }
 
 /// How many passes a new engine has. `None` where there was no memory.
 fn passes_of_new(alloc: Global) -> Option<usize> {
-    let (engine, passes) = new_engine(alloc).ok()?;
-    let count = passes.len();
-    drop(passes);
-    drop(engine);
-    Some(count)
+    match engine_of(alloc, &Limits::default()) {
+        Ok((engine, passes)) => {
+            let count = passes.len();
+            end_passes(passes);
+            engine.end();
+            Some(count)
+        }
+        Err(_) => None,
+    }
 }
 
 #[test]
@@ -305,161 +309,75 @@ fn a_pass_for_each_client_and_three_more(rt: HostRuntime) {
     assert!(rt; count == Some(7), "{count:?}");
 }
 
-/// SET of the key `k` to a value. `None` where there was no memory.
-fn set(alloc: Global, value: &[u8]) -> Option<Command>
-    ensures { IfSome result (λ command. IsTrue (touches_keys command) × IsBounded command) }
-{
-    let value = Word::from_slice(alloc, value).ok()?;
-    match Word::from_slice(alloc, b"k") {
-        Ok(key) => placed(Command::Set(key, value, When::Always)),
-        Err(_) => {
-            drop(value);
-            None
-        }
-    }
-}
-
-/// How SET of the key `k` to a value is answered. `None` where there was no memory for its words.
-fn run_set(rt: &impl Wait, client: &mut Client, value: &[u8], due: &str) -> Option<Outcome>
-    requires rests { Rests ⊤ client.old.engine client.old.pass }
-    ensures rests { Rests ⊤ client.new.engine client.new.pass }
-{
-    let command = set(client.alloc, value)?;
-    Some(client.run(rt, command, due))
-}
-
-/// Whether SET of the key `k` to a value is answered as is due, the second time where there was no memory
-/// the first time.
-fn sets(rt: &impl Wait, client: &mut Client, value: &[u8], due: &str) -> bool
-    requires rests { Rests ⊤ client.old.engine client.old.pass }
-    ensures rests { Rests ⊤ client.new.engine client.new.pass }
-{
-    match run_set(rt, client, value, due) {
-        Some(Outcome::Due) => true,
-        Some(Outcome::Other) => false,
-        Some(Outcome::OutOfMemory) | None => run_set(rt, client, value, due) == Some(Outcome::Due),
-    }
-}
-
-/// Whether the key `k` has the value that follows `$` in a text, once it is set to it.
-fn keeps(rt: &impl Wait, client: &mut Client, due: &str) -> bool
-    requires rests { Rests ⊤ client.old.engine client.old.pass }
-    ensures rests { Rests ⊤ client.new.engine client.new.pass }
-{
-    let [_, value @ ..] = due.as_bytes() else {
-        return false;
-    };
-    let request = "GET k";
-    sets(rt, client, value, "+OK") && client.reads(rt, Exchange { request, due })
-}
-
-/// Gives one key values, each read after it.
-fn keeps_values<R: Abort + Wait>(rt: &R, client: &mut Client)
-    requires rests { Rests ⊤ client.old.engine client.old.pass }
-    ensures rests { Rests ⊤ client.new.engine client.new.pass }
-{
-    for due in [
-        "$1",
-        "$",
-        "$a-value-that-is-longer-than-a-word-without-memory",
-        "$a\r\n*1\r\n",
-    ] {
-        assert!(rt; keeps(rt, client, due), "{due}");
-    }
-}
-
-/// Reads keys that are missing.
-fn misses_others<R: Abort + Wait>(rt: &R, client: &mut Client)
-    requires rests { Rests ⊤ client.old.engine client.old.pass }
-{
-    for request in [
-        "GET ",
-        "GET K",
-        "GET kk",
-        "GET a-key-that-is-longer-than-a-word-without-memory",
-    ] {
-        let due = "null";
-        assert!(rt; client.reads(rt, Exchange { request, due }), "{request}");
-    }
-}
-
+/// Each value is read until the next one is set, and other keys are missing. The last value has line ends.
 #[test]
 fn a_value_is_kept_until_the_next(rt: HostRuntime) {
-    let mut client = Client::new(rt.alloc()).expect(&rt, "memory for an engine");
-    keeps_values(&rt, &mut client);
-    misses_others(&rt, &mut client);
-    drop(client);
+    let text = "GET k -> null|\
+        SET k 1 -> +OK -> $1|\
+        SET k  -> +OK -> $|\
+        SET k a-value-that-is-longer-than-a-word-without-memory -> +OK -> $a-value-that-is-longer-than-a-word-without-memory|\
+        SET k a\r\n*1\r\n -> +OK -> $a\r\n*1\r\n|\
+        GET  -> null -> $a\r\n*1\r\n|\
+        GET K -> null -> $a\r\n*1\r\n|\
+        GET kk -> null -> $a\r\n*1\r\n|\
+        GET a-key-that-is-longer-than-a-word-without-memory -> null -> $a\r\n*1\r\n";
+    all_answered(&rt, rt.alloc(), '|', text);
 }
 
-/// Adds a key and a value of so many bytes to a request.
-fn add(rt: &impl Abort, alloc: Global, request: &mut Vec<u8>, key: u8, length: usize) {
+/// Adds a key and a value of so many bytes to a text.
+fn add(rt: &impl Abort, alloc: Global, text: &mut Vec<u8>, key: u8, length: usize) {
     let value = vec![in alloc; b'x'; length].expect(rt, "memory for a value");
-    request
-        .extend_from_slice(&[b' ', key, b' '])
-        .expect(rt, "memory for a request");
-    request
-        .extend_from_slice(value.as_slice())
-        .expect(rt, "memory for a request");
+    text.extend_from_slice(&[b' ', key, b' '])
+        .expect(rt, "memory for a text");
+    text.extend_from_slice(value.as_slice())
+        .expect(rt, "memory for a text");
     drop(value);
 }
 
-/// MSET of six keys: five values of 32,768 bytes, the longest length, and a last one of so many. It weighs 164,134 and the bytes
-/// of the last.
-fn heavy(rt: &impl Abort, alloc: Global, last: usize) -> Vec<u8> {
-    let mut request = Vec::from_slice(alloc, b"MSET").expect(rt, "memory for a request");
+/// Adds a line to a text: MSET of six keys, five values of 32,768 bytes, the longest length, and a last one of so many. It weighs
+/// 164,134 and the bytes of the last. Then comes what is due.
+fn add_heavy(rt: &impl Abort, alloc: Global, text: &mut Vec<u8>, last: usize, due: &[u8]) {
+    text.extend_from_slice(b"\nMSET")
+        .expect(rt, "memory for a text");
     for key in b"abcde" {
-        add(rt, alloc, &mut request, *key, 32_768);
+        add(rt, alloc, text, *key, 32_768);
     }
-    add(rt, alloc, &mut request, b'f', last);
-    request
+    add(rt, alloc, text, b'f', last);
+    text.extend_from_slice(due).expect(rt, "memory for a text");
 }
 
-/// Whether what weighs one byte more than what may just be written is refused and changes nothing, and that is written then.
-fn refuses_the_heavier(rt: &impl Wait, client: &mut Client, most: &str, more: &str) -> bool
-    requires rests { Rests ⊤ client.old.engine client.old.pass }
-    ensures rests { Rests ⊤ client.new.engine client.new.pass }
-{
-    let request = more;
-    let due = "-ERR command writes too much";
-    let refused = client.ask(rt, Exchange { request, due }) == Outcome::Due;
-    let request = "EXISTS a f";
-    let nothing = client.reads(rt, Exchange { request, due: ":0" });
-    let due = "+OK";
-    let written = client.ask(rt, Exchange { request: most, due }) == Outcome::Due;
-    let both = client.reads(rt, Exchange { request, due: ":2" });
-    refused && nothing && written && both
-}
-
-/// Whether it is so of these requests at a new engine.
-fn weighs_too_much<R: Abort + Wait>(rt: &R, alloc: Global, most: &[u8], more: &[u8]) -> bool {
-    let most = str::from_utf8(most).expect(rt, "a text");
-    let more = str::from_utf8(more).expect(rt, "a text");
-    let mut client = Client::new(alloc).expect(rt, "memory for an engine");
-    let refused = refuses_the_heavier(rt, &mut client, most, more);
-    drop(client);
-    refused
-}
-
+/// What weighs one byte more than what may just be written is refused and changes nothing, and that is written then.
 #[test]
 fn a_call_that_weighs_too_much_changes_nothing(rt: HostRuntime) {
     let alloc = rt.alloc();
-    let most = heavy(&rt, alloc, 32_474);
-    let more = heavy(&rt, alloc, 32_475);
-    assert!(rt; weighs_too_much(&rt, alloc, most.as_slice(), more.as_slice()));
-    drop(most);
-    drop(more);
+    let mut text = Vec::from_slice(alloc, b"EXISTS a f -> :0").expect(&rt, "memory for a text");
+    add_heavy(
+        &rt,
+        alloc,
+        &mut text,
+        32_475,
+        b" -> -ERR command writes too much -> :0",
+    );
+    add_heavy(&rt, alloc, &mut text, 32_474, b" -> +OK -> :2");
+    let lines = str::from_utf8(text.as_slice()).expect(&rt, "a text");
+    all_answered(&rt, alloc, '\n', lines);
+    drop(text);
 }
 
-/// Whether a key that is missing is given a value. The byte tells it from others.
-fn sets_key<R: Abort + Wait>(rt: &R, client: &mut Client, byte: u8) -> bool
+/// Whether the key of this number, which is missing, is given a value of its own.
+fn sets_key<R: Abort + Wait>(rt: &R, client: &mut Client, number: u8) -> bool
     requires rests { Rests ⊤ client.old.engine client.old.pass }
     ensures rests { Rests ⊤ client.new.engine client.new.pass }
 {
-    let mut get = *b"GET 0-key-of-more-than-22-bytes";
-    let mut set = *b"SET 0-key-of-more-than-22-bytes 0-value-of-more-than-22-bytes";
-    get[4] = byte;
-    set[4] = byte;
-    set[32] = byte;
+    let [tens, ones] = [b'0' + number / 10, b'0' + number % 10];
+    let mut get = *b"GET 00-key-of-more-than-22-bytes";
+    let mut set = *b"SET 00-key-of-more-than-22-bytes 00-value-of-more-than-22-bytes";
+    get[4] = tens;
+    get[5] = ones;
+    set[4] = tens;
+    set[5] = ones;
+    set[33] = tens;
+    set[34] = ones;
     let reading = Exchange {
         request: str::from_utf8(&get).expect(rt, "a text"),
         due: "null",
@@ -471,15 +389,18 @@ fn sets_key<R: Abort + Wait>(rt: &R, client: &mut Client, byte: u8) -> bool
     client.answers(rt, line, reading)
 }
 
-/// Whether a key has the value that it was given.
-fn has_key<R: Abort + Wait>(rt: &R, client: &mut Client, byte: u8) -> bool
+/// Whether it has that value.
+fn has_key<R: Abort + Wait>(rt: &R, client: &mut Client, number: u8) -> bool
     requires rests { Rests ⊤ client.old.engine client.old.pass }
     ensures rests { Rests ⊤ client.new.engine client.new.pass }
 {
-    let mut get = *b"GET 0-key-of-more-than-22-bytes";
-    let mut value = *b"$0-value-of-more-than-22-bytes";
-    get[4] = byte;
-    value[1] = byte;
+    let [tens, ones] = [b'0' + number / 10, b'0' + number % 10];
+    let mut get = *b"GET 00-key-of-more-than-22-bytes";
+    let mut value = *b"$00-value-of-more-than-22-bytes";
+    get[4] = tens;
+    get[5] = ones;
+    value[1] = tens;
+    value[2] = ones;
     let line = Exchange {
         request: str::from_utf8(&get).expect(rt, "a text"),
         due: str::from_utf8(&value).expect(rt, "a text"),
@@ -487,34 +408,46 @@ fn has_key<R: Abort + Wait>(rt: &R, client: &mut Client, byte: u8) -> bool
     client.reads(rt, line)
 }
 
-/// Gives keys values.
-fn sets_each<R: Abort + Wait>(rt: &R, client: &mut Client)
+/// Whether the key of this number is given a value; or whether it has that, where it was set before.
+fn key_is_so<R: Abort + Wait>(rt: &R, client: &mut Client, number: u8, was_set: bool) -> bool
     requires rests { Rests ⊤ client.old.engine client.old.pass }
     ensures rests { Rests ⊤ client.new.engine client.new.pass }
 {
-    for byte in b'0'..b'Z' {
-        assert!(rt; sets_key(rt, client, byte));
+    if was_set {
+        has_key(rt, client, number)
+    } else {
+        sets_key(rt, client, number)
     }
 }
 
-/// Reads each of them.
-fn has_each<R: Abort + Wait>(rt: &R, client: &mut Client)
+/// Whether so many keys are given values; or whether each has its own, where they were set before.
+fn each_is_so<R: Abort + Wait>(rt: &R, client: &mut Client, count: u8, were_set: bool) -> bool
     requires rests { Rests ⊤ client.old.engine client.old.pass }
+    ensures rests { Rests ⊤ client.new.engine client.new.pass }
 {
-    for byte in b'0'..b'Z' {
-        assert!(rt; has_key(rt, client, byte));
+    for number in 0..count {
+        if !key_is_so(rt, client, number, were_set) {
+            return false;
+        }
     }
-    assert!(rt; client.refusals <= 1);
+    true
+}
+
+/// Whether a new engine of these limits keeps so many keys, and answers out of memory once at most.
+fn keeps<R: Abort + Wait>(rt: &R, alloc: Global, limits: &Limits, count: u8) -> bool {
+    let mut client = Client::new(rt, alloc, limits);
+    let set = each_is_so(rt, &mut client, count, false);
+    let read = each_is_so(rt, &mut client, count, true);
+    let keeps = set && read && client.refusals <= 1;
+    client.end();
+    keeps
 }
 
 /// Meant for runs in which one growth is refused: the call that meets it says so and changes nothing,
 /// and succeeds when it is made again.
 #[test]
 fn a_refused_growth_changes_nothing(rt: HostRuntime) {
-    let mut client = Client::new(rt.alloc()).expect(&rt, "memory for an engine");
-    sets_each(&rt, &mut client);
-    has_each(&rt, &mut client);
-    drop(client);
+    assert!(rt; keeps(&rt, rt.alloc(), &Limits::default(), 42));
 }
 
 /// Remembers where calls were, by a digit each: 1 before, 2 holding, 3 after.
@@ -551,20 +484,6 @@ impl Latch for Trail {
     }
 }
 
-/// Whether a key within the limits is read.
-fn gets<R: Wait, L: Latch>(
-    rt: &R,
-    engine: &Engine<MemoryDevice>,
-    pass: &mut Pass<MemoryDevice>,
-    key: &Word,
-    latch: &L,
-) -> bool
-    requires { Rests ⊤ engine.now pass.old }
-    ensures { Rests ⊤ engine.now pass.new }
-{
-    key.len() <= KEY_BYTES_MAX && engine.get(rt, pass, key, latch).is_ok()
-}
-
 /// Whether a call, a GET and a SET are answered, each of which tells this latch where it is.
 fn tells_of_each<R: Abort + Wait>(
     rt: &R,
@@ -574,28 +493,32 @@ fn tells_of_each<R: Abort + Wait>(
     trail: &Trail,
 ) -> bool
     requires { Rests ⊤ engine.now pass.old }
+    ensures { Rests ⊤ engine.now pass.new }
 {
     let key = Word::from_slice(alloc, b"n").expect(rt, "memory for a key");
     let value = Word::from_slice(alloc, b"2").expect(rt, "memory for a value");
     let request = "INCR n";
     let due = ":1";
     let called = is_due(rt, alloc, trail, engine, pass, Exchange { request, due });
-    let got = gets(rt, engine, pass, &key, trail);
+    let got = gets(rt, engine, pass, &key, &[b"1"], trail);
     let set = sets_to(rt, engine, pass, &key, &value, trail);
-    drop(key);
-    drop(value);
+    end_word(key);
+    end_word(value);
     called && got && set
 }
 
 /// Whether a call, a GET and a SET at a new engine are answered, and what a latch is told of them.
 fn told_of_each<R: Abort + Wait>(rt: &R, alloc: Global) -> (bool, u64) {
-    let (engine, mut pass) = with_pass(alloc).expect(rt, "memory for an engine");
+    let (engine, mut pass) = with_pass(alloc, &Limits::default()).expect(
+        rt,
+        "memory for an engine",
+    );
     let trail = Trail::new();
     let told = tells_of_each(rt, alloc, &engine, &mut pass, &trail);
     let digits = trail.digits();
     drop(trail);
-    drop(pass);
-    drop(engine);
+    end_pass(pass);
+    engine.end();
     (told, digits)
 }
 

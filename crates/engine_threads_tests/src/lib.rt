@@ -11,6 +11,8 @@ mod held;
 #[cfg(test)]
 mod holds;
 #[cfg(test)]
+mod jobs;
+#[cfg(test)]
 mod moving;
 #[cfg(test)]
 mod nulls;

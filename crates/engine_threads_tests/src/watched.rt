@@ -2,45 +2,131 @@
 //! another wrote the number in between.
 
 ghost use Rattle.std.specs.Prelude.{⊤, ◌≡◌, ◌∷◌, [], IsSome, IsTrue};
-ghost use Rattle.words.specs.Bounds.{AreBounded, IsBounded};
-ghost use Rattle.words.specs.Commands.{touches_keys};
+ghost use Rattle.words.specs.Bounds.{AreBounded};
 ghost use Rattle.words.specs.History.{MayAllBeQueued, keys_of_pairs};
 ghost use Rattle.engine.specs.Passes.{knows, Rests};
 
-use crate::nulls::{watches, watching_of};
-use crate::passes::with_two;
+use crate::counting::{NOTHING, RESTS, counts_at_new};
+use crate::jobs::{Job, Trial, Work};
 use device::MemoryDevice;
 use engine::{Engine, Pass};
-use engine_harness::exchanges::placed;
+use engine_harness::ends::{end_reply, end_word};
+use engine_harness::exchanges::keyed;
 use std::alloc::Global;
 use std::process::Abort;
+use std::slice;
 use std::sync::Wait;
-use std::thread::{Threads, join};
-use transact::call::{Answer, Call};
-use words::command::{Command, When};
+use transact::call::{Answer, Call, Watching};
+use words::command::Keys;
 use words::history::Commands;
 use words::number;
 use words::reply::{CommandReply, Item, Reply};
 use words::word::Word;
 
-/// How often each of two passes tries to add 1.
-const TRIES: u64 = 500;
-
-/// The reply to a command, where it is not answered by a fault. The pass watches what it did then.
+/// The reply to a request, where it is not answered by a fault. The pass watches what it did then.
 #[tactic(auto, using(crate::proofs::Watching::reads_on))]
-fn reply_to<R: Wait>(
+pub(crate) fn reply_to<R: Wait>(
     rt: &R,
+    alloc: Global,
     engine: &Engine<MemoryDevice>,
     pass: &mut Pass<MemoryDevice>,
-    command: Command,
+    request: &str,
 ) -> Option<Reply>
     requires rests { Rests ⊤ engine.now pass.old }
-    requires place { IsTrue (touches_keys command) × IsBounded command }
     ensures rests { Rests ⊤ engine.now pass.new }
     ensures watches { IsSome result → (knows (λ device. 0) pass.new).watched ≡ (knows (λ device. 0) pass.old).watched }
 {
+    let command = keyed(alloc, request)?;
     match engine.submit(rt, pass, Call::One(command)) {
         Answer::Reply(reply) => Some(reply),
+        Answer::Fault(_) => None,
+    }
+}
+
+/// A list of one key.
+fn list_of(rt: &impl Abort, alloc: Global, key: &[u8]) -> Keys
+    ensures { result ≡ key.now ∷ [] }
+{
+    let word = Word::from_slice(alloc, key).expect(rt, "memory for a key");
+    let keys = vec![in alloc; word].expect(rt, "memory for a list");
+    Keys::from_vec(keys)
+}
+
+/// Watches this key alone, and says whether it does.
+#[tactic(auto, using(crate::proofs::Watching::watches_one))]
+pub(crate) fn watches<R: Abort + Wait>(
+    rt: &R,
+    alloc: Global,
+    engine: &Engine<MemoryDevice>,
+    pass: &mut Pass<MemoryDevice>,
+    key: &[u8],
+) -> bool
+    requires rests { Rests ⊤ engine.now pass.old }
+    requires nothing { (knows (λ device. 0) pass.old).watched ≡ [] }
+    ensures rests { Rests ⊤ engine.now pass.new }
+    ensures watches { IsTrue result → keys_of_pairs (knows (λ device. 0) pass.new).watched ≡ key.now ∷ [] }
+{
+    let keys = list_of(rt, alloc, key);
+    match engine.submit(rt, pass, Call::Watch(keys)) {
+        Answer::Reply(reply) => {
+            end_reply(reply);
+            true
+        }
+        Answer::Fault(_) => false,
+    }
+}
+
+/// What a session that watches this key alone hands in.
+fn watching_of(rt: &impl Abort, alloc: Global, key: &[u8]) -> Watching
+    ensures { result ≡ key.now ∷ [] }
+{
+    let word = Word::from_slice(alloc, key).expect(rt, "memory for a key");
+    let mut watching = Watching::none(alloc);
+    watching
+        .add(slice::from_ref(&word))
+        .expect(rt, "memory for a watch");
+    end_word(word);
+    watching
+}
+
+/// How a transaction was answered.
+#[derive(Clone, Copy, PartialEq, Eq)]
+pub(crate) enum Exec {
+    /// Its commands ran.
+    Ran,
+    /// By the null array: they did not run.
+    Null,
+}
+
+/// How a transaction was answered by this reply, which is let go. `None` where it is no reply to one.
+fn exec_of(reply: Reply) -> Option<Exec> {
+    let exec = match &reply {
+        Reply::Array(_) => Some(Exec::Ran),
+        Reply::NullArray => Some(Exec::Null),
+        _ => None,
+    };
+    end_reply(reply);
+    exec
+}
+
+/// Makes a transaction of a session that watches this key alone. `None` where it is answered by a fault.
+pub(crate) fn runs_watched<R: Abort + Wait>(
+    rt: &R,
+    alloc: Global,
+    engine: &Engine<MemoryDevice>,
+    pass: &mut Pass<MemoryDevice>,
+    key: &[u8],
+    commands: Commands,
+) -> Option<Exec>
+    requires rests { Rests ⊤ engine.now pass.old }
+    requires watches { keys_of_pairs (knows (λ device. 0) pass.old).watched ≡ key.now ∷ [] }
+    requires place { MayAllBeQueued commands × AreBounded commands }
+    ensures rests { Rests ⊤ engine.now pass.new }
+    ensures nothing { IsSome result → (knows (λ device. 0) pass.new).watched ≡ [] }
+{
+    let watching = watching_of(rt, alloc, key);
+    match engine.submit(rt, pass, Call::Exec(commands, watching)) {
+        Answer::Reply(reply) => exec_of(reply),
         Answer::Fault(_) => None,
     }
 }
@@ -54,201 +140,86 @@ fn number_of(reply: &Reply) -> Option<i64> {
     }
 }
 
-/// The command that gets a key.
-fn getting(rt: &impl Abort, key: &Word) -> Command
-    ensures { IsTrue (touches_keys result) × IsBounded result }
-{
-    let key = key.clone().expect(rt, "memory for a key");
-    placed(Command::Get(key)).expect(rt, "a key within the limits")
-}
-
-/// The number that a key has, which is 0 where it is missing. The pass watches what it did.
-fn number_at<R: Abort + Wait>(
+/// The number that the key `n` has, which is 0 where it is missing. The pass watches what it did.
+fn number_at<R: Wait>(
     rt: &R,
+    alloc: Global,
     engine: &Engine<MemoryDevice>,
     pass: &mut Pass<MemoryDevice>,
-    key: &Word,
 ) -> Option<i64>
-    requires { Rests ⊤ engine.now pass.old }
+    requires rests { Rests ⊤ engine.now pass.old }
     ensures rests { Rests ⊤ engine.now pass.new }
     ensures watches { IsSome result → (knows (λ device. 0) pass.new).watched ≡ (knows (λ device. 0) pass.old).watched }
 {
-    let reply = reply_to(rt, engine, pass, getting(rt, key))?;
+    let reply = reply_to(rt, alloc, engine, pass, "GET n")?;
     let number = number_of(&reply);
-    drop(reply);
+    end_reply(reply);
     number
 }
 
-/// The command that sets a key to a number.
-fn setting_one(rt: &impl Abort, alloc: Global, key: &Word, number: i64) -> Command
-    ensures { IsTrue (touches_keys result) × IsBounded result }
-{
-    let text = format!(in alloc; "{number}").expect(rt, "memory for a text");
-    let value = Word::from_slice(alloc, text.as_bytes()).expect(rt, "memory for a value");
-    drop(text);
-    let key = key.clone().expect(rt, "memory for a key");
-    placed(Command::Set(key, value, When::Always)).expect(rt, "a key within the limits")
-}
-
-/// The commands of a transaction that sets a key to a number.
-fn setting(rt: &impl Abort, alloc: Global, key: &Word, number: i64) -> Commands
+/// The commands of a transaction that sets the key `n` to 1 more than a number.
+fn setting(rt: &impl Abort, alloc: Global, number: i64) -> Commands
     ensures { MayAllBeQueued result × AreBounded result }
 {
-    let command = setting_one(rt, alloc, key, number);
+    let more = number.saturating_add(1);
+    let request = format!(in alloc; "SET n {more}").expect(rt, "memory for a request");
+    let command = keyed(alloc, request.as_str()).expect(rt, "memory for a command");
+    drop(request);
     let commands = vec![in alloc; command];
     Commands::from_vec(commands.expect(rt, "memory for commands"))
 }
 
-/// Whether a transaction was done by this reply, or not. `None` where it is no reply to one.
-fn was_set(reply: Reply) -> Option<bool> {
-    let was_set = match &reply {
-        Reply::Array(_) => Some(true),
-        Reply::NullArray => Some(false),
-        _ => None,
-    };
-    drop(reply);
-    was_set
-}
-
-/// Sets the key that is watched to a number, and says whether it was done, or the answer null. `None` where it is answered
-/// neither.
-fn sets_watched<R: Abort + Wait>(
+/// Adds 1 once: how often it was done. `None` where an answer was not as is due.
+pub(crate) fn adds<R: Abort + Wait>(
     rt: &R,
     alloc: Global,
     engine: &Engine<MemoryDevice>,
     pass: &mut Pass<MemoryDevice>,
-    key: &Word,
-    number: i64,
-) -> Option<bool>
-    requires rests { Rests ⊤ engine.now pass.old }
-    requires watches { keys_of_pairs (knows (λ device. 0) pass.old).watched ≡ key.now ∷ [] }
-    ensures rests { Rests ⊤ engine.now pass.new }
-    ensures nothing { IsSome result → (knows (λ device. 0) pass.new).watched ≡ [] }
-{
-    let commands = setting(rt, alloc, key, number);
-    let watching = watching_of(rt, alloc, key);
-    match engine.submit(rt, pass, Call::Exec(commands, watching)) {
-        Answer::Reply(reply) => was_set(reply),
-        Answer::Fault(_) => None,
-    }
-}
-
-/// Watches a key, reads its number, and sets it to 1 more: whether it was set.
-fn adds_watched<R: Abort + Wait>(
-    rt: &R,
-    alloc: Global,
-    engine: &Engine<MemoryDevice>,
-    pass: &mut Pass<MemoryDevice>,
-    key: &Word,
-) -> Option<bool>
+) -> Option<u64>
     requires rests { Rests ⊤ engine.now pass.old }
     requires nothing { (knows (λ device. 0) pass.old).watched ≡ [] }
     ensures rests { Rests ⊤ engine.now pass.new }
     ensures nothing { IsSome result → (knows (λ device. 0) pass.new).watched ≡ [] }
 {
+    let key = b"n".as_slice();
     if !watches(rt, alloc, engine, pass, key) {
         return None;
     }
-    let number = number_at(rt, engine, pass, key)?;
-    sets_watched(rt, alloc, engine, pass, key, number.checked_add(1)?)
-}
-
-/// A pass, and how often it has set the number; `None` where an answer was not as is due.
-pub(crate) type Added = (Pass<MemoryDevice>, Option<u64>);
-
-/// Adds to a key over and over, and says how often it was set.
-fn adds_often<R: Abort + Wait>(
-    rt: &R,
-    alloc: Global,
-    engine: &Engine<MemoryDevice>,
-    mut pass: Pass<MemoryDevice>,
-    key: &Word,
-) -> Added
-    requires rests { Rests ⊤ engine.now pass }
-    requires nothing { (knows (λ device. 0) pass).watched ≡ [] }
-    ensures rests { Rests ⊤ engine.now result.0 }
-{
-    let mut done = 0u64;
-    for _n in 0..TRIES {
-        match adds_watched(rt, alloc, engine, &mut pass, key) {
-            Some(true) => done = done.saturating_add(1),
-            Some(false) => {}
-            None => return (pass, None),
-        }
+    let number = number_at(rt, alloc, engine, pass)?;
+    let commands = setting(rt, alloc, number);
+    match runs_watched(rt, alloc, engine, pass, key, commands) {
+        Some(Exec::Ran) => Some(1),
+        Some(Exec::Null) => Some(0),
+        None => None,
     }
-    (pass, Some(done))
 }
 
-/// Two passes add to a key: how often each has set it.
-pub(crate) fn both_add<R: Abort + Threads + Wait + Sync>(
-    rt: &R,
-    alloc: Global,
-    engine: &Engine<MemoryDevice>,
-    one: Pass<MemoryDevice>,
-    two: Pass<MemoryDevice>,
-    key: &Word,
-) -> (Added, Added)
-    requires one { Rests ⊤ engine.now one }
-    requires one_nothing { (knows (λ device. 0) one).watched ≡ [] }
-    requires two { Rests ⊤ engine.now two }
-    requires two_nothing { (knows (λ device. 0) two).watched ≡ [] }
-    ensures one { Rests ⊤ engine.now result.0.0 }
-    ensures two { Rests ⊤ engine.now result.1.0 }
-{
-    join(
-        rt,
-        move || -> Added
-            requires rests { Rests ⊤ engine.now one }
-            requires nothing { (knows (λ device. 0) one).watched ≡ [] }
-            ensures { Rests ⊤ engine.entry.now result.0 }
-        { adds_often(rt, alloc, engine, one, key) },
-        move || -> Added
-            requires rests { Rests ⊤ engine.now two }
-            requires nothing { (knows (λ device. 0) two).watched ≡ [] }
-            ensures { Rests ⊤ engine.entry.now result.0 }
-        { adds_often(rt, alloc, engine, two, key) },
-    )
-}
+/// How often each of two passes tries to add 1.
+const TRIES: u64 = 500;
 
-/// Whether a key has as often 1 as two passes have set it, by either once both have met.
-pub(crate) fn counts_all<R: Abort + Wait>(
-    rt: &R,
-    engine: &Engine<MemoryDevice>,
-    added: (Added, Added),
-    key: &Word,
-) -> Option<bool>
-    requires one { Rests ⊤ engine.now added.0.0 }
-    requires two { Rests ⊤ engine.now added.1.0 }
-{
-    let ((mut first, a), (mut second, b)) = added;
-    engine.meet(&mut first, &mut second);
-    let one = number_at(rt, engine, &mut first, key);
-    let two = number_at(rt, engine, &mut second, key);
-    drop(first);
-    drop(second);
-    is_sum((one, two), (a, b))
-}
+/// Two passes add to a number that they watch.
+pub(crate) const ADDS_WATCHED: &Trial = &Trial {
+    before: NOTHING,
+    one: Work {
+        jobs: &[Job::Adds],
+        times: TRIES,
+    },
+    two: RESTS,
+    three: Work {
+        jobs: &[Job::Adds],
+        times: TRIES,
+    },
+    reading: "GET n",
+    due: None,
+};
 
-/// Whether two found the sum of what both have set. `None` where an answer was not as is due.
-fn is_sum(found: (Option<i64>, Option<i64>), set: (Option<u64>, Option<u64>)) -> Option<bool> {
-    let (one, two) = (found.0?, found.1?);
-    let all = set.0?.checked_add(set.1?)?;
-    Some(one == two && u64::try_from(one).ok()? == all && all >= TRIES)
-}
-
-/// Whether it is so of an engine of sixteen stripes. `None` where an answer was not as is due.
-fn is_counted<R: Abort + Threads + Wait + Sync>(rt: &R, alloc: Global) -> Option<bool> {
-    let key = Word::from_slice(alloc, b"n").expect(rt, "memory for a key");
-    let (engine, one, two) = with_two(rt, alloc);
-    let added = both_add(rt, alloc, &engine, one, two, &key);
-    let counts = counts_all(rt, &engine, added, &key);
-    drop(key);
-    drop(engine);
-    counts
+/// Whether two passes have set the number as often as one tries, at least.
+pub(crate) fn is_enough(counts: Option<(u64, u64, u64)>) -> bool {
+    counts.is_some_and(|(one, _, three)| one.saturating_add(three) >= TRIES)
 }
 
 /// Of two transactions that both watch a number and set it, at least one is done.
 #[test]
 fn watched_additions_that_are_not_null_all_count(rt: HostRuntime) {
-    assert!(rt; is_counted(&rt, rt.alloc()) == Some(true));
+    assert!(rt; is_enough(counts_at_new(&rt, rt.alloc(), ADDS_WATCHED)));
 }

@@ -1,6 +1,7 @@
 //! Places behind the first 4 gigabytes of a file.
 
-use crate::file::{filled_page, gives, length_of, lies_at};
+use crate::file::{filled_page, first_two, gives, lies_at, remove_of_length, written};
+use crate::memory::new_page;
 use device::{Device, FileDevice};
 use records::{PAGE_SIZE, Page};
 use std::alloc::Global;
@@ -16,31 +17,21 @@ const BEFORE: u32 = 65_540;
 const EMPTIED_AFTER: u32 = 256;
 
 /// Writes a page to so many places of a file, and empties it again and again.
-fn takes_places<D: Device>(device: &mut D, page: &Page, file: &File) -> Option<()> {
+fn takes_places<D: Device>(rt: &impl Abort, device: &mut D, page: &Page, file: &File) {
     for place in 0..BEFORE {
-        let _receipt = device.write(page).ok()?;
+        drop(written(rt, device, page));
         if place % EMPTIED_AFTER == 0 {
-            file.set_len(0).ok()?;
+            file.set_len(0).expect(rt, "the file emptied");
         }
     }
-    file.set_len(0).ok()
+    file.set_len(0).expect(rt, "the file emptied");
 }
 
-/// Whether a page that is written through one opening is given by another one.
-fn given_by_another<D: Device>(alloc: Global, openings: &mut [D], page: &Page) -> Option<bool> {
-    let (one, others) = openings.split_first_mut()?;
-    let two = others.first_mut()?;
-    let receipt = one.write(page).ok()?;
-    let is_so = gives(alloc, two, &receipt, page);
-    drop(receipt);
-    Some(is_so)
-}
-
-/// Takes the places in front through the first of these openings.
+/// Takes the places in front through an opening.
 fn take_places<D: Device, R: Abort + Files<File = File>>(
     rt: &R,
     path: &str,
-    openings: &mut [D],
+    device: &mut D,
     empty: &Page,
 ) {
     let mut options = fs::OpenOptions::new();
@@ -48,36 +39,47 @@ fn take_places<D: Device, R: Abort + Files<File = File>>(
         .write(true)
         .open(rt, path)
         .expect(rt, "the file opened");
-    let first = openings.first_mut().expect(rt, "a first opening");
-    takes_places(first, empty, &file).expect(rt, "the places taken");
+    takes_places(rt, device, empty, &file);
     drop(file);
 }
 
-/// Takes the places in front, and says whether a page behind them is given.
-fn given_behind<R: Abort + Wait + Files<File = File>>(
+/// A page that is written through one opening is given by another one.
+fn gives_across<D: Device>(
+    rt: &impl Abort,
+    alloc: Global,
+    writer: &mut D,
+    reader: &mut D,
+    page: &Page,
+) {
+    let receipt = written(rt, writer, page);
+    gives(rt, alloc, reader, &receipt, page);
+    drop(receipt);
+}
+
+/// Takes the places in front through the first of two openings. A page behind them is given by the second.
+fn gives_behind<R: Abort + Wait + Files<File = File>>(
     rt: &R,
     alloc: Global,
     path: &str,
     page: &Page,
-) -> Option<bool> {
+) {
     let mut openings = FileDevice::openings(rt, alloc, path, 2).expect(rt, "two openings");
-    let empty = Page::new(alloc, 0).expect(rt, "memory for a page");
-    take_places(rt, path, openings.as_mut_slice(), &empty);
+    let (one, two) = first_two(rt, openings.as_mut_slice());
+    let empty = new_page(rt, alloc, 0);
+    take_places(rt, path, one, &empty);
     drop(empty);
-    let is_given = given_by_another(alloc, openings.as_mut_slice(), page);
+    gives_across(rt, alloc, one, two, page);
     drop(openings);
-    is_given
 }
 
 /// The page of a place lies at the byte of its number times the size of a page, also where that takes more than 32 bits.
 #[test]
 fn a_page_behind_4_gigabytes_lies_at_its_place(rt: HostRuntime) {
     let path = "far.pages";
-    let page = filled_page(rt.alloc(), 5, 77).expect(&rt, "memory for a page");
-    assert!(rt; given_behind(&rt, rt.alloc(), path, &page) == Some(true));
-    let at = u64::from(BEFORE) * PAGE_SIZE as u64;
-    assert!(rt; length_of(&rt, path) == Some(at + PAGE_SIZE as u64));
-    assert!(rt; lies_at(&rt, rt.alloc(), path, u64::from(BEFORE), &page) == Some(true));
-    assert!(rt; fs::remove_file(&rt, path).is_ok());
+    let page = filled_page(&rt, rt.alloc(), 5, 77);
+    gives_behind(&rt, rt.alloc(), path, &page);
+    assert!(rt; lies_at(&rt, rt.alloc(), path, u64::from(BEFORE), &page));
     drop(page);
+    let at = u64::from(BEFORE) * PAGE_SIZE as u64;
+    remove_of_length(&rt, path, at + PAGE_SIZE as u64);
 }

@@ -1,14 +1,16 @@
-ghost use Rattle.std.specs.Prelude.{◌≡◌, ◌≤◌, ◌+◌, length};
+ghost use Rattle.std.specs.Prelude.{◌≡◌, ◌<◌, ◌≤◌, ◌+◌, length};
 ghost use Rattle.std.specs.Option.{option_copied};
 ghost use Rattle.records.specs.Records.{value_bytes};
 ghost use Rattle.hybrid.specs.HybridLog.{HasRoom, log_of};
 ghost use Rattle.hybrid.specs.Log.{contents};
 ghost use Rattle.hybrid.specs.Staging.{AreRight};
 
+use crate::file::written;
+use crate::memory::{new_page, one_opening};
 use device::{Device, Faulty, FaultyReceipt, MemoryDevice, MemoryReceipt, Shows};
 use hybrid::{Cleaned, Fault, Lookup, Purpose, Room, Staged, Stripe, Weighed, Write};
 use records::{KEY_BYTES_MAX, Page, Record, record_at};
-use std::alloc::{AllocError, Global};
+use std::alloc::Global;
 use std::process::Abort;
 use words::hash::hash_of;
 use words::limits::{Limits, VALUE_BYTES_MAX, WEIGHT_OF_KEY};
@@ -68,19 +70,23 @@ impl Drop for Shelf {
     }
 }
 
-fn new_device(rt: &impl Abort, alloc: Global) -> MemoryDevice {
-    let mut openings = MemoryDevice::openings(alloc, 1).expect(rt, "memory for a device");
-    let device = openings.pop().expect(rt, "an opening");
-    drop(openings);
-    device
+fn new_shelf(rt: &impl Abort, alloc: Global, buckets: usize, places: usize) -> Shelf {
+    new_failing_shelf(rt, alloc, buckets, places, Vec::new(alloc))
 }
 
-fn new_shelf(rt: &impl Abort, alloc: Global, buckets: usize, places: usize) -> Shelf {
+// A shelf of a device whose calls of these numbers fail.
+fn new_failing_shelf(
+    rt: &impl Abort,
+    alloc: Global,
+    buckets: usize,
+    places: usize,
+    failing: Vec<u64>,
+) -> Shelf {
     let limits = Limits::new(1, buckets, 12, places, 1).expect(rt, "the limits");
     Shelf {
         stripe: Stripe::new(alloc, &limits).expect(rt, "memory for a stripe"),
-        device: Faulty::new(new_device(rt, alloc), Vec::new(alloc)),
-        copy: Page::new(alloc, 0).expect(rt, "memory for a page"),
+        device: Faulty::new(one_opening(rt, alloc), failing),
+        copy: new_page(rt, alloc, 0),
     }
 }
 
@@ -101,13 +107,15 @@ impl Shelf {
 
 // Reads the page that a lookup needs.
 fn stage(
+    rt: &impl Abort,
     stripe: &Stripe<Receipt>,
     device: &mut Faulty<MemoryDevice>,
     staged: &mut Staged<Receipt>,
     number: u64,
-) -> Option<()> {
-    let copy = stripe.receipt(number)?.again().ok()?;
-    staged.read(copy, device).ok()
+) {
+    let receipt = stripe.receipt(number).expect(rt, "a receipt");
+    let copy = receipt.again().expect(rt, "memory for a receipt");
+    assert!(rt; staged.read(copy, device).is_ok());
 }
 
 // Reads what a lookup needs of a page: a piece with the record at this offset, or the whole page if a piece of it was read.
@@ -122,16 +130,16 @@ fn stage_at(
     staged.read_at(copy, offset, device).ok()
 }
 
-// Each answers `None` where something failed.
 impl Shelf {
     // Whether a key has this value, or none. Reads what the lookup needs, pieces of pages first.
-    fn holds(&mut self, alloc: Global, key: &[u8], value: Option<&[u8]>) -> Option<bool> {
+    fn holds(&mut self, alloc: Global, key: &[u8], value: Option<&[u8]>) -> bool {
         let mut staged = Staged::new(alloc);
-        let is_so = self.holds_by_pieces(&mut staged, key, value);
+        let is_so = self.holds_by_pieces(&mut staged, key, value) == Some(true);
         drop(staged);
         is_so
     }
 
+    // The same, where `None` says that a read failed.
     fn holds_by_pieces(
         &mut self,
         staged: &mut Staged<Receipt>,
@@ -153,73 +161,87 @@ impl Shelf {
     // The same with the whole pages.
     fn holds_with(
         &mut self,
+        rt: &impl Abort,
         staged: &mut Staged<Receipt>,
         key: &[u8],
         value: Option<&[u8]>,
-    ) -> Option<bool> {
+    ) -> bool {
         for _ in 0..400 {
             match self.stripe.find(key, staged) {
-                Lookup::Found(found) => return Some(value == Some(found)),
-                Lookup::Absent => return Some(value.is_none()),
-                Lookup::Cold(number, _) => stage(&self.stripe, &mut self.device, staged, number)?,
+                Lookup::Found(found) => return value == Some(found),
+                Lookup::Absent => return value.is_none(),
+                Lookup::Cold(number, _) => {
+                    stage(rt, &self.stripe, &mut self.device, staged, number);
+                }
             }
         }
-        None
+        false
+    }
+
+    // Writes the copy of a sealed page to the device.
+    fn flush_copy(&mut self, rt: &impl Abort, number: u64) -> bool {
+        let receipt = written(rt, &mut self.device, &self.copy);
+        let page = &self.copy;
+        self.stripe.take_place() && self.stripe.mark_flushed(number, page, receipt).is_ok()
     }
 
     // Writes a sealed page to the device, and says whether one was there.
-    fn flush(&mut self) -> Option<bool> {
+    fn flush(&mut self, rt: &impl Abort) -> bool {
         let Some(number) = self.stripe.sealed() else {
-            return Some(false);
+            return false;
         };
         match self.stripe.page(number) {
             Some(page) => self.copy.copy_from(page),
-            None => return Some(false),
+            None => return false,
         }
-        let receipt = self.device.write(&self.copy).ok()?;
-        let page = &self.copy;
-        Some(self.stripe.take_place() && self.stripe.mark_flushed(number, page, receipt).is_ok())
+        self.flush_copy(rt, number)
     }
 
     // Takes the oldest page out of the log, with room for what lives in it, and says whether it did.
-    fn clean(&mut self, alloc: Global) -> Option<bool> {
+    fn clean(&mut self, rt: &impl Abort, alloc: Global) -> bool {
         let mut staged = Staged::new(alloc);
+        let is_cleaned = self.clean_staged(rt, &mut staged);
+        drop(staged);
+        is_cleaned
+    }
+
+    fn clean_staged(&mut self, rt: &impl Abort, staged: &mut Staged<Receipt>) -> bool {
         for _ in 0..400 {
-            match self.stripe.weigh_oldest(&staged) {
-                Weighed::Resident => return Some(false),
+            match self.stripe.weigh_oldest(staged) {
+                Weighed::Resident => return false,
                 Weighed::Cold(number) => {
-                    stage(&self.stripe, &mut self.device, &mut staged, number)?;
+                    stage(rt, &self.stripe, &mut self.device, staged, number);
                 }
                 Weighed::Live(weight) => {
                     let room = self
                         .stripe
                         .reserve(weight, Purpose::Clean, &mut self.device)
-                        .ok()?;
-                    return self.clean_with(&mut staged, room);
+                        .expect(rt, "room for what lives");
+                    return self.clean_with(rt, staged, room);
                 }
             }
         }
-        None
+        panic!(rt; "no end of cold pages")
     }
 
-    fn clean_with(&mut self, staged: &mut Staged<Receipt>, mut room: Room) -> Option<bool>
+    fn clean_with(&mut self, rt: &impl Abort, staged: &mut Staged<Receipt>, mut room: Room) -> bool
         requires room { HasRoom self.old.stripe room.weight }
     {
         for _ in 0..400 {
             match self.stripe.clean_oldest(staged, room, &mut self.copy) {
                 Cleaned::Unlinked(_receipt) => {
                     self.stripe.free_place();
-                    return Some(true);
+                    return true;
                 }
-                Cleaned::Nothing => return Some(false),
-                Cleaned::Heavy(_weight) => return None,
+                Cleaned::Nothing => return false,
+                Cleaned::Heavy(_weight) => panic!(rt; "room for too little"),
                 Cleaned::Cold(number, same) => {
-                    stage(&self.stripe, &mut self.device, staged, number)?;
+                    stage(rt, &self.stripe, &mut self.device, staged, number);
                     room = same;
                 }
             }
         }
-        None
+        panic!(rt; "no end of cold pages")
     }
 }
 
@@ -250,14 +272,14 @@ fn ends_at(stripe: &Stripe<Receipt>, end: u32) -> bool {
     }
 }
 
-// Gives a key a value, or none, and says whether it could.
-fn puts(shelf: &mut Shelf, key: &[u8], value: Option<&[u8]>) -> bool {
-    shelf.put(key, value).is_ok()
+// Gives a key a value, or none.
+fn puts(rt: &impl Abort, shelf: &mut Shelf, key: &[u8], value: Option<&[u8]>) {
+    assert!(rt; shelf.put(key, value).is_ok());
 }
 
-// Whether a key could be looked up, and has this value, or none.
-fn has(shelf: &mut Shelf, alloc: Global, key: &[u8], value: Option<&[u8]>) -> bool {
-    shelf.holds(alloc, key, value) == Some(true)
+// A key can be looked up, and has this value, or none.
+fn has(rt: &impl Abort, shelf: &mut Shelf, alloc: Global, key: &[u8], value: Option<&[u8]>) {
+    assert!(rt; shelf.holds(alloc, key, value));
 }
 
 #[test]
@@ -269,14 +291,14 @@ fn in_place_then_at_the_tail(rt: HostRuntime) {
 }
 
 fn writes_in_place(shelf: &mut Shelf, rt: &impl Abort) {
-    assert!(rt; puts(shelf, b"a", Some(b"1")));
-    assert!(rt; puts(shelf, b"a", Some(b"123")));
+    puts(rt, shelf, b"a", Some(b"1"));
+    puts(rt, shelf, b"a", Some(b"123"));
     assert!(rt; ends_at(&shelf.stripe, 48));
     assert!(rt; shows(&shelf.stripe, 16, 0, 3, b"123"));
 }
 
 fn writes_at_the_tail(shelf: &mut Shelf, rt: &impl Abort) {
-    assert!(rt; puts(shelf, b"a", Some(b"12345678")));
+    puts(rt, shelf, b"a", Some(b"12345678"));
     assert!(rt; ends_at(&shelf.stripe, 88));
     assert!(rt; shows(&shelf.stripe, 48, 16, 11, b"12345678"));
 }
@@ -298,18 +320,19 @@ fn a_tombstone_becomes_a_value_again(rt: HostRuntime) {
 }
 
 fn writes_a_tombstone(shelf: &mut Shelf, alloc: Global, rt: &impl Abort) {
-    assert!(rt; puts(shelf, b"a", Some(b"1")) && puts(shelf, b"a", Some(b"12345678")));
+    puts(rt, shelf, b"a", Some(b"1"));
+    puts(rt, shelf, b"a", Some(b"12345678"));
     assert!(rt; is_kind(&shelf.stripe, 1));
-    assert!(rt; puts(shelf, b"a", None));
+    puts(rt, shelf, b"a", None);
     assert!(rt; is_kind(&shelf.stripe, 2));
-    assert!(rt; has(shelf, alloc, b"a", None));
+    has(rt, shelf, alloc, b"a", None);
 }
 
 fn writes_a_value_again(shelf: &mut Shelf, alloc: Global, rt: &impl Abort) {
-    assert!(rt; puts(shelf, b"a", Some(b"x")));
+    puts(rt, shelf, b"a", Some(b"x"));
     assert!(rt; is_kind(&shelf.stripe, 1));
     assert!(rt; ends_at(&shelf.stripe, 88));
-    assert!(rt; has(shelf, alloc, b"a", Some(b"x")));
+    has(rt, shelf, alloc, b"a", Some(b"x"));
 }
 
 #[test]
@@ -320,11 +343,12 @@ fn a_key_is_found_behind_others_of_its_bucket(rt: HostRuntime) {
 }
 
 fn finds_keys_of_one_bucket(shelf: &mut Shelf, alloc: Global, rt: &impl Abort) {
-    assert!(rt; puts(shelf, b"a", Some(b"1")) && puts(shelf, b"b", Some(b"2")));
-    assert!(rt; puts(shelf, b"a", Some(b"long enough")));
-    assert!(rt; has(shelf, alloc, b"a", Some(b"long enough")));
-    assert!(rt; has(shelf, alloc, b"b", Some(b"2")));
-    assert!(rt; has(shelf, alloc, b"c", None));
+    puts(rt, shelf, b"a", Some(b"1"));
+    puts(rt, shelf, b"b", Some(b"2"));
+    puts(rt, shelf, b"a", Some(b"long enough"));
+    has(rt, shelf, alloc, b"a", Some(b"long enough"));
+    has(rt, shelf, alloc, b"b", Some(b"2"));
+    has(rt, shelf, alloc, b"c", None);
 }
 
 // The key of a number.
@@ -332,49 +356,51 @@ fn key_of(number: u16) -> [u8; 2] {
     number.to_be_bytes()
 }
 
-// Puts keys of 1,000 bytes from a number on, until the store is full.
-fn fill(shelf: &mut Shelf, from: u16, to: u16) -> Result<u16, Fault> {
-    for number in from..to {
-        let value = [(number % 128) as u8; 1000];
-        match shelf.put(&key_of(number), Some(&value)) {
-            Ok(()) => {}
-            Err(Fault::StoreFull) => return Ok(number),
-            Err(Fault::DeviceFault) => return Err(Fault::DeviceFault),
-        }
+// Gives the key of a number a value, and says whether it could: the store may be full.
+fn is_put(rt: &impl Abort, shelf: &mut Shelf, number: u16, value: &[u8]) -> bool {
+    match shelf.put(&key_of(number), Some(value)) {
+        Ok(()) => true,
+        Err(Fault::StoreFull) => false,
+        Err(Fault::DeviceFault) => panic!(rt; "a fault of the device"),
     }
-    Ok(to)
 }
 
-// Puts keys below a number with 8,000 bytes, of which 8 stand in a page, until the store is full.
-fn fill_long(shelf: &mut Shelf, to: u16) -> Result<u16, Fault> {
+// Puts keys below a number with 1,000 bytes, until the store is full, and says how many.
+fn fill(rt: &impl Abort, shelf: &mut Shelf, to: u16) -> u16 {
     for number in 0..to {
-        match shelf.put(&key_of(number), Some(&[b'l'; 8000])) {
-            Ok(()) => {}
-            Err(Fault::StoreFull) => return Ok(number),
-            Err(Fault::DeviceFault) => return Err(Fault::DeviceFault),
+        if !is_put(rt, shelf, number, &[(number % 128) as u8; 1000]) {
+            return number;
         }
     }
-    Ok(to)
+    to
 }
 
-// Whether the keys below a number have their values. A page that was read stays at hand for as many keys as stand in it.
-fn are_there(shelf: &mut Shelf, alloc: Global, count: u16) -> bool {
+// Puts keys below a number with 8,000 bytes, of which 8 stand in a page, until the store is full, and says how many.
+fn fill_long(rt: &impl Abort, shelf: &mut Shelf, to: u16) -> u16 {
+    for number in 0..to {
+        if !is_put(rt, shelf, number, &[b'l'; 8000]) {
+            return number;
+        }
+    }
+    to
+}
+
+// The keys below a number have their values. A page that was read stays at hand for as many keys as stand in it.
+fn are_there(rt: &impl Abort, shelf: &mut Shelf, alloc: Global, count: u16) {
     let mut staged = Staged::new(alloc);
     for number in 0..count {
         if number % 63 == 0 {
             staged.clear();
         }
         let value = [(number % 128) as u8; 1000];
-        if shelf.holds_with(&mut staged, &key_of(number), Some(&value)) != Some(true) {
-            return false;
-        }
+        assert!(rt; shelf.holds_with(rt, &mut staged, &key_of(number), Some(&value)));
     }
-    true
+    drop(staged);
 }
 
-// Whether the keys below a number could be put.
-fn fills(shelf: &mut Shelf, count: u16) -> bool {
-    matches!(fill(shelf, 0, count), Ok(reached) if reached == count)
+// The keys below a number can be put.
+fn fills(rt: &impl Abort, shelf: &mut Shelf, count: u16) {
+    assert!(rt; fill(rt, shelf, count) == count);
 }
 
 #[test]
@@ -394,10 +420,10 @@ fn are_resident(stripe: &Stripe<Receipt>, first: u64, last: u64) -> bool {
 
 // They take 48 pages, since 63 stand in each.
 fn keeps_three_thousand_keys(shelf: &mut Shelf, alloc: Global, rt: &impl Abort) {
-    assert!(rt; fills(shelf, 3000));
+    fills(rt, shelf, 3000);
     assert!(rt; are_resident(&shelf.stripe, 36, 47));
-    assert!(rt; are_there(shelf, alloc, 3000));
-    assert!(rt; has(shelf, alloc, &key_of(3000), None));
+    are_there(rt, shelf, alloc, 3000);
+    has(rt, shelf, alloc, &key_of(3000), None);
 }
 
 // Values of the most bytes stand in a page each, and are read back from the device.
@@ -410,11 +436,17 @@ fn values_of_the_most_bytes(rt: HostRuntime) {
 
 fn keeps_the_longest(shelf: &mut Shelf, alloc: Global, rt: &impl Abort) {
     for number in 0..20 {
-        assert!(rt; puts(shelf, &key_of(number), Some(&[number as u8; 32_768])));
+        puts(rt, shelf, &key_of(number), Some(&[number as u8; 32_768]));
     }
     assert!(rt; shelf.stripe.page(0).is_none() && shelf.stripe.page(19).is_some());
     for number in 0..20 {
-        assert!(rt; has(shelf, alloc, &key_of(number), Some(&[number as u8; 32_768])));
+        has(
+            rt,
+            shelf,
+            alloc,
+            &key_of(number),
+            Some(&[number as u8; 32_768]),
+        );
     }
 }
 
@@ -426,10 +458,10 @@ fn a_full_store_still_reads(rt: HostRuntime) {
 }
 
 fn reads_where_it_is_full(shelf: &mut Shelf, alloc: Global, rt: &impl Abort) {
-    let count = fill(shelf, 0, 5000).expect(rt, "no fault of the device");
+    let count = fill(rt, shelf, 5000);
     assert!(rt; shelf.stripe.unreleased() == 64);
     assert!(rt; count >= 64 * 63 && count <= 76 * 63);
-    assert!(rt; are_there(shelf, alloc, count));
+    are_there(rt, shelf, alloc, count);
 }
 
 // Whether this page is the next to be written.
@@ -446,26 +478,37 @@ fn a_page_that_differs_in_one_byte_is_not_kept(rt: HostRuntime) {
 }
 
 fn seals_page_0(shelf: &mut Shelf, rt: &impl Abort) {
-    assert!(rt; fills(shelf, 630));
+    fills(rt, shelf, 630);
     assert!(rt; is_sealed(&shelf.stripe, 0));
     assert!(rt; shelf.stripe.page(0).is_some());
 }
 
-// Page 0 with another byte.
-fn another_page(alloc: Global, stripe: &Stripe<Receipt>) -> Result<Page, AllocError> {
-    let mut other = Page::new(alloc, 0)?;
+// A copy of page 0.
+fn copy_of_page_0(rt: &impl Abort, alloc: Global, stripe: &Stripe<Receipt>) -> Page {
+    let mut copy = new_page(rt, alloc, 0);
     if let Some(page) = stripe.page(0) {
-        other.copy_from(page);
+        copy.copy_from(page);
     }
+    copy
+}
+
+// Page 0 with another byte.
+fn another_page(rt: &impl Abort, alloc: Global, stripe: &Stripe<Receipt>) -> Page {
+    let mut other = copy_of_page_0(rt, alloc, stripe);
     other.bytes_mut()[1000] ^= 1;
-    Ok(other)
+    other
+}
+
+// The receipt of this page is given back in place of being kept for page 0.
+fn refuses_receipt(rt: &impl Abort, shelf: &mut Shelf, page: &Page) {
+    let receipt = written(rt, &mut shelf.device, page);
+    assert!(rt; shelf.stripe.take_place());
+    assert!(rt; shelf.stripe.mark_flushed(0, page, receipt).is_err());
 }
 
 fn refuses_another_page(shelf: &mut Shelf, alloc: Global, rt: &impl Abort) {
-    let other = another_page(alloc, &shelf.stripe).expect(rt, "memory for a page");
-    let receipt = shelf.device.write(&other).expect(rt, "a page written");
-    assert!(rt; shelf.stripe.take_place());
-    assert!(rt; shelf.stripe.mark_flushed(0, &other, receipt).is_err());
+    let other = another_page(rt, alloc, &shelf.stripe);
+    refuses_receipt(rt, shelf, &other);
     assert!(rt; is_sealed(&shelf.stripe, 0));
     assert!(rt; !shelf.stripe.drop_oldest());
     drop(other);
@@ -474,80 +517,101 @@ fn refuses_another_page(shelf: &mut Shelf, alloc: Global, rt: &impl Abort) {
 #[test]
 fn a_flushed_page_leaves_its_frame_and_the_log(rt: HostRuntime) {
     let mut shelf = new_shelf(&rt, rt.alloc(), 4096, 64);
-    flushes_and_drops(&mut shelf, &rt);
+    flushes(&mut shelf, &rt);
+    drops(&mut shelf, &rt);
     cleans(&mut shelf, rt.alloc(), &rt);
     drop(shelf);
 }
 
-fn flushes_and_drops(shelf: &mut Shelf, rt: &impl Abort) {
-    assert!(rt; fills(shelf, 630));
-    assert!(rt; shelf.flush() == Some(true));
+fn flushes(shelf: &mut Shelf, rt: &impl Abort) {
+    fills(rt, shelf, 630);
+    assert!(rt; shelf.flush(rt));
     assert!(rt; is_sealed(&shelf.stripe, 1));
     assert!(rt; shelf.stripe.receipt(0).is_some());
+}
+
+fn drops(shelf: &mut Shelf, rt: &impl Abort) {
     assert!(rt; shelf.stripe.drop_oldest());
     assert!(rt; shelf.stripe.page(0).is_none());
 }
 
 fn cleans(shelf: &mut Shelf, alloc: Global, rt: &impl Abort) {
-    assert!(rt; shelf.clean(alloc) == Some(true));
+    assert!(rt; shelf.clean(rt, alloc));
     assert!(rt; shelf.stripe.oldest() == 1);
-    assert!(rt; are_there(shelf, alloc, 630));
+    are_there(rt, shelf, alloc, 630);
 }
 
-// One step of a random run: a write, a deletion, a flush, a drop or a clean. `None` where it failed.
-fn step(
-    shelf: &mut Shelf,
-    alloc: Global,
-    known: &mut [Option<(usize, u8)>; 64],
-    random: u64,
-) -> Option<()> {
+// What a key should have: a length and a byte.
+type Known = [Option<(usize, u8)>; 64];
+
+// Gives a key so many times a byte.
+fn put_bytes(rt: &impl Abort, shelf: &mut Shelf, key: &[u8], length: usize, byte: u8)
+    requires { length < 6000 }
+{
+    let value = [byte; 6000];
+    puts(rt, shelf, key, Some(&value[..length]));
+}
+
+// One step of a random run: a write, a deletion, a flush, a drop or a clean.
+fn step(rt: &impl Abort, shelf: &mut Shelf, alloc: Global, known: &mut Known, random: u64) {
     let at = (random % 64) as usize;
     let key = key_of(at as u16);
     let length = (random / 64 % 6000) as usize;
     let byte = (random / 100_000 % 256) as u8;
     match random / 100_000_000 % 10 {
         0 => {
-            shelf.put(&key, None).ok()?;
+            puts(rt, shelf, &key, None);
             known[at] = None;
         }
         1 => {
-            shelf.flush()?;
+            shelf.flush(rt);
         }
         2 => {
             shelf.stripe.drop_oldest();
         }
         3 => {
-            shelf.clean(alloc)?;
+            shelf.clean(rt, alloc);
         }
         _ => {
-            let value = [byte; 6000];
-            shelf.put(&key, Some(&value[..length])).ok()?;
+            put_bytes(rt, shelf, &key, length, byte);
             known[at] = Some((length, byte));
         }
     }
-    Some(())
 }
 
-// Whether each key could be looked up, and has what it should.
-fn is_known(shelf: &mut Shelf, alloc: Global, known: &[Option<(usize, u8)>; 64]) -> bool {
+// Whether a key has so many times a byte.
+fn has_bytes(
+    shelf: &mut Shelf,
+    staged: &mut Staged<Receipt>,
+    key: &[u8],
+    length: usize,
+    byte: u8,
+) -> bool {
+    let value = [byte; 6000];
+    length <= 6000 && shelf.holds_by_pieces(staged, key, Some(&value[..length])) == Some(true)
+}
+
+// Whether a key has what it should.
+fn has_known(
+    shelf: &mut Shelf,
+    staged: &mut Staged<Receipt>,
+    key: &[u8],
+    known: Option<(usize, u8)>,
+) -> bool {
+    match known {
+        None => shelf.holds_by_pieces(staged, key, None) == Some(true),
+        Some((length, byte)) => has_bytes(shelf, staged, key, length, byte),
+    }
+}
+
+// Each key can be looked up, and has what it should.
+fn is_known(rt: &impl Abort, shelf: &mut Shelf, alloc: Global, known: &Known) {
     let mut staged = Staged::new(alloc);
     for (at, entry) in known.iter().enumerate() {
         let key = key_of(at as u16);
-        let same = match entry {
-            None => shelf.holds_by_pieces(&mut staged, &key, None),
-            Some((length, byte)) => {
-                let value = [*byte; 6000];
-                if *length > 6000 {
-                    return false;
-                }
-                shelf.holds_by_pieces(&mut staged, &key, Some(&value[..*length]))
-            }
-        };
-        if same != Some(true) {
-            return false;
-        }
+        assert!(rt; has_known(shelf, &mut staged, &key, *entry), "key {at}");
     }
-    true
+    drop(staged);
 }
 
 #[test]
@@ -564,9 +628,9 @@ fn runs_at_random(shelf: &mut Shelf, alloc: Global, rt: &impl Abort) {
         random = random
             .wrapping_mul(6_364_136_223_846_793_005)
             .wrapping_add(1_442_695_040_888_963_407);
-        assert!(rt; step(shelf, alloc, &mut known, random >> 20).is_some());
+        step(rt, shelf, alloc, &mut known, random >> 20);
         if count % 500 == 499 {
-            assert!(rt; is_known(shelf, alloc, &known), "after {count} steps");
+            is_known(rt, shelf, alloc, &known);
         }
     }
     assert!(rt; shelf.stripe.oldest() > 20);
@@ -576,7 +640,7 @@ fn runs_at_random(shelf: &mut Shelf, alloc: Global, rt: &impl Abort) {
 fn deletes(shelf: &mut Shelf, count: u16) -> usize {
     let mut deleted = 0;
     for number in 0..count {
-        if puts(shelf, &key_of(number), None) && deleted < 65_536 {
+        if shelf.put(&key_of(number), None).is_ok() && deleted < 65_536 {
             deleted += 1;
         }
     }
@@ -591,14 +655,11 @@ fn a_full_store_can_be_cleaned(rt: HostRuntime) {
 }
 
 fn cleans_where_it_is_full(shelf: &mut Shelf, alloc: Global, rt: &impl Abort) {
-    let count = fill_long(shelf, 700).expect(rt, "no fault of the device");
+    let count = fill_long(rt, shelf, 700);
     assert!(rt; shelf.stripe.is_full() && !shelf.stripe.take_place());
     let deleted = deletes(shelf, count);
     assert!(rt; deleted > 8);
-    assert!(rt;
-        shelf.clean(alloc) == Some(true),
-        "of {count} keys {deleted} were deleted"
-    );
+    assert!(rt; shelf.clean(rt, alloc));
     assert!(rt; !shelf.stripe.is_full());
 }
 
@@ -609,12 +670,18 @@ fn a_page_without_a_live_record_wants_no_room(rt: HostRuntime) {
     drop(shelf);
 }
 
+// A page is read.
+fn stages(rt: &impl Abort, shelf: &mut Shelf, staged: &mut Staged<Receipt>, number: u64) {
+    stage(rt, &shelf.stripe, &mut shelf.device, staged, number);
+}
+
 fn weighs_nothing(shelf: &mut Shelf, alloc: Global, rt: &impl Abort) {
     let mut staged = Staged::new(alloc);
-    assert!(rt; fills(shelf, 1260) && fills(shelf, 63));
+    fills(rt, shelf, 1260);
+    fills(rt, shelf, 63);
     assert!(rt; shelf.stripe.page(0).is_none());
     assert!(rt; shelf.stripe.weigh_oldest(&staged) == Weighed::Cold(0));
-    assert!(rt; stage(&shelf.stripe, &mut shelf.device, &mut staged, 0).is_some());
+    stages(rt, shelf, &mut staged, 0);
     assert!(rt; shelf.stripe.weigh_oldest(&staged) == Weighed::Live(0));
     drop(staged);
 }
@@ -627,12 +694,12 @@ fn places_are_counted(rt: HostRuntime) {
 }
 
 fn counts_places(shelf: &mut Shelf, rt: &impl Abort) {
-    assert!(rt; fills(shelf, 630));
+    fills(rt, shelf, 630);
     assert!(rt; !shelf.stripe.has_spare_place());
     assert!(rt; shelf.stripe.take_place());
     assert!(rt; shelf.stripe.has_spare_place());
     shelf.stripe.free_place();
-    assert!(rt; shelf.flush() == Some(true));
+    assert!(rt; shelf.flush(rt));
     assert!(rt; shelf.stripe.unreleased() == 1 && !shelf.stripe.has_spare_place());
 }
 
@@ -644,20 +711,29 @@ fn a_cold_page_is_read_once(rt: HostRuntime) {
     drop(shelf);
 }
 
-fn reads_once(shelf: &mut Shelf, alloc: Global, rt: &impl Abort) {
-    let mut staged = Staged::new(alloc);
-    let value = [0; 1000];
-    assert!(rt; fills(shelf, 1260));
+// The device is read so often until a key is found, which has this value.
+fn is_read(
+    rt: &impl Abort,
+    shelf: &mut Shelf,
+    staged: &mut Staged<Receipt>,
+    key: &[u8],
+    value: &[u8],
+    reads: u64,
+) {
     let before = shelf.device.calls();
-    assert!(rt; shelf.holds_by_pieces(&mut staged, &key_of(0), Some(&value)) == Some(true));
-    let once = shelf.device.calls();
-    assert!(rt; once == before.wrapping_add(1));
-    assert!(rt; shelf.holds_by_pieces(&mut staged, &key_of(0), Some(&value)) == Some(true));
-    assert!(rt; shelf.device.calls() == once);
+    assert!(rt; shelf.holds_by_pieces(staged, key, Some(value)) == Some(true));
+    assert!(rt; shelf.device.calls().wrapping_sub(before) == reads);
+}
+
+fn reads_once(shelf: &mut Shelf, alloc: Global, rt: &impl Abort) {
+    let (key, value) = (key_of(0), [0; 1000]);
+    fills(rt, shelf, 1260);
+    let mut staged = Staged::new(alloc);
+    is_read(rt, shelf, &mut staged, &key, &value, 1);
+    is_read(rt, shelf, &mut staged, &key, &value, 0);
     staged.clear();
     assert!(rt; is_cold(&shelf.stripe, &staged, 0));
-    assert!(rt; shelf.holds_by_pieces(&mut staged, &key_of(0), Some(&value)) == Some(true));
-    assert!(rt; shelf.device.calls().wrapping_sub(once) == once.wrapping_sub(before));
+    is_read(rt, shelf, &mut staged, &key, &value, 1);
     drop(staged);
 }
 
@@ -671,13 +747,13 @@ fn cold_reads_take_the_memory_of_those_at_once(rt: HostRuntime) {
 
 fn takes_no_more(shelf: &mut Shelf, alloc: Global, rt: &impl Abort) {
     let mut staged = Staged::new(alloc);
-    assert!(rt; fills(shelf, 1260));
+    fills(rt, shelf, 1260);
     for _ in 0..100 {
         staged.clear();
-        assert!(rt; stage(&shelf.stripe, &mut shelf.device, &mut staged, 0).is_some());
+        stages(rt, shelf, &mut staged, 0);
         assert!(rt; staged.rooms() == 1);
     }
-    assert!(rt; stage(&shelf.stripe, &mut shelf.device, &mut staged, 1).is_some());
+    stages(rt, shelf, &mut staged, 1);
     assert!(rt; staged.rooms() == 2);
     drop(staged);
 }
@@ -709,23 +785,23 @@ fn put_hashed(
 
 // Puts keys of 1,000 bytes below a number over memory.
 fn fills_memory(
+    rt: &impl Abort,
     stripe: &mut Stripe<MemoryReceipt>,
     device: &mut MemoryDevice,
     count: u16,
-) -> Result<(), Fault> {
+) {
     for number in 0..count {
         let value = [(number % 128) as u8; 1000];
-        put_hashed(stripe, device, &key_of(number), Some(&value))?;
+        assert!(rt; put_hashed(stripe, device, &key_of(number), Some(&value)).is_ok());
     }
-    Ok(())
 }
 
 #[test]
 fn over_memory_no_lookup_is_cold(rt: HostRuntime) {
     let limits = Limits::new(1, 4096, 12, 4096, 1).expect(&rt, "the limits");
-    let mut device = new_device(&rt, rt.alloc());
+    let mut device = one_opening(&rt, rt.alloc());
     let mut stripe = Stripe::new(rt.alloc(), &limits).expect(&rt, "memory for a stripe");
-    fills_memory(&mut stripe, &mut device, 3000).expect(&rt, "room for the keys");
+    fills_memory(&rt, &mut stripe, &mut device, 3000);
     is_never_cold(&stripe, rt.alloc(), &rt);
     drop(stripe);
     drop(device);

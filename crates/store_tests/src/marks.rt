@@ -1,8 +1,9 @@
 //! Marks that calls add, touch and take out, by key and seat.
 
 use std::alloc::Global;
+use std::process::Abort;
 use watch::Marks;
-use words::word::{OutOfMemory, Word};
+use words::word::Word;
 
 const LONG: &[u8] = b"a key that is longer than a word without memory";
 
@@ -24,22 +25,20 @@ enum Call {
 struct Step(&'static [u8], u64, Call);
 
 /// A word, tried again where there was no memory for it.
-fn word(alloc: Global, bytes: &[u8]) -> Result<Word, OutOfMemory> {
+fn word(rt: &impl Abort, alloc: Global, bytes: &[u8]) -> Word {
     match Word::from_slice(alloc, bytes) {
-        Ok(word) => Ok(word),
-        Err(_) => Word::from_slice(alloc, bytes),
+        Ok(word) => word,
+        Err(_) => Word::from_slice(alloc, bytes).expect(rt, "memory for a word"),
     }
 }
 
 /// Adds a mark. Where there is no memory for it nothing is there, and it is tried again.
-fn add(marks: &mut Marks, key: &Word, seat: u64) -> Result<bool, OutOfMemory> {
+fn add(rt: &impl Abort, marks: &mut Marks, key: &Word, seat: u64) -> bool {
     if let Ok(added) = marks.add(key, seat) {
-        return Ok(added);
+        return added;
     }
-    if marks.mark(key, seat).is_some() {
-        return Ok(false);
-    }
-    marks.add(key, seat)
+    assert!(rt; marks.mark(key, seat).is_none());
+    marks.add(key, seat).expect(rt, "memory for a mark")
 }
 
 /// Takes back a mark that is there and not written.
@@ -52,37 +51,35 @@ fn take_back(marks: &mut Marks, key: &Word, seat: u64) -> bool {
 }
 
 /// Whether the call answers as it is to.
-fn is_so(marks: &mut Marks, key: &Word, seat: u64, call: &Call) -> Result<bool, OutOfMemory> {
+fn is_so(rt: &impl Abort, marks: &mut Marks, key: &Word, seat: u64, call: Call) -> bool {
     match call {
-        Call::Add(wanted) => return Ok(add(marks, key, seat)? == *wanted),
-        Call::Mark(wanted) => return Ok(marks.mark(key, seat) == *wanted),
-        Call::Written(wanted) => return Ok(marks.written(seat) == *wanted),
-        Call::IsEmpty(wanted) => return Ok(marks.is_empty() == *wanted),
-        Call::TakeBack => return Ok(take_back(marks, key, seat)),
+        Call::Add(wanted) => return add(rt, marks, key, seat) == wanted,
+        Call::Mark(wanted) => return marks.mark(key, seat) == wanted,
+        Call::Written(wanted) => return marks.written(seat) == wanted,
+        Call::IsEmpty(wanted) => return marks.is_empty() == wanted,
+        Call::TakeBack => return take_back(marks, key, seat),
         Call::Touch => marks.touch(key),
         Call::ClearKey => marks.clear_key(key, seat),
         Call::Clear => marks.clear(seat),
     }
-    Ok(true)
+    true
 }
 
 /// Whether a step answers as it is to.
-fn goes(alloc: Global, marks: &mut Marks, step: &Step) -> Result<bool, OutOfMemory> {
-    let key = word(alloc, step.0)?;
-    let answer = is_so(marks, &key, step.1, &step.2);
+fn goes(rt: &impl Abort, alloc: Global, marks: &mut Marks, step: Step) -> bool {
+    let key = word(rt, alloc, step.0);
+    let answer = is_so(rt, marks, &key, step.1, step.2);
     drop(key);
     answer
 }
 
-/// The first step that does not answer as it is to, if there is one.
-fn first_wrong(alloc: Global, steps: &[Step]) -> Result<Option<usize>, OutOfMemory> {
+/// Each step answers as it is to, from no marks on.
+fn all_go(rt: &impl Abort, alloc: Global, steps: &[Step]) {
     let mut marks = Marks::new(alloc);
     for (number, next) in steps.iter().enumerate() {
-        if !goes(alloc, &mut marks, next)? {
-            return Ok(Some(number));
-        }
+        assert!(rt; goes(rt, alloc, &mut marks, *next), "step {number}");
     }
-    Ok(None)
+    drop(marks);
 }
 
 #[test]
@@ -97,11 +94,7 @@ fn nothing_is_watched_at_first(rt: HostRuntime) {
         Step(b"k", 0, Call::Mark(None)),
         Step(b"k", 0, Call::IsEmpty(true)),
     ];
-    assert!(rt;
-        first_wrong(rt.alloc(), STEPS)
-            .expect(&rt, "memory for the marks")
-            .is_none()
-    );
+    all_go(&rt, rt.alloc(), STEPS);
 }
 
 #[test]
@@ -118,11 +111,7 @@ fn a_write_after_the_watch_is_seen(rt: HostRuntime) {
         Step(b"k", 3, Call::Touch),
         Step(b"k", 3, Call::Written(true)),
     ];
-    assert!(rt;
-        first_wrong(rt.alloc(), STEPS)
-            .expect(&rt, "memory for the marks")
-            .is_none()
-    );
+    all_go(&rt, rt.alloc(), STEPS);
 }
 
 #[test]
@@ -135,11 +124,7 @@ fn a_key_watched_twice_keeps_its_first_moment(rt: HostRuntime) {
         Step(LONG, 3, Call::Add(false)),
         Step(LONG, 3, Call::Mark(Some(true))),
     ];
-    assert!(rt;
-        first_wrong(rt.alloc(), STEPS)
-            .expect(&rt, "memory for the marks")
-            .is_none()
-    );
+    all_go(&rt, rt.alloc(), STEPS);
 }
 
 #[test]
@@ -154,11 +139,7 @@ fn a_write_of_another_key_is_not_seen(rt: HostRuntime) {
         Step(b"k", 3, Call::Mark(Some(false))),
         Step(b"k", 3, Call::Written(false)),
     ];
-    assert!(rt;
-        first_wrong(rt.alloc(), STEPS)
-            .expect(&rt, "memory for the marks")
-            .is_none()
-    );
+    all_go(&rt, rt.alloc(), STEPS);
 }
 
 #[test]
@@ -176,11 +157,7 @@ fn many_seats_watch_one_key(rt: HostRuntime) {
         Step(b"k", 3, Call::Mark(Some(false))),
         Step(b"k", 4, Call::Mark(None)),
     ];
-    assert!(rt;
-        first_wrong(rt.alloc(), STEPS)
-            .expect(&rt, "memory for the marks")
-            .is_none()
-    );
+    all_go(&rt, rt.alloc(), STEPS);
 }
 
 #[test]
@@ -200,11 +177,7 @@ fn a_seat_that_ends_leaves_the_others(rt: HostRuntime) {
         Step(b"k", 0, Call::Add(true)),
         Step(b"k", 0, Call::Mark(Some(false))),
     ];
-    assert!(rt;
-        first_wrong(rt.alloc(), STEPS)
-            .expect(&rt, "memory for the marks")
-            .is_none()
-    );
+    all_go(&rt, rt.alloc(), STEPS);
 }
 
 #[test]
@@ -221,11 +194,7 @@ fn a_seat_ends_with_all_its_keys(rt: HostRuntime) {
         Step(b"b", 2, Call::Clear),
         Step(b"b", 2, Call::IsEmpty(true)),
     ];
-    assert!(rt;
-        first_wrong(rt.alloc(), STEPS)
-            .expect(&rt, "memory for the marks")
-            .is_none()
-    );
+    all_go(&rt, rt.alloc(), STEPS);
 }
 
 #[test]
@@ -239,11 +208,7 @@ fn a_mark_is_taken_back(rt: HostRuntime) {
         Step(b"k", 1, Call::TakeBack),
         Step(b"k", 1, Call::IsEmpty(true)),
     ];
-    assert!(rt;
-        first_wrong(rt.alloc(), STEPS)
-            .expect(&rt, "memory for the marks")
-            .is_none()
-    );
+    all_go(&rt, rt.alloc(), STEPS);
 }
 
 #[test]
@@ -258,29 +223,25 @@ fn a_written_mark_is_cleared_by_its_key(rt: HostRuntime) {
         Step(b"a", 1, Call::Written(false)),
         Step(b"b", 1, Call::Mark(Some(false))),
     ];
-    assert!(rt;
-        first_wrong(rt.alloc(), STEPS)
-            .expect(&rt, "memory for the marks")
-            .is_none()
-    );
+    all_go(&rt, rt.alloc(), STEPS);
 }
 
 /// Watches as many keys as a session may, and writes the last of them.
-fn watches_most(alloc: Global, marks: &mut Marks) -> Result<(), OutOfMemory> {
+fn watches_most(rt: &impl Abort, alloc: Global, marks: &mut Marks) {
     for number in 0..128u8 {
-        let key = word(alloc, &[b'k', number])?;
-        add(marks, &key, 1)?;
+        let key = word(rt, alloc, &[b'k', number]);
+        add(rt, marks, &key, 1);
+        drop(key);
     }
-    let last = word(alloc, &[b'k', 127])?;
+    let last = word(rt, alloc, &[b'k', 127]);
     marks.touch(&last);
     drop(last);
-    Ok(())
 }
 
 #[test]
 fn as_many_keys_as_a_session_may_watch(rt: HostRuntime) {
     let mut marks = Marks::new(rt.alloc());
-    watches_most(rt.alloc(), &mut marks).expect(&rt, "memory for the marks");
+    watches_most(&rt, rt.alloc(), &mut marks);
     assert!(rt; marks.written(1));
     assert!(rt; !marks.is_empty());
     marks.clear(1);

@@ -3,7 +3,7 @@ ghost use Rattle.records.specs.Page.{number_of};
 
 use device::{Device, DeviceFault, MemoryDevice, MemoryReceipt, Shows};
 use records::Page;
-use std::alloc::{AllocError, Global};
+use std::alloc::Global;
 use std::process::Abort;
 
 // Callers that know a device by its contract alone.
@@ -91,23 +91,41 @@ fn two_openings(rt: &impl Abort, alloc: Global) -> (MemoryDevice, MemoryDevice) 
 }
 
 // The first of two openings.
-fn one_opening(rt: &impl Abort, alloc: Global) -> MemoryDevice {
+pub(crate) fn one_opening(rt: &impl Abort, alloc: Global) -> MemoryDevice {
     let (device, other) = two_openings(rt, alloc);
     drop(other);
     device
 }
 
 // A page of this number.
-fn new_page(rt: &impl Abort, alloc: Global, number: u64) -> Page {
+pub(crate) fn new_page(rt: &impl Abort, alloc: Global, number: u64) -> Page {
     Page::new(alloc, number).expect(rt, "memory for a page")
 }
 
 // A receipt for the page. Where one allocation is refused, the next call has it.
-fn written(device: &mut MemoryDevice, page: &Page) -> Result<MemoryReceipt, DeviceFault> {
+fn written(rt: &impl Abort, device: &mut MemoryDevice, page: &Page) -> MemoryReceipt {
     match device.write(page) {
-        Ok(receipt) => Ok(receipt),
-        Err(DeviceFault) => device.write(page),
+        Ok(receipt) => receipt,
+        Err(DeviceFault) => device.write(page).expect(rt, "a page written"),
     }
+}
+
+// A receipt for a page of this number, which is gone.
+fn written_page(
+    rt: &impl Abort,
+    alloc: Global,
+    device: &mut MemoryDevice,
+    number: u64,
+) -> MemoryReceipt {
+    let page = new_page(rt, alloc, number);
+    let receipt = written(rt, device, &page);
+    drop(page);
+    receipt
+}
+
+// A copy of a receipt.
+fn again<R: Shows>(rt: &impl Abort, receipt: &R) -> R {
+    receipt.again().expect(rt, "memory for a receipt")
 }
 
 #[test]
@@ -115,7 +133,7 @@ fn an_opening_reads_what_another_wrote(rt: HostRuntime) {
     let (mut writer, mut reader) = two_openings(&rt, rt.alloc());
     moves_to_a_thread(&writer);
     let mut page = new_page(&rt, rt.alloc(), 5);
-    let receipt = written(&mut writer, &page).expect(&rt, "a page written");
+    let receipt = written(&rt, &mut writer, &page);
     moves_to_a_thread(&receipt);
     page.reset(6);
     drop(writer);
@@ -128,28 +146,22 @@ fn an_opening_reads_what_another_wrote(rt: HostRuntime) {
     drop(reader);
 }
 
-// Whether a receipt is the same as itself, as a copy, and as another one, and that one as the copy.
-fn sames<R: Shows>(receipt: &R, other: &R) -> Result<[bool; 4], AllocError> {
-    let copy = receipt.again()?;
-    Ok([
-        receipt.same(receipt),
-        receipt.same(&copy),
-        receipt.same(other),
-        other.same(&copy),
-    ])
-}
-
-// The four answers of `sames` for two receipts in memory.
-fn sames_in_memory(alloc: Global, device: &mut MemoryDevice) -> Option<[bool; 4]> {
-    let receipt = written(device, &Page::new(alloc, 5).ok()?).ok()?;
-    let other = written(device, &Page::new(alloc, 6).ok()?).ok()?;
-    sames(&receipt, &other).ok()
+// A receipt is the same as itself, and as a copy of it, and not as another one; and that one is not the same as the copy.
+fn is_same_as_its_copy<R: Shows>(rt: &impl Abort, receipt: &R, other: &R) {
+    let copy = again(rt, receipt);
+    assert!(rt; receipt.same(receipt) && receipt.same(&copy));
+    assert!(rt; !receipt.same(other) && !other.same(&copy));
+    drop(copy);
 }
 
 #[test]
 fn a_copy_is_the_same_receipt(rt: HostRuntime) {
     let mut device = one_opening(&rt, rt.alloc());
-    assert!(rt; sames_in_memory(rt.alloc(), &mut device) == Some([true, true, false, false]));
+    let receipt = written_page(&rt, rt.alloc(), &mut device, 5);
+    let other = written_page(&rt, rt.alloc(), &mut device, 6);
+    is_same_as_its_copy(&rt, &receipt, &other);
+    drop(other);
+    drop(receipt);
     drop(device);
 }
 
@@ -179,32 +191,30 @@ fn number_in_memory(receipt: &MemoryReceipt) -> u64
 #[test]
 fn a_receipt_in_memory_lends_its_page(rt: HostRuntime) {
     let mut device = one_opening(&rt, rt.alloc());
-    let page = new_page(&rt, rt.alloc(), 5);
-    let receipt = written(&mut device, &page).expect(&rt, "a page written");
+    let receipt = written_page(&rt, rt.alloc(), &mut device, 5);
     assert!(rt; number_in_memory(&receipt) == 5);
     assert!(rt; number_lent(&receipt) == Some(5));
     drop(receipt);
-    drop(page);
     drop(device);
 }
 
-// Reads a page by a copy, once the receipt that it was copied from is gone.
-fn is_read_by_copy(alloc: Global, device: &mut MemoryDevice, seen: &mut Page) -> Option<bool> {
-    let receipt = written(device, &Page::new(alloc, 5).ok()?).ok()?;
-    let copy = receipt.again().ok()?;
+// A copy of the receipt of page 5, once the receipt that it was copied from is gone.
+fn copy_alone(rt: &impl Abort, alloc: Global, device: &mut MemoryDevice) -> MemoryReceipt {
+    let receipt = written_page(rt, alloc, device, 5);
+    let copy = again(rt, &receipt);
     drop(receipt);
-    device.read(&copy, seen).ok()?;
-    let is_so = page_for(&copy, seen, &copy).is_some();
-    drop(copy);
-    Some(is_so)
+    copy
 }
 
 #[test]
 fn a_copy_keeps_the_page(rt: HostRuntime) {
     let mut device = one_opening(&rt, rt.alloc());
     let mut seen = new_page(&rt, rt.alloc(), 7);
-    assert!(rt; is_read_by_copy(rt.alloc(), &mut device, &mut seen) == Some(true));
+    let copy = copy_alone(&rt, rt.alloc(), &mut device);
+    device.read(&copy, &mut seen).expect(&rt, "a page read");
+    assert!(rt; page_for(&copy, &seen, &copy).is_some());
     assert!(rt; seen.number() == 5);
+    drop(copy);
     drop(seen);
     drop(device);
 }

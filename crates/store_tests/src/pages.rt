@@ -1,9 +1,14 @@
 //! The example of the format, byte for byte, and each reason for which an offset holds no record.
 
+ghost use Rattle.std.specs.Prelude.{◌≤◌, length};
 ghost use Rattle.records.specs.Records.{IsLaidOut};
 
-use records::{NoRoom, PAGE_SIZE, Page, overwrite, put_record, record_at, record_size};
-use std::alloc::{AllocError, Global};
+use crate::memory::new_page;
+use records::{
+    KEY_BYTES_MAX, NoRoom, PAGE_SIZE, Page, overwrite, put_record, record_at, record_size,
+};
+use std::alloc::Global;
+use std::process::Abort;
 
 /// Page 0 with one record, whose key is `a` and whose value is `1`.
 const EXAMPLE: [u8; 48] = [
@@ -15,8 +20,8 @@ const EXAMPLE: [u8; 48] = [
 pub(crate) const HASH: u64 = 0xaf63_dc4c_8601_ec8c;
 
 /// The example's bytes, then zeros, but for other bytes at some places.
-pub(crate) fn patched(alloc: Global, places: &[(usize, u8)]) -> Result<Page, AllocError> {
-    let mut page = Page::new(alloc, 0)?;
+pub(crate) fn patched(rt: &impl Abort, alloc: Global, places: &[(usize, u8)]) -> Page {
+    let mut page = new_page(rt, alloc, 0);
     let bytes = page.bytes_mut();
     for (place, byte) in EXAMPLE.iter().enumerate() {
         bytes[place] = *byte;
@@ -26,22 +31,22 @@ pub(crate) fn patched(alloc: Global, places: &[(usize, u8)]) -> Result<Page, All
             bytes[*place] = *byte;
         }
     }
-    Ok(page)
+    page
 }
 
 /// Whether the page is the example, but for other bytes at some places.
-fn is_patched(alloc: Global, page: &Page, places: &[(usize, u8)]) -> Result<bool, AllocError> {
-    let example = patched(alloc, places)?;
+fn is_patched(rt: &impl Abort, alloc: Global, page: &Page, places: &[(usize, u8)]) -> bool {
+    let example = patched(rt, alloc, places);
     let is_so = *page == example;
     drop(example);
-    Ok(is_so)
+    is_so
 }
 
 /// The example's places that are other ones where its record is a tombstone.
 pub(crate) const TOMBSTONE: [(usize, u8); 3] = [(34, 2), (36, 0), (45, 0)];
 
 /// Whether a record was put at this offset.
-pub(crate) fn is_put_at(put: Result<usize, NoRoom>, offset: usize) -> bool {
+fn is_put_at(put: Result<usize, NoRoom>, offset: usize) -> bool {
     put == Ok(offset)
 }
 
@@ -66,7 +71,7 @@ fn the_example_of_the_format(rt: HostRuntime) {
     assert!(rt; page.used_end() == 16);
     let put = put_record(&mut page, 0, HASH, b"a", Some(b"1"));
     assert!(rt; is_put_at(put, 16) && page.used_end() == 48);
-    assert!(rt; is_patched(rt.alloc(), &page, &[]).expect(&rt, "memory for the example"));
+    assert!(rt; is_patched(&rt, rt.alloc(), &page, &[]));
     assert!(rt; holds_the_example(&page));
     drop(page);
 }
@@ -79,52 +84,69 @@ fn sizes(rt: HostRuntime) {
     assert!(rt; record_size(512, 32_768) == 33_312);
 }
 
-/// Whether the page is the empty one of this number, and not the example.
-fn is_empty_page(alloc: Global, page: &Page, number: u64) -> Result<bool, AllocError> {
-    let empty = Page::new(alloc, number)?;
-    let example = patched(alloc, &[])?;
-    let is_so = *page == empty && *page != example;
-    drop(example);
+/// The page is the empty one of this number, and not the example.
+fn is_empty_page(rt: &impl Abort, alloc: Global, page: &Page, number: u64) {
+    let empty = new_page(rt, alloc, number);
+    assert!(rt; *page == empty);
     drop(empty);
-    Ok(is_so)
+    let example = patched(rt, alloc, &[]);
+    assert!(rt; *page != example);
+    drop(example);
 }
 
 #[test]
 fn a_page_in_place(rt: HostRuntime) {
-    let mut page = Page::new(rt.alloc(), 0x0102_0304_0506_0708).expect(&rt, "memory for a page");
+    let mut page = new_page(&rt, rt.alloc(), 0x0102_0304_0506_0708);
     assert!(rt; page.number() == 0x0102_0304_0506_0708 && page.bytes()[0] == 8);
-    page.copy_from(&patched(rt.alloc(), &[]).expect(&rt, "memory for the example"));
-    assert!(rt; is_patched(rt.alloc(), &page, &[]).expect(&rt, "memory for the example"));
+    let example = patched(&rt, rt.alloc(), &[]);
+    page.copy_from(&example);
+    assert!(rt; page == example);
+    drop(example);
     page.reset(3);
-    assert!(rt; is_empty_page(rt.alloc(), &page, 3).expect(&rt, "memory for two pages"));
+    is_empty_page(&rt, rt.alloc(), &page, 3);
     drop(page);
 }
 
-/// Whether the page refuses a record with a value of 1,000 bytes, and is then as it was.
-fn refuses_a_thousand_bytes(alloc: Global, page: &mut Page) -> Result<bool, AllocError>
+/// Puts a record with a value of 1,000 bytes.
+fn put_thousand(page: &mut Page, hash: u64) -> Result<usize, NoRoom>
     requires { IsLaidOut page.old }
     ensures { IsLaidOut page.new }
 {
-    let before = page.try_clone(alloc)?;
-    let put = put_record(page, 0, 15, b"k0000", Some(&[b'x'; 1000]));
-    let is_so = is_refused(put) && *page == before;
+    put_record(page, 0, hash, b"k0000", Some(&[b'x'; 1000]))
+}
+
+/// A page of so many records of 1,000 bytes, each of which lies where the one before it ends.
+fn page_of_thousands(rt: &impl Abort, alloc: Global, count: u64) -> Page
+    requires { count ≤ 63 }
+    ensures { IsLaidOut result }
+{
+    let mut page = Page::new(alloc, 0).expect(rt, "memory for a page");
+    for at in 0..count {
+        let put = put_thousand(&mut page, at);
+        assert!(rt; is_put_at(put, 16 + 1040 * at as usize), "at {at}");
+    }
+    page
+}
+
+/// The page refuses a record with a value of 1,000 bytes, and is then as it was.
+fn refuses_a_thousand_bytes(rt: &impl Abort, alloc: Global, page: &mut Page)
+    requires { IsLaidOut page.old }
+    ensures { IsLaidOut page.new }
+{
+    let before = page
+        .try_clone(alloc)
+        .expect(rt, "memory for a copy of the page");
+    let put = put_thousand(page, 15);
+    assert!(rt; is_refused(put) && *page == before);
     drop(before);
-    Ok(is_so)
 }
 
 #[test]
 fn sixty_three_of_a_thousand_bytes_fill_a_page(rt: HostRuntime) {
-    let mut page = Page::new(rt.alloc(), 0).expect(&rt, "memory for a page");
-    for at in 0..63 {
-        let put = put_record(&mut page, 0, at, b"k0000", Some(&[b'x'; 1000]));
-        assert!(rt; is_put_at(put, 16 + 1040 * at as usize), "at {at}");
-    }
+    let mut page = page_of_thousands(&rt, rt.alloc(), 63);
     assert!(rt; page.used_end() == 65_536);
-    assert!(rt;
-        refuses_a_thousand_bytes(rt.alloc(), &mut page).expect(&rt, "memory for a copy of the page")
-    );
-    let smallest = put_record(&mut page, 0, 16, b"", None);
-    assert!(rt; is_refused(smallest));
+    refuses_a_thousand_bytes(&rt, rt.alloc(), &mut page);
+    assert!(rt; is_refused(put_record(&mut page, 0, 16, b"", None)));
     drop(page);
 }
 
@@ -140,11 +162,7 @@ fn is_filled_by_1007_bytes(page: &mut Page) -> bool
 
 #[test]
 fn a_record_may_end_with_the_page(rt: HostRuntime) {
-    let mut page = Page::new(rt.alloc(), 0).expect(&rt, "memory for a page");
-    for at in 0..62 {
-        let put = put_record(&mut page, 0, at, b"k0000", Some(&[b'x'; 1000]));
-        assert!(rt; is_put_at(put, 16 + 1040 * at as usize), "at {at}");
-    }
+    let mut page = page_of_thousands(&rt, rt.alloc(), 62);
     assert!(rt; is_filled_by_1007_bytes(&mut page));
     drop(page);
 }
@@ -157,16 +175,31 @@ fn holds_at(page: &Page, offset: usize, value: &[u8], capacity: usize) -> bool {
     record.value == Some(value) && record.capacity == capacity
 }
 
+/// Puts a record at this offset, which is then the last of the page's used part up to this end.
+pub(crate) fn puts_at(
+    rt: &impl Abort,
+    page: &mut Page,
+    link: u64,
+    key: &[u8],
+    value: &[u8],
+    offset: usize,
+    end: u32,
+)
+    requires laid_out { IsLaidOut page.old }
+    requires key { length key.now ≤ KEY_BYTES_MAX }
+    ensures { IsLaidOut page.new }
+{
+    let put = put_record(page, link, 1, key, Some(value));
+    assert!(rt; is_put_at(put, offset) && page.used_end() == end);
+}
+
 #[test]
 fn the_largest_record(rt: HostRuntime) {
     let mut page = Page::new(rt.alloc(), 0).expect(&rt, "memory for a page");
     let (key, value) = ([b'k'; 512], [b'v'; 32_768]);
-    let put = put_record(&mut page, 0, 1, &key, Some(&value));
-    assert!(rt; is_put_at(put, 16) && page.used_end() == 33_328);
-    let second = put_record(&mut page, 0, 1, &key, Some(&value));
-    assert!(rt; is_refused(second));
-    let rest = put_record(&mut page, 16, 1, &key, Some(&value[..31_668]));
-    assert!(rt; is_put_at(rest, 33_328) && page.used_end() == 65_536);
+    puts_at(&rt, &mut page, 0, &key, &value, 16, 33_328);
+    assert!(rt; is_refused(put_record(&mut page, 0, 1, &key, Some(&value))));
+    puts_at(&rt, &mut page, 16, &key, &value[..31_668], 33_328, 65_536);
     assert!(rt; holds_at(&page, 16, &value, 32_772));
     assert!(rt; holds_at(&page, 33_328, &value[..31_668], 31_668));
     drop(page);
@@ -176,7 +209,7 @@ fn the_largest_record(rt: HostRuntime) {
 type Row = (&'static str, usize, &'static [(usize, u8)]);
 
 /// Each reason to refuse an offset.
-const REFUSED: [Row; 16] = [
+static REFUSED: [Row; 16] = [
     ("the used end passes the page's end", 16, &[(8, 1), (10, 1)]),
     ("an offset in the page's header", 8, &WHOLE),
     ("an offset at the used end", 48, &[]),
@@ -211,32 +244,27 @@ const REFUSED: [Row; 16] = [
 const WHOLE: [(usize, u8); 2] = [(8, 0), (10, 1)];
 
 /// Whether a record is read at this offset of the example with other bytes at some places.
-fn is_read(alloc: Global, offset: usize, places: &[(usize, u8)]) -> Result<bool, AllocError> {
-    let page = patched(alloc, places)?;
+fn is_read(rt: &impl Abort, alloc: Global, offset: usize, places: &[(usize, u8)]) -> bool {
+    let page = patched(rt, alloc, places);
     let is_so = record_at(&page, offset).is_ok();
     drop(page);
-    Ok(is_so)
+    is_so
 }
 
-/// The first reason for which a record is read all the same.
-fn first_read(alloc: Global, rows: &[Row]) -> Result<Option<&'static str>, AllocError> {
+/// No record is read, for each of these reasons.
+fn are_refused(rt: &impl Abort, alloc: Global, rows: &[Row]) {
     for (why, offset, places) in rows {
-        if is_read(alloc, *offset, places)? {
-            return Ok(Some(why));
-        }
+        assert!(rt; !is_read(rt, alloc, *offset, places), "{why}");
     }
-    Ok(None)
 }
 
 #[test]
 fn each_reason_to_refuse(rt: HostRuntime) {
     assert!(rt;
-        is_read(rt.alloc(), 16, &WHOLE).expect(&rt, "memory for a page"),
+        is_read(&rt, rt.alloc(), 16, &WHOLE),
         "the used part may fill the page"
     );
-    if let Some(why) = first_read(rt.alloc(), &REFUSED).expect(&rt, "memory for the pages") {
-        panic!(rt; "{why}");
-    }
+    are_refused(&rt, rt.alloc(), &REFUSED);
 }
 
 #[test]
@@ -244,10 +272,7 @@ fn a_shorter_value_in_place(rt: HostRuntime) {
     let mut page = Page::new(rt.alloc(), 0).expect(&rt, "memory for a page");
     let put = put_record(&mut page, 0, HASH, b"a", Some(b"123"));
     overwrite(&mut page, 16, Some(b"1"));
-    assert!(rt;
-        is_put_at(put, 16)
-            && is_patched(rt.alloc(), &page, &[]).expect(&rt, "memory for the example")
-    );
+    assert!(rt; is_put_at(put, 16) && is_patched(&rt, rt.alloc(), &page, &[]));
     drop(page);
 }
 
@@ -256,10 +281,7 @@ fn a_tombstone_in_place(rt: HostRuntime) {
     let mut page = Page::new(rt.alloc(), 0).expect(&rt, "memory for a page");
     let put = put_record(&mut page, 0, HASH, b"a", Some(b"123"));
     overwrite(&mut page, 16, None);
-    assert!(rt;
-        is_put_at(put, 16)
-            && is_patched(rt.alloc(), &page, &TOMBSTONE).expect(&rt, "memory for the example")
-    );
+    assert!(rt; is_put_at(put, 16) && is_patched(&rt, rt.alloc(), &page, &TOMBSTONE));
     drop(page);
 }
 
@@ -276,10 +298,7 @@ fn holds_the_next(page: &Page) -> bool {
 fn a_value_in_place_of_a_tombstone(rt: HostRuntime) {
     let mut page = Page::new(rt.alloc(), 0).expect(&rt, "memory for a page");
     let put = put_record(&mut page, 0, HASH, b"a", None);
-    assert!(rt;
-        is_put_at(put, 16)
-            && is_patched(rt.alloc(), &page, &TOMBSTONE).expect(&rt, "memory for the example")
-    );
+    assert!(rt; is_put_at(put, 16) && is_patched(&rt, rt.alloc(), &page, &TOMBSTONE));
     let next = put_record(&mut page, 16, 9, b"b", Some(b"next"));
     overwrite(&mut page, 16, Some(b"123"));
     assert!(rt; is_put_at(next, 48) && holds_the_next(&page));

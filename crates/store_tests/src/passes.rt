@@ -1,6 +1,6 @@
 //! Passes of one and of two threads over parts with no key.
 
-ghost use Rattle.std.specs.Prelude.{◌≡◌, ◌<◌, ◌≤◌, IfOk, IfSome, vec_len};
+ghost use Rattle.std.specs.Prelude.{◌≡◌, ◌<◌, ◌≤◌, vec_len};
 ghost use Rattle.gates.specs.Passes.{stripes_of};
 ghost use Rattle.gates.specs.Plays.{AreEmpty};
 ghost use Rattle.gates.specs.Sets.{AreBelow};
@@ -9,10 +9,10 @@ ghost use Rattle.store_tests.specs.Nothing.{nothing, Rests};
 use gates::part::replace;
 use gates::{Asks, Gates, Part, Pass, Report, Sorted};
 use std::alloc::Global;
+use std::process::Abort;
 use std::sync::Wait;
 use std::thread::{Threads, join};
 use words::reply::Line;
-use words::word::OutOfMemory;
 
 /// How many calls each of two threads makes.
 const CALLS: usize = 1_000;
@@ -42,35 +42,36 @@ impl Asks for Idle {
 
 /// So many parts with no key, numbered 0, 1, 2 and so on.
 #[tactic(auto, using(crate::proofs::Lasts::empty_snoc))]
-fn parts(alloc: Global, count: usize) -> Result<Vec<Blank>, OutOfMemory>
-    ensures count { IfOk result (λ parts. vec_len parts ≡ count) }
-    ensures empty { IfOk result (λ parts. AreEmpty nothing parts.items) }
+fn parts(rt: &impl Abort, alloc: Global, count: usize) -> Vec<Blank>
+    ensures count { vec_len result ≡ count }
+    ensures empty { AreEmpty nothing result.items }
 {
     let mut parts = Vec::new(alloc);
     for number in 0..count {
-        parts.push(Blank { number })?;
+        parts
+            .push(Blank { number })
+            .expect(rt, "memory for the parts");
     }
-    Ok(parts)
+    parts
 }
 
 /// Gates over such parts, each with the number of its stripe, and two passes.
 #[tactic(auto, using(crate::proofs::Lasts::new_last))]
 fn opened(
+    rt: &impl Abort,
     alloc: Global,
     stripes: usize,
-) -> Result<Option<(Gates<Blank>, Pass<Blank>, Pass<Blank>)>, OutOfMemory>
+) -> (Gates<Blank>, Pass<Blank>, Pass<Blank>)
     requires { (1 ≤ stripes) × (stripes ≤ 64) }
-    ensures stripes { IfOk result (λ made. IfSome made (λ it. stripes_of it.0 ≡ stripes)) }
-    ensures resting { IfOk result (λ made. IfSome made (λ it. Rests it.0 it.1 × Rests it.0 it.2)) }
+    ensures stripes { stripes_of result.0 ≡ stripes }
+    ensures resting { Rests result.0 result.1 × Rests result.0 result.2 }
 {
-    let (gates, mut passes) = Gates::new(alloc, parts(alloc, stripes)?, 2)?;
-    let Some(second) = passes.pop() else {
-        return Ok(None);
-    };
-    let Some(first) = passes.pop() else {
-        return Ok(None);
-    };
-    Ok(Some((gates, first, second)))
+    let parts = parts(rt, alloc, stripes);
+    let (gates, mut passes) = Gates::new(alloc, parts, 2).expect(rt, "memory for the gates");
+    let second = passes.pop().expect(rt, "a second pass");
+    let first = passes.pop().expect(rt, "a first pass");
+    drop(passes);
+    (gates, first, second)
 }
 
 /// Takes stripes, commits one call, and gives them back. The position of the call, if it was committed.
@@ -104,16 +105,14 @@ fn commit_many<R: Wait>(rt: &R, gates: &Gates<Blank>, mut pass: Pass<Blank>) -> 
 
 /// Two threads make their calls, and their passes meet. The position of the next call, once both are
 /// done.
-fn commit_both<R: Threads + Wait + Sync>(
+fn commit_both<R: Abort + Threads + Wait + Sync>(
     rt: &R,
     alloc: Global,
     stripes: usize,
-) -> Result<Option<u64>, OutOfMemory>
+) -> Option<u64>
     requires { (1 ≤ stripes) × (stripes ≤ 64) }
 {
-    let Some((gates, one, two)) = opened(alloc, stripes)? else {
-        return Ok(None);
-    };
+    let (gates, one, two) = opened(rt, alloc, stripes);
     let shared = &gates;
     let (mut first, mut second) = join(
         rt,
@@ -127,15 +126,18 @@ fn commit_both<R: Threads + Wait + Sync>(
         { commit_many(rt, shared, two) },
     );
     gates.meet(&mut first, &mut second);
-    Ok(commit_one(rt, &gates, &mut second, &Sorted::none().with(0)))
+    let next = commit_one(rt, &gates, &mut second, &Sorted::none().with(0));
+    drop(second);
+    drop(first);
+    drop(gates);
+    next
 }
 
 #[test]
 fn two_threads_commit_on_one_stripe_and_on_several(rt: HostRuntime) {
     let all = Some(2 * CALLS as u64);
-    let one = commit_both(&rt, rt.alloc(), 1).expect(&rt, "memory for the gates");
-    let several = commit_both(&rt, rt.alloc(), 16).expect(&rt, "memory for the gates");
-    assert!(rt; one == all && several == all);
+    assert!(rt; commit_both(&rt, rt.alloc(), 1) == all);
+    assert!(rt; commit_both(&rt, rt.alloc(), 16) == all);
 }
 
 /// Whether calls of two passes have the positions 0, 1 and 2, on one stripe and on another.
@@ -351,52 +353,41 @@ fn turns_out<R: Wait>(
     }
 }
 
-/// Whether the trial turns out as it has to, over gates of its own.
-fn is_as_it_has_to_be<R: Wait>(rt: &R, alloc: Global, trial: Trial) -> Result<bool, OutOfMemory> {
-    let Some((gates, mut first, mut second)) = opened(alloc, 64)? else {
-        return Ok(false);
-    };
-    Ok(turns_out(rt, &gates, &mut first, &mut second, trial))
+/// The trial turns out as it has to, over gates of its own.
+fn goes<R: Abort + Wait>(rt: &R, alloc: Global, trial: Trial) {
+    let (gates, mut first, mut second) = opened(rt, alloc, 64);
+    assert!(rt; turns_out(rt, &gates, &mut first, &mut second, trial));
+    drop(second);
+    drop(first);
+    drop(gates);
 }
 
 #[test]
 fn calls_of_two_passes_have_positions_in_turn(rt: HostRuntime) {
-    assert!(rt;
-        is_as_it_has_to_be(&rt, rt.alloc(), Trial::Turns).expect(&rt, "memory for the gates")
-    );
+    goes(&rt, rt.alloc(), Trial::Turns);
 }
 
 #[test]
 fn a_part_is_replaced_and_put_back(rt: HostRuntime) {
-    assert!(rt;
-        is_as_it_has_to_be(&rt, rt.alloc(), Trial::Exchanges).expect(&rt, "memory for the gates")
-    );
+    goes(&rt, rt.alloc(), Trial::Exchanges);
 }
 
 #[test]
 fn a_held_stripe_is_busy_and_another_is_free(rt: HostRuntime) {
-    assert!(rt;
-        is_as_it_has_to_be(&rt, rt.alloc(), Trial::Busy).expect(&rt, "memory for the gates")
-    );
+    goes(&rt, rt.alloc(), Trial::Busy);
 }
 
 #[test]
 fn a_held_stripe_does_not_stop_another(rt: HostRuntime) {
-    assert!(rt;
-        is_as_it_has_to_be(&rt, rt.alloc(), Trial::Beside).expect(&rt, "memory for the gates")
-    );
+    goes(&rt, rt.alloc(), Trial::Beside);
 }
 
 #[test]
 fn the_empty_set_holds_nothing(rt: HostRuntime) {
-    assert!(rt;
-        is_as_it_has_to_be(&rt, rt.alloc(), Trial::Nothing).expect(&rt, "memory for the gates")
-    );
+    goes(&rt, rt.alloc(), Trial::Nothing);
 }
 
 #[test]
 fn all_stripes_are_taken_at_once(rt: HostRuntime) {
-    assert!(rt;
-        is_as_it_has_to_be(&rt, rt.alloc(), Trial::All).expect(&rt, "memory for the gates")
-    );
+    goes(&rt, rt.alloc(), Trial::All);
 }

@@ -1,6 +1,6 @@
 //! What stands at the path of a file of pages, before and after it is made anew.
 
-use crate::file::{is_written, length_of, opened};
+use crate::file::{is_written, length_of, opened, remove_of_length};
 use device::{FileDevice, OpenFault};
 use records::PAGE_SIZE;
 use std::alloc::Global;
@@ -20,6 +20,27 @@ fn has<R: Files + Alloc>(rt: &R, path: &str, bytes: &[u8]) -> bool {
         Ok(found) => found.as_slice() == bytes,
         Err(_) => false,
     }
+}
+
+/// Writes a file that is not to be changed.
+fn keep<R: Abort + Files>(rt: &R, path: &str) {
+    fs::write(rt, path, KEPT).expect(rt, "a file written");
+}
+
+/// That file is as it was, and is removed.
+fn is_kept<R: Abort + Alloc + Files>(rt: &R, path: &str) {
+    assert!(rt; has(rt, path, KEPT));
+    remove(rt, path);
+}
+
+/// Removes a file.
+fn remove<R: Abort + Files>(rt: &R, path: &str) {
+    fs::remove_file(rt, path).expect(rt, "the file removed");
+}
+
+/// A page is written to the file at a path, which is made anew.
+fn makes_anew<R: Abort + Wait + Files<File = File>>(rt: &R, alloc: Global, path: &str) {
+    assert!(rt; is_written(rt, rt, alloc, path));
 }
 
 /// Whether a file itself stands at a path, and no link to one.
@@ -42,13 +63,12 @@ fn mode_of<R: Files>(rt: &R, path: &str) -> Option<u32> {
 #[test]
 fn a_link_is_not_followed(rt: HostRuntime) {
     let (path, other) = ("link.pages", "linked.other");
-    fs::write(&rt, other, KEPT).expect(&rt, "a file written");
+    keep(&rt, other);
     symlink(&rt, other, path).expect(&rt, "a link made");
-    assert!(rt; is_written(&rt, rt.alloc(), path) == Some(true));
-    assert!(rt; has(&rt, other, KEPT));
-    assert!(rt; is_file(&rt, path) && length_of(&rt, path) == Some(PAGE_SIZE as u64));
-    fs::remove_file(&rt, other).expect(&rt, "the file removed");
-    fs::remove_file(&rt, path).expect(&rt, "the file removed");
+    makes_anew(&rt, rt.alloc(), path);
+    is_kept(&rt, other);
+    assert!(rt; is_file(&rt, path));
+    remove_of_length(&rt, path, PAGE_SIZE as u64);
 }
 
 /// A link to nothing is taken away, and nothing is made where it leads to.
@@ -56,29 +76,27 @@ fn a_link_is_not_followed(rt: HostRuntime) {
 fn a_link_to_nothing_is_not_followed(rt: HostRuntime) {
     let (path, other) = ("dangling.pages", "dangling.other");
     symlink(&rt, other, path).expect(&rt, "a link made");
-    assert!(rt; is_written(&rt, rt.alloc(), path) == Some(true));
+    makes_anew(&rt, rt.alloc(), path);
     assert!(rt; is_file(&rt, path) && length_of(&rt, other).is_none());
-    fs::remove_file(&rt, path).expect(&rt, "the file removed");
+    remove(&rt, path);
 }
 
 /// Another name of the same file keeps its bytes.
 #[test]
 fn a_file_of_two_names_keeps_the_other(rt: HostRuntime) {
     let (path, other) = ("named.pages", "named.other");
-    fs::write(&rt, other, KEPT).expect(&rt, "a file written");
+    keep(&rt, other);
     rt.hard_link(other, path).expect(&rt, "a second name");
-    assert!(rt; is_written(&rt, rt.alloc(), path) == Some(true));
-    assert!(rt; has(&rt, other, KEPT));
-    assert!(rt; length_of(&rt, path) == Some(PAGE_SIZE as u64));
-    fs::remove_file(&rt, other).expect(&rt, "the file removed");
-    fs::remove_file(&rt, path).expect(&rt, "the file removed");
+    makes_anew(&rt, rt.alloc(), path);
+    is_kept(&rt, other);
+    remove_of_length(&rt, path, PAGE_SIZE as u64);
 }
 
 /// How long the file is that a handle has, and its first byte, once the file at its path is made anew.
 fn old_after<R: Abort + Wait + Files<File = File>>(rt: &R, alloc: Global, path: &str) -> (u64, u8) {
-    fs::write(rt, path, KEPT).expect(rt, "a file written");
+    keep(rt, path);
     let old = File::open(rt, path).expect(rt, "the file opened");
-    let device = opened(rt, alloc, path).expect(rt, "an opening");
+    let device = opened(rt, rt, alloc, path);
     let mut first = [0; 1];
     old.read_exact_at(&mut first, 0).expect(rt, "a byte read");
     let length = old.metadata().expect(rt, "the file").len();
@@ -92,30 +110,29 @@ fn old_after<R: Abort + Wait + Files<File = File>>(rt: &R, alloc: Global, path: 
 fn a_file_is_left_to_who_has_it_open(rt: HostRuntime) {
     let path = "old.pages";
     assert!(rt; old_after(&rt, rt.alloc(), path) == (10, b'o'));
-    assert!(rt; length_of(&rt, path) == Some(0));
-    fs::remove_file(&rt, path).expect(&rt, "the file removed");
+    remove_of_length(&rt, path, 0);
 }
 
 /// What was for all to read is taken away, and the new file is for its owner alone.
 #[test]
 fn a_file_is_for_its_owner_alone(rt: HostRuntime) {
     let path = "private.pages";
-    fs::write(&rt, path, KEPT).expect(&rt, "a file written");
-    assert!(rt; is_written(&rt, rt.alloc(), path) == Some(true));
+    keep(&rt, path);
+    makes_anew(&rt, rt.alloc(), path);
     assert!(rt; mode_of(&rt, path).is_some_and(|mode| mode & 0o177 == 0));
-    fs::remove_file(&rt, path).expect(&rt, "the file removed");
+    remove(&rt, path);
 }
 
-/// Why there are no openings of what is at a path.
-fn fault_of<R: Wait + Files<File = File>>(rt: &R, alloc: Global, path: &str) -> Option<OpenFault> {
-    FileDevice::openings(rt, alloc, path, 1).err()
+/// Whether there are no openings of what is at a path, since it cannot be opened.
+fn is_refused<R: Wait + Files<File = File>>(rt: &R, alloc: Global, path: &str) -> bool {
+    FileDevice::openings(rt, alloc, path, 1).err() == Some(OpenFault::CannotOpen)
 }
 
 #[test]
 fn a_folder_is_refused_and_stays(rt: HostRuntime) {
     let path = "folder.pages";
     fs::create_dir(&rt, path).expect(&rt, "a folder made");
-    assert!(rt; fault_of(&rt, rt.alloc(), path) == Some(OpenFault::CannotOpen));
+    assert!(rt; is_refused(&rt, rt.alloc(), path));
     assert!(rt;
         fs::metadata(&rt, path)
             .expect(&rt, "what stands there")
@@ -129,17 +146,17 @@ fn a_folder_is_refused_and_stays(rt: HostRuntime) {
 fn a_socket_is_refused_and_stays(rt: HostRuntime) {
     let path = "socket.pages";
     let listener = UnixListener::bind(&rt, path).expect(&rt, "a socket");
-    assert!(rt; fault_of(&rt, rt.alloc(), path) == Some(OpenFault::CannotOpen));
+    assert!(rt; is_refused(&rt, rt.alloc(), path));
     assert!(rt; length_of(&rt, path).is_some());
     drop(listener);
-    assert!(rt; fs::remove_file(&rt, path).is_ok());
+    remove(&rt, path);
 }
 
 /// Paths at which nothing can stand: below a folder that is missing, below a file, and none.
 #[test]
 fn a_path_at_which_nothing_can_stand_is_refused(rt: HostRuntime) {
     let file = "below.pages";
-    fs::write(&rt, file, KEPT).expect(&rt, "a file written");
+    keep(&rt, file);
     for path in [
         "no/such/folder/pages",
         "below.pages/pages",
@@ -148,11 +165,7 @@ fn a_path_at_which_nothing_can_stand_is_refused(rt: HostRuntime) {
         ".",
         "/",
     ] {
-        assert!(rt;
-            fault_of(&rt, rt.alloc(), path) == Some(OpenFault::CannotOpen),
-            "{path}"
-        );
+        assert!(rt; is_refused(&rt, rt.alloc(), path), "{path}");
     }
-    assert!(rt; has(&rt, file, KEPT));
-    fs::remove_file(&rt, file).expect(&rt, "the file removed");
+    is_kept(&rt, file);
 }

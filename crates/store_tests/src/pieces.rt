@@ -3,33 +3,35 @@
 ghost use Rattle.std.specs.Prelude.{◌≡◌, ◌<◌, ◌≤◌, ◌+◌, OnErr, OnOk};
 ghost use Rattle.records.specs.Page.{SameWithin};
 
-use crate::file::{change, filled_page, length_of, opened};
-use crate::pages::{HASH, TOMBSTONE, is_put_at, patched};
-use device::{Device, DeviceFault, Faulty, MemoryDevice};
-use records::{PAGE_SIZE, Page, put_record, record_before};
-use std::alloc::{AllocError, Global};
+use crate::faulty::failing_at;
+use crate::file::{change, filled_page, has_length, opened, written};
+use crate::memory::{new_page, one_opening};
+use crate::pages::{HASH, TOMBSTONE, patched, puts_at};
+use device::{Device, DeviceFault, Faulty};
+use records::{PAGE_SIZE, Page, record_before};
+use std::alloc::Global;
 use std::fs;
 use std::fs::{File, Files};
 use std::process::Abort;
 use std::sync::Wait;
 
 /// A page that has the bytes of another one from a place up to an end, and 255 everywhere else.
-fn piece_of(alloc: Global, page: &Page, from: usize, to: usize) -> Result<Page, AllocError> {
-    let mut piece = Page::new(alloc, 99)?;
+fn piece_of(rt: &impl Abort, alloc: Global, page: &Page, from: usize, to: usize) -> Page {
+    let mut piece = new_page(rt, alloc, 99);
     let bytes = piece.bytes_mut();
     bytes.fill(255);
     if from <= to && to <= PAGE_SIZE {
         bytes[from..to].copy_from_slice(&page.bytes()[from..to]);
     }
-    Ok(piece)
+    piece
 }
 
 /// Whether a record is read at an offset of a page of which the bytes from there up to an end are known, and no other ones.
-fn is_read(alloc: Global, page: &Page, end: usize, offset: usize) -> Result<bool, AllocError> {
-    let piece = piece_of(alloc, page, offset, end)?;
+fn is_read(rt: &impl Abort, alloc: Global, page: &Page, end: usize, offset: usize) -> bool {
+    let piece = piece_of(rt, alloc, page, offset, end);
     let is_so = record_before(&piece, end, offset).is_ok();
     drop(piece);
-    Ok(is_so)
+    is_so
 }
 
 /// Whether the record at an offset of a piece has this value, of which so many bytes may take its place.
@@ -46,23 +48,23 @@ fn holds_before(
     record.value == value && record.capacity == capacity
 }
 
-/// Whether a page's record at an offset is read, with this value and this capacity, in the piece that ends where it ends, and
-/// refused in one that is a byte shorter.
+/// A page's record at an offset is read, with this value and this capacity, in the piece that ends where it ends, and refused in
+/// one that is a byte shorter.
 fn is_read_to(
+    rt: &impl Abort,
     alloc: Global,
     page: &Page,
     offset: usize,
     end: usize,
     value: Option<&[u8]>,
     capacity: usize,
-) -> Result<bool, AllocError>
+)
     requires { 0 < end }
 {
-    let piece = piece_of(alloc, page, offset, end)?;
-    let is_whole = holds_before(&piece, end, offset, value, capacity);
-    let is_so = is_whole && !is_read(alloc, page, end - 1, offset)?;
+    let piece = piece_of(rt, alloc, page, offset, end);
+    assert!(rt; holds_before(&piece, end, offset, value, capacity));
     drop(piece);
-    Ok(is_so)
+    assert!(rt; !is_read(rt, alloc, page, end - 1, offset));
 }
 
 /// Whether the piece's record at offset 16 is the example's.
@@ -74,28 +76,30 @@ fn holds_the_example(piece: &Page) -> bool {
     record.link == 0 && record.hash == HASH && record.has_key(b"a") && is_value
 }
 
-#[test]
-fn a_piece_at_the_front_of_a_page(rt: HostRuntime) {
-    let page = patched(rt.alloc(), &[]).expect(&rt, "memory for the example");
-    let piece = piece_of(rt.alloc(), &page, 16, 48).expect(&rt, "memory for a piece");
+/// The piece with the example's record holds it.
+fn has_the_example(rt: &impl Abort, alloc: Global, page: &Page) {
+    let piece = piece_of(rt, alloc, page, 16, 48);
     assert!(rt; holds_the_example(&piece));
-    assert!(rt;
-        is_read_to(rt.alloc(), &page, 16, 48, Some(b"1"), 3).expect(&rt, "memory for the pieces")
-    );
-    let page = patched(rt.alloc(), &TOMBSTONE).expect(&rt, "memory for the example");
-    assert!(rt;
-        is_read_to(rt.alloc(), &page, 16, 48, None, 3).expect(&rt, "memory for the pieces")
-    );
-    drop(page);
     drop(piece);
 }
 
 #[test]
+fn a_piece_at_the_front_of_a_page(rt: HostRuntime) {
+    let page = patched(&rt, rt.alloc(), &[]);
+    has_the_example(&rt, rt.alloc(), &page);
+    is_read_to(&rt, rt.alloc(), &page, 16, 48, Some(b"1"), 3);
+    drop(page);
+    let page = patched(&rt, rt.alloc(), &TOMBSTONE);
+    is_read_to(&rt, rt.alloc(), &page, 16, 48, None, 3);
+    drop(page);
+}
+
+#[test]
 fn a_piece_that_ends_past_the_record(rt: HostRuntime) {
-    let page = patched(rt.alloc(), &[]).expect(&rt, "memory for the example");
-    assert!(rt; is_read(rt.alloc(), &page, 49, 16).expect(&rt, "memory for a page"));
-    assert!(rt; is_read(rt.alloc(), &page, 4_112, 16).expect(&rt, "memory for a page"));
-    assert!(rt; is_read(rt.alloc(), &page, 65_536, 16).expect(&rt, "memory for a page"));
+    let page = patched(&rt, rt.alloc(), &[]);
+    for end in [49, 4_112, 65_536] {
+        assert!(rt; is_read(&rt, rt.alloc(), &page, end, 16), "{end}");
+    }
     drop(page);
 }
 
@@ -103,26 +107,18 @@ fn a_piece_that_ends_past_the_record(rt: HostRuntime) {
 fn the_largest_record_at_the_end_of_a_page(rt: HostRuntime) {
     let mut page = Page::new(rt.alloc(), 0).expect(&rt, "memory for a page");
     let (key, value) = ([b'k'; 512], [b'v'; 32_768]);
-    let first = put_record(&mut page, 0, 1, &key, Some(&value[..31_668]));
-    let largest = put_record(&mut page, 16, 1, &key, Some(&value));
-    assert!(rt; is_put_at(first, 16) && is_put_at(largest, 32_224));
-    assert!(rt;
-        is_read_to(
-            rt.alloc(),
-            &page,
-            16,
-            32_224,
-            Some(&value[..31_668]),
-            31_668
-        )
-        .expect(&rt, "memory for the pieces")
+    puts_at(&rt, &mut page, 0, &key, &value[..31_668], 16, 32_224);
+    puts_at(&rt, &mut page, 16, &key, &value, 32_224, 65_536);
+    is_read_to(
+        &rt,
+        rt.alloc(),
+        &page,
+        16,
+        32_224,
+        Some(&value[..31_668]),
+        31_668,
     );
-    assert!(rt;
-        is_read_to(rt.alloc(), &page, 32_224, 65_536, Some(&value), 32_772).expect(
-            &rt,
-            "memory for the pieces"
-        )
-    );
+    is_read_to(&rt, rt.alloc(), &page, 32_224, 65_536, Some(&value), 32_772);
     drop(page);
 }
 
@@ -144,22 +140,17 @@ const REFUSED: [Row; 11] = [
     ("a record's header alone", 44, 16),
 ];
 
-/// The first reason for which a record is read all the same, of the example without a part that is not known.
-fn first_read(page: &Page, rows: &[Row]) -> Option<&'static str> {
+/// No record is read of a page without a part that is not known, for each of these reasons.
+fn are_refused(rt: &impl Abort, page: &Page, rows: &[Row]) {
     for (why, end, offset) in rows {
-        if record_before(page, *end, *offset).is_ok() {
-            return Some(why);
-        }
+        assert!(rt; record_before(page, *end, *offset).is_err(), "{why}");
     }
-    None
 }
 
 #[test]
 fn each_reason_to_refuse_in_a_piece(rt: HostRuntime) {
-    let page = patched(rt.alloc(), &[]).expect(&rt, "memory for the example");
-    if let Some(why) = first_read(&page, &REFUSED) {
-        panic!(rt; "{why}");
-    }
+    let page = patched(&rt, rt.alloc(), &[]);
+    are_refused(&rt, &page, &REFUSED);
     drop(page);
 }
 
@@ -188,39 +179,48 @@ fn write_and_read_piece<D: Device>(
 /// From where and up to where a piece is read, and what comes of it: whether it has the bytes of the page that was written.
 type Case = (usize, usize, Result<bool, DeviceFault>);
 
+/// Whether two pages have the same bytes from a place up to an end.
+fn have_the_same(page: &Page, other: &Page, from: usize, to: usize) -> bool
+    requires in_order { from ≤ to }
+    requires in_page { to ≤ PAGE_SIZE }
+{
+    page.bytes()[from..to] == other.bytes()[from..to]
+}
+
 /// Whether the bytes that a device gives of a page are those of the page.
 fn read_of<D: Device>(
-    alloc: Global,
     device: &mut D,
     receipt: &D::Receipt,
     page: &Page,
+    seen: &mut Page,
     from: usize,
     to: usize,
 ) -> Result<bool, DeviceFault> {
-    let Ok(mut seen) = Page::new(alloc, 99) else {
-        return Ok(false);
-    };
     if from > to || to > PAGE_SIZE {
         return Ok(false);
     }
-    device.read_piece(receipt, from, to, &mut seen)?;
-    Ok(seen.bytes()[from..to] == page.bytes()[from..to])
+    seen.reset(99);
+    device.read_piece(receipt, from, to, seen)?;
+    Ok(have_the_same(seen, page, from, to))
 }
 
-/// The number of the first case that comes otherwise.
-fn first_other<D: Device>(
+/// Each case comes as it is to.
+fn are_read<D: Device>(
+    rt: &impl Abort,
     alloc: Global,
     device: &mut D,
     receipt: &D::Receipt,
     page: &Page,
     cases: &[Case],
-) -> Option<usize> {
-    for (i, (from, to, came)) in cases.iter().enumerate() {
-        if read_of(alloc, device, receipt, page, *from, *to) != *came {
-            return Some(i);
-        }
+) {
+    let mut seen = new_page(rt, alloc, 99);
+    for (from, to, came) in cases {
+        assert!(rt;
+            read_of(device, receipt, page, &mut seen, *from, *to) == *came,
+            "{from} to {to}"
+        );
     }
-    None
+    drop(seen);
 }
 
 /// Pieces at both ends of a page and between them, all of it, and none.
@@ -237,122 +237,87 @@ const PIECES: [Case; 10] = [
     (65_536, 65_536, Ok(true)),
 ];
 
-/// The number of the first piece that a device does not give of the second of two pages with one number.
-fn first_missing<D: Device>(alloc: Global, device: &mut D) -> Option<Option<usize>> {
-    let first = filled_page(alloc, 6, 3)?;
-    let second = filled_page(alloc, 6, 255)?;
-    let before = device.write(&first).ok()?;
-    let receipt = device.write(&second).ok()?;
-    let missing = first_other(alloc, device, &receipt, &second, &PIECES);
+/// A device gives each piece of the second of two pages with one number.
+fn gives_pieces<D: Device>(rt: &impl Abort, alloc: Global, device: &mut D) {
+    let first = filled_page(rt, alloc, 6, 3);
+    let before = written(rt, device, &first);
+    drop(first);
+    let second = filled_page(rt, alloc, 6, 255);
+    let receipt = written(rt, device, &second);
+    are_read(rt, alloc, device, &receipt, &second, &PIECES);
     drop(before);
     drop(receipt);
     drop(second);
-    drop(first);
-    Some(missing)
 }
 
-/// The same of a device over this one that fails at no call, and how many calls it then had.
-fn first_missing_through<D: Device>(alloc: Global, device: D) -> Option<(Option<usize>, u64)> {
+/// So does a device over this one that fails at no call, which then had 12 calls.
+fn gives_pieces_through<D: Device>(rt: &impl Abort, alloc: Global, device: D) {
     let mut device = Faulty::new(device, Vec::new(alloc));
-    let missing = first_missing(alloc, &mut device)?;
-    let answer = (missing, device.calls());
+    gives_pieces(rt, alloc, &mut device);
+    assert!(rt; device.calls() == 12);
     drop(device);
-    Some(answer)
-}
-
-fn first_missing_in_memory(alloc: Global) -> Option<Option<usize>> {
-    let mut device = MemoryDevice::openings(alloc, 1).ok()?.pop()?;
-    let missing = first_missing(alloc, &mut device);
-    drop(device);
-    missing
-}
-
-fn first_missing_through_memory(alloc: Global) -> Option<(Option<usize>, u64)> {
-    let device = MemoryDevice::openings(alloc, 1).ok()?.pop()?;
-    first_missing_through(alloc, device)
-}
-
-fn first_missing_in_file<R: Wait + Files<File = File>>(
-    rt: &R,
-    alloc: Global,
-    path: &str,
-) -> Option<Option<usize>> {
-    let mut device = opened(rt, alloc, path)?;
-    let missing = first_missing(alloc, &mut device);
-    drop(device);
-    missing
-}
-
-fn first_missing_through_file<R: Wait + Files<File = File>>(
-    rt: &R,
-    alloc: Global,
-    path: &str,
-) -> Option<(Option<usize>, u64)> {
-    let device = opened(rt, alloc, path)?;
-    first_missing_through(alloc, device)
 }
 
 #[test]
 fn each_piece_is_given(rt: HostRuntime) {
     let path = "pieces.pages";
-    assert!(rt; first_missing_in_memory(rt.alloc()) == Some(None));
-    assert!(rt; first_missing_in_file(&rt, rt.alloc(), path) == Some(None));
-    assert!(rt; length_of(&rt, path) == Some(2 * 65_536));
-    assert!(rt; first_missing_through_memory(rt.alloc()) == Some((None, 12)));
-    assert!(rt; first_missing_through_file(&rt, rt.alloc(), path) == Some((None, 12)));
-    assert!(rt; fs::remove_file(&rt, path).is_ok());
+    let mut device = one_opening(&rt, rt.alloc());
+    gives_pieces(&rt, rt.alloc(), &mut device);
+    drop(device);
+    let mut device = opened(&rt, &rt, rt.alloc(), path);
+    gives_pieces(&rt, rt.alloc(), &mut device);
+    drop(device);
+    has_length(&rt, path, 2 * 65_536);
+    gives_pieces_through(&rt, rt.alloc(), one_opening(&rt, rt.alloc()));
+    gives_pieces_through(&rt, rt.alloc(), opened(&rt, &rt, rt.alloc(), path));
+    fs::remove_file(&rt, path).expect(&rt, "the file removed");
 }
 
-/// Whether a piece is read as it was written, or which call of the device failed, where these calls fail.
-fn read_where<D: Device>(
+/// Where one call of a device in memory fails, a piece is read so, as it was written or not, after so many calls.
+fn read_where(
+    rt: &impl Abort,
     alloc: Global,
-    device: D,
-    failing: Vec<u64>,
-) -> Option<(Result<(), DeviceFault>, bool, u64)> {
-    let mut device = Faulty::new(device, failing);
-    let page = filled_page(alloc, 5, 0)?;
-    let mut seen = Page::new(alloc, 99).ok()?;
-    let read = write_and_read_piece(&mut device, &page, 100, 5_000, &mut seen);
-    let is_same = seen.bytes()[100..5_000] == page.bytes()[100..5_000];
-    let answer = (read, is_same, device.calls());
+    failing: u64,
+    read: Result<(), DeviceFault>,
+    is_same: bool,
+    calls: u64,
+) {
+    let mut device = failing_at(rt, alloc, one_opening(rt, alloc), failing);
+    let page = filled_page(rt, alloc, 5, 0);
+    let mut seen = new_page(rt, alloc, 99);
+    let result = write_and_read_piece(&mut device, &page, 100, 5_000, &mut seen);
+    assert!(rt; have_the_same(&seen, &page, 100, 5_000) == is_same);
     drop(seen);
     drop(page);
+    assert!(rt; result == read && device.calls() == calls);
     drop(device);
-    Some(answer)
-}
-
-/// The same of a device in memory, where one call fails.
-fn read_in_memory(alloc: Global, failing: u64) -> Option<(Result<(), DeviceFault>, bool, u64)> {
-    let device = MemoryDevice::openings(alloc, 1).ok()?.pop()?;
-    read_where(alloc, device, [failing].to_vec(alloc).ok()?)
 }
 
 #[test]
 fn a_piece_fails_on_demand(rt: HostRuntime) {
-    assert!(rt; read_in_memory(rt.alloc(), 0) == Some((Err(DeviceFault), false, 1)));
-    assert!(rt; read_in_memory(rt.alloc(), 1) == Some((Err(DeviceFault), false, 2)));
-    assert!(rt; read_in_memory(rt.alloc(), 2) == Some((Ok(()), true, 2)));
+    read_where(&rt, rt.alloc(), 0, Err(DeviceFault), false, 1);
+    read_where(&rt, rt.alloc(), 1, Err(DeviceFault), false, 2);
+    read_where(&rt, rt.alloc(), 2, Ok(()), true, 2);
 }
 
-/// The number of the first case that comes otherwise, of page 5, after these bytes were written over the front of its file, and
-/// the file was cut to this length.
-fn first_other_after<R: Abort + Wait + Files<File = File>>(
+/// Pieces of page 5 come so after these bytes were written over the front of its file, and the file was cut to this length.
+fn are_read_after<R: Abort + Wait + Files<File = File>>(
     rt: &R,
     alloc: Global,
     path: &str,
     bytes: &[u8],
     len: u64,
     cases: &[Case],
-) -> Option<usize> {
-    let mut device = opened(rt, alloc, path).expect(rt, "an opening");
-    let page = filled_page(alloc, 5, 0).expect(rt, "memory for a page");
-    let receipt = device.write(&page).expect(rt, "a page written");
-    change(rt, path, bytes, len).expect(rt, "the file changed");
-    let other = first_other(alloc, &mut device, &receipt, &page, cases);
+) {
+    let mut device = opened(rt, rt, alloc, path);
+    let page = filled_page(rt, alloc, 5, 0);
+    let receipt = written(rt, &mut device, &page);
+    change(rt, path, bytes, len);
+    are_read(rt, alloc, &mut device, &receipt, &page, cases);
     drop(receipt);
     drop(page);
     drop(device);
-    other
+    fs::remove_file(rt, path).expect(rt, "the file removed");
 }
 
 /// What comes of pieces of a file that is a byte too short for its page.
@@ -367,10 +332,7 @@ const CUT: [Case; 6] = [
 
 #[test]
 fn a_file_too_short_for_a_piece_is_a_fault(rt: HostRuntime) {
-    let path = "cut_pieces.pages";
-    let other = first_other_after(&rt, rt.alloc(), path, &[], 65_535, &CUT);
-    assert!(rt; other.is_none());
-    assert!(rt; fs::remove_file(&rt, path).is_ok());
+    are_read_after(&rt, rt.alloc(), "cut_pieces.pages", &[], 65_535, &CUT);
 }
 
 /// What comes of pieces of a page in whose place another number was written: only those that have the number show it.
@@ -385,8 +347,12 @@ const RENUMBERED: [Case; 6] = [
 
 #[test]
 fn another_page_is_known_by_its_number(rt: HostRuntime) {
-    let path = "renumbered.pages";
-    let other = first_other_after(&rt, rt.alloc(), path, &[6], 65_536, &RENUMBERED);
-    assert!(rt; other.is_none());
-    assert!(rt; fs::remove_file(&rt, path).is_ok());
+    are_read_after(
+        &rt,
+        rt.alloc(),
+        "renumbered.pages",
+        &[6],
+        65_536,
+        &RENUMBERED,
+    );
 }

@@ -1,10 +1,11 @@
 //! Stays and retirements of one thread and of three.
 
-ghost use Rattle.std.specs.Prelude.{◌≡◌, IfOk, IfSome};
+ghost use Rattle.std.specs.Prelude.{◌≡◌, IfSome};
 ghost use Rattle.epoch.specs.Seats.{IsOutside, drained_epoch, drained_of, id_of, named_by, retired_epoch, retired_of};
 
 use epoch::epochs::{Drained, EpochSeat, Epochs, EpochsName, Retired, Wraps};
-use std::alloc::{AllocError, Global};
+use std::alloc::Global;
+use std::process::Abort;
 use std::sync::Wait;
 use std::thread::{Threads, join};
 
@@ -18,24 +19,19 @@ const RETIREMENTS: u64 = 1_000;
 const TRIES: u64 = 10_000_000;
 
 /// Epochs with three seats.
-fn opened(alloc: Global) -> Result<Option<(Epochs, EpochSeat, EpochSeat, EpochSeat)>, AllocError>
-    ensures { IfOk result (λ made. IfSome made (λ it. IsOutside it.0 it.1 × IsOutside it.0 it.2 × IsOutside it.0 it.3)) }
+fn opened(rt: &impl Abort, alloc: Global) -> (Epochs, EpochSeat, EpochSeat, EpochSeat)
+    ensures { IsOutside result.0 result.1 × IsOutside result.0 result.2 × IsOutside result.0 result.3 }
 {
-    let (epochs, mut seats) = Epochs::new(alloc, 3)?;
-    let Some(third) = seats.pop() else {
-        return Ok(None);
-    };
-    let Some(second) = seats.pop() else {
-        return Ok(None);
-    };
-    let Some(first) = seats.pop() else {
-        return Ok(None);
-    };
-    Ok(Some((epochs, first, second, third)))
+    let (epochs, mut seats) = Epochs::new(alloc, 3).expect(rt, "memory for the epochs");
+    let third = seats.pop().expect(rt, "a third seat");
+    let second = seats.pop().expect(rt, "a second seat");
+    let first = seats.pop().expect(rt, "a first seat");
+    drop(seats);
+    (epochs, first, second, third)
 }
 
 /// What became of a retirement.
-#[derive(Debug, PartialEq, Eq, Drop)]
+#[derive(Clone, Copy, Debug, PartialEq, Eq)]
 struct Course {
     /// The epoch of its stamp.
     stamp: u64,
@@ -55,44 +51,39 @@ fn value_of(retired: Retired<u64>, drained: Option<Drained>) -> Option<u64>
 }
 
 /// One seat stays while another retires, and leaves after the first try to drain.
-fn retire_beside_a_stay<R: Wait>(
+fn retire_beside_a_stay<R: Abort + Wait>(
     rt: &R,
     epochs: &Epochs,
     reader: EpochSeat,
     cleaner: &mut EpochSeat,
-) -> Option<Course>
+) -> Course
     requires reader { IsOutside epochs.now reader }
     requires cleaner { IsOutside epochs.now cleaner.old }
 {
     let inside = epochs.enter(rt, reader);
-    let Ok(retired) = epochs.retire(cleaner, 7) else {
-        drop(epochs.leave(inside));
-        return None;
-    };
+    let retired = epochs.retire(cleaner, 7).expect(rt, "an epoch");
     let stamp = retired.epoch();
     let early = epochs.drained(cleaner, stamp).is_some();
     drop(epochs.leave(inside));
     let late = epochs.drained(cleaner, stamp);
-    Some(Course {
+    Course {
         stamp,
         drained: (early, late.is_some()),
         value: value_of(retired, late),
-    })
+    }
 }
 
 /// One seat enters after another has retired, and before it drains.
-fn retire_before_a_stay<R: Wait>(
+fn retire_before_a_stay<R: Abort + Wait>(
     rt: &R,
     epochs: &Epochs,
     reader: EpochSeat,
     cleaner: &mut EpochSeat,
-) -> Option<Course>
+) -> Course
     requires reader { IsOutside epochs.now reader }
     requires cleaner { IsOutside epochs.now cleaner.old }
 {
-    let Ok(retired) = epochs.retire(cleaner, 8) else {
-        return None;
-    };
+    let retired = epochs.retire(cleaner, 8).expect(rt, "an epoch");
     let stamp = retired.epoch();
     let mut inside = epochs.enter(rt, reader);
     let mut drained = epochs.drained(cleaner, stamp);
@@ -101,51 +92,46 @@ fn retire_before_a_stay<R: Wait>(
     }
     let again = epochs.drained(cleaner, stamp).is_some();
     drop(epochs.leave(inside));
-    Some(Course {
+    Course {
         stamp,
         drained: (drained.is_some(), again),
         value: value_of(retired, drained),
-    })
+    }
 }
 
 /// The same as [`retire_beside_a_stay`], where the retirement drains its own epoch.
-fn drain_itself_beside_a_stay<R: Wait>(
+fn drain_itself_beside_a_stay<R: Abort + Wait>(
     rt: &R,
     epochs: &Epochs,
     reader: EpochSeat,
     cleaner: &mut EpochSeat,
-) -> Option<Course>
+) -> Course
     requires reader { IsOutside epochs.now reader }
     requires cleaner { IsOutside epochs.now cleaner.old }
 {
     let inside = epochs.enter(rt, reader);
-    let Ok(mut retired) = epochs.retire(cleaner, 7) else {
-        drop(epochs.leave(inside));
-        return None;
-    };
+    let mut retired = epochs.retire(cleaner, 7).expect(rt, "an epoch");
     let early = retired.drained().is_some();
     drop(epochs.leave(inside));
     let late = retired.drained();
-    Some(Course {
+    Course {
         stamp: retired.epoch(),
         drained: (early, late.is_some()),
         value: value_of(retired, late),
-    })
+    }
 }
 
 /// The same as [`retire_before_a_stay`], where the retirement drains its own epoch.
-fn drain_itself_before_a_stay<R: Wait>(
+fn drain_itself_before_a_stay<R: Abort + Wait>(
     rt: &R,
     epochs: &Epochs,
     reader: EpochSeat,
     cleaner: &mut EpochSeat,
-) -> Option<Course>
+) -> Course
     requires reader { IsOutside epochs.now reader }
     requires cleaner { IsOutside epochs.now cleaner.old }
 {
-    let Ok(mut retired) = epochs.retire(cleaner, 8) else {
-        return None;
-    };
+    let mut retired = epochs.retire(cleaner, 8).expect(rt, "an epoch");
     let mut inside = epochs.enter(rt, reader);
     let mut drained = retired.drained();
     if let Some(drained) = &mut drained {
@@ -153,114 +139,114 @@ fn drain_itself_before_a_stay<R: Wait>(
     }
     let again = retired.drained().is_some();
     drop(epochs.leave(inside));
-    Some(Course {
+    Course {
         stamp: retired.epoch(),
         drained: (drained.is_some(), again),
         value: value_of(retired, drained),
-    })
+    }
 }
 
 /// A seat retires inside a stay of its own, and enters anew after the first try to drain.
-fn retire_inside_a_stay<R: Wait>(rt: &R, epochs: &Epochs, seat: EpochSeat) -> Option<Course>
+fn retire_inside_a_stay<R: Abort + Wait>(rt: &R, epochs: &Epochs, seat: EpochSeat) -> Course
     requires { IsOutside epochs.now seat }
 {
     let mut inside = epochs.enter(rt, seat);
-    let Ok(retired) = epochs.retire_inside(&mut inside, 9) else {
-        drop(epochs.leave(inside));
-        return None;
-    };
+    let retired = epochs.retire_inside(&mut inside, 9).expect(rt, "an epoch");
     let stamp = retired.epoch();
     let early = epochs.drained_inside(&mut inside, stamp).is_some();
     let mut inside = epochs.enter(rt, epochs.leave(inside));
     let late = epochs.drained_inside(&mut inside, stamp);
     drop(epochs.leave(inside));
-    Some(Course {
+    Course {
         stamp,
         drained: (early, late.is_some()),
         value: value_of(retired, late),
-    })
+    }
+}
+
+/// How one seat retires and drains while another stays.
+#[derive(Clone, Copy)]
+enum Order {
+    /// [`retire_beside_a_stay`]
+    Beside,
+    /// [`retire_before_a_stay`]
+    Before,
+    /// [`drain_itself_beside_a_stay`]
+    ItselfBeside,
+    /// [`drain_itself_before_a_stay`]
+    ItselfBefore,
+}
+
+/// What becomes of a retirement in this order.
+fn course_of<R: Abort + Wait>(
+    rt: &R,
+    epochs: &Epochs,
+    reader: EpochSeat,
+    cleaner: &mut EpochSeat,
+    order: Order,
+) -> Course
+    requires reader { IsOutside epochs.now reader }
+    requires cleaner { IsOutside epochs.now cleaner.old }
+{
+    match order {
+        Order::Beside => retire_beside_a_stay(rt, epochs, reader, cleaner),
+        Order::Before => retire_before_a_stay(rt, epochs, reader, cleaner),
+        Order::ItselfBeside => drain_itself_beside_a_stay(rt, epochs, reader, cleaner),
+        Order::ItselfBefore => drain_itself_before_a_stay(rt, epochs, reader, cleaner),
+    }
+}
+
+/// Whether a value comes back in this order, with epochs of its own, where its epoch was drained so.
+fn comes_back<R: Abort + Wait>(
+    rt: &R,
+    alloc: Global,
+    order: Order,
+    drained: (bool, bool),
+    value: u64,
+) -> bool {
+    let (epochs, reader, mut cleaner, other) = opened(rt, alloc);
+    let course = course_of(rt, &epochs, reader, &mut cleaner, order);
+    drop(other);
+    drop(cleaner);
+    drop(epochs);
+    let wanted = Course {
+        stamp: 1,
+        drained,
+        value: Some(value),
+    };
+    course == wanted
 }
 
 #[test]
 fn a_stay_keeps_its_epoch_until_it_ends(rt: HostRuntime) {
-    let (epochs, reader, mut cleaner, other) = opened(rt.alloc())
-        .expect(&rt, "memory for the epochs")
-        .expect(&rt, "three seats");
-    let course = retire_beside_a_stay(&rt, &epochs, reader, &mut cleaner);
-    let wanted = Course {
-        stamp: 1,
-        drained: (false, true),
-        value: Some(7),
-    };
-    assert!(rt; course == Some(wanted));
-    drop(other);
-    drop(cleaner);
-    drop(epochs);
+    assert!(rt; comes_back(&rt, rt.alloc(), Order::Beside, (false, true), 7));
 }
 
 #[test]
 fn a_stay_after_the_advance_keeps_nothing(rt: HostRuntime) {
-    let (epochs, reader, mut cleaner, other) = opened(rt.alloc())
-        .expect(&rt, "memory for the epochs")
-        .expect(&rt, "three seats");
-    let course = retire_before_a_stay(&rt, &epochs, reader, &mut cleaner);
-    let wanted = Course {
-        stamp: 1,
-        drained: (true, true),
-        value: Some(8),
-    };
-    assert!(rt; course == Some(wanted));
-    drop(other);
-    drop(cleaner);
-    drop(epochs);
+    assert!(rt; comes_back(&rt, rt.alloc(), Order::Before, (true, true), 8));
 }
 
 #[test]
 fn a_retirement_waits_for_a_stay(rt: HostRuntime) {
-    let (epochs, reader, mut cleaner, other) = opened(rt.alloc())
-        .expect(&rt, "memory for the epochs")
-        .expect(&rt, "three seats");
-    let course = drain_itself_beside_a_stay(&rt, &epochs, reader, &mut cleaner);
-    let wanted = Course {
-        stamp: 1,
-        drained: (false, true),
-        value: Some(7),
-    };
-    assert!(rt; course == Some(wanted));
-    drop(other);
-    drop(cleaner);
-    drop(epochs);
+    assert!(rt; comes_back(&rt, rt.alloc(), Order::ItselfBeside, (false, true), 7));
 }
 
 #[test]
 fn a_retirement_waits_for_no_later_stay(rt: HostRuntime) {
-    let (epochs, reader, mut cleaner, other) = opened(rt.alloc())
-        .expect(&rt, "memory for the epochs")
-        .expect(&rt, "three seats");
-    let course = drain_itself_before_a_stay(&rt, &epochs, reader, &mut cleaner);
-    let wanted = Course {
-        stamp: 1,
-        drained: (true, true),
-        value: Some(8),
-    };
-    assert!(rt; course == Some(wanted));
-    drop(other);
-    drop(cleaner);
-    drop(epochs);
+    assert!(rt; comes_back(&rt, rt.alloc(), Order::ItselfBefore, (true, true), 8));
 }
 
 #[test]
 fn the_own_stay_counts(rt: HostRuntime) {
-    let (epochs, seat, second, third) = opened(rt.alloc())
-        .expect(&rt, "memory for the epochs")
-        .expect(&rt, "three seats");
+    let (epochs, seat, second, third) = opened(&rt, rt.alloc());
     let course = retire_inside_a_stay(&rt, &epochs, seat);
     let wanted = Course {
         stamp: 1,
         drained: (false, true),
         value: Some(9),
     };
-    assert!(rt; course == Some(wanted));
+    assert!(rt; course == wanted);
     drop(third);
     drop(second);
     drop(epochs);
@@ -292,16 +278,19 @@ impl Wraps for Wrapped {
 }
 
 /// Retires a value in a wrapper, and keeps it.
-fn keep(epochs: &Epochs, seat: &mut EpochSeat, value: u64) -> Option<Kept>
+fn keep(rt: &impl Abort, epochs: &Epochs, seat: &mut EpochSeat, value: u64) -> Kept
     requires { IsOutside epochs.now seat.old }
     ensures outside { IsOutside epochs.now seat.new }
-    ensures name { IfSome result (λ kept. named_by kept.name ≡ id_of epochs.now) }
+    ensures name { named_by result.name ≡ id_of epochs.now }
 {
-    let retired = epochs.retire(seat, Wrapped { value }).ok()?;
-    Some(Kept {
+    let retired = epochs
+        .retire(seat, Wrapped { value })
+        .ok()
+        .expect(rt, "an epoch");
+    Kept {
         name: epochs.name(),
         retired,
-    })
+    }
 }
 
 /// Drains the epoch of what was kept, by the epochs of its name.
@@ -315,31 +304,35 @@ fn come_back(epochs: &Epochs, seat: &mut EpochSeat, kept: Kept) -> Option<u64>
 }
 
 /// Keeps a value, and takes it back.
-fn keep_and_come_back(epochs: &Epochs, seat: EpochSeat, value: u64) -> Option<u64>
+fn keep_and_come_back(rt: &impl Abort, epochs: &Epochs, seat: EpochSeat, value: u64) -> Option<u64>
     requires { IsOutside epochs.now seat }
 {
     let mut seat = seat;
-    let kept = keep(epochs, &mut seat, value)?;
+    let kept = keep(rt, epochs, &mut seat, value);
     come_back(epochs, &mut seat, kept)
 }
 
 #[test]
 fn what_is_kept_beside_a_name_comes_back(rt: HostRuntime) {
-    let (epochs, seat, second, third) = opened(rt.alloc())
-        .expect(&rt, "memory for the epochs")
-        .expect(&rt, "three seats");
-    assert!(rt; keep_and_come_back(&epochs, seat, 7) == Some(7));
+    let (epochs, seat, second, third) = opened(&rt, rt.alloc());
+    assert!(rt; keep_and_come_back(&rt, &epochs, seat, 7) == Some(7));
     drop(third);
     drop(second);
     drop(epochs);
 }
 
 /// A value in a wrapper, retired by epochs that are gone with their seats.
-fn outlives_its_epochs(alloc: Global, value: u64) -> Result<Option<Retired<Wrapped>>, AllocError> {
-    let Some((epochs, mut seat, _, _)) = opened(alloc)? else {
-        return Ok(None);
-    };
-    Ok(epochs.retire(&mut seat, Wrapped { value }).ok())
+fn outlives_its_epochs(rt: &impl Abort, alloc: Global, value: u64) -> Retired<Wrapped> {
+    let (epochs, mut seat, second, third) = opened(rt, alloc);
+    let retired = epochs
+        .retire(&mut seat, Wrapped { value })
+        .ok()
+        .expect(rt, "an epoch");
+    drop(third);
+    drop(second);
+    drop(seat);
+    drop(epochs);
+    retired
 }
 
 /// Takes the wrapper off, and drains its own epoch.
@@ -353,9 +346,7 @@ fn moves_to_a_thread<T: Send>(_value: &T) {}
 
 #[test]
 fn a_retirement_outlives_its_epochs(rt: HostRuntime) {
-    let retired = outlives_its_epochs(rt.alloc(), 7)
-        .expect(&rt, "memory for the epochs")
-        .expect(&rt, "three seats");
+    let retired = outlives_its_epochs(&rt, rt.alloc(), 7);
     moves_to_a_thread(&retired);
     assert!(rt; unwrapped_alone(retired) == Some(7));
 }
@@ -450,9 +441,7 @@ fn three_threads<R: Threads + Wait + Sync>(
 
 #[test]
 fn two_threads_stay_while_a_third_retires(rt: HostRuntime) {
-    let (epochs, one, two, three) = opened(rt.alloc())
-        .expect(&rt, "memory for the epochs")
-        .expect(&rt, "three seats");
+    let (epochs, one, two, three) = opened(&rt, rt.alloc());
     assert!(rt; three_threads(&rt, &epochs, one, two, three) == RETIREMENTS);
     drop(epochs);
 }

@@ -1,20 +1,22 @@
 //! Engines at both ends of the range of each limit, and a store of more pages than the frames and places that an engine has where
 //! nothing else is asked for.
 
-ghost use Rattle.std.specs.Prelude.{◌≡◌, ◌+◌, All, IfOk, IfSome, IsTrue, true, ⊤, vec_len};
+ghost use Rattle.std.specs.Prelude.{⊤};
 ghost use Rattle.engine.specs.Passes.{Rests};
-ghost use Rattle.engine.specs.declared.TheConstants.{BACKGROUND_PASSES};
 
 use device::MemoryDevice;
-use engine::{BACKGROUND_PASSES, Engine, Pass};
+use engine::{Engine, Pass};
 use engine_harness::calls::sets_to;
+use engine_harness::ends::{end_pass, end_word};
+use engine_harness::engines::with_pass;
 use engine_harness::filling::{fill, key_of};
+use engine_harness::reading::gets;
 use gates::Open;
 use std::alloc::Global;
 use std::process::Abort;
 use std::sync::Wait;
-use words::limits::{FRAMES_DEFAULT, KEY_BYTES_MAX, Limits, PLACES_DEFAULT};
-use words::word::{OutOfMemory, Word};
+use words::limits::{FRAMES_DEFAULT, Limits, PLACES_DEFAULT};
+use words::word::Word;
 
 /// Stripes, buckets, frames, places and clients: each of them at either end of its range, and those of a store larger than the
 /// defaults. All at their most would take a gigabyte.
@@ -26,52 +28,6 @@ const SIZES: &[[usize; 5]] = &[
     [1, 65_536, 128, 8_192, 4],
     [64, 65_536, 12, 64, 64],
 ];
-
-/// An engine of these limits in memory, and its passes.
-fn engine_of(
-    alloc: Global,
-    limits: &Limits,
-) -> Result<(Engine<MemoryDevice>, Vec<Pass<MemoryDevice>>), OutOfMemory>
-    ensures count { IfOk result (λ made. vec_len made.1 ≡ limits.now.clients + BACKGROUND_PASSES) }
-    ensures rest { IfOk result (λ made. All (Rests ⊤ made.0) made.1.items) }
-{
-    let openings = MemoryDevice::openings(alloc, limits.clients + BACKGROUND_PASSES)?;
-    Engine::new(alloc, limits, openings)
-}
-
-/// An engine of these limits, and one of its passes.
-fn with_pass(alloc: Global, limits: &Limits) -> Option<(Engine<MemoryDevice>, Pass<MemoryDevice>)>
-    ensures { IfSome result (λ made. Rests ⊤ made.0 made.1) }
-{
-    let (engine, mut passes) = engine_of(alloc, limits).ok()?;
-    let pass = passes.swap_remove(0);
-    drop(passes);
-    Some((engine, pass))
-}
-
-/// Whether a key has this value.
-fn has<R: Wait>(
-    rt: &R,
-    engine: &Engine<MemoryDevice>,
-    pass: &mut Pass<MemoryDevice>,
-    key: &Word,
-    value: &Word,
-) -> bool
-    requires { Rests ⊤ engine.now pass.old }
-    ensures { Rests ⊤ engine.now pass.new }
-{
-    if key.len() > KEY_BYTES_MAX {
-        return false;
-    }
-    match engine.get(rt, pass, key, &Open) {
-        Ok(Some(found)) => {
-            let is_same = found.as_slice() == value.as_slice();
-            drop(found);
-            is_same
-        }
-        Ok(None) | Err(_) => false,
-    }
-}
 
 /// Whether a key is set to itself, and read then.
 fn is_kept<R: Wait>(
@@ -86,7 +42,7 @@ fn is_kept<R: Wait>(
     if !sets_to(rt, engine, pass, key, key, &Open) {
         return false;
     }
-    has(rt, engine, pass, key, key)
+    gets(rt, engine, pass, key, &[key.as_slice()], &Open)
 }
 
 /// How many of so many keys are set to a value and read then.
@@ -105,7 +61,7 @@ fn keeps<R: Wait>(
         if is_kept(rt, engine, pass, &key) {
             kept = kept.saturating_add(1);
         }
-        drop(key);
+        end_word(key);
     }
     Some(kept)
 }
@@ -116,8 +72,8 @@ fn kept_of<R: Abort + Wait>(rt: &R, alloc: Global, sizes: &[usize; 5]) -> Option
     let limits = Limits::new(stripes, buckets, frames, places, clients).expect(rt, "limits");
     let (engine, mut pass) = with_pass(alloc, &limits).expect(rt, "memory for an engine");
     let kept = keeps(rt, alloc, &engine, &mut pass, 100);
-    drop(pass);
-    drop(engine);
+    end_pass(pass);
+    engine.end();
     kept
 }
 
@@ -141,14 +97,13 @@ fn has_key<R: Wait>(
     engine: &Engine<MemoryDevice>,
     pass: &mut Pass<MemoryDevice>,
     number: usize,
-    value: &Word,
 ) -> Option<bool>
     requires { Rests ⊤ engine.now pass.old }
     ensures { Rests ⊤ engine.now pass.new }
 {
     let key = key_of(alloc, number)?;
-    let has = has(rt, engine, pass, &key, value);
-    drop(key);
+    let has = gets(rt, engine, pass, &key, &[&VALUE], &Open);
+    end_word(key);
     Some(has)
 }
 
@@ -159,36 +114,18 @@ fn finds<R: Wait>(
     engine: &Engine<MemoryDevice>,
     pass: &mut Pass<MemoryDevice>,
     hundreds: usize,
-    value: &Word,
 ) -> Option<usize>
     requires { Rests ⊤ engine.now pass.old }
 {
     for number in 0..hundreds {
-        if !has_key(rt, alloc, engine, pass, number.saturating_mul(100), value)? {
+        if !has_key(rt, alloc, engine, pass, number.saturating_mul(100))? {
             return Some(number);
         }
     }
     Some(hundreds)
 }
 
-/// How many of so many keys can be set, and how many of one in each hundred of them are read then.
-fn stores_and_finds<R: Abort + Wait>(
-    rt: &R,
-    alloc: Global,
-    engine: &Engine<MemoryDevice>,
-    pass: &mut Pass<MemoryDevice>,
-    count: usize,
-) -> (usize, Option<usize>)
-    requires { Rests ⊤ engine.now pass.old }
-{
-    let stored = fill(rt, alloc, engine, pass, &VALUE, count).expect(rt, "memory for the keys");
-    let value = Word::from_slice(alloc, &VALUE).expect(rt, "memory for a value");
-    let found = finds(rt, alloc, engine, pass, stored / 100, &value);
-    drop(value);
-    (stored, found)
-}
-
-/// The same in a store of these limits.
+/// How many of so many keys can be set at a store of these limits, and how many of one in each hundred of them are read then.
 fn stored_and_found<R: Abort + Wait>(
     rt: &R,
     alloc: Global,
@@ -196,10 +133,11 @@ fn stored_and_found<R: Abort + Wait>(
     count: usize,
 ) -> (usize, Option<usize>) {
     let (engine, mut pass) = with_pass(alloc, limits).expect(rt, "memory for an engine");
-    let came = stores_and_finds(rt, alloc, &engine, &mut pass, count);
-    drop(pass);
-    drop(engine);
-    came
+    let stored = fill(rt, alloc, &engine, &mut pass, &VALUE, count).unwrap_or(0);
+    let found = finds(rt, alloc, &engine, &mut pass, stored / 100);
+    end_pass(pass);
+    engine.end();
+    (stored, found)
 }
 
 /// More pages than a store of the defaults holds, in one stripe.

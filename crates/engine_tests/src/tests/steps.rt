@@ -1,109 +1,101 @@
 //! The steps of the threads that work in the background, at an engine of one stripe.
 
-ghost use Rattle.std.specs.Prelude.{⊤, ◌≡◌, IfSome};
+ghost use Rattle.std.specs.Prelude.{⊤, ◌≡◌};
 ghost use Rattle.engine.specs.Passes.{Rests, stripe_count};
 
 use device::MemoryDevice;
 use engine::{Engine, Pass};
-use engine_harness::engines::narrow_engine;
-use engine_harness::filling::{KEYS, VALUE, fill};
+use engine_harness::ends::end_pass;
+use engine_harness::engines::with_pass;
+use engine_harness::filling::{KEYS, Turn, VALUE};
+use engine_harness::steps::{Came, Step, Work, steps_done};
 use std::alloc::Global;
+use std::process::Abort;
 use std::sync::Wait;
+use words::limits::{FRAMES_MIN, Limits};
 
-/// An engine of one stripe with so many places, and a pass of it. `None` where there was no memory.
+/// An engine of one stripe with so many places, and a pass of it.
 pub(super) fn with_places(
+    rt: &impl Abort,
     alloc: Global,
     places: usize,
-) -> Option<(Engine<MemoryDevice>, Pass<MemoryDevice>)>
-    ensures one { IfSome result (λ made. stripe_count made.0 ≡ 1) }
-    ensures rests { IfSome result (λ made. Rests ⊤ made.0 made.1) }
+) -> (Engine<MemoryDevice>, Pass<MemoryDevice>)
+    ensures one { stripe_count result.0 ≡ 1 }
+    ensures rests { Rests ⊤ result.0 result.1 }
 {
-    let (engine, mut passes) = narrow_engine(alloc, places)?;
-    let pass = passes.swap_remove(0);
-    drop(passes);
-    Some((engine, pass))
+    let limits = Limits::new(1, 64, FRAMES_MIN, places, 1).expect(rt, "limits");
+    with_pass(alloc, &limits).expect(rt, "memory for an engine")
 }
 
-/// Whether one try of the cleaner is done.
-fn is_cleaned(engine: &Engine<MemoryDevice>, pass: &mut Pass<MemoryDevice>) -> bool
-    requires one { stripe_count engine.now ≡ 1 }
-    requires rests { Rests ⊤ engine.now pass.old }
-    ensures rests { Rests ⊤ engine.now pass.new }
-{
-    matches!(engine.try_clean_one(pass, 0), Ok(Ok(true)))
+/// Tests that these steps come to what is due at a new store with so many places.
+pub(super) fn check<R: Abort + Wait>(rt: &R, alloc: Global, places: usize, steps: &[Step]) {
+    let (engine, mut pass) = with_places(rt, alloc, places);
+    let mut full = 0usize;
+    let done = steps_done(rt, alloc, &engine, &mut pass, &mut full, steps);
+    end_pass(pass);
+    engine.end();
+    assert!(rt; done == steps.len(), "{done} of these steps");
 }
 
-/// What six tries come to, one behind the other: of the flusher, the evictor, and four times the cleaner.
-fn six_tries(engine: &Engine<MemoryDevice>, pass: &mut Pass<MemoryDevice>) -> [bool; 6]
-    requires one { stripe_count engine.now ≡ 1 }
-    requires rests { Rests ⊤ engine.now pass.old }
-    ensures rests { Rests ⊤ engine.now pass.new }
-{
-    let flushed = matches!(engine.try_flush_one(pass, 0), Ok(Ok(true)));
-    let evicted = matches!(engine.try_evict_one(pass, 0), Ok(Ok(true)));
-    let unlinked = is_cleaned(engine, pass);
-    let retired = is_cleaned(engine, pass);
-    let drained = is_cleaned(engine, pass);
-    let released = is_cleaned(engine, pass);
-    [flushed, evicted, unlinked, retired, drained, released]
-}
+/// One try each, which is done.
+const FLUSH: Step = Step::Tries(Work::Flush, Came::Done);
 
-/// Whether the keys are set, and six tries are done then, twice.
-fn come_back<R: Wait>(
-    rt: &R,
-    alloc: Global,
-    engine: &Engine<MemoryDevice>,
-    pass: &mut Pass<MemoryDevice>,
-) -> bool
-    requires one { stripe_count engine.now ≡ 1 }
-    requires rests { Rests ⊤ engine.now pass.old }
-{
-    let set = fill(rt, alloc, engine, pass, &VALUE, KEYS);
-    let first = six_tries(engine, pass);
-    let second = six_tries(engine, pass);
-    set == Some(KEYS) && first == [true; 6] && second == [true; 6]
-}
+const EVICT: Step = Step::Tries(Work::Evict, Came::Done);
+
+const CLEAN: Step = Step::Tries(Work::Clean, Came::Done);
+
+/// The keys are set, and a place comes back twice: its page is written, leaves its frame and is unlinked, and the place is
+/// retired, drained and released.
+const COMES_BACK: &[Step] = &[
+    Step::Fills(KEYS, &VALUE),
+    FLUSH,
+    EVICT,
+    CLEAN,
+    CLEAN,
+    CLEAN,
+    CLEAN,
+    FLUSH,
+    EVICT,
+    CLEAN,
+    CLEAN,
+    CLEAN,
+    CLEAN,
+];
 
 #[test]
 fn a_place_comes_back_in_six_tries(rt: HostRuntime) {
-    let (engine, mut pass) = with_places(rt.alloc(), 4096).expect(&rt, "memory for an engine");
-    assert!(rt; come_back(&rt, rt.alloc(), &engine, &mut pass));
-    drop(pass);
-    drop(engine);
+    check(&rt, rt.alloc(), 4096, COMES_BACK);
 }
+
+/// Tries that find nothing to do.
+const NOTHING: &[Step] = &[
+    Step::Tries(Work::Flush, Came::Nothing),
+    Step::Tries(Work::Evict, Came::Nothing),
+    Step::Tries(Work::Clean, Came::Nothing),
+    Step::Tries(Work::Clean, Came::Nothing),
+    Step::Tries(Work::Clean, Came::Nothing),
+    Step::Tries(Work::Clean, Came::Nothing),
+];
 
 #[test]
 fn nothing_is_done_in_an_empty_store(rt: HostRuntime) {
-    let (engine, mut pass) = with_places(rt.alloc(), 4096).expect(&rt, "memory for an engine");
-    assert!(rt; six_tries(&engine, &mut pass) == [false; 6]);
-    drop(pass);
-    drop(engine);
+    check(&rt, rt.alloc(), 4096, NOTHING);
 }
 
-/// Whether no place of an empty stripe is used and it is not half used, and all 64 are and it is once it is full.
-fn is_half_used_once_full<R: Wait>(
-    rt: &R,
-    alloc: Global,
-    engine: &Engine<MemoryDevice>,
-    pass: &mut Pass<MemoryDevice>,
-) -> bool
-    requires one { stripe_count engine.now ≡ 1 }
-    requires rests { Rests ⊤ engine.now pass.old }
-{
-    let half = engine.half_used(rt, pass, 0);
-    let used = engine.used_places(rt, pass, 0);
-    let is_empty = !half && used == 0;
-    let count = fill(rt, alloc, engine, pass, &VALUE, 10_000);
-    let half = engine.half_used(rt, pass, 0);
-    let used = engine.used_places(rt, pass, 0);
-    let is_full = count.is_some_and(|count| count < 10_000);
-    is_empty && is_full && half && used == 64
-}
+/// No place of an empty stripe is used and it is not half used. All 64 are and it is once it is full.
+const HALF_USED: &[Step] = &[
+    Step::IsHalfUsed(false),
+    Step::Uses(0),
+    Step::FillsUp(Turn {
+        first: 0,
+        keys: 10_000,
+        value: &VALUE,
+    }),
+    Step::IsHalfUsed(true),
+    Step::Uses(64),
+];
 
 #[test]
 fn a_full_stripe_is_half_used(rt: HostRuntime) {
-    let (engine, mut pass) = with_places(rt.alloc(), 64).expect(&rt, "memory for an engine");
-    assert!(rt; is_half_used_once_full(&rt, rt.alloc(), &engine, &mut pass));
-    drop(pass);
-    drop(engine);
+    check(&rt, rt.alloc(), 64, HALF_USED);
 }

@@ -3,12 +3,15 @@
 ghost use Rattle.std.specs.Prelude.{⊤};
 ghost use Rattle.engine.specs.Passes.{Rests};
 
-use super::{exchange_of, with_pass};
 use device::MemoryDevice;
 use engine::{Engine, Pass};
+use engine_harness::ends::end_pass;
+use engine_harness::engines::with_pass;
+use engine_harness::exchanges::exchange_of;
 use engine_harness::trying::is_answered;
 use std::alloc::Global;
 use std::process::Abort;
+use words::limits::Limits;
 
 /// Whether the line of a request, ` -> ` and what is due is so where the request is tried.
 fn line_is_answered(
@@ -43,10 +46,11 @@ fn lines_are_answered<R: Abort>(
 
 /// Tries them at a new engine.
 fn all_are_answered<R: Abort>(rt: &R, alloc: Global, lines: &str) {
-    let (engine, mut pass) = with_pass(alloc).expect(rt, "memory for an engine");
+    let limits = Limits::default();
+    let (engine, mut pass) = with_pass(alloc, &limits).expect(rt, "memory for an engine");
     lines_are_answered(rt, alloc, &engine, &mut pass, lines);
-    drop(pass);
-    drop(engine);
+    end_pass(pass);
+    engine.end();
 }
 
 #[test]

@@ -7,45 +7,34 @@ use records::{RECORD_HEADER, record_size};
 // The length of the longest value of a key of two bytes whose record lies in one piece.
 const LONGEST_IN_A_PIECE: usize = PIECE_BYTES - RECORD_HEADER - 2;
 
-// How often the device is read until a key is found with this value. `None` where it has another one, or a read failed.
-fn reads_of(
+// The device is read so often for a key that has this value, where nothing is staged yet.
+fn is_read_alone(
+    rt: &impl Abort,
     shelf: &mut Shelf,
-    staged: &mut Staged<Receipt>,
+    alloc: Global,
     key: &[u8],
     value: &[u8],
-) -> Option<u64> {
-    let before = shelf.device.calls();
-    if shelf.holds_by_pieces(staged, key, Some(value))? {
-        return Some(shelf.device.calls().wrapping_sub(before));
-    }
-    None
-}
-
-// The same, where nothing is staged yet.
-fn reads_alone(shelf: &mut Shelf, alloc: Global, key: &[u8], value: &[u8]) -> Option<u64> {
+    reads: u64,
+) {
     let mut staged = Staged::new(alloc);
-    let reads = reads_of(shelf, &mut staged, key, value);
+    is_read(rt, shelf, &mut staged, key, value, reads);
     drop(staged);
-    reads
 }
 
 // A shelf with three keys in its first pages, the longest value among them, which have left their frames. Calls of these numbers fail.
 fn with_cold_keys(rt: &impl Abort, alloc: Global, failing: Vec<u64>) -> Shelf {
-    let mut shelf = new_shelf(rt, alloc, 4096, 64);
-    shelf.device = Faulty::new(new_device(rt, alloc), failing);
-    assert!(rt;
-        puts_three(&mut shelf) && fill(&mut shelf, 0, 1260).is_ok(),
-        "a write"
-    );
+    let mut shelf = new_failing_shelf(rt, alloc, 4096, 64, failing);
+    puts_three(rt, &mut shelf);
+    fills(rt, &mut shelf, 1260);
     shelf
 }
 
-// Whether the three keys could be put.
-fn puts_three(shelf: &mut Shelf) -> bool {
+// Puts the three keys.
+fn puts_three(rt: &impl Abort, shelf: &mut Shelf) {
     let value = [7; VALUE_BYTES_MAX];
-    puts(shelf, b"a1", Some(&value[..LONGEST_IN_A_PIECE]))
-        && puts(shelf, b"a2", Some(&value[..LONGEST_IN_A_PIECE + 1]))
-        && puts(shelf, b"a3", Some(&value))
+    puts(rt, shelf, b"a1", Some(&value[..LONGEST_IN_A_PIECE]));
+    puts(rt, shelf, b"a2", Some(&value[..LONGEST_IN_A_PIECE + 1]));
+    puts(rt, shelf, b"a3", Some(&value));
 }
 
 #[test]
@@ -59,9 +48,9 @@ fn reads_pieces_first(shelf: &mut Shelf, alloc: Global, rt: &impl Abort) {
     let value = [7; VALUE_BYTES_MAX];
     assert!(rt; record_size(2, LONGEST_IN_A_PIECE) == PIECE_BYTES);
     assert!(rt; is_away(&shelf.stripe, 0));
-    assert!(rt; reads_alone(shelf, alloc, b"a1", &value[..LONGEST_IN_A_PIECE]) == Some(1));
-    assert!(rt; reads_alone(shelf, alloc, b"a2", &value[..LONGEST_IN_A_PIECE + 1]) == Some(2));
-    assert!(rt; reads_alone(shelf, alloc, b"a3", &value) == Some(2));
+    is_read_alone(rt, shelf, alloc, b"a1", &value[..LONGEST_IN_A_PIECE], 1);
+    is_read_alone(rt, shelf, alloc, b"a2", &value[..LONGEST_IN_A_PIECE + 1], 2);
+    is_read_alone(rt, shelf, alloc, b"a3", &value, 2);
 }
 
 // Whether a page has left its frame.
@@ -80,10 +69,31 @@ fn a_page_is_read_twice_at_most(rt: HostRuntime) {
 fn reads_twice(shelf: &mut Shelf, alloc: Global, rt: &impl Abort) {
     let value = [7; VALUE_BYTES_MAX];
     let mut staged = Staged::new(alloc);
-    assert!(rt; reads_of(shelf, &mut staged, b"a1", &value[..LONGEST_IN_A_PIECE]) == Some(1));
-    assert!(rt; reads_of(shelf, &mut staged, b"a2", &value[..LONGEST_IN_A_PIECE + 1]) == Some(1));
-    assert!(rt; reads_of(shelf, &mut staged, b"a1", &value[..LONGEST_IN_A_PIECE]) == Some(0));
-    assert!(rt; reads_of(shelf, &mut staged, b"a3", &value) == Some(0));
+    is_read(
+        rt,
+        shelf,
+        &mut staged,
+        b"a1",
+        &value[..LONGEST_IN_A_PIECE],
+        1,
+    );
+    is_read(
+        rt,
+        shelf,
+        &mut staged,
+        b"a2",
+        &value[..LONGEST_IN_A_PIECE + 1],
+        1,
+    );
+    is_read(
+        rt,
+        shelf,
+        &mut staged,
+        b"a1",
+        &value[..LONGEST_IN_A_PIECE],
+        0,
+    );
+    is_read(rt, shelf, &mut staged, b"a3", &value, 0);
     drop(staged);
 }
 
@@ -109,8 +119,12 @@ fn a_fault_in_the_second_read_loses_nothing(rt: HostRuntime) {
 fn reads_after_a_fault(shelf: &mut Shelf, alloc: Global, rt: &impl Abort) {
     let value = [7; VALUE_BYTES_MAX];
     let mut staged = Staged::new(alloc);
-    assert!(rt; reads_of(shelf, &mut staged, b"a3", &value).is_none());
+    assert!(rt;
+        shelf
+            .holds_by_pieces(&mut staged, b"a3", Some(&value))
+            .is_none()
+    );
     assert!(rt; staged.rooms() == 2);
-    assert!(rt; reads_of(shelf, &mut staged, b"a3", &value) == Some(1));
+    is_read(rt, shelf, &mut staged, b"a3", &value, 1);
     drop(staged);
 }

@@ -1,6 +1,0 @@
-use Rattle.std.specs.Prelude.{◌≡◌}
-use Rattle.engine.specs.Passes.{Rests, stripe_count}
-use Rattle.cold_tests.proofs.cold.cleans_often.Given as goal
-
-abbrev pub invariant-loop-n : goal.invariant-loop-n
-invariant-loop-n g l = Rests g.D.Receipt.Shows.is_steady l.engine l.pass × (stripe_count l.engine ≡ 1)

@@ -1,5 +1,0 @@
-use Rattle.engine.specs.Passes.{Rests}
-use Rattle.cold_tests.proofs.leaving.fills.Given as goal
-
-abbrev pub invariant-loop-number : goal.invariant-loop-number
-invariant-loop-number g l = Rests g.D.Receipt.Shows.is_steady l.engine l.pass

@@ -1,0 +1,6 @@
+use Rattle.std.specs.Prelude.{◌≡◌}
+use Rattle.engine.specs.Passes.{Rests, stripe_count}
+use Rattle.engine_harness.proofs.steps.steps_done.Given as goal
+
+abbrev pub invariant-loop-step : goal.invariant-loop-step
+invariant-loop-step g l = Rests g.D.Receipt.Shows.is_steady l.engine l.pass × (stripe_count l.engine ≡ 1)

@@ -1,5 +1,0 @@
-use Rattle.engine.specs.Passes.{Rests}
-use Rattle.engine_tests.proofs.tests.releasing.fill_in_turn.Given as goal
-
-abbrev pub invariant-loop-number : goal.invariant-loop-number
-invariant-loop-number g l = Rests (Unit {0}) l.engine l.pass
