@@ -2,14 +2,11 @@
 //! times the letter v: 63 records a page, so that its log has the pages 0 to 9. The last 4 are mutable, and the
 //! pages 0 to 5 wait for the flusher. What client 1 asks for then is in page 0.
 
-ghost use Rattle.std.specs.Prelude.{IfSome, ◌<◌};
 ghost use Rattle.world.specs.Tables.{IsWorld};
 
-use crate::tests::{add, follow};
-use bytes::Bytes;
+use crate::tests::{add, follow, piece_of, push, run, world_with};
 use std::alloc::Global;
 use std::process::Abort;
-use words::limits::Limits;
 use world::World;
 use world_model::Event;
 
@@ -44,12 +41,12 @@ impl Length {
 }
 
 /// Adds the value as a bulk string.
-fn add_value(text: &mut Vec<u8>, length: Length) -> Option<()> {
-    add(text, length.spelling())?;
+fn add_value(rt: &impl Abort, text: &mut Vec<u8>, length: Length) {
+    add(rt, text, length.spelling());
     for _ in 0..length.bytes() {
-        add(text, b"v")?;
+        add(rt, text, b"v");
     }
-    add(text, b"\r\n")
+    add(rt, text, b"\r\n");
 }
 
 /// The last digit of a number.
@@ -57,110 +54,117 @@ fn digit(number: usize) -> u8 {
     b'0' + (number % 10) as u8
 }
 
-/// The request that sets the key of a number below 10,000.
-fn set_of(alloc: Global, number: usize, length: Length) -> Option<Bytes> {
-    let mut text = Vec::new(alloc);
-    add(&mut text, b"*3\r\n$3\r\nSET\r\n$5\r\nk")?;
-    add(
-        &mut text,
-        &[
-            digit(number / 1_000),
-            digit(number / 100),
-            digit(number / 10),
-            digit(number),
-        ],
-    )?;
-    add(&mut text, b"\r\n")?;
-    add_value(&mut text, length)?;
-    Bytes::from_vec(text).ok()
+/// Adds the last four digits of a number.
+fn add_digits(rt: &impl Abort, text: &mut Vec<u8>, number: usize) {
+    let digits = [
+        digit(number / 1_000),
+        digit(number / 100),
+        digit(number / 10),
+        digit(number),
+    ];
+    add(rt, text, &digits);
 }
 
-/// Adds an event. `None` where there was no memory.
-fn push(events: &mut Vec<Event>, event: Event) -> Option<()> {
-    match events.push(event) {
-        Ok(()) => Some(()),
-        Err(_) => None,
-    }
+/// The request that sets the key of a number below 10,000.
+fn set_of(rt: &impl Abort, alloc: Global, number: usize, length: Length) -> Vec<u8> {
+    let mut text = Vec::new(alloc);
+    add(rt, &mut text, b"*3\r\n$3\r\nSET\r\n$5\r\nk");
+    add_digits(rt, &mut text, number);
+    add(rt, &mut text, b"\r\n");
+    add_value(rt, &mut text, length);
+    text
 }
 
 /// Adds the events of a call of client 0 that holds stripe 0 once.
-fn push_call(events: &mut Vec<Event>) -> Option<()> {
-    push(events, Event::Take(0, 0))?;
-    push(events, Event::Commit(0))?;
-    push(events, Event::Give(0, 0))
+fn push_call(rt: &impl Abort, events: &mut Vec<Event>) {
+    push(rt, events, Event::Take(0, 0));
+    push(rt, events, Event::Commit(0));
+    push(rt, events, Event::Give(0, 0));
+}
+
+/// Adds the events by which client 0 sets the key of a number.
+fn push_set(
+    rt: &impl Abort,
+    alloc: Global,
+    events: &mut Vec<Event>,
+    number: usize,
+    length: Length,
+) {
+    let request = set_of(rt, alloc, number, length);
+    push(rt, events, piece_of(rt, 0, request));
+    push_call(rt, events);
 }
 
 /// The events by which client 0 sets so many keys. A call that wants pages goes in up to three more rounds.
-fn sets(alloc: Global, keys: usize, length: Length) -> Option<Vec<Event>> {
+fn sets(rt: &impl Abort, alloc: Global, keys: usize, length: Length) -> Vec<Event> {
     let mut events = Vec::new(alloc);
     for number in 0..keys {
-        push(&mut events, Event::Piece(0, set_of(alloc, number, length)?))?;
-        push_call(&mut events)?;
+        push_set(rt, alloc, &mut events, number, length);
         for _ in 0..3 {
-            push(&mut events, Event::Fetch(0))?;
-            push_call(&mut events)?;
+            push(rt, &mut events, Event::Fetch(0));
+            push_call(rt, &mut events);
         }
     }
-    Some(events)
+    events
 }
 
-/// A world of one stripe of so many places and two clients, in which all keys are set.
-fn filled_world(alloc: Global, places: usize) -> Option<World>
-    ensures { IfSome result IsWorld }
+/// A world of one stripe of so many places and two clients.
+fn new_world(rt: &impl Abort, alloc: Global, places: usize) -> World
+    ensures { IsWorld result }
 {
-    let events = sets(alloc, KEYS, Length::Short)?;
-    let limits = Limits::new(1, 4_096, 12, places, 2)?;
-    let world = World::new(alloc, &limits).ok()?;
-    world.run(events.as_slice()).ok()
+    world_with(rt, alloc, 1, 12, places, 2)
 }
 
-/// Whether this is the value, as a client is told it.
-fn is_value(alloc: Global, told: &[u8]) -> bool {
-    is_value_of(alloc, told, Length::Short)
+/// Such a world in which all keys are set.
+fn filled_world(rt: &impl Abort, alloc: Global, places: usize) -> World
+    ensures { IsWorld result }
+{
+    let events = sets(rt, alloc, KEYS, Length::Short);
+    let world = run(rt, new_world(rt, alloc, places), events.as_slice());
+    drop(events);
+    world
 }
 
-/// The same of the value of this length.
-fn is_value_of(alloc: Global, told: &[u8], length: Length) -> bool {
+/// A client was told the value of this length.
+fn is_told(rt: &impl Abort, alloc: Global, told: &[u8], length: Length) {
     let mut due = Vec::new(alloc);
-    add_value(&mut due, length).is_some() && told == due.as_slice()
+    add_value(rt, &mut due, length);
+    assert!(rt; told == due.as_slice(), "told otherwise");
+    drop(due);
 }
 
-/// Adds three times the value as one array.
-fn add_three(text: &mut Vec<u8>) -> Option<()> {
-    add(text, b"*3\r\n")?;
+/// A client was told three times the value, as one array.
+fn is_told_three(rt: &impl Abort, alloc: Global, told: &[u8]) {
+    let mut due = Vec::new(alloc);
+    add(rt, &mut due, b"*3\r\n");
     for _ in 0..3 {
-        add_value(text, Length::Short)?;
+        add_value(rt, &mut due, Length::Short);
     }
-    Some(())
+    assert!(rt; told == due.as_slice(), "told otherwise");
+    drop(due);
 }
 
-/// Whether this is three times the value, as a client is told them at once.
-fn are_three(alloc: Global, told: &[u8]) -> bool {
-    let mut due = Vec::new(alloc);
-    add_three(&mut due).is_some() && told == due.as_slice()
+/// What client 1 was told, of two.
+fn told<'a>(rt: &impl Abort, world: &'a World) -> &'a [u8] {
+    assert!(rt; world.clients() == 2);
+    world.output(1)
+}
+
+/// There are so many entries.
+fn has_entries(rt: &impl Abort, world: &World, entries: usize) {
+    assert!(rt; world.history().len() == entries, "entries");
 }
 
 /// Follows a text in a filled world. Client 1 has the value then, or nothing; and there are so many entries.
 fn row<R: Abort>(rt: &R, alloc: Global, text: &str, value: bool, entries: usize) {
-    let Some(world) = filled_world(alloc, 4_096) else {
-        panic!(rt; "no world")
-    };
-    let world = follow(rt, alloc, world, text);
-    if world.clients() != 2 {
-        panic!(rt; "{text}: two clients")
-    }
-    let told = world.output(1);
-    let right = if value {
-        is_value(alloc, told)
+    let world = follow(rt, alloc, filled_world(rt, alloc, 4_096), text);
+    let output = told(rt, &world);
+    if value {
+        is_told(rt, alloc, output, Length::Short);
     } else {
-        told.is_empty()
-    };
-    if !right {
-        panic!(rt; "{text}: told otherwise")
+        assert!(rt; output.is_empty(), "told otherwise");
     }
-    if world.history().len() != entries {
-        panic!(rt; "{text}: entries")
-    }
+    has_entries(rt, &world, entries);
     world.end();
 }
 
@@ -216,108 +220,80 @@ fn a_stay_keeps_a_place(rt: HostRuntime) {
 fn a_transaction_reads_in_a_round(rt: HostRuntime) {
     let text = "copy 0; write 0; install 0; drop 0; copy 0; write 0; install 0; drop 0; \
         ask 1 MULTI; ask 1 GET k0000; ask 1 EXEC; take 1 0; give 1 0; fetch 1; take 1 0; commit 1; give 1 0";
-    let Some(world) = filled_world(rt.alloc(), 4_096) else {
-        panic!(rt; "no world")
-    };
-    let world = follow(&rt, rt.alloc(), world, text);
-    if world.history().len() != 631 {
-        panic!(rt; "entries")
-    }
+    let world = follow(&rt, rt.alloc(), filled_world(&rt, rt.alloc(), 4_096), text);
+    has_entries(&rt, &world, 631);
     world.end();
 }
 
 /// A call that lacks three pages names them all, and one fetch reads them all.
 #[test]
 fn one_fetch_reads_all_pages_of_a_call(rt: HostRuntime) {
-    let alloc = rt.alloc();
     let text =
         "do copy 0; do write 0; do install 0; do drop 0; do copy 0; do write 0; do install 0; do drop 0; \
         do copy 0; do write 0; do install 0; do drop 0; do ask 1 MGET k0000 k0063 k0126; do take 1 0; not commit 1; \
         do give 1 0; do fetch 1; do take 1 0; not give 1 0; do commit 1; do give 1 0";
-    let Some(world) = filled_world(alloc, 4_096) else {
-        panic!(rt; "no world")
-    };
-    let world = follow(&rt, alloc, world, text);
-    if world.clients() != 2 || !are_three(alloc, world.output(1)) {
-        panic!(rt; "told otherwise")
-    }
+    let world = follow(&rt, rt.alloc(), filled_world(&rt, rt.alloc(), 4_096), text);
+    is_told_three(&rt, rt.alloc(), told(&rt, &world));
     world.end();
 }
 
 /// Four keys of one bucket, by their numbers; no other of a number below 10,000 is of it.
 const CHAIN: [usize; 4] = [102, 263, 2_984, 3_499];
 
-/// Adds the events by which client 0 sets the key of a number to the long value.
-fn push_set(alloc: Global, events: &mut Vec<Event>, number: usize) -> Option<()> {
-    push(
-        events,
-        Event::Piece(0, set_of(alloc, number, Length::Long)?),
-    )?;
-    push_call(events)
+/// Adds the events by which the oldest page leaves its frame.
+fn push_leave(rt: &impl Abort, events: &mut Vec<Event>) {
+    push(rt, events, Event::Copy(0));
+    push(rt, events, Event::Write(0));
+    push(rt, events, Event::Install(0));
+    push(rt, events, Event::Drop(0));
 }
 
-/// A world in which the bucket of four keys leads through the pages 3, 2, 1 and 0, one key of it in each, all of which
+/// The events after which the bucket of four keys leads through the pages 3, 2, 1 and 0, one key of it in each, all of which
 /// left their frames.
-fn chained_world(alloc: Global) -> Option<World>
-    ensures { IfSome result IsWorld }
-{
+fn chain(rt: &impl Abort, alloc: Global) -> Vec<Event> {
     let mut events = Vec::new(alloc);
     for (other, number) in CHAIN.iter().enumerate() {
-        push_set(alloc, &mut events, *number)?;
-        push_set(alloc, &mut events, other)?;
+        push_set(rt, alloc, &mut events, *number, Length::Long);
+        push_set(rt, alloc, &mut events, other, Length::Long);
     }
     for number in 4..12 {
-        push_set(alloc, &mut events, number)?;
+        push_set(rt, alloc, &mut events, number, Length::Long);
     }
     for _ in CHAIN {
-        push(&mut events, Event::Copy(0))?;
-        push(&mut events, Event::Write(0))?;
-        push(&mut events, Event::Install(0))?;
-        push(&mut events, Event::Drop(0))?;
+        push_leave(rt, &mut events);
     }
-    let limits = Limits::new(1, 4_096, 12, 4_096, 2)?;
-    let world = World::new(alloc, &limits).ok()?;
-    world.run(events.as_slice()).ok()
+    events
+}
+
+/// A world after these events, in which a text is followed. Client 1 has the long value of one of the four keys then.
+fn follow_chained(rt: &impl Abort, alloc: Global, text: &str) -> World
+    ensures { IsWorld result }
+{
+    let events = chain(rt, alloc);
+    let world = run(rt, new_world(rt, alloc, 4_096), events.as_slice());
+    drop(events);
+    let world = follow(rt, alloc, world, text);
+    is_told(rt, alloc, told(rt, &world), Length::Long);
+    world
 }
 
 /// A key behind four cold pages: three are fetched, each in a round of its own, and the fourth is read by the plan itself.
 #[test]
 fn a_plan_reads_the_page_behind_three_rounds(rt: HostRuntime) {
-    let alloc = rt.alloc();
-    let Some(world) = chained_world(alloc) else {
-        panic!(rt; "no world")
-    };
     let text =
         "do ask 1 GET k0102; do take 1 0; not commit 1; do give 1 0; do fetch 1; do take 1 0; not commit 1; do give 1 0; \
         do fetch 1; do take 1 0; not commit 1; do give 1 0; do fetch 1; do take 1 0; not give 1 0; do commit 1; do give 1 0; \
         not fetch 1";
-    let world = follow(&rt, alloc, world, text);
-    if world.clients() != 2 || !is_value_of(alloc, world.output(1), Length::Long) {
-        panic!(rt; "told otherwise")
-    }
-    if world.history().len() != 17 {
-        panic!(rt; "entries")
-    }
+    let world = follow_chained(&rt, rt.alloc(), text);
+    has_entries(&rt, &world, 17);
     world.end();
 }
 
 /// The same call, where the world finishes it.
 #[test]
 fn a_finished_world_reads_cold_pages(rt: HostRuntime) {
-    let alloc = rt.alloc();
-    let Some(world) = chained_world(alloc) else {
-        panic!(rt; "no world")
-    };
-    let world = follow(
-        &rt,
-        alloc,
-        world,
-        "do ask 1 GET k0102; no rest; finish; rest",
-    );
-    if world.clients() != 2 || !is_value_of(alloc, world.output(1), Length::Long) {
-        panic!(rt; "told otherwise")
-    }
-    world.end();
+    let text = "do ask 1 GET k0102; no rest; finish; rest";
+    follow_chained(&rt, rt.alloc(), text).end();
 }
 
 /// Events of stripes that are not enabled: the stripe is held, there is no copy, one already, or no receipt, the oldest
@@ -353,43 +329,36 @@ fn events_of_a_client_that_are_not_enabled(rt: HostRuntime) {
 #[test]
 fn a_receipt_that_comes_late_is_unlinked(rt: HostRuntime) {
     let alloc = rt.alloc();
-    let Some(world) = filled_world(alloc, 4_096) else {
-        panic!(rt; "no world")
-    };
+    let world = filled_world(&rt, alloc, 4_096);
     let world = follow(&rt, alloc, world, "do copy 0; do write 0; not retire 0");
     // Each key is set once more, which takes 10 pages: the pages 0 to 7 leave their frames.
-    let Some(world) = filled_again(alloc, world, 1) else {
-        panic!(rt; "stopped")
-    };
+    let world = filled_again(&rt, alloc, world, 1);
     let text =
         "not retire 0; do install 0; do retire 0; do drain 0; do release 0 255; not retire 0; \
         do ask 1 GET k0000; do take 1 0; do commit 1; do give 1 0";
     let world = follow(&rt, alloc, world, text);
-    if world.clients() != 2 || !is_value(alloc, world.output(1)) {
-        panic!(rt; "told otherwise")
-    }
-    if world.history().len() != 2 * KEYS + 1 {
-        panic!(rt; "entries")
-    }
+    is_told(&rt, alloc, told(&rt, &world), Length::Short);
+    has_entries(&rt, &world, 2 * KEYS + 1);
     world.end();
+}
+
+/// Client 0 was told last, of two, that the store is full.
+fn is_full(rt: &impl Abort, world: &World) {
+    assert!(rt; world.clients() == 2);
+    assert!(rt;
+        world.output(0).ends_with(b"-FULL store is full\r\n"),
+        "not full"
+    );
 }
 
 /// Where no place is left, calls are refused, and the history has no entry of them.
 #[test]
 fn a_full_stripe_refuses_calls(rt: HostRuntime) {
     let alloc = rt.alloc();
-    let Some(world) = filled_world(alloc, 64) else {
-        panic!(rt; "no world")
-    };
-    let Some(world) = filled_again(alloc, world, 7) else {
-        panic!(rt; "stopped")
-    };
-    if world.clients() != 2 || !world.output(0).ends_with(b"-FULL store is full\r\n") {
-        panic!(rt; "not full")
-    }
-    if world.history().len() >= 8 * KEYS {
-        panic!(rt; "entries")
-    }
+    let world = filled_world(&rt, alloc, 64);
+    let world = filled_again(&rt, alloc, world, 7);
+    is_full(&rt, &world);
+    assert!(rt; world.history().len() < 8 * KEYS, "entries");
     // Nothing is copied for the flusher either. The oldest page holds nothing that counts: it is unlinked, and once its
     // place is released there is one for the flusher.
     let text =
@@ -399,18 +368,14 @@ fn a_full_stripe_refuses_calls(rt: HostRuntime) {
 }
 
 /// A world of 64 places, in which client 0 has set 20 keys in turn, which takes ten pages, until no place was left.
-fn full_world(alloc: Global) -> Option<World>
-    ensures { IfSome result IsWorld }
+fn full_world(rt: &impl Abort, alloc: Global) -> World
+    ensures { IsWorld result }
 {
-    let events = sets(alloc, 20, Length::Long)?;
-    let limits = Limits::new(1, 4_096, 12, 64, 2)?;
-    let world = World::new(alloc, &limits).ok()?;
-    let world = repeated(world, events.as_slice(), 8)?;
-    if world.clients() == 2 && world.output(0).ends_with(b"-FULL store is full\r\n") {
-        return Some(world);
-    }
-    world.end();
-    None
+    let events = sets(rt, alloc, 20, Length::Long);
+    let world = repeated(rt, new_world(rt, alloc, 64), events.as_slice(), 8);
+    drop(events);
+    is_full(rt, &world);
+    world
 }
 
 /// Follows a text in the world; then client 1 asks to set a new key to the long value; and it follows the other text.
@@ -425,12 +390,8 @@ fn follow_with_set<R: Abort>(
     ensures { IsWorld result }
 {
     let world = follow(rt, alloc, world, first);
-    let Some(piece) = set_of(alloc, 20, Length::Long) else {
-        panic!(rt; "no memory")
-    };
-    let Ok(world) = world.run(&[Event::Piece(1, piece)]) else {
-        panic!(rt; "stopped")
-    };
+    let request = set_of(rt, alloc, 20, Length::Long);
+    let world = run(rt, world, &[piece_of(rt, 1, request)]);
     follow(rt, alloc, world, second)
 }
 
@@ -438,9 +399,7 @@ fn follow_with_set<R: Abort>(
 #[test]
 fn a_call_releases_a_retired_place(rt: HostRuntime) {
     let alloc = rt.alloc();
-    let Some(world) = full_world(alloc) else {
-        panic!(rt; "no full world")
-    };
+    let world = full_world(&rt, alloc);
     let second =
         "do take 1 0; not drain 0; not release 0 255; do commit 1; told 1 +OK|; do give 1 0";
     follow_with_set(&rt, alloc, world, "do unlink 0; do retire 0", second).end();
@@ -450,9 +409,7 @@ fn a_call_releases_a_retired_place(rt: HostRuntime) {
 #[test]
 fn a_call_keeps_a_place_that_it_retires(rt: HostRuntime) {
     let alloc = rt.alloc();
-    let Some(world) = full_world(alloc) else {
-        panic!(rt; "no full world")
-    };
+    let world = full_world(&rt, alloc);
     let second =
         "do take 1 0; not retire 0; not drain 0; do commit 1; told 1 -FULL store is full|; do give 1 0";
     let world = follow_with_set(&rt, alloc, world, "do unlink 0", second);
@@ -462,25 +419,24 @@ fn a_call_keeps_a_place_that_it_retires(rt: HostRuntime) {
 }
 
 /// A world in which all keys were set so many times more.
-fn filled_again(alloc: Global, world: World, times: usize) -> Option<World>
+fn filled_again(rt: &impl Abort, alloc: Global, world: World, times: usize) -> World
     requires { IsWorld world }
-    ensures { IfSome result IsWorld }
+    ensures { IsWorld result }
 {
-    let Some(events) = sets(alloc, KEYS, Length::Short) else {
-        world.end();
-        return None;
-    };
-    repeated(world, events.as_slice(), times)
+    let events = sets(rt, alloc, KEYS, Length::Short);
+    let world = repeated(rt, world, events.as_slice(), times);
+    drop(events);
+    world
 }
 
 /// A world after the same events so many times more.
-fn repeated(world: World, events: &[Event], times: usize) -> Option<World>
+fn repeated<R: Abort>(rt: &R, world: World, events: &[Event], times: usize) -> World
     requires { IsWorld world }
-    ensures { IfSome result IsWorld }
+    ensures { IsWorld result }
 {
     if times == 0 {
-        return Some(world);
+        return world;
     }
-    let world = world.run(events).ok()?;
-    repeated(world, events, times - 1)
+    let world = run(rt, world, events);
+    repeated(rt, world, events, times - 1)
 }

@@ -1,15 +1,14 @@
 //! Reading and running schedules, over streams in memory.
 
+use crate::tests::add;
 use schedules::{
     PIECE_BYTES_MAX, ParseFault, ReplayFault, Shown, Until, parse, replay, run_schedule, trace,
 };
-use std::alloc::{AllocError, Global};
+use std::alloc::Global;
 use std::io;
 use std::io::{ErrorKind, Read, Write};
 use std::process::Abort;
-use std::test::Fail;
 use streams::{Noted, Told};
-use words::word::OutOfMemory;
 
 /// `SET a 1` of the one client and `GET a` of the other, which asks for the stripe too early first.
 const SET_AND_GET: &[u8] = b"world 2 16 12
@@ -280,30 +279,37 @@ impl Outcome {
 /// Whether the schedule prints this report, and passes it on.
 fn prints(alloc: Global, schedule: &[u8], report: &[u8]) -> bool {
     let outcome = Outcome::of(alloc, Source::of(schedule), usize::MAX);
-    outcome.is_report(report)
+    let is_so = outcome.is_report(report);
+    drop(outcome);
+    is_so
 }
 
 /// Whether the schedule has this trace, and passes it on.
 fn is_traced(alloc: Global, schedule: &[u8], lines: &[u8]) -> bool {
     let outcome = Outcome::showing(alloc, Shown::Trace, Source::of(schedule), usize::MAX);
-    outcome.is_report(lines)
+    let is_so = outcome.is_report(lines);
+    drop(outcome);
+    is_so
 }
 
 /// Whether this line is the first bad one of the text, and nothing is printed.
 fn is_bad_at(alloc: Global, text: &[u8], number: usize) -> bool {
-    let outcome = Outcome::of(alloc, Source::of(text), usize::MAX);
     let parsed = parse(alloc, text).err() == Some(ParseFault::BadLine(number));
-    parsed && outcome.is_fault(ReplayFault::BadLine(number))
+    let outcome = Outcome::of(alloc, Source::of(text), usize::MAX);
+    let is_so = outcome.is_fault(ReplayFault::BadLine(number));
+    drop(outcome);
+    parsed && is_so
 }
 
 /// A schedule of one piece of so many bytes.
-fn piece_of(alloc: Global, count: usize) -> Result<Vec<u8>, OutOfMemory> {
-    let mut text = Vec::from_slice(alloc, b"world 1 1 12\npiece 0 ")?;
+fn piece_of(rt: &impl Abort, alloc: Global, count: usize) -> Vec<u8> {
+    let mut text = Vec::new(alloc);
+    add(rt, &mut text, b"world 1 1 12\npiece 0 ");
     for _ in 0..count {
-        text.extend_from_slice(b"0a")?;
+        add(rt, &mut text, b"0a");
     }
-    text.push(b'\n')?;
-    Ok(text)
+    add(rt, &mut text, b"\n");
+    text
 }
 
 #[test]
@@ -347,7 +353,7 @@ fn each_release_shows_its_byte(rt: HostRuntime) {
 fn a_trace_without_events(rt: HostRuntime) {
     assert!(rt; is_traced(rt.alloc(), b"world 2 1 12\n", b"0:\n1:\nentries 0\n"));
     let bad = trace(rt.alloc(), Until::Done, b"world 2 1 12\nclose 0\nclose 2\n");
-    assert_eq!(rt; bad.err(), Some(ReplayFault::BadLine(3)));
+    assert!(rt; bad.err() == Some(ReplayFault::BadLine(3)));
 }
 
 #[test]
@@ -403,18 +409,20 @@ fn first_lines_that_are_bad(rt: HostRuntime) {
 }
 
 /// Whether this line is a bad one as the third.
-fn is_bad_as_third(alloc: Global, line: &str) -> Result<bool, OutOfMemory> {
-    let mut text = Vec::from_slice(alloc, b"world 2 16 12\nclose 1\n")?;
-    text.extend_from_slice(line.as_bytes())?;
-    Ok(is_bad_at(alloc, text.as_slice(), 3))
+fn is_bad_as_third(rt: &impl Abort, alloc: Global, line: &str) -> bool {
+    let mut text = Vec::new(alloc);
+    add(rt, &mut text, b"world 2 16 12\nclose 1\n");
+    add(rt, &mut text, line.as_bytes());
+    let is_so = is_bad_at(alloc, text.as_slice(), 3);
+    drop(text);
+    is_so
 }
 
 #[test]
-fn later_lines_that_are_bad(rt: HostRuntime) -> Result<(), Fail> {
+fn later_lines_that_are_bad(rt: HostRuntime) {
     for line in LATER_LINES.split('|') {
-        assert!(rt; is_bad_as_third(rt.alloc(), line)?, "{line:?}");
+        assert!(rt; is_bad_as_third(&rt, rt.alloc(), line), "{line:?}");
     }
-    Ok(())
 }
 
 /// The first of two bad lines is named, and nothing was run before it.
@@ -424,29 +432,23 @@ fn the_first_bad_line_is_named(rt: HostRuntime) {
     assert!(rt; is_bad_at(rt.alloc(), text.as_slice(), 4));
 }
 
-/// Whether a schedule of one piece of so many bytes is read.
-fn is_piece_read(alloc: Global, count: usize) -> Result<bool, OutOfMemory> {
-    let text = piece_of(alloc, count)?;
-    Ok(parse(alloc, text.as_slice()).is_ok())
-}
-
-/// Whether the line of a piece of so many bytes is bad.
-fn is_piece_bad(alloc: Global, count: usize) -> Result<bool, OutOfMemory> {
-    let text = piece_of(alloc, count)?;
-    Ok(is_bad_at(alloc, text.as_slice(), 2))
-}
-
 #[test]
-fn a_piece_has_at_most_65536_bytes(rt: HostRuntime) -> Result<(), Fail> {
-    assert!(rt; is_piece_read(rt.alloc(), PIECE_BYTES_MAX)?);
-    assert!(rt; is_piece_bad(rt.alloc(), PIECE_BYTES_MAX + 1)?);
-    Ok(())
+fn a_piece_has_at_most_65536_bytes(rt: HostRuntime) {
+    let longest = piece_of(&rt, rt.alloc(), PIECE_BYTES_MAX);
+    assert!(rt; parse(rt.alloc(), longest.as_slice()).is_ok());
+    drop(longest);
+    let longer = piece_of(&rt, rt.alloc(), PIECE_BYTES_MAX + 1);
+    assert!(rt; is_bad_at(rt.alloc(), longer.as_slice(), 2));
+    drop(longer);
 }
 
 /// Whether a reader that fails after these bytes is told of, and nothing is printed.
 fn is_failure_told(alloc: Global, bytes: &[u8]) -> bool {
     let outcome = Outcome::of(alloc, Source { bytes, fails: true }, usize::MAX);
-    outcome.reader_told == Told::Failure && outcome.is_fault(ReplayFault::CannotRead)
+    let told = outcome.reader_told == Told::Failure;
+    let is_so = outcome.is_fault(ReplayFault::CannotRead);
+    drop(outcome);
+    told && is_so
 }
 
 /// A reader that fails is told of, whatever was read before, and nothing is printed.
@@ -460,7 +462,9 @@ fn a_reader_that_fails(rt: HostRuntime) {
 /// Whether a writer that fails after so many bytes is told of, and has these of the report.
 fn is_cut_at(alloc: Global, takes: usize) -> bool {
     let outcome = Outcome::of(alloc, Source::of(SET_AND_GET), takes);
-    outcome.is_cut(SET_AND_GET_REPORT, takes)
+    let is_so = outcome.is_cut(SET_AND_GET_REPORT, takes);
+    drop(outcome);
+    is_so
 }
 
 /// A writer that fails is told of, and a beginning of the report is printed.
@@ -484,6 +488,7 @@ fn is_report_or_out_of_memory(replayed: &Result<Vec<u8>, ReplayFault>, lines: &[
 fn a_refused_allocation(rt: HostRuntime) {
     let replayed = replay(rt.alloc(), Until::Done, SET_AND_GET);
     assert!(rt; is_report_or_out_of_memory(&replayed, SET_AND_GET_REPORT));
+    drop(replayed);
 }
 
 /// Where an allocation is refused, a schedule is traced or memory was wanted.
@@ -491,26 +496,23 @@ fn a_refused_allocation(rt: HostRuntime) {
 fn a_refused_allocation_of_a_trace(rt: HostRuntime) {
     let traced = trace(rt.alloc(), Until::Done, SET_AND_GET);
     assert!(rt; is_report_or_out_of_memory(&traced, SET_AND_GET_TRACE));
+    drop(traced);
 }
 
-/// Whether a fault has this text.
-fn has_text(alloc: Global, fault: ReplayFault, text: &str) -> Result<bool, AllocError> {
-    let shown = format!(in alloc; "{fault}")?;
-    Ok(shown.as_str() == text)
+/// A fault has this text.
+fn has_text(rt: &impl Abort, alloc: Global, fault: ReplayFault, text: &str) {
+    let shown = format!(in alloc; "{fault}").expect(rt, "memory for a text");
+    assert!(rt; shown.as_str() == text, "{text}");
+    drop(shown);
 }
 
 #[test]
-fn faults_have_texts(rt: HostRuntime) -> Result<(), Fail> {
-    let rows = [
-        (ReplayFault::CannotRead, "cannot read"),
-        (ReplayFault::BadLine(1), "line 1: bad event"),
-        (ReplayFault::BadLine(120), "line 120: bad event"),
-        (ReplayFault::OutOfMemory, "out of memory"),
-    ];
-    for (fault, text) in rows {
-        assert!(rt; has_text(rt.alloc(), fault, text)?, "{text}");
-    }
-    Ok(())
+fn faults_have_texts(rt: HostRuntime) {
+    let alloc = rt.alloc();
+    has_text(&rt, alloc, ReplayFault::CannotRead, "cannot read");
+    has_text(&rt, alloc, ReplayFault::BadLine(1), "line 1: bad event");
+    has_text(&rt, alloc, ReplayFault::BadLine(120), "line 120: bad event");
+    has_text(&rt, alloc, ReplayFault::OutOfMemory, "out of memory");
 }
 
 /// Whether a fault has this status, and is told or not.

@@ -12,136 +12,142 @@
 //!
 //! Of 16 stripes, the keys a and q lie in stripe 12, and b lies in stripe 5.
 
-ghost use Rattle.std.specs.Prelude.{IfSome};
 ghost use Rattle.world.specs.Tables.{IsWorld};
 
 use bytes::Bytes;
 use records::Page;
 use std::alloc::Global;
 use std::process::Abort;
-use std::test::Fail;
 use words::history::Entry;
 use words::limits::Limits;
-use words::word::OutOfMemory;
 use world::World;
 use world_model::{Event, ShownPage};
 
-/// Adds bytes to a text. `None` where there was no memory.
-pub(crate) fn add(text: &mut Vec<u8>, bytes: &[u8]) -> Option<()> {
-    match text.extend_from_slice(bytes) {
-        Ok(()) => Some(()),
-        Err(_) => None,
-    }
+/// Adds bytes to a text.
+pub(crate) fn add(rt: &impl Abort, text: &mut Vec<u8>, bytes: &[u8]) {
+    text.extend_from_slice(bytes)
+        .expect(rt, "memory for a text");
 }
 
 /// Adds a byte, the last digit of a count, and CR LF.
-fn add_count(text: &mut Vec<u8>, first: u8, count: usize) -> Option<()> {
-    add(text, &[first, b'0' + (count % 10) as u8, b'\r', b'\n'])
+fn add_count(rt: &impl Abort, text: &mut Vec<u8>, first: u8, count: usize) {
+    add(rt, text, &[first, b'0' + (count % 10) as u8, b'\r', b'\n']);
 }
 
 /// Adds what a byte stands for: `|` for CR LF, `<` for CR, `>` for LF, and each other for itself.
-fn add_raw(text: &mut Vec<u8>, byte: u8) -> Option<()> {
+fn add_raw(rt: &impl Abort, text: &mut Vec<u8>, byte: u8) {
     match byte {
-        b'|' => add(text, b"\r\n"),
-        b'<' => add(text, b"\r"),
-        b'>' => add(text, b"\n"),
-        other => add(text, &[other]),
+        b'|' => add(rt, text, b"\r\n"),
+        b'<' => add(rt, text, b"\r"),
+        b'>' => add(rt, text, b"\n"),
+        other => add(rt, text, &[other]),
     }
 }
 
 /// The bytes of a text, where `|` stands for CR LF, `<` for CR and `>` for LF.
-fn raw_of(alloc: Global, text: &str) -> Option<Vec<u8>> {
+fn raw_of(rt: &impl Abort, alloc: Global, text: &str) -> Vec<u8> {
     let mut bytes = Vec::new(alloc);
     for byte in text.as_bytes() {
-        add_raw(&mut bytes, *byte)?;
+        add_raw(rt, &mut bytes, *byte);
     }
-    Some(bytes)
+    bytes
 }
 
 /// Adds one word of a request, of at most 9 bytes.
-fn add_word(text: &mut Vec<u8>, word: &str) -> Option<()> {
-    add_count(text, b'$', word.len())?;
-    add(text, word.as_bytes())?;
-    add(text, b"\r\n")
+fn add_word(rt: &impl Abort, text: &mut Vec<u8>, word: &str) {
+    add_count(rt, text, b'$', word.len());
+    add(rt, text, word.as_bytes());
+    add(rt, text, b"\r\n");
 }
 
 /// The bytes of a request of at most 9 words.
-fn request_of(alloc: Global, words: &str) -> Option<Vec<u8>> {
+fn request_of(rt: &impl Abort, alloc: Global, words: &str) -> Vec<u8> {
     let mut bytes = Vec::new(alloc);
-    add_count(&mut bytes, b'*', words.split(' ').count())?;
+    add_count(rt, &mut bytes, b'*', words.split(' ').count());
     for word in words.split(' ') {
-        add_word(&mut bytes, word)?;
+        add_word(rt, &mut bytes, word);
     }
-    Some(bytes)
+    bytes
+}
+
+/// A number.
+fn number_of(rt: &impl Abort, text: &str) -> usize {
+    text.parse::<usize>().expect(rt, text)
+}
+
+/// Two numbers, set apart by a space.
+fn pair_of(rt: &impl Abort, text: &str) -> (usize, usize) {
+    let (first, second) = text.split_once(' ').expect(rt, text);
+    (number_of(rt, first), number_of(rt, second))
 }
 
 /// Feeds these bytes to a client.
-fn piece_of(client: &str, bytes: Option<Vec<u8>>) -> Option<Event> {
-    let client = client.parse::<usize>().ok()?;
-    let bytes = Bytes::from_vec(bytes?).ok()?;
-    Some(Event::Piece(client, bytes))
-}
-
-/// Two numbers.
-fn pair_of(first: &str, second: &str) -> Option<(usize, usize)> {
-    let first = first.parse::<usize>().ok()?;
-    let second = second.parse::<usize>().ok()?;
-    Some((first, second))
+pub(crate) fn piece_of(rt: &impl Abort, client: usize, bytes: Vec<u8>) -> Event {
+    let bytes = Bytes::from_vec(bytes).ok();
+    Event::Piece(client, bytes.expect(rt, "memory for a piece"))
 }
 
 /// The event of a stripe whose place is released, and shows a page of this byte.
-fn release_of(alloc: Global, stripe: usize, byte: usize) -> Option<Event> {
-    let page = ShownPage::filled(alloc, u8::try_from(byte).ok()?).ok()?;
-    Some(Event::Release(stripe, page))
+fn release_of(rt: &impl Abort, alloc: Global, stripe: usize, byte: usize) -> Event {
+    let byte = u8::try_from(byte).expect(rt, "a byte");
+    Event::Release(
+        stripe,
+        ShownPage::filled(alloc, byte).expect(rt, "memory for a page"),
+    )
 }
 
 /// The event of a client and a stripe, or of a stripe and a byte.
-fn event_of_two(alloc: Global, verb: &str, first: &str, second: &str) -> Option<Event> {
-    let (one, other) = pair_of(first, second)?;
+fn event_of_two(rt: &impl Abort, alloc: Global, verb: &str, one: usize, other: usize) -> Event {
     match verb {
-        "take" => Some(Event::Take(one, other)),
-        "give" => Some(Event::Give(one, other)),
-        "release" => release_of(alloc, one, other),
-        _ => None,
+        "take" => Event::Take(one, other),
+        "give" => Event::Give(one, other),
+        "release" => release_of(rt, alloc, one, other),
+        _ => panic!(rt; "{verb}"),
     }
 }
 
 /// The event of a client or a stripe.
-fn event_of_one(verb: &str, actor: usize) -> Option<Event> {
+fn event_of_one(rt: &impl Abort, verb: &str, actor: usize) -> Event {
     match verb {
-        "close" => Some(Event::Close(actor)),
-        "commit" => Some(Event::Commit(actor)),
-        "fetch" => Some(Event::Fetch(actor)),
-        "copy" => Some(Event::Copy(actor)),
-        "write" => Some(Event::Write(actor)),
-        "install" => Some(Event::Install(actor)),
-        "drop" => Some(Event::Drop(actor)),
-        "unlink" => Some(Event::Unlink(actor)),
-        "retire" => Some(Event::Retire(actor)),
-        "drain" => Some(Event::Drain(actor)),
-        _ => None,
+        "close" => Event::Close(actor),
+        "commit" => Event::Commit(actor),
+        "fetch" => Event::Fetch(actor),
+        "copy" => Event::Copy(actor),
+        "write" => Event::Write(actor),
+        "install" => Event::Install(actor),
+        "drop" => Event::Drop(actor),
+        "unlink" => Event::Unlink(actor),
+        "retire" => Event::Retire(actor),
+        "drain" => Event::Drain(actor),
+        _ => panic!(rt; "{verb}"),
     }
 }
 
-/// The event of a line, if it is one.
-fn event_of(alloc: Global, line: &str) -> Option<Event> {
-    let (verb, rest) = line.split_once(' ')?;
+/// The event of a verb and what it is of.
+fn event_of_verb(rt: &impl Abort, alloc: Global, verb: &str, rest: &str) -> Event {
     let Some((first, second)) = rest.split_once(' ') else {
-        return event_of_one(verb, rest.parse::<usize>().ok()?);
+        return event_of_one(rt, verb, number_of(rt, rest));
     };
+    let first = number_of(rt, first);
     match verb {
-        "ask" => piece_of(first, request_of(alloc, second)),
-        "raw" => piece_of(first, raw_of(alloc, second)),
-        _ => event_of_two(alloc, verb, first, second),
+        "ask" => piece_of(rt, first, request_of(rt, alloc, second)),
+        "raw" => piece_of(rt, first, raw_of(rt, alloc, second)),
+        _ => event_of_two(rt, alloc, verb, first, number_of(rt, second)),
     }
+}
+
+/// The event of a line.
+fn event_of(rt: &impl Abort, alloc: Global, line: &str) -> Event {
+    let (verb, rest) = line.split_once(' ').expect(rt, line);
+    event_of_verb(rt, alloc, verb, rest)
 }
 
 /// Whether this is what was written to a client.
-fn is_told(alloc: Global, world: &World, client: usize, text: &str) -> bool {
-    let Some(due) = raw_of(alloc, text) else {
-        return false;
-    };
-    client < world.clients() && world.output(client) == due.as_slice()
+fn is_told(rt: &impl Abort, alloc: Global, world: &World, client: usize, text: &str) -> bool {
+    let due = raw_of(rt, alloc, text);
+    let is_so = client < world.clients() && world.output(client) == due.as_slice();
+    drop(due);
+    is_so
 }
 
 /// Whether entries are those of these clients.
@@ -160,99 +166,100 @@ fn are_by(entries: &[Entry], clients: &str) -> bool {
 }
 
 /// Whether what a line says of a client's output holds.
-fn tells(alloc: Global, world: &World, rest: &str) -> bool {
+fn tells(rt: &impl Abort, alloc: Global, world: &World, rest: &str) -> bool {
     let (client, text) = rest.split_once(' ').unwrap_or((rest, ""));
-    match client.parse::<usize>() {
-        Ok(client) => is_told(alloc, world, client, text),
-        Err(_) => false,
-    }
+    is_told(rt, alloc, world, number_of(rt, client), text)
 }
 
 /// Whether what a line says holds in the world.
-fn holds(alloc: Global, world: &World, line: &str) -> bool {
-    match line.split_once(' ') {
-        Some(("no", "entries")) => world.history().is_empty(),
-        Some(("entries", clients)) => are_by(world.history(), clients),
-        Some(("told" | "silent", rest)) => tells(alloc, world, rest),
-        _ => false,
+fn holds(rt: &impl Abort, alloc: Global, world: &World, verb: &str, rest: &str) -> bool {
+    match verb {
+        "no" => rest == "entries" && world.history().is_empty(),
+        "entries" => are_by(world.history(), rest),
+        _ => tells(rt, alloc, world, rest),
     }
 }
 
-/// The client and the stripe of a line that is a take, a commit and a give.
-fn turn_of(line: &str) -> Option<(usize, usize)> {
-    let (client, stripe) = line.strip_prefix("turn ")?.split_once(' ')?;
-    pair_of(client, stripe)
+/// The world after these events.
+pub(crate) fn run(rt: &impl Abort, world: World, events: &[Event]) -> World
+    requires { IsWorld world }
+    ensures { IsWorld result }
+{
+    world.run(events).expect(rt, "memory for the events")
 }
 
-/// The world after a take, a commit and a give.
-fn after_turn(world: World, client: usize, stripe: usize) -> Option<World>
+/// The world after a take, a commit and a give of this client and this stripe.
+fn after_turn(rt: &impl Abort, world: World, pair: &str) -> World
     requires { IsWorld world }
-    ensures { IfSome result IsWorld }
+    ensures { IsWorld result }
 {
+    let (client, stripe) = pair_of(rt, pair);
     let take = Event::Take(client, stripe);
     let give = Event::Give(client, stripe);
-    world.run(&[take, Event::Commit(client), give]).ok()
-}
-
-/// The event of a line that says whether it is enabled, and whether it is to be.
-fn step_of(alloc: Global, line: &str) -> Option<(Event, bool)> {
-    if let Some(event) = line.strip_prefix("do ") {
-        return Some((event_of(alloc, event)?, true));
-    }
-    let event = line.strip_prefix("not ")?;
-    Some((event_of(alloc, event)?, false))
+    run(rt, world, &[take, Event::Commit(client), give])
 }
 
 /// The world after an event that is enabled, or is not, as it is to be.
-fn after_step(world: World, event: &Event, due: bool) -> Option<World>
+fn after_step(rt: &impl Abort, alloc: Global, world: World, line: &str, due: bool) -> World
     requires { IsWorld world }
-    ensures { IfSome result IsWorld }
+    ensures { IsWorld result }
 {
-    let (world, enabled) = world.step(event).ok()?;
-    if enabled == due {
-        return Some(world);
-    }
-    world.end();
-    None
+    let event = event_of(rt, alloc, line);
+    let (world, enabled) = world.step(&event).expect(rt, "memory for the event");
+    assert!(rt; enabled == due, "{line}");
+    drop(event);
+    world
+}
+
+/// The world after an event, which is enabled or not.
+fn after_event(rt: &impl Abort, alloc: Global, world: World, line: &str) -> World
+    requires { IsWorld world }
+    ensures { IsWorld result }
+{
+    let event = event_of(rt, alloc, line);
+    run(rt, world, &[event])
 }
 
 /// The world, where each client rests in it, or where some does not, as it is to be.
-fn at_rest(world: World, due: bool) -> Option<World>
+fn at_rest(rt: &impl Abort, world: World, due: bool) -> World
     requires { IsWorld world }
-    ensures { IfSome result IsWorld }
+    ensures { IsWorld result }
 {
-    if world.next_event().is_none() == due {
-        return Some(world);
-    }
-    world.end();
-    None
+    assert!(rt; world.next_event().is_none() == due);
+    world
 }
 
-/// The world after a line. `None` where the line does not hold, or where there was no memory.
-fn after(alloc: Global, world: World, line: &str) -> Option<World>
+/// The world after a line of one word.
+fn after_word(rt: &impl Abort, world: World, word: &str) -> World
     requires { IsWorld world }
-    ensures { IfSome result IsWorld }
+    ensures { IsWorld result }
 {
-    if let Some((client, stripe)) = turn_of(line) {
-        return after_turn(world, client, stripe);
+    if word == "rest" {
+        return at_rest(rt, world, true);
     }
-    match line {
-        "finish" => return world.finish().ok(),
-        "rest" => return at_rest(world, true),
-        "no rest" => return at_rest(world, false),
-        _ => {}
+    assert!(rt; word == "finish", "{word}");
+    world.finish().expect(rt, "memory to finish")
+}
+
+/// The world after a line, which holds.
+fn after(rt: &impl Abort, alloc: Global, world: World, line: &str) -> World
+    requires { IsWorld world }
+    ensures { IsWorld result }
+{
+    let Some((verb, rest)) = line.split_once(' ') else {
+        return after_word(rt, world, line);
+    };
+    match verb {
+        "turn" => after_turn(rt, world, rest),
+        "do" => after_step(rt, alloc, world, rest, true),
+        "not" => after_step(rt, alloc, world, rest, false),
+        "no" if rest == "rest" => at_rest(rt, world, false),
+        "no" | "entries" | "told" | "silent" => {
+            assert!(rt; holds(rt, alloc, &world, verb, rest), "{line}");
+            world
+        }
+        _ => after_event(rt, alloc, world, line),
     }
-    if let Some((event, due)) = step_of(alloc, line) {
-        return after_step(world, &event, due);
-    }
-    if let Some(event) = event_of(alloc, line) {
-        return world.run(&[event]).ok();
-    }
-    if holds(alloc, &world, line) {
-        return Some(world);
-    }
-    world.end();
-    None
 }
 
 /// The world after the lines of a text, each of which holds.
@@ -264,9 +271,7 @@ pub(crate) fn follow<R: Abort>(rt: &R, alloc: Global, world: World, text: &str) 
         Some((line, others)) => (line, Some(others)),
         None => (text, None),
     };
-    let Some(world) = after(alloc, world, line) else {
-        panic!(rt; "{line}")
-    };
+    let world = after(rt, alloc, world, line);
     match others {
         Some(others) => follow(rt, alloc, world, others),
         None => world,
@@ -274,11 +279,25 @@ pub(crate) fn follow<R: Abort>(rt: &R, alloc: Global, world: World, text: &str) 
 }
 
 /// A world of so many stripes and clients, where nothing was done.
-fn new_world(alloc: Global, stripes: usize, clients: usize) -> Option<World>
-    ensures { IfSome result IsWorld }
+fn new_world(rt: &impl Abort, alloc: Global, stripes: usize, clients: usize) -> World
+    ensures { IsWorld result }
 {
-    let limits = Limits::new(stripes, 4_096, 32, 4_096, clients)?;
-    World::new(alloc, &limits).ok()
+    world_with(rt, alloc, stripes, 32, 4_096, clients)
+}
+
+/// The same with so many frames and places.
+pub(crate) fn world_with(
+    rt: &impl Abort,
+    alloc: Global,
+    stripes: usize,
+    frames: usize,
+    places: usize,
+    clients: usize,
+) -> World
+    ensures { IsWorld result }
+{
+    let limits = Limits::new(stripes, 4_096, frames, places, clients).expect(rt, "the limits");
+    World::new(alloc, &limits).expect(rt, "memory for a world")
 }
 
 /// Whether this is a page, each of whose bytes is this.
@@ -286,74 +305,98 @@ fn is_of(page: &Page, byte: u8) -> bool {
     page.bytes().iter().all(|shown| *shown == byte)
 }
 
+/// A page of a byte that is shown.
+fn filled(rt: &impl Abort, alloc: Global, byte: u8) -> ShownPage {
+    ShownPage::filled(alloc, byte).expect(rt, "memory for a page")
+}
+
+/// An empty page of number 7.
+fn page_7(rt: &impl Abort, alloc: Global) -> Page {
+    Page::new(alloc, 7).expect(rt, "memory for a page")
+}
+
 /// A page is shown as it is, and one of a byte by that byte alone.
 #[test]
-fn pages_that_are_shown(rt: HostRuntime) -> Result<(), Fail> {
-    let alloc = rt.alloc();
-    let filled = ShownPage::filled(alloc, 255)?;
+fn pages_that_are_shown(rt: HostRuntime) {
+    let filled = filled(&rt, rt.alloc(), 255);
     assert!(rt; is_of(filled.page(), 255));
-    let page = ShownPage::new(alloc, Page::new(alloc, 7)?)?;
-    assert!(rt; *page.page() == Page::new(alloc, 7)?);
-    Ok(())
+    drop(filled);
+    let shown = ShownPage::new(rt.alloc(), page_7(&rt, rt.alloc())).expect(&rt, "memory to show");
+    let page = page_7(&rt, rt.alloc());
+    assert!(rt; *shown.page() == page);
+    drop(page);
+    drop(shown);
 }
 
 /// A page that is shown once more, or is shared, is the same page.
 #[test]
-fn pages_that_are_shared(rt: HostRuntime) -> Result<(), Fail> {
-    let filled = ShownPage::filled(rt.alloc(), 7)?;
-    let again = filled.again()?;
+fn pages_that_are_shared(rt: HostRuntime) {
+    let filled = filled(&rt, rt.alloc(), 7);
+    let again = filled.again().expect(&rt, "memory to show");
     assert!(rt; is_of(again.page(), 7));
-    let shared = filled.shared()?;
+    drop(again);
+    let shared = filled.shared().expect(&rt, "memory to share");
     assert!(rt; is_of(&shared, 7));
-    Ok(())
+    drop(shared);
+    drop(filled);
+}
+
+/// Adds an event.
+pub(crate) fn push(rt: &impl Abort, events: &mut Vec<Event>, event: Event) {
+    events.push(event).expect(rt, "memory for an event");
 }
 
 /// So many events that are not enabled, between two that are.
-fn many(alloc: Global, count: usize) -> Result<Vec<Event>, OutOfMemory> {
+fn many(rt: &impl Abort, alloc: Global, count: usize) -> Vec<Event> {
     let mut events = Vec::new(alloc);
-    events.push(Event::Close(0))?;
+    push(rt, &mut events, Event::Close(0));
     for _ in 0..count {
-        events.push(Event::Commit(0))?;
+        push(rt, &mut events, Event::Commit(0));
     }
-    events.push(Event::Close(1))?;
-    Ok(events)
+    push(rt, &mut events, Event::Close(1));
+    events
 }
 
 /// A run takes no more of the stack for more events.
 #[test]
-fn twenty_thousand_events(rt: HostRuntime) -> Result<(), Fail> {
-    let events = many(rt.alloc(), 20_000)?;
-    let Some(world) = new_world(rt.alloc(), 1, 2) else {
-        panic!(rt; "no world")
-    };
-    let Ok(world) = world.run(events.as_slice()) else {
-        panic!(rt; "stopped")
-    };
-    follow(
-        &rt,
-        rt.alloc(),
-        world,
-        "ask 0 PING; silent 0; ask 1 PING; silent 1; no entries",
-    )
-    .end();
-    Ok(())
+fn twenty_thousand_events(rt: HostRuntime) {
+    let events = many(&rt, rt.alloc(), 20_000);
+    let world = run(&rt, new_world(&rt, rt.alloc(), 1, 2), events.as_slice());
+    drop(events);
+    let text = "ask 0 PING; silent 0; ask 1 PING; silent 1; no entries";
+    follow(&rt, rt.alloc(), world, text).end();
 }
 
-/// Follows two texts in a new world, one after the other.
-fn follow_both<R: Abort>(rt: &R, alloc: Global, world: Option<World>, first: &str, second: &str)
-    requires { IfSome world IsWorld }
+/// Follows two texts in this world, one after the other.
+fn follow_both<R: Abort>(rt: &R, alloc: Global, world: World, first: &str, second: &str)
+    requires { IsWorld world }
 {
-    let Some(world) = world else {
-        panic!(rt; "no world")
-    };
     let world = follow(rt, alloc, world, first);
     let world = follow(rt, alloc, world, second);
     world.end();
 }
 
+/// Follows two texts in a new world of 16 stripes and two clients.
+fn schedule_both<R: Abort>(rt: &R, alloc: Global, first: &str, second: &str) {
+    follow_both(rt, alloc, new_world(rt, alloc, 16, 2), first, second);
+}
+
 /// Follows a text in a new world of 16 stripes and two clients.
 pub(crate) fn schedule<R: Abort>(rt: &R, alloc: Global, text: &str) {
-    follow_both(rt, alloc, new_world(alloc, 16, 2), "no entries", text);
+    schedule_both(rt, alloc, "no entries", text);
+}
+
+/// Follows a text in a new world of so many stripes and clients.
+fn schedule_of<R: Abort>(rt: &R, alloc: Global, stripes: usize, clients: usize, text: &str) {
+    let world = new_world(rt, alloc, stripes, clients);
+    follow_both(rt, alloc, world, "no entries", text);
+}
+
+/// Follows each of these texts in a new world of 16 stripes and two clients.
+fn schedule_each<R: Abort>(rt: &R, alloc: Global, texts: &[&str]) {
+    for text in texts {
+        schedule(rt, alloc, text);
+    }
 }
 
 #[test]
@@ -394,9 +437,7 @@ fn watches_and_writes(rt: HostRuntime) {
             ask 0 QUIT; turn 0 12; ask 1 MULTI; ask 1 EXEC; turn 1 12; told 1 +OK|+OK|*-1|; \
             entries 0 1 0 1",
     ];
-    for text in texts {
-        schedule(&rt, rt.alloc(), text);
-    }
+    schedule_each(&rt, rt.alloc(), &texts);
 }
 
 /// RENAME takes the stripes of both keys, and writes both, or none.
@@ -417,9 +458,7 @@ fn a_rename_of_two_stripes(rt: HostRuntime) {
             ask 0 MULTI; ask 0 RENAME a b; ask 0 SET b 2 GET; ask 0 EXEC; take 0 5; turn 0 12; give 0 5; \
             told 0 +OK|+OK|+QUEUED|+QUEUED|*2|+OK|$1|1|; entries 1 0 1 1 0",
     ];
-    for text in texts {
-        schedule(&rt, rt.alloc(), text);
-    }
+    schedule_each(&rt, rt.alloc(), &texts);
 }
 
 #[test]
@@ -440,7 +479,7 @@ fn a_call_of_two_stripes(rt: HostRuntime) {
         give 0 5; turn 1 5; told 1 $-1|$-1|$1|2|; entries 1 1 0 1; \
         told 0 +OK|+QUEUED|+QUEUED|*2|+OK|+OK|; give 0 12; \
         told 0 +OK|+QUEUED|+QUEUED|*2|+OK|+OK|+PONG|";
-    follow_both(&rt, rt.alloc(), new_world(rt.alloc(), 16, 2), first, second);
+    schedule_both(&rt, rt.alloc(), first, second);
 }
 
 #[test]
@@ -454,7 +493,7 @@ fn events_that_are_not_enabled_at_the_start(rt: HostRuntime) {
         not ask 18446744073709551615 SET a 1; silent 0; silent 1; no entries";
     let second = "ask 0 SET a 1; ask 1 GET a; turn 1 12; told 1 $-1|; turn 0 12; told 0 +OK|; \
         entries 1 0; ask 1 GET a; turn 1 12; told 1 $-1|$1|1|; entries 1 0 1";
-    follow_both(&rt, rt.alloc(), new_world(rt.alloc(), 16, 2), first, second);
+    schedule_both(&rt, rt.alloc(), first, second);
 }
 
 #[test]
@@ -470,7 +509,7 @@ fn events_that_are_not_enabled_within_a_call(rt: HostRuntime) {
         do give 0 12; not give 0 12; not take 0 12; turn 1 12; told 1 $1|1|; entries 0 1; \
         ask 0 PING; told 0 +OK|+QUEUED|+QUEUED|*2|+OK|+OK|; give 0 5; \
         told 0 +OK|+QUEUED|+QUEUED|*2|+OK|+OK|+PONG|";
-    follow_both(&rt, rt.alloc(), new_world(rt.alloc(), 16, 2), first, second);
+    schedule_both(&rt, rt.alloc(), first, second);
 }
 
 #[test]
@@ -485,9 +524,7 @@ fn events_after_the_end(rt: HostRuntime) {
         "raw 0 *1|$4|PING|*1|$04|; told 0 +PONG|-ERR Protocol error: bad length|; ask 0 PING; close 0; \
             told 0 +PONG|-ERR Protocol error: bad length|; no entries",
     ];
-    for text in texts {
-        schedule(&rt, rt.alloc(), text);
-    }
+    schedule_each(&rt, rt.alloc(), &texts);
 }
 
 #[test]
@@ -507,7 +544,7 @@ fn a_session_ends_with_watches(rt: HostRuntime) {
         take 0 12; commit 0; ask 0 SET a 1; turn 0 12; close 0; ask 1 GET a; turn 1 12; \
         told 1 $-1|$-1|$-1|; entries 0 1 1 1";
     for start in starts {
-        follow_both(&rt, rt.alloc(), new_world(rt.alloc(), 16, 2), start, ending);
+        schedule_both(&rt, rt.alloc(), start, ending);
     }
 }
 
@@ -524,9 +561,7 @@ fn calls_that_only_forget(rt: HostRuntime) {
             take 0 12; commit 0; told 0 +OK|+OK|+QUEUED|+OK|; entries 0; give 0 12; give 0 5; \
             ask 0 GET a; turn 0 12; told 0 +OK|+OK|+QUEUED|+OK|$-1|; entries 0 0",
     ];
-    for text in texts {
-        schedule(&rt, rt.alloc(), text);
-    }
+    schedule_each(&rt, rt.alloc(), &texts);
 }
 
 #[test]
@@ -541,9 +576,7 @@ fn requests_in_pieces(rt: HostRuntime) {
             told 0 +PONG|+PONG|:1|+PONG|:2|; raw 0 NG|; told 0 +PONG|+PONG|:1|+PONG|:2|+PONG|; \
             entries 0 0; ask 0 NONE; told 0 +PONG|+PONG|:1|+PONG|:2|+PONG|-ERR unknown command|",
     ];
-    for text in texts {
-        schedule(&rt, rt.alloc(), text);
-    }
+    schedule_each(&rt, rt.alloc(), &texts);
 }
 
 #[test]
@@ -553,18 +586,6 @@ fn the_smallest_world_and_the_largest(rt: HostRuntime) {
         told 0 +OK|+QUEUED|+QUEUED|*2|+OK|$-1|$1|1|";
     let large = "ask 63 SET a 1; turn 63 12; told 63 +OK|; ask 0 SET b 1; turn 0 37; told 0 +OK|; \
         silent 1; silent 62; ask 64 PING; entries 63 0";
-    follow_both(
-        &rt,
-        rt.alloc(),
-        new_world(rt.alloc(), 1, 1),
-        "no entries",
-        small,
-    );
-    follow_both(
-        &rt,
-        rt.alloc(),
-        new_world(rt.alloc(), 64, 64),
-        "no entries",
-        large,
-    );
+    schedule_of(&rt, rt.alloc(), 1, 1, small);
+    schedule_of(&rt, rt.alloc(), 64, 64, large);
 }

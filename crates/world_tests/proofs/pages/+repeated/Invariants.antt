@@ -1,4 +1,4 @@
 use Rattle.world_tests.proofs.pages.+repeated.Given as goal
 
 abbrev pub decreases-repeated : goal.decreases-repeated
-decreases-repeated l = l.times
+decreases-repeated g l = l.times
