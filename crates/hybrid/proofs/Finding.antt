@@ -4,7 +4,7 @@ use Rattle.std.specs.List.{Contains}
 use Rattle.records.specs.Records.{Stored}
 use Rattle.frames.specs.Resident.{next_number}
 use Rattle.words.specs.Stripes.{hash_of}
-use Rattle.hybrid.specs.Log.{Log, begin_of, top}
+use Rattle.hybrid.specs.Log.{Log, begin_of, newest, top}
 use Rattle.hybrid.specs.HybridLog.{HybridLog, Kept, IsHybridLog, bucket_of, log_of, page_at, shown_page, cold, receipt_at, receipt_of}
 use Rattle.hybrid.specs.Lookups.{IsLaidAt, Leads}
 use Rattle.std.proofs.lemmas.List.{get_or_append_left, get_or-take}
@@ -12,13 +12,13 @@ use Rattle.records.specs.declared.pages.TheConstants.{PAGE_SIZE}
 use Rattle.hybrid.specs.Staging.{StagedPage}
 use Rattle.hybrid.specs.Ways.{IsNear, IsFirstFar}
 use Rattle.hybrid.proofs.Logs.{here}
-use Rattle.hybrid.proofs.Chains.{joins_low}
-use Rattle.hybrid.proofs.Walk.{IsWalk, IsHere, walk-here, walk-start, here-visited, here-next}
+use Rattle.hybrid.proofs.Chains.{joins_low, unique}
+use Rattle.hybrid.proofs.Walk.{IsWalk, IsHere, here-found, listed-live, walk-here, walk-start, here-visited, here-next}
 use Rattle.hybrid.proofs.Overwriting.{at-page}
 use Rattle.hybrid.proofs.Replacing.{cold-size}
 use Rattle.hybrid.proofs.Parts.{shown-at}
 use Rattle.std.proofs.Common.{map, take}
-use Rattle.std.specs.Prelude.{IsSome, IfSome, IfNone, nat_lt}
+use Rattle.std.specs.Prelude.{IsSome, IfSome, IfNone, nat_lt, ⊤}
 use Rattle.std.proofs.Common.{false}
 use Rattle.std.proofs.lemmas.Bool.{le-ltb}
 
@@ -78,6 +78,20 @@ far-here lends p staged key address number h at far =
     let n = here-next (bucket_of p) (begin_of p.oldest) (log_of p) key (IsNear lends p staged) address h in
     record { passed = h.passed; entry = (address, h.stored); more = n.more; way = n.way; near = h.near; there = sym at; far = far }
 
+pub now-is : (v now : HybridLog) → v ≡ now → IsHybridLog v → IsHybridLog now
+now-is v now same is = subst (λ (q : HybridLog). IsHybridLog q) same is
+
+-- a record of the log that stands at the head of its bucket is the newest of its key
+pub at-head : (v now : HybridLog) (key : List ℕ) (hash head address : ℕ) (r : Stored) → v ≡ now → IsHybridLog v → hash ≡ hash_of key → head ≡ slice_index v.heads (hash / v.stripes % length v.heads)
+    → Contains (log_of now) (address, r) → r.key ≡ key → address ≡ head → newest (log_of now) key ≡ Some (address, r)
+at-head v now key hash head address r same is hashed at listed keyed first =
+    let linked = (now-is v now same is).linked in
+    let low = listed-live (bucket_of now) (begin_of now.oldest) (log_of now) (address, r) linked listed in
+    let walk = (start-from v now key (λ _. ⊤) hash address same is hashed (first ∙ at)).walk in
+    let h = walk-here (bucket_of now) (begin_of now.oldest) (log_of now) key (λ _. ⊤) address low walk in
+    let it : h.stored ≡ r = unique (bucket_of now) (begin_of now.oldest) (log_of now) address h.stored r linked h.listed listed in
+    here-found (bucket_of now) (begin_of now.oldest) (log_of now) key (λ _. ⊤) address h (ap (λ (x : Stored). x.key) it ∙ keyed) ∙ ap (λ (x : Stored). Some (address, x)) it
+
 -- ---- a page that is not resident
 
 -- a page of the log that is not resident is the one that its receipt shows
@@ -100,9 +114,6 @@ cold-none p number is low high e =
 
 pub cold-has : (p : HybridLog) (number : ℕ) (k : Kept) → p.oldest ≤ number → Some k ≡ receipt_at p number → receipt_of p number ≡ Some k
 cold-has p number k low e = sym (e ∙ receipt-there p number low)
-
-pub now-is : (v now : HybridLog) → v ≡ now → IsHybridLog v → IsHybridLog now
-now-is v now same is = subst (λ (q : HybridLog). IsHybridLog q) same is
 
 pub some-so : {X : Type 0} (o : Option X) (P Q : X → Type 0) → ((x : X) → P x → Q x) → IfSome o P → IfSome o Q
 some-so None P Q f h = tt

@@ -1,6 +1,6 @@
 -- The oldest resident page is written and leaves its frame, whose memory may then hold any bytes.
-use Rattle.std.proofs.Common.{◌≡◌, ℕ, ◌+◌, ◌-◌, ◌/◌, ◌<◌, ◌≤◌, max, List, length, map, set, Some, None, refl, sym, ap, ◌∙◌, subst, arith, length-set}
-use Rattle.std.specs.Prelude.{Bool, IsTrue, IsSome, Option, option_map, slice_index_or}
+use Rattle.std.proofs.Common.{◌≡◌, ℕ, ◌+◌, ◌-◌, ◌/◌, ◌<◌, ◌≤◌, max, List, map, set, Some, sym, ap, ◌∙◌, subst, arith, length-set}
+use Rattle.std.specs.Prelude.{Bool, IsTrue, IsSome, Option, option_map}
 use Rattle.std.specs.Bool.{OnTrue}
 use Rattle.frames.specs.Resident.{Resident, first_mutable, page_of, with_page, without_oldest}
 use Rattle.hybrid.specs.HybridLog.{HybridLog, Kept, IsHybridLog, count_kept, log_of, receipt_of, with_dropped}

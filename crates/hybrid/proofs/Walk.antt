@@ -153,6 +153,14 @@ here-visited bucket begin log key Near address h =
     let n = here-next bucket begin log key Near address h in
     subst (λ (l : Log). Contains l (address, h.stored)) (sym n.way) (behind h.passed (address, h.stored) n.more)
 
+-- a record of the log is live
+pub listed-live : (bucket : List ℕ → ℕ) (begin : ℕ) (log : Log) (e : ℕ × Stored) → IsLinked bucket begin log → Contains log e → begin ≤ e.0
+listed-live bucket begin [] e linked c = absurd (omega (arith, c.1))
+listed-live bucket begin (x ∷ log) e linked c = elim (cons_cases x log e c) [
+  | inl is ↦ omega (arith, linked.0.live, ap (λ (z : ℕ × Stored). z.0) is)
+  | inr more ↦ listed-live bucket begin log e linked.1 more
+]
+
 -- the newest record of a key is no newer than the one that joins its bucket
 newest-low : (bucket : List ℕ → ℕ) (begin : ℕ) (key : List ℕ) (address : ℕ) (rest : Log) (e : ℕ × Stored) → IsLinked bucket begin rest → Joins bucket begin address rest (bucket key) → newest rest key ≡ Some e → (begin ≤ e.0) × (e.0 ≤ address)
 newest-low bucket begin key address [] e linked joins new = absurd (let bad = sym (newest-none key) ∙ new in cc)
@@ -162,18 +170,11 @@ newest-low bucket begin key address (x ∷ more) e linked joins new =
           let at : address ≡ x.0 = rw y at joins in
           elim (cases_Bool (bytes_eq x.1.key key)) [
             | inl t ↦ let it : x ≡ e = some_is x e (sym (newest-first x more key t) ∙ new) in (omega (arith, linked.0.live, ap (λ (z : ℕ × Stored). z.0) it), omega (arith, at, ap (λ (z : ℕ × Stored). z.0) it))
-            | inr f ↦ let c = newest-listed more key e (sym (newest-skip x more key f) ∙ new) in (listed-live more e linked.1 c, omega (arith, at, below bucket begin more e linked.1 c, linked.0.falls))
+            | inr f ↦ let c = newest-listed more key e (sym (newest-skip x more key f) ∙ new) in (listed-live bucket begin more e linked.1 c, omega (arith, at, below bucket begin more e linked.1 c, linked.0.falls))
           ]
       | inr n ↦
           let joins_more : Joins bucket begin address more (bucket key) = rw n at joins in
           newest-low bucket begin key address more e linked.1 joins_more (sym (newest-skip x more key (other-key bucket x.1.key key n)) ∙ new)
-    ]
-  where
-    listed-live : (log : Log) (e : ℕ × Stored) → IsLinked bucket begin log → Contains log e → begin ≤ e.0
-    listed-live [] e linked c = absurd (omega (arith, c.1))
-    listed-live (x ∷ log) e linked c = elim (cons_cases x log e c) [
-      | inl is ↦ omega (arith, linked.0.live, ap (λ (z : ℕ × Stored). z.0) is)
-      | inr more ↦ listed-live log e linked.1 more
     ]
 
 pub walk-low : (bucket : List ℕ → ℕ) (begin : ℕ) (log : Log) (key : List ℕ) (Near : ℕ × Stored → Type 0) (address : ℕ) (e : ℕ × Stored) → IsWalk bucket begin log key Near address → newest log key ≡ Some e → (begin ≤ e.0) × (e.0 ≤ address)

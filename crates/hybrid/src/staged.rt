@@ -12,7 +12,7 @@ ghost use Rattle.hybrid.specs.Ways.{AreInReach, IsAtHand};
 use crate::piece::Piece;
 use device::{Device, Shows};
 use records::laws::parts_of_the_same_bytes_are_the_same;
-use records::{NotARecord, PAGE_SIZE, Page, Record, record_at, record_before};
+use records::{NotARecord, PAGE_SIZE, Page, Record, record_before};
 use std::alloc::{AllocError, Global};
 use std::marker::Model;
 use thiserror::Error;
@@ -246,7 +246,7 @@ impl<R: Shows> Staged<R> {
         ensures lent { R.lends → IsSome result }
     {
         if let Some(page) = receipt.page() {
-            return Some(record_at(page, offset));
+            return Some(record_of(page, offset));
         }
         for (place, read) in self.reads.iter().enumerate() {
             if read.receipt.same(receipt) {
@@ -258,6 +258,14 @@ impl<R: Shows> Staged<R> {
         }
         None
     }
+}
+
+// The record at an offset of a whole page. Only the record's own bytes are read: the page's header lies far from most of them.
+#[inline]
+pub(crate) fn record_of(page: &Page, offset: usize) -> Result<Record<'_>, NotARecord>
+    ensures found { IsLaidOut page.now → (r : Stored) → Contains (records_of page.now) (offset, r) → IsOkAnd result (λ x. shown x ≡ r) }
+{
+    record_before(page, PAGE_SIZE, offset)
 }
 
 // The record at an offset of a page of which this piece was read, or all. None if the piece does not have it whole.
@@ -273,7 +281,7 @@ fn record_in(
     ensures whole { IfNone result (piece ≢ None) }
 {
     let Some(piece) = piece else {
-        return Some(record_at(page, offset));
+        return Some(record_of(page, offset));
     };
     if offset < piece.from {
         return None;

@@ -3,7 +3,7 @@
 ghost use Rattle.std.specs.Prelude.{◌≡◌, ◌≢◌, ◌+◌, ◌<◌, ◌≤◌, ◌↔◌, IsTrue, IsSome, IsOk, IfOk, IfErr, IfSome, Some, option_map, ◌⊎◌, ⊤};
 ghost use Rattle.std.specs.List.{Contains};
 ghost use Rattle.std.specs.Option.{option_copied};
-ghost use Rattle.records.specs.Records.{records_of, IsLaidOut};
+ghost use Rattle.records.specs.Records.{records_of, IsLaidOut, Stored};
 ghost use Rattle.hybrid.specs.Log.{newest};
 ghost use Rattle.hybrid.specs.Lookups.{Leads};
 ghost use Rattle.hybrid.specs.HybridLog.{count_kept, log_of, HasRoom, IsCut, IsGrown, without_oldest_page, receipt_of, Kept, SameContents};
@@ -81,7 +81,8 @@ impl<R: Shows> Stripe<R> {
     }
 
     /// Copies the records of the oldest page that still count to the tail, and takes the page out of
-    /// the log, where it is not resident. A tombstone is dropped, and its key is not looked up.
+    /// the log, where it is not resident. A tombstone is dropped, and its key is not looked up; nor is that of a record that is the
+    /// head of its bucket.
     ///
     /// Room for `weigh_oldest` is enough, and so is room for `CLEAN_WEIGHT`. The page is gone over in `copy`: whatever that
     /// holds is lost.
@@ -157,7 +158,7 @@ impl<R: Shows> Stripe<R> {
     }
 
     // Whether the record of a key at an address is live: it has a value, and is the newest of the key.
-    // The key of a tombstone is not looked up.
+    // The key of a tombstone is not looked up, nor that of the record at the head of its bucket, which is the newest of its key.
     fn is_live(
         &self,
         key: &[u8],
@@ -165,7 +166,9 @@ impl<R: Shows> Stripe<R> {
         address: Address,
         staged: &Staged<R>,
     ) -> Result<bool, u64>
-        ensures live { R.is_honest → AreRight staged.now → IfOk result (λ live. IsTrue live ↔ ((option_map (λ e. e.0) (newest (log_of self.now) key.now) ≡ Some address) × IsSome (option_copied value.entry))) }
+        ensures live { R.is_honest → AreRight staged.now → (r : Stored) → Contains (log_of self.now) (address, r) → r.key ≡ key.now
+            → IfOk result (λ live. IsTrue live
+            ↔ ((option_map (λ e. e.0) (newest (log_of self.now) key.now) ≡ Some address) × IsSome (option_copied value.entry))) }
         ensures needed { R.is_honest → AreRight staged.now → IfErr result (λ number. IsSome (option_copied value.entry) × Leads self.now key.now number) }
         ensures cold { IfErr result (λ number. IsMissing self.now staged.now number) }
         ensures lent { R.lends → IsOk result }
@@ -173,7 +176,11 @@ impl<R: Shows> Stripe<R> {
         if value.is_none() {
             return Ok(false);
         }
-        match self.newest_address(key, staged)? {
+        let hash = hash_of(key);
+        if address == Address::from_number(self.index.head(hash / self.stripes)) {
+            return Ok(true);
+        }
+        match self.newest_address(hash, key, staged)? {
             Some(at) => Ok(at == address),
             None => Ok(false),
         }

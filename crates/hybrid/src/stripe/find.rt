@@ -13,10 +13,10 @@ ghost use Rattle.hybrid.specs.Staging.{AreRight, IsMissing};
 ghost use Rattle.hybrid.specs.Ways.{AreNear, IsFirstFar, IsNear, way_of};
 
 use crate::address::Address;
-use crate::staged::Staged;
+use crate::staged::{Staged, record_of};
 use crate::stripe::Stripe;
 use device::Shows;
-use records::{HEADER_SIZE, NotARecord, PAGE_SIZE, Record, record_at};
+use records::{HEADER_SIZE, NotARecord, PAGE_SIZE, Record};
 use words::hash::hash_of;
 use words::limits::VALUE_BYTES_MAX;
 
@@ -109,18 +109,20 @@ impl<R: Shows> Stripe<R> {
         Ok(None)
     }
 
-    // The address of the newest record of a key.
+    // The address of the newest record of a key with this hash.
     pub(crate) fn newest_address<'a>(
         &'a self,
+        hash: u64,
         key: &[u8],
         staged: &'a Staged<R>,
     ) -> Result<Option<Address>, u64>
+        requires hash { hash ≡ hash_of key.now }
         ensures found { R.is_honest → AreRight staged.now → IfOk result (λ o. o ≡ option_map (λ e. e.0) (newest (log_of self.now) key.now)) }
         ensures leads { R.is_honest → AreRight staged.now → IfErr result (λ number. Leads self.now key.now number) }
         ensures cold { IfErr result (λ number. IsMissing self.now staged.now number) }
         ensures lent { R.lends → IsOk result }
     {
-        match self.newest(hash_of(key), key, staged) {
+        match self.newest(hash, key, staged) {
             Ok(Some((address, _))) => Ok(Some(address)),
             Ok(None) => Ok(None),
             Err(address) => Err(address.page()),
@@ -148,7 +150,7 @@ impl<R: Shows> Stripe<R> {
             let Some(page) = self.frames.page(number) else {
                 unreachable!()
             };
-            return Some(record_at(page, address.offset()));
+            return Some(record_of(page, address.offset()));
         }
         match self.receipt(number) {
             Some(receipt) => staged.record(receipt, address.offset()),
@@ -187,7 +189,7 @@ impl<R: Shows> Stripe<R> {
         ensures { (r : Stored) → IsResidentAt self.now address r → IsSomeAnd result (λ x. shown x ≡ r) }
     {
         match self.frames.page(address.page()) {
-            Some(page) => record_at(page, address.offset()).ok(),
+            Some(page) => record_of(page, address.offset()).ok(),
             None => None,
         }
     }

@@ -6,7 +6,7 @@ use Rattle.hybrid.proofs.Parts.{oldest}
 use Rattle.hybrid.proofs.Cleaning.{read-fits, listed}
 use Rattle.std.proofs.lemmas.Result.{err_from_is_err_and}
 use Rattle.hybrid.proofs.Finding.{page-cold}
-use Rattle.hybrid.proofs.Marking.{light-step, needed-of, mark-is, marking-start, marking-step, marking-all, weighing-all}
+use Rattle.hybrid.proofs.Marking.{light-step, needed-of, mark-is, marking-start, marking-step, marking-all, stands, weighing-all}
 use Rattle.hybrid.proofs.stripe.Stripe.marks.Goals as goal
 
 pub loop-record-init : goal.loop-record-init
@@ -56,9 +56,12 @@ loop-record-preserved g c =
       light = light-step c.loop-record.weight c.weight_if-weight.result c.loop-record.at (shown c.in-Ok.record) c.in_ok-marked.marked c.weight_if-weight.ensures read.value c.loop-record.invariant.light;
       marked = λ honest right lt k e same.
           let laid : IsLaidOut c.args.page.now = rw same (oldest c.args.self.now k c.oldest-number.ensures.log lt e).laid in
-          let test = rw (c.of-address.ensures, c.oldest-number.ensures.number) at c.in_ok-marked.ensures.live honest right in
           marking-step c.args.self.now c.args.page.now c.loop-record.live c.loop-record.at c.loop-record.weight c.weight_if-weight.result (shown c.in-Ok.record) c.in_ok-marked.marked laid c.in-Ok.ensures.exact.0 (c.in-Ok.ensures.found laid) c.loop-record.invariant.size
-          (λ listed. mark-is c.args.self.now k c.loop-record.at (shown c.in-Ok.record) _ c.in_ok-marked.marked c.oldest-number.ensures.log lt e (subst (λ (page : List ℕ). Contains (records_of page) (c.loop-record.at, shown c.in-Ok.record)) same listed) refl test)
+          (λ listed.
+          let listed_shown = subst (λ (page : List ℕ). Contains (records_of page) (c.loop-record.at, shown c.in-Ok.record)) same listed in
+          let in_log = stands c.args.self.now k c.loop-record.at (shown c.in-Ok.record) c.oldest-number.ensures.log lt e listed_shown in
+          let test = rw (c.of-address.ensures, c.oldest-number.ensures.number) at c.in_ok-marked.ensures.live honest right (shown c.in-Ok.record) in_log refl in
+          mark-is c.args.self.now k c.loop-record.at (shown c.in-Ok.record) _ c.in_ok-marked.marked c.oldest-number.ensures.log lt e listed_shown refl test)
           c.weight_if-weight.ensures (c.loop-record.invariant.marked honest right lt k e same);
     }
 

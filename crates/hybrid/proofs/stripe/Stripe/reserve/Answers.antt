@@ -1,4 +1,4 @@
-use Rattle.std.proofs.Common.{rules, ◌≡◌, ◌∙◌, ◌<◌, refl, ap, arith}
+use Rattle.std.proofs.Common.{rules, ◌∙◌, ◌<◌, refl, ap, arith}
 use Rattle.hybrid.specs.HybridLog.{HybridLog, free, tail_bytes}
 use Rattle.hybrid.specs.Reserving.{frames_for}
 use Rattle.frames.specs.Resident.{first_mutable}

@@ -1,7 +1,6 @@
-use Rattle.std.proofs.Common.{ℕ, List, ◌≡◌, ◌+◌, ◌-◌, ◌<◌, ◌∙◌, None, Some, inl, inr, ap, subst, sym, refl, arith, map, set}
-use Rattle.std.specs.Prelude.{option_map}
-use Rattle.frames.specs.Resident.{Resident, first_mutable, page_of, with_page}
-use Rattle.hybrid.specs.HybridLog.{HybridLog, IsHybridLog, Kept, log_of, receipt_of, with_receipt}
+use Rattle.std.proofs.Common.{ℕ, List, ◌≡◌, ◌+◌, ◌<◌, ◌∙◌, None, inr, ap, subst, refl, arith}
+use Rattle.frames.specs.Resident.{page_of, with_page}
+use Rattle.hybrid.specs.HybridLog.{HybridLog, Kept, log_of, receipt_of, with_receipt}
 use Rattle.hybrid.proofs.Reserving.{none-of}
 use Rattle.hybrid.proofs.Finding.{now-is}
 use Rattle.hybrid.proofs.Serving.{first-kept, new-one}
