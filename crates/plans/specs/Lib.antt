@@ -5,5 +5,6 @@ pub mod Memory
 pub mod Planning
 pub mod Finding
 pub mod Running
+pub mod Hashing
 pub mod Reserving
 pub mod Holding

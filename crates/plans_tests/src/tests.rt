@@ -20,6 +20,7 @@ use words::word::{Word, Words};
 mod drawn;
 mod freeing;
 mod full;
+mod several;
 mod sizes;
 mod stops;
 
