@@ -17,8 +17,7 @@ use device::{Device, Shows};
 use epoch::EpochSeat;
 use gates::{Held, Latch, Pass, Report, Sorted};
 use plans::hands::Hands;
-use plans::hashed::HashedCall;
-use plans::hashing::{HashedKeys, looks_up_several};
+use plans::hashed::{HashedCall, key_of};
 use plans::laws::stripes_hold_keys;
 use plans::reading::WhenCold;
 use plans::stop::Receipts;
@@ -79,12 +78,10 @@ pub(crate) fn submit<T: Wait, L: Latch, R: Shows, D: Device<Receipt = R>>(
         (stripes_asked (stripes_of site.now.gates.now) call) call result
         (know (known pass.old) (D.failures device.old)) (know (known pass.new) (D.failures device.new)) }
 {
-    if looks_up_several(&call) {
-        let answer = submit_several(rt, site, pass, device, hands, &call);
-        call.spend();
-        return answer;
-    }
-    let hashed = HashedCall::of(&call);
+    let hashed = HashedCall {
+        call: &call,
+        key: key_of(&call),
+    };
     let wanted = hashed.stripes(site.gates.stripes());
     let asking = Asking {
         call: &hashed,
@@ -93,34 +90,6 @@ pub(crate) fn submit<T: Wait, L: Latch, R: Shows, D: Device<Receipt = R>>(
     let answer = run(rt, site, pass, device, hands, &asking);
     call.spend();
     answer
-}
-
-/// Runs a call as [`submit`] does, whose keys are hashed once, before its stripes are taken.
-#[inline(never)]
-fn submit_several<T: Wait, L: Latch, R: Shows, D: Device<Receipt = R>>(
-    rt: &T,
-    site: &Site<L, R>,
-    pass: &mut Pass<Shard<R>>,
-    device: &mut D,
-    hands: &mut Option<Hands<R, EpochSeat>>,
-    call: &Call,
-) -> Answer
-    requires may { MaySubmit R.is_steady site.now.gates.now call.now pass.old }
-    requires hands { HasHands site.now.epochs.now hands.old }
-    ensures rests { IsResting R.is_steady site.now.gates.now pass.new }
-    ensures hands { HasHands site.now.epochs.now hands.new }
-    ensures answered { IsAnswered (promises_of R.is_steady R.lends (stripes_of site.now.gates.now))
-        (stripes_asked (stripes_of site.now.gates.now) call.now) call.now result
-        (know (known pass.old) (D.failures device.old)) (know (known pass.new) (D.failures device.new)) }
-{
-    let keys = HashedKeys::of(call, site.gates.stripes());
-    let wanted = keys.stripes().again();
-    let hashed = HashedCall::with(call, keys);
-    let asking = Asking {
-        call: &hashed,
-        wanted: &wanted,
-    };
-    run(rt, site, pass, device, hands, &asking)
 }
 
 /// Does a call as [`submit`] does, with one try of each stripe in place of waiting. Where all are free, the
@@ -150,7 +119,10 @@ pub(crate) fn try_submit<L: Latch, R: Shows, D: Device<Receipt = R>>(
 {
     stripes_hold_keys::<R>();
     let gates = site.gates;
-    let hashed = HashedCall::of(&call);
+    let hashed = HashedCall {
+        call: &call,
+        key: key_of(&call),
+    };
     let wanted = hashed.stripes(gates.stripes());
     match gates.try_take(pass, &wanted) {
         Ok(()) => {

@@ -2,7 +2,6 @@ pub mod Stores
 pub mod Become
 pub mod Begun
 pub mod Keys
-pub mod Hashes
 pub mod Plans
 pub mod Logs
 pub mod Waits

@@ -5,6 +5,5 @@ pub mod Memory
 pub mod Planning
 pub mod Finding
 pub mod Running
-pub mod Hashing
 pub mod Reserving
 pub mod Holding

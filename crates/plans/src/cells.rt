@@ -2,6 +2,7 @@
 
 ghost use Rattle.std.specs.Prelude.{◌≡◌, ◌+◌, ◌-◌, ◌<◌, ◌≤◌, [], ◌∷◌, IsOk, IsSome, IfErr, IfOk, OnOk};
 ghost use Rattle.std.specs.Prelude.{OnErr, length, unwrap_or, false, is_none, Some};
+ghost use Rattle.std.specs.Bool.{OnTrue};
 ghost use Rattle.words.specs.declared.limits.TheConstants.{WEIGHT_MAX};
 ghost use Rattle.words.specs.Answers as answering;
 ghost use Rattle.words.specs.Stripes as striping;
@@ -16,7 +17,6 @@ ghost use Rattle.plans.specs.Planning.{IsStillHeld, MayLookUp, MissedAt};
 ghost use Rattle.plans.specs.Reserving.{FailsToReserveAt, GrowsBy, HasRoomAt, HasShedAt, IsRoomyFor, LeavesRoom, ReservesAt};
 ghost use Rattle.plans.specs.Holding.{Becomes, BecomesWritten, BeginsWatches, EndsWatches, marks_of};
 
-use crate::hashed::HashedCall;
 use crate::stop::{Receipts, Stop, Wanted};
 use device::{Device, Shows};
 use gates::Parts;
@@ -37,23 +37,6 @@ pub(crate) fn stripe_in<R: Shows, P: Parts<Shard<R>>>(parts: &P, key: &Word) -> 
     match parts.only() {
         Some(stripe) => stripe,
         None => stripe_of(key.as_slice(), parts.stripes()),
-    }
-}
-
-/// The stripe of a key that is held, which the call may name first. Where one stripe alone is held, the key is not hashed.
-#[inline]
-pub(crate) fn stripe_near<R: Shows, P: Parts<Shard<R>>>(
-    parts: &P,
-    key: &Word,
-    call: &HashedCall,
-) -> usize
-    requires open { P.is_open parts.now }
-    requires there { IsSome (P.part_of parts.now (striping.stripe_of (P.stripes_of parts.now) key.now)) }
-    ensures { result ≡ striping.stripe_of (P.stripes_of parts.now) key.now }
-{
-    match parts.only() {
-        Some(stripe) => stripe,
-        None => call.stripe_of(0, key, parts.stripes()),
     }
 }
 
@@ -211,12 +194,11 @@ pub(crate) fn reserve_at<R: Shows, D: Device<Receipt = R>, P: Parts<Shard<R>>>(
     parts.part(stripe).reserve(weight, purpose, device)
 }
 
-/// Writes a key for which there is room. If it is the key that the call names at this place, it is not hashed again.
+/// Writes a key for which there is room. Where its hash is known, it is not hashed.
 pub(crate) fn write<R: Shows, P: Parts<Shard<R>>>(
     parts: &mut P,
     write: &Write,
-    call: &HashedCall,
-    place: usize,
+    known: Option<&Hashed>,
 )
     requires open { P.is_open parts.old }
     requires room { IsRoomyFor (P.stripes_of parts.old) (P.part_of parts.old) write.now }
@@ -227,10 +209,17 @@ pub(crate) fn write<R: Shows, P: Parts<Shard<R>>>(
     ensures waits { SameWaits (P.part_of parts.old) (P.part_of parts.new) }
     ensures held { IsStillHeld P.is_open P.keeps parts.old parts.new }
 {
-    match call.at(place, write.key()) {
-        Some(key) => write_at(parts, key, write),
-        None => write_at(parts, &Hashed::new(write.key()), write),
+    match known {
+        Some(key) if is_key_of(key, write) => write_at(parts, key, write),
+        _ => write_at(parts, &Hashed::new(write.key()), write),
     }
+}
+
+/// Whether a write is to this key.
+fn is_key_of(key: &Hashed, write: &Write) -> bool
+    ensures { OnTrue result (key.now ≡ write.now.0) }
+{
+    key.key().as_slice() == write.key().as_slice()
 }
 
 /// Writes this key, for which there is room.

@@ -14,12 +14,11 @@ ghost use Rattle.transact.specs.Memory.{of_one_key};
 ghost use Rattle.transact.specs.Tables.{joined};
 ghost use Rattle.shards.specs.Shards.{shard_meaning, shard_store};
 ghost use Rattle.hybrid.specs.Staging.{AreRight};
-ghost use Rattle.plans.specs.Planning.{HasMissedIn, IsStillHeld, IsValueIn, MayLookUp};
+ghost use Rattle.plans.specs.Planning.{IsStillHeld, MayLookUp};
 ghost use Rattle.plans.specs.Finding.{AnswersOn, AnswersOnIn, FindsInPlaceIn, HasMissedFor, LooksUpIn, MissedFor};
 ghost use Rattle.plans.specs.Memory.{IfOneInPlace};
 
 use crate::cells::{find_key, missed, stripe_at};
-use crate::hashed::HashedCall;
 use crate::short::value_of;
 use crate::stop::{Receipts, Stop};
 use device::Shows;
@@ -96,35 +95,12 @@ pub(crate) fn room_for<T>(alloc: Global, count: usize) -> Vec<T>
     }
 }
 
-/// A copy of what a key has, as [`value_of`] gives it. If it is the key that the call names at this place, it is not hashed again.
-pub(crate) fn value_near<R: Shows, P: Parts<Shard<R>>>(
-    alloc: Global,
-    parts: &mut P,
-    key: &Word,
-    call: &HashedCall,
-    place: usize,
-    staged: &Staged<R>,
-) -> Result<Option<Word>, Stop<R>>
-    requires may { MayLookUp (P.is_open parts.old) (P.stripes_of parts.old) (P.part_of parts.old) (key.now ∷ []) }
-    ensures value { IfOk result (IsValueIn R.is_steady P.stripes_of P.part_of parts.old (R.is_honest × AreRight staged.now) key.now) }
-    ensures stopped { IfErr result (HasMissedIn R.is_steady P.stripes_of P.part_of parts.old
-        R.lends (R.is_honest × AreRight staged.now) key.now staged.now) }
-    ensures same { P.part_of parts.new ≡ P.part_of parts.old }
-    ensures held { IsStillHeld P.is_open P.keeps parts.old parts.new }
-{
-    match call.at(place, key) {
-        Some(hashed) => value_of(alloc, parts, hashed, staged),
-        None => value_of(alloc, parts, &Hashed::new(key), staged),
-    }
-}
-
-/// Adds the values of the keys of a call, as items. Each is copied once, from where it lies. False where a page is wanted, or
-/// memory: the items are then some of them.
+/// Adds the values of these keys, as items. Each is copied once, from where it lies. False where a page is wanted, or memory:
+/// the items are then some of them.
 pub(crate) fn add_values<R: Shows, P: Parts<Shard<R>>>(
     alloc: Global,
     parts: &mut P,
     keys: &[Word],
-    call: &HashedCall,
     staged: &Staged<R>,
     items: &mut Vec<Item>,
 ) -> bool
@@ -135,16 +111,14 @@ pub(crate) fn add_values<R: Shows, P: Parts<Shard<R>>>(
     ensures held { IsStillHeld P.is_open P.keeps parts.old parts.new }
 {
     let mut left = keys;
-    let mut place: usize = 0;
     while let Some((first, others)) = left.split_first() {
-        let Ok(value) = value_near(alloc, parts, first, call, place, staged) else {
+        let Ok(value) = value_of(alloc, parts, &Hashed::new(first), staged) else {
             return false;
         };
         let Ok(()) = items.push(Item::of(value)) else {
             return false;
         };
         left = others;
-        place = place.saturating_add(1);
     }
     true
 }

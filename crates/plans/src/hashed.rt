@@ -1,31 +1,27 @@
-//! A call with the hashes of its keys.
+//! A call with the hash of its key.
 
-ghost use Rattle.std.specs.Prelude.{◌≡◌, ◌<◌, ◌≤◌, ◌∷◌, [], IfSome};
-ghost use Rattle.std.specs.Bool.{OnTrue};
+ghost use Rattle.std.specs.Prelude.{◌≡◌, ◌≤◌, ◌∷◌, [], IfSome};
 ghost use Rattle.words.specs.Commands.{keys_of};
-ghost use Rattle.words.specs.Stripes as striping;
 ghost use Rattle.gates.specs.Sets.{AreBelow};
 ghost use Rattle.transact.specs.Calls.{call_keys};
 ghost use Rattle.transact.specs.Plans.{stripes_with};
 
-use crate::hashing::HashedKeys;
 use gates::{Asks, Sorted};
 use std::marker::Model;
 use strings::keys::{key_at, key_count};
 use transact::call::Call;
 use transact::stripes::{keys_of, stripe_of_key};
 use words::command::Command;
-use words::hash::{Hashed, stripe_of};
-use words::word::Word;
+use words::hash::Hashed;
 
-/// A call, with the key that it names and the hash of it if it names one alone, or with the first of its keys and their hashes.
-/// The stripe that is taken, the lookup and the write of a key go by its hash, which is computed once. Contracts see it as the
-/// call: whether a hash is a key's is seen by the key that stands with it.
+/// A call, with its key and the hash of it if it names one key alone: the stripe that is taken, the lookup and the write go by
+/// that hash, which is computed once. Contracts see it as the call.
 #[derive(Drop)]
 pub struct HashedCall<'a> {
-    call: &'a Call,
-    key: Option<Hashed<'a>>,
-    several: Option<HashedKeys<'a>>,
+    /// The call.
+    pub call: &'a Call,
+    /// The one key that it names, as [`key_of`] tells it.
+    pub key: Option<Hashed<'a>>,
 }
 
 impl<'a> Model for HashedCall<'a> {
@@ -46,31 +42,7 @@ impl Asks for HashedCall<'_> {
     ghost asked = { asked_for };
 }
 
-impl<'a> HashedCall<'a> {
-    /// A call. If it names one key alone, that is hashed here; the keys of another call are hashed where they are needed.
-    #[inline]
-    pub fn of(call: &'a Call) -> HashedCall<'a>
-        ensures { result ≡ call.entry.now }
-    {
-        HashedCall {
-            call,
-            key: key_of(call),
-            several: None,
-        }
-    }
-
-    /// A call of several keys, whose keys were hashed.
-    #[inline]
-    pub fn with(call: &'a Call, keys: HashedKeys<'a>) -> HashedCall<'a>
-        ensures { result ≡ call.entry.now }
-    {
-        HashedCall {
-            call,
-            key: None,
-            several: Some(keys),
-        }
-    }
-
+impl HashedCall<'_> {
     /// The call.
     #[inline]
     pub fn call(&self) -> &Call
@@ -79,16 +51,8 @@ impl<'a> HashedCall<'a> {
         self.call
     }
 
-    /// The key that it names, if it was hashed as one that names one alone.
-    #[inline]
-    pub(crate) fn key(&self) -> Option<&Hashed<'a>>
-        ensures { IfSome result (λ key. call_keys self.now ≡ key.now ∷ []) }
-    {
-        self.key.as_ref()
-    }
-
     /// The stripes of the keys that the call names, of this many, those that its session watches among them where it ends
-    /// their watches. It takes no memory. Of a call whose keys were hashed [`HashedKeys::stripes`] has them.
+    /// their watches. It takes no memory.
     pub fn stripes(&self, count: usize) -> Sorted
         requires some { 1 ≤ count }
         requires most { count ≤ 64 }
@@ -100,50 +64,10 @@ impl<'a> HashedCall<'a> {
             None => keys_of(self.call, count),
         }
     }
-
-    /// This key with its hash, if it is the one that the call names at this place, and was hashed.
-    pub(crate) fn at(&self, place: usize, key: &Word) -> Option<&Hashed<'a>>
-        ensures { IfSome result (λ hashed. hashed.now ≡ key.now) }
-    {
-        match self.hashed_at(place) {
-            Some(hashed) if is_of(hashed, key) => Some(hashed),
-            _ => None,
-        }
-    }
-
-    /// The stripe of a key, of this many, which goes by its hash if it is the key that the call names at this place.
-    pub(crate) fn stripe_of(&self, place: usize, key: &Word, count: usize) -> usize
-        requires { 0 < count }
-        ensures stripe { result ≡ striping.stripe_of count key.now }
-        ensures below { result < count }
-    {
-        match self.at(place, key) {
-            Some(hashed) => hashed.stripe_of(count),
-            None => stripe_of(key.as_slice(), count),
-        }
-    }
-
-    /// What stands at this place of the keys that were hashed.
-    fn hashed_at(&self, place: usize) -> Option<&Hashed<'a>> {
-        match &self.several {
-            Some(keys) => keys.at(place),
-            None => match &self.key {
-                Some(key) if place == 0 => Some(key),
-                _ => None,
-            },
-        }
-    }
-}
-
-/// Whether this is the hash of a key.
-fn is_of(hashed: &Hashed, key: &Word) -> bool
-    ensures { OnTrue result (hashed.now ≡ key.now) }
-{
-    hashed.key().as_slice() == key.as_slice()
 }
 
 /// The key of a call that names one alone. It is hashed here.
-fn key_of(call: &Call) -> Option<Hashed<'_>>
+pub fn key_of(call: &Call) -> Option<Hashed<'_>>
     ensures { IfSome result (λ key. call_keys call.entry.now ≡ key ∷ []) }
 {
     match call {

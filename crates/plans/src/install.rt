@@ -10,21 +10,19 @@ ghost use Rattle.plans.specs.Planning.{IsStillHeld};
 ghost use Rattle.plans.specs.Holding.{BecomesFirst, BecomesWritten, GrowsFirst};
 
 use crate::cells::write;
-use crate::hashed::HashedCall;
 use device::Shows;
 use gates::Parts;
 use hybrid::laws::growth_adds_up;
 use shards::shard::Shard;
 use strings::writes::{Write, writes_to};
+use words::hash::Hashed;
 
-/// Makes a write before these others, or passes it over where one of them is to its key. If that is the key that the call names at
-/// this place, it is not hashed again.
+/// Makes a write before these others, or passes it over where one of them is to its key. A key whose hash is known is not hashed.
 fn write_before<R: Shows, P: Parts<Shard<R>>>(
     parts: &mut P,
     next: &Write,
     others: &[Write],
-    call: &HashedCall,
-    place: usize,
+    known: Option<&Hashed>,
 )
     requires open { P.is_open parts.old }
     requires room { AreRoomy (P.stripes_of parts.old) (logs_of (P.part_of parts.old)) (next.now ∷ others.now) }
@@ -39,15 +37,15 @@ fn write_before<R: Shows, P: Parts<Shard<R>>>(
     if writes_to(others, next.key()) {
         return;
     }
-    write(parts, next, call, place);
+    write(parts, next, known);
 }
 
-/// Makes the writes of a call, for which there is room, in order. One that a later one hides is passed over. A key that the call
-/// names at the place of its write is not hashed again. It takes no memory.
+/// Makes writes for which there is room, in order. One that a later one hides is passed over. A key whose hash is known is not
+/// hashed. It takes no memory.
 pub(crate) fn make_writes<R: Shows, P: Parts<Shard<R>>>(
     parts: &mut P,
     writes: &[Write],
-    call: &HashedCall,
+    known: Option<&Hashed>,
 )
     requires open { P.is_open parts.old }
     requires room { AreRoomy (P.stripes_of parts.old) (logs_of (P.part_of parts.old)) writes.now }
@@ -59,10 +57,8 @@ pub(crate) fn make_writes<R: Shows, P: Parts<Shard<R>>>(
 {
     growth_adds_up();
     let mut left = writes;
-    let mut place: usize = 0;
     while let Some((first, others)) = left.split_first() {
-        write_before(parts, first, others, call, place);
+        write_before(parts, first, others, known);
         left = others;
-        place = place.saturating_add(1);
     }
 }

@@ -11,7 +11,6 @@ mod find;
 pub mod freeing;
 pub mod hands;
 pub mod hashed;
-pub mod hashing;
 mod install;
 pub mod laws;
 mod looks;

@@ -1,13 +1,12 @@
 //! What a call comes to, before its commit.
 
-ghost use Rattle.std.specs.Prelude.{◌≡◌, ⊤, [], ◌∷◌, true, IfOk, IfErr};
+ghost use Rattle.std.specs.Prelude.{◌≡◌, ⊤, [], ◌∷◌, true, IfOk, IfErr, IfSome};
 ghost use Rattle.words.specs.declared.command.Command.TheVariants as asked;
 ghost use Rattle.words.specs.declared.history.Operation.TheVariants.{Watch};
 ghost use Rattle.words.specs.Commands.{keys_of, keys_of_all, touches_keys};
 ghost use Rattle.words.specs.History.{too_much};
 ghost use Rattle.hybrid.specs.Staging.{AreRight};
 ghost use Rattle.hybrid.specs.Writing.{AreFit};
-ghost use Rattle.transact.specs.declared.call.Call.TheVariants as calls;
 ghost use Rattle.transact.specs.Plans.{keys_begun};
 ghost use Rattle.transact.specs.Tables.{AreThere, keys_written};
 ghost use Rattle.plans.specs.declared.stop.Stop.TheVariants.{OutOfMemory};
@@ -23,13 +22,14 @@ ghost use Rattle.plans.specs.Holding.{AreMarkedFor};
 
 use crate::find::{
     add_values, answer_all, answer_key, answer_one, answer_unread, find_command, find_commands,
-    room_for, value_near,
+    room_for,
 };
 use crate::hashed::HashedCall;
 use crate::marks::{any_marked, begin_all, clear_all};
 use crate::planned::Planned;
 use crate::room::reserve_all;
 use crate::running::{answer_each, run_next};
+use crate::short::value_of;
 use crate::stop::{Receipts, Stop};
 use device::{Device, Shows};
 use gates::Parts;
@@ -75,14 +75,13 @@ pub fn plan<R: Shows, D: Device<Receipt = R>, P: Parts<Shard<R>>>(
 {
     writes_are_bounded();
     match call.call() {
-        Call::One(command) => plan_one(alloc, parts, command, call, staged, device),
+        Call::One(command) => plan_one(alloc, parts, command, call.key.as_ref(), staged, device),
         Call::Watch(keys) => plan_watch(alloc, parts, keys),
         Call::Exec(commands, watching) => plan_exec(
             alloc,
             parts,
             commands.as_slice(),
             watching.keys(),
-            call,
             staged,
             device,
         ),
@@ -90,17 +89,17 @@ pub fn plan<R: Shows, D: Device<Receipt = R>, P: Parts<Shard<R>>>(
     }
 }
 
-/// Plans the command of a call of one.
+/// Plans a command, which may be given with the one key that it names.
 fn plan_one<R: Shows, D: Device<Receipt = R>, P: Parts<Shard<R>>>(
     alloc: Global,
     parts: &mut P,
     command: &Command,
-    call: &HashedCall,
+    key: Option<&Hashed>,
     staged: &Staged<R>,
     device: &mut D,
 ) -> Result<Planned, Stop<R>>
     requires may { MayLookUp (P.is_open parts.old) (P.stripes_of parts.old) (P.part_of parts.old) (keys_of command.now) }
-    requires is { call.now ≡ calls.One command.now }
+    requires key { IfSome key (λ key. keys_of command.now ≡ key.now ∷ []) }
     requires touches { touches_keys command.now ≡ true }
     requires sized { IsSized command.now }
     ensures { CameOfPlan D.wrote D.serves D.releases D.failures R.identity R.shown R.is_steady R.is_honest R.lends
@@ -108,14 +107,14 @@ fn plan_one<R: Shows, D: Device<Receipt = R>, P: Parts<Shard<R>>>(
         (parts.old, device.old) (parts.new, device.new) result }
 {
     match command {
-        Command::Get(key) => plan_get(alloc, parts, key, call, staged),
+        Command::Get(key) => plan_get(alloc, parts, key, staged),
         Command::MGet(keys) => {
-            plan_values(alloc, parts, command, keys.as_slice(), call, staged, device)
+            plan_values(alloc, parts, command, keys.as_slice(), staged, device)
         }
-        Command::MSet(_) => plan_unread(alloc, parts, command, call, staged, device),
-        _ => match call.key() {
-            Some(key) => plan_key(alloc, parts, command, key, call, staged, device),
-            None => plan_several(alloc, parts, command, call, staged, device),
+        Command::MSet(_) => plan_unread(alloc, parts, command, staged, device),
+        _ => match key {
+            Some(key) => plan_key(alloc, parts, command, key, staged, device),
+            None => plan_several(alloc, parts, command, staged, device),
         },
     }
 }
@@ -125,7 +124,6 @@ fn plan_get<R: Shows, P: Parts<Shard<R>>>(
     alloc: Global,
     parts: &mut P,
     key: &Word,
-    call: &HashedCall,
     staged: &Staged<R>,
 ) -> Result<Planned, Stop<R>>
     requires may { MayLookUp (P.is_open parts.old) (P.stripes_of parts.old) (P.part_of parts.old) (key.now ∷ []) }
@@ -136,7 +134,8 @@ fn plan_get<R: Shows, P: Parts<Shard<R>>>(
     ensures same { P.part_of parts.new ≡ P.part_of parts.old }
     ensures held { IsStillHeld P.is_open P.keeps parts.old parts.new }
 {
-    match value_near(alloc, parts, key, call, 0, staged) {
+    let key = Hashed::new(key);
+    match value_of(alloc, parts, &key, staged) {
         Ok(value) => Ok(answered(alloc, Reply::value(value))),
         Err(stop) => Err(stop),
     }
@@ -148,7 +147,6 @@ fn plan_key<R: Shows, D: Device<Receipt = R>, P: Parts<Shard<R>>>(
     parts: &mut P,
     command: &Command,
     key: &Hashed,
-    call: &HashedCall,
     staged: &Staged<R>,
     device: &mut D,
 ) -> Result<Planned, Stop<R>>
@@ -163,7 +161,7 @@ fn plan_key<R: Shows, D: Device<Receipt = R>, P: Parts<Shard<R>>>(
     depends_on_named_keys();
     writes_named_keys();
     match answer_key(alloc, parts, key, command, staged) {
-        Ok((reply, writes)) => settle(alloc, parts, Reply::Single(reply), writes, call, device),
+        Ok((reply, writes)) => settle(alloc, parts, Reply::Single(reply), writes, device),
         Err(stop) => Err(stop),
     }
 }
@@ -174,7 +172,6 @@ fn plan_several<R: Shows, D: Device<Receipt = R>, P: Parts<Shard<R>>>(
     alloc: Global,
     parts: &mut P,
     command: &Command,
-    call: &HashedCall,
     staged: &Staged<R>,
     device: &mut D,
 ) -> Result<Planned, Stop<R>>
@@ -188,11 +185,11 @@ fn plan_several<R: Shows, D: Device<Receipt = R>, P: Parts<Shard<R>>>(
     depends_on_named_keys();
     writes_named_keys();
     let mut writes = Writes::new(alloc);
-    if let Some(reply) = run_next(alloc, parts, command, call, 0, staged, &mut writes) {
-        return settle(alloc, parts, Reply::Single(reply), writes, call, device);
+    if let Some(reply) = run_next(alloc, parts, command, staged, &mut writes) {
+        return settle(alloc, parts, Reply::Single(reply), writes, device);
     }
     drop(writes);
-    plan_copied(alloc, parts, command, call, staged, device)
+    plan_copied(alloc, parts, command, staged, device)
 }
 
 /// Plans a command on copies of the values of its keys.
@@ -200,7 +197,6 @@ fn plan_copied<R: Shows, D: Device<Receipt = R>, P: Parts<Shard<R>>>(
     alloc: Global,
     parts: &mut P,
     command: &Command,
-    call: &HashedCall,
     staged: &Staged<R>,
     device: &mut D,
 ) -> Result<Planned, Stop<R>>
@@ -225,7 +221,7 @@ fn plan_copied<R: Shows, D: Device<Receipt = R>, P: Parts<Shard<R>>>(
         return Err(Stop::OutOfMemory);
     };
     drop(found);
-    settle(alloc, parts, Reply::Single(reply), writes, call, device)
+    settle(alloc, parts, Reply::Single(reply), writes, device)
 }
 
 /// Plans a MGET of these keys: its items are the one copy that is made of each value. Where a page is wanted, or memory, it is
@@ -235,7 +231,6 @@ fn plan_values<R: Shows, D: Device<Receipt = R>, P: Parts<Shard<R>>>(
     parts: &mut P,
     command: &Command,
     keys: &[Word],
-    call: &HashedCall,
     staged: &Staged<R>,
     device: &mut D,
 ) -> Result<Planned, Stop<R>>
@@ -248,12 +243,12 @@ fn plan_values<R: Shows, D: Device<Receipt = R>, P: Parts<Shard<R>>>(
         (parts.old, device.old) (parts.new, device.new) result }
 {
     let mut items = room_for(alloc, keys.len());
-    if add_values(alloc, parts, keys, call, staged, &mut items) {
+    if add_values(alloc, parts, keys, staged, &mut items) {
         let reply = CommandReply::Array(Sequence::from_vec(items));
         return Ok(answered(alloc, Reply::Single(reply)));
     }
     drop(items);
-    plan_copied(alloc, parts, command, call, staged, device)
+    plan_copied(alloc, parts, command, staged, device)
 }
 
 /// Plans a command that answers and writes the same whatever its keys have: none of them is looked up, and no page is wanted.
@@ -261,7 +256,6 @@ fn plan_unread<R: Shows, D: Device<Receipt = R>, P: Parts<Shard<R>>>(
     alloc: Global,
     parts: &mut P,
     command: &Command,
-    call: &HashedCall,
     staged: &Staged<R>,
     device: &mut D,
 ) -> Result<Planned, Stop<R>>
@@ -277,7 +271,7 @@ fn plan_unread<R: Shows, D: Device<Receipt = R>, P: Parts<Shard<R>>>(
     let Ok((reply, writes)) = answer_unread(alloc, command) else {
         return Err(Stop::OutOfMemory);
     };
-    settle(alloc, parts, Reply::Single(reply), writes, call, device)
+    settle(alloc, parts, Reply::Single(reply), writes, device)
 }
 
 /// Plans the commands of a transaction none of whose watched keys was written, each on what its keys have where it lies. Where a page
@@ -286,7 +280,6 @@ fn plan_all<R: Shows, D: Device<Receipt = R>, P: Parts<Shard<R>>>(
     alloc: Global,
     parts: &mut P,
     commands: &[Command],
-    call: &HashedCall,
     staged: &Staged<R>,
     device: &mut D,
 ) -> Result<Planned, Stop<R>>
@@ -297,11 +290,11 @@ fn plan_all<R: Shows, D: Device<Receipt = R>, P: Parts<Shard<R>>>(
         (parts.old, device.old) (parts.new, device.new) result }
 {
     depends_on_named_keys();
-    if let Some((replies, writes)) = answer_each(alloc, parts, commands, call, staged) {
+    if let Some((replies, writes)) = answer_each(alloc, parts, commands, staged) {
         let reply = Reply::Array(CommandReplies::from_vec(replies));
-        return settle(alloc, parts, reply, writes, call, device);
+        return settle(alloc, parts, reply, writes, device);
     }
-    plan_all_copied(alloc, parts, commands, call, staged, device)
+    plan_all_copied(alloc, parts, commands, staged, device)
 }
 
 /// Plans the commands of a transaction none of whose watched keys was written, on copies of the values of all their keys.
@@ -309,7 +302,6 @@ fn plan_all_copied<R: Shows, D: Device<Receipt = R>, P: Parts<Shard<R>>>(
     alloc: Global,
     parts: &mut P,
     commands: &[Command],
-    call: &HashedCall,
     staged: &Staged<R>,
     device: &mut D,
 ) -> Result<Planned, Stop<R>>
@@ -334,7 +326,7 @@ fn plan_all_copied<R: Shows, D: Device<Receipt = R>, P: Parts<Shard<R>>>(
     };
     drop(found);
     let reply = Reply::Array(CommandReplies::from_vec(replies));
-    settle(alloc, parts, reply, writes, call, device)
+    settle(alloc, parts, reply, writes, device)
 }
 
 /// Plans a transaction of a session that watches these keys. One that is dirty is null, and looks nothing up.
@@ -344,7 +336,6 @@ fn plan_exec<R: Shows, D: Device<Receipt = R>, P: Parts<Shard<R>>>(
     parts: &mut P,
     commands: &[Command],
     watching: &[Word],
-    call: &HashedCall,
     staged: &Staged<R>,
     device: &mut D,
 ) -> Result<Planned, Stop<R>>
@@ -359,7 +350,7 @@ fn plan_exec<R: Shows, D: Device<Receipt = R>, P: Parts<Shard<R>>>(
     if any_marked(parts, watching) {
         return Ok(answered(alloc, Reply::NullArray));
     }
-    plan_all(alloc, parts, commands, call, staged, device)
+    plan_all(alloc, parts, commands, staged, device)
 }
 
 /// A plan that writes nothing and begins no watch.
@@ -381,7 +372,6 @@ fn settle<R: Shows, D: Device<Receipt = R>, P: Parts<Shard<R>>>(
     parts: &mut P,
     reply: Reply,
     writes: Writes,
-    call: &HashedCall,
     device: &mut D,
 ) -> Result<Planned, Stop<R>>
     requires may { MayLookUp (P.is_open parts.old) (P.stripes_of parts.old) (P.part_of parts.old) (keys_written writes) }
@@ -399,7 +389,7 @@ fn settle<R: Shows, D: Device<Receipt = R>, P: Parts<Shard<R>>>(
     if writes.weight().is_none() {
         return Ok(refused(alloc, reply, writes));
     }
-    match reserve_all(parts, writes.as_slice(), call, device) {
+    match reserve_all(parts, writes.as_slice(), device) {
         Ok(()) => Ok(Planned {
             reply,
             writes,

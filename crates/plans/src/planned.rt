@@ -53,7 +53,7 @@ impl Planned {
             begun: _,
         } = self;
         let asked = call.call();
-        make_writes(parts, writes.as_slice(), call);
+        make_writes(parts, writes.as_slice(), call.key.as_ref());
         end_watches(parts, asked);
         drop(writes);
         reply

@@ -13,22 +13,20 @@ ghost use Rattle.plans.specs.Planning.{FoundFull, HaveFailed, IsStillHeld, Match
 ghost use Rattle.plans.specs.Reserving.{HasNoRoomAt, HasRoom, HasRoomAt, HasShedShare, ReservesAt};
 ghost use Rattle.plans.specs.Holding.{Becomes};
 
-use crate::cells::{reserve_at, stripe_near};
-use crate::hashed::HashedCall;
+use crate::cells::{reserve_at, stripe_in};
 use crate::stop::Stop;
 use device::{Device, Shows};
 use gates::Parts;
 use hybrid::{Fault, Purpose};
 use shards::shard::Shard;
 use strings::writes::{Write, writes_to};
+use words::hash::stripe_of;
 use words::limits::WEIGHT_OF_KEY;
 
-/// Makes room for the writes of a call in each stripe that they write, in rising order. What keys have and all marks stay. A key that
-/// the call names at the place of its write is not hashed again.
+/// Makes room for writes in each stripe that they write, in rising order. What keys have and all marks stay.
 pub(crate) fn reserve_all<R: Shows, D: Device<Receipt = R>, P: Parts<Shard<R>>>(
     parts: &mut P,
     writes: &[Write],
-    call: &HashedCall,
     device: &mut D,
 ) -> Result<(), Stop<R>>
     requires may { MayLookUp (P.is_open parts.old) (P.stripes_of parts.old) (P.part_of parts.old) (keys_written writes.now) }
@@ -45,8 +43,8 @@ pub(crate) fn reserve_all<R: Shows, D: Device<Receipt = R>, P: Parts<Shard<R>>>(
 {
     match writes {
         [] => Ok(()),
-        [write] => reserve_one(parts, write, call, device),
-        _ => reserve_each(parts, writes, call, device),
+        [write] => reserve_one(parts, write, device),
+        _ => reserve_each(parts, writes, device),
     }
 }
 
@@ -54,7 +52,6 @@ pub(crate) fn reserve_all<R: Shows, D: Device<Receipt = R>, P: Parts<Shard<R>>>(
 fn reserve_one<R: Shows, D: Device<Receipt = R>, P: Parts<Shard<R>>>(
     parts: &mut P,
     write: &Write,
-    call: &HashedCall,
     device: &mut D,
 ) -> Result<(), Stop<R>>
     requires may { MayLookUp (P.is_open parts.old) (P.stripes_of parts.old) (P.part_of parts.old) (keys_written (write.now ∷ [])) }
@@ -69,7 +66,7 @@ fn reserve_one<R: Shows, D: Device<Receipt = R>, P: Parts<Shard<R>>>(
     ensures failed { HaveFailed result (D.failures device.old) (D.failures device.new) }
     ensures held { IsStillHeld P.is_open P.keeps parts.old parts.new }
 {
-    let stripe = stripe_near(&*parts, write.key(), call);
+    let stripe = stripe_in(&*parts, write.key());
     reserve_share(parts, stripe, weigh(write), purpose_for(write), device)
 }
 
@@ -77,7 +74,6 @@ fn reserve_one<R: Shows, D: Device<Receipt = R>, P: Parts<Shard<R>>>(
 fn reserve_each<R: Shows, D: Device<Receipt = R>, P: Parts<Shard<R>>>(
     parts: &mut P,
     writes: &[Write],
-    call: &HashedCall,
     device: &mut D,
 ) -> Result<(), Stop<R>>
     requires may { MayLookUp (P.is_open parts.old) (P.stripes_of parts.old) (P.part_of parts.old) (keys_written writes.now) }
@@ -93,7 +89,7 @@ fn reserve_each<R: Shows, D: Device<Receipt = R>, P: Parts<Shard<R>>>(
     ensures held { IsStillHeld P.is_open P.keeps parts.old parts.new }
 {
     let stripes = parts.stripes();
-    let shares = shares_of(writes, call, stripes);
+    let shares = shares_of(writes, stripes);
     let purpose = purpose_of(writes);
     for stripe in 0..stripes {
         if let Err(stop) = reserve_share(parts, stripe, shares[stripe], purpose, device) {
@@ -103,8 +99,8 @@ fn reserve_each<R: Shows, D: Device<Receipt = R>, P: Parts<Shard<R>>>(
     Ok(())
 }
 
-/// What the writes of a call to each stripe weigh.
-fn shares_of(writes: &[Write], call: &HashedCall, stripes: usize) -> [usize; 64]
+/// What the writes to each stripe weigh.
+fn shares_of(writes: &[Write], stripes: usize) -> [usize; 64]
     requires some { 1 ≤ stripes }
     requires most { stripes ≤ 64 }
     requires light { weight writes.now ≤ WEIGHT_MAX }
@@ -112,12 +108,10 @@ fn shares_of(writes: &[Write], call: &HashedCall, stripes: usize) -> [usize; 64]
 {
     let mut shares = [0; 64];
     let mut left = writes;
-    let mut place: usize = 0;
     while let Some((first, others)) = left.split_first() {
-        let stripe = call.stripe_of(place, first.key(), stripes);
+        let stripe = stripe_of(first.key().as_slice(), stripes);
         shares[stripe] += weigh_before(first, others);
         left = others;
-        place = place.saturating_add(1);
     }
     shares
 }

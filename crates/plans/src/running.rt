@@ -16,7 +16,6 @@ ghost use Rattle.plans.specs.Sizes.{AreSized};
 
 use crate::cells::stripe_at;
 use crate::find::room_for;
-use crate::hashed::HashedCall;
 use crate::looks::{Looks, looks_of};
 use device::Shows;
 use gates::Parts;
@@ -102,7 +101,7 @@ fn run_at<R: Shows>(
 fn run_key<R: Shows, P: Parts<Shard<R>>>(
     alloc: Global,
     parts: &mut P,
-    key: &Hashed,
+    key: &Word,
     command: &Command,
     staged: &Staged<R>,
     writes: &mut Writes,
@@ -114,33 +113,15 @@ fn run_key<R: Shows, P: Parts<Shard<R>>>(
     ensures same { P.part_of parts.new ≡ P.part_of parts.old }
     ensures held { IsStillHeld P.is_open P.keeps parts.old parts.new }
 {
-    let stripe = stripe_at(&*parts, key);
-    run_at(alloc, parts.part(stripe), key, command, staged, writes)
+    let key = Hashed::new(key);
+    let stripe = stripe_at(&*parts, &key);
+    run_at(alloc, parts.part(stripe), &key, command, staged, writes)
 }
 
 /// Whether a key is there. `None` where a page is wanted.
 fn is_there<R: Shows, P: Parts<Shard<R>>>(
     parts: &mut P,
-    key: &Hashed,
-    staged: &Staged<R>,
-) -> Option<bool>
-    requires may { MayLookUp (P.is_open parts.old) (P.stripes_of parts.old) (P.part_of parts.old) (key.now ∷ []) }
-    ensures there { IfSome result (λ there. R.is_honest × AreRight staged.now
-        → there ≡ is_some (joined (shard_meaning R.is_steady) (P.stripes_of parts.old) (P.part_of parts.old) key.now)) }
-    ensures same { P.part_of parts.new ≡ P.part_of parts.old }
-    ensures held { IsStillHeld P.is_open P.keeps parts.old parts.new }
-{
-    let stripe = stripe_at(&*parts, key);
-    Some(value_at(parts.part(stripe), key, staged)?.is_some())
-}
-
-/// Whether a key is there. If it is the key that the call names at this place, it is not hashed again. `None` where a page is
-/// wanted.
-fn is_there_near<R: Shows, P: Parts<Shard<R>>>(
-    parts: &mut P,
     key: &Word,
-    call: &HashedCall,
-    place: usize,
     staged: &Staged<R>,
 ) -> Option<bool>
     requires may { MayLookUp (P.is_open parts.old) (P.stripes_of parts.old) (P.part_of parts.old) (key.now ∷ []) }
@@ -149,10 +130,9 @@ fn is_there_near<R: Shows, P: Parts<Shard<R>>>(
     ensures same { P.part_of parts.new ≡ P.part_of parts.old }
     ensures held { IsStillHeld P.is_open P.keeps parts.old parts.new }
 {
-    match call.at(place, key) {
-        Some(hashed) => is_there(parts, hashed, staged),
-        None => is_there(parts, &Hashed::new(key), staged),
-    }
+    let key = Hashed::new(key);
+    let stripe = stripe_at(&*parts, &key);
+    Some(value_at(parts.part(stripe), &key, staged)?.is_some())
 }
 
 /// An empty value, for a key that is there.
@@ -162,13 +142,11 @@ fn stand_in(there: bool) -> Option<&'static [u8]>
     if there { Some(b"") } else { None }
 }
 
-/// Shows which keys of a command are there, whose keys the call names from this place on: an empty value stands for the one that a
-/// key has. `None` where a page is wanted, or memory.
+/// Shows which keys of a command are there: an empty value stands for the one that a key has. `None` where a page is wanted, or
+/// memory.
 fn show_present<'a, R: Shows, P: Parts<Shard<R>>>(
     parts: &mut P,
     command: &'a Command,
-    call: &HashedCall,
-    first: usize,
     staged: &Staged<R>,
     shown: &mut Findings<'a>,
 ) -> Option<()>
@@ -180,7 +158,7 @@ fn show_present<'a, R: Shows, P: Parts<Shard<R>>>(
 {
     for place in 0..key_count(command) {
         let key = key_at(command, place);
-        let there = is_there_near(parts, key, call, first.saturating_add(place), staged)?;
+        let there = is_there(parts, key, staged)?;
         let Ok(()) = shown.push(key.as_slice(), stand_in(there)) else {
             return None;
         };
@@ -194,8 +172,6 @@ fn run_present<R: Shows, P: Parts<Shard<R>>>(
     alloc: Global,
     parts: &mut P,
     command: &Command,
-    call: &HashedCall,
-    first: usize,
     staged: &Staged<R>,
     writes: &mut Writes,
 ) -> Option<CommandReply>
@@ -207,7 +183,7 @@ fn run_present<R: Shows, P: Parts<Shard<R>>>(
     ensures held { IsStillHeld P.is_open P.keeps parts.old parts.new }
 {
     let mut shown = Findings::new(alloc);
-    show_present(parts, command, call, first, staged, &mut shown)?;
+    show_present(parts, command, staged, &mut shown)?;
     run_after(alloc, shown, command, writes)
 }
 
@@ -256,29 +232,7 @@ fn item_at<R: Shows>(
 fn item_next<R: Shows, P: Parts<Shard<R>>>(
     alloc: Global,
     parts: &mut P,
-    key: &Hashed,
-    staged: &Staged<R>,
-    writes: &mut Writes,
-) -> Option<Item>
-    requires may { MayLookUp (P.is_open parts.old) (P.stripes_of parts.old) (P.part_of parts.old) (key.now ∷ []) }
-    ensures item { IfSome result (λ item. R.is_honest × AreRight staged.now → item ≡ item_of (written
-        (joined (shard_meaning R.is_steady) (P.stripes_of parts.old) (P.part_of parts.old)) writes.old key.now)) }
-    ensures writes { writes.new ≡ writes.old }
-    ensures same { P.part_of parts.new ≡ P.part_of parts.old }
-    ensures held { IsStillHeld P.is_open P.keeps parts.old parts.new }
-{
-    let stripe = stripe_at(&*parts, key);
-    item_at(alloc, parts.part(stripe), key, staged, writes)
-}
-
-/// The value of a key after these writes, as an item. If it is the key that the call names at this place, it is not hashed again.
-/// `None` where a page is wanted, or memory.
-fn item_near<R: Shows, P: Parts<Shard<R>>>(
-    alloc: Global,
-    parts: &mut P,
     key: &Word,
-    call: &HashedCall,
-    place: usize,
     staged: &Staged<R>,
     writes: &mut Writes,
 ) -> Option<Item>
@@ -289,20 +243,17 @@ fn item_near<R: Shows, P: Parts<Shard<R>>>(
     ensures same { P.part_of parts.new ≡ P.part_of parts.old }
     ensures held { IsStillHeld P.is_open P.keeps parts.old parts.new }
 {
-    match call.at(place, key) {
-        Some(hashed) => item_next(alloc, parts, hashed, staged, writes),
-        None => item_next(alloc, parts, &Hashed::new(key), staged, writes),
-    }
+    let key = Hashed::new(key);
+    let stripe = stripe_at(&*parts, &key);
+    item_at(alloc, parts.part(stripe), &key, staged, writes)
 }
 
-/// What an MGET of these keys, which the call names from this place on, answers after these writes: the one copy is made of each
-/// value. `None` where a page is wanted, or memory.
+/// What an MGET of these keys answers after these writes: the one copy is made of each value. `None` where a page is wanted, or
+/// memory.
 fn run_items<R: Shows, P: Parts<Shard<R>>>(
     alloc: Global,
     parts: &mut P,
     keys: &[Word],
-    call: &HashedCall,
-    first: usize,
     staged: &Staged<R>,
     writes: &mut Writes,
 ) -> Option<CommandReply>
@@ -314,27 +265,23 @@ fn run_items<R: Shows, P: Parts<Shard<R>>>(
 {
     let mut items = room_for(alloc, keys.len());
     let mut left = keys;
-    let mut place = first;
-    while let Some((key, others)) = left.split_first() {
-        let item = item_near(alloc, parts, key, call, place, staged, writes)?;
+    while let Some((first, others)) = left.split_first() {
+        let item = item_next(alloc, parts, first, staged, writes)?;
         let Ok(()) = items.push(item) else {
             return None;
         };
         left = others;
-        place = place.saturating_add(1);
     }
     Some(CommandReply::Array(Sequence::from_vec(items)))
 }
 
-/// What a command, whose keys the call names from this place on, answers after these writes: of one that reads nothing no key is
-/// looked up; one that reads one key has its value where it lies; one that asks which keys are there has no value; of an MGET each
-/// value is copied once, into the reply. `None` where a page is wanted, or memory: the writes are then lost.
+/// What a command answers after these writes: of one that reads nothing no key is looked up; one that reads one key has its value
+/// where it lies; one that asks which keys are there has no value; of an MGET each value is copied once, into the reply. `None`
+/// where a page is wanted, or memory: the writes are then lost.
 pub(crate) fn run_next<R: Shows, P: Parts<Shard<R>>>(
     alloc: Global,
     parts: &mut P,
     command: &Command,
-    call: &HashedCall,
-    first: usize,
     staged: &Staged<R>,
     writes: &mut Writes,
 ) -> Option<CommandReply>
@@ -346,22 +293,18 @@ pub(crate) fn run_next<R: Shows, P: Parts<Shard<R>>>(
 {
     match looks_of(command) {
         Looks::AtNothing => run_after(alloc, Findings::new(alloc), command, writes),
-        Looks::AtValue(key) => match call.at(first, key) {
-            Some(hashed) => run_key(alloc, parts, hashed, command, staged, writes),
-            None => run_key(alloc, parts, &Hashed::new(key), command, staged, writes),
-        },
-        Looks::AtItems(keys) => run_items(alloc, parts, keys, call, first, staged, writes),
-        Looks::AtPresence => run_present(alloc, parts, command, call, first, staged, writes),
+        Looks::AtValue(key) => run_key(alloc, parts, key, command, staged, writes),
+        Looks::AtItems(keys) => run_items(alloc, parts, keys, staged, writes),
+        Looks::AtPresence => run_present(alloc, parts, command, staged, writes),
     }
 }
 
-/// What the commands of a call answer and write that run one after the other, each on what its keys have where it lies. `None` where
-/// a page is wanted, or memory.
+/// What commands answer and write that run one after the other, each on what its keys have where it lies. `None` where a page is
+/// wanted, or memory.
 pub(crate) fn answer_each<R: Shows, P: Parts<Shard<R>>>(
     alloc: Global,
     parts: &mut P,
     commands: &[Command],
-    call: &HashedCall,
     staged: &Staged<R>,
 ) -> Option<(Vec<CommandReply>, Writes)>
     requires may { MayLookUp (P.is_open parts.old) (P.stripes_of parts.old) (P.part_of parts.old) (keys_of_all commands.now) }
@@ -375,14 +318,12 @@ pub(crate) fn answer_each<R: Shows, P: Parts<Shard<R>>>(
     let mut replies = room_for(alloc, commands.len());
     let mut writes = Writes::new(alloc);
     let mut left = commands;
-    let mut place: usize = 0;
     while let Some((command, others)) = left.split_first() {
-        let reply = run_next(alloc, parts, command, call, place, staged, &mut writes)?;
+        let reply = run_next(alloc, parts, command, staged, &mut writes)?;
         let Ok(()) = replies.push(reply) else {
             return None;
         };
         left = others;
-        place = place.saturating_add(key_count(command));
     }
     Some((replies, writes))
 }

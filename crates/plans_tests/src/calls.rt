@@ -13,10 +13,8 @@ ghost use Rattle.plans_tests.specs.Held.{IsFew, count_of, part_at};
 
 use crate::held::Store;
 use device::Device;
-use gates::Parts;
 use hybrid::Staged;
-use plans::hashed::HashedCall;
-use plans::hashing::{HashedKeys, looks_up_several};
+use plans::hashed::{HashedCall, key_of};
 use plans::plan::plan;
 use plans::planned::Planned;
 use plans::reading::{plan_reading, read_all};
@@ -93,22 +91,6 @@ fn plan_call<D: Device>(
     )
 }
 
-/// Plans a call, and carries the plan out.
-fn run_call<D: Device>(
-    alloc: Global,
-    store: &mut Store<D>,
-    call: &HashedCall,
-) -> Result<Reply, Stop<D::Receipt>>
-    requires few { IsFew store.old.stripes }
-    requires entry { IsEntry call.now }
-    requires place { IsPlaced call.now }
-{
-    match plan_call(alloc, store, call) {
-        Ok(planned) => Ok(planned.install(&mut store.stripes, call)),
-        Err(stop) => Err(stop),
-    }
-}
-
 /// Runs a call. One that cannot be planned is answered as want of memory.
 pub fn submit<D: Device>(
     alloc: Global,
@@ -120,11 +102,14 @@ pub fn submit<D: Device>(
     if !store.stripes.are_few() || !can_be_planned(call) {
         return Err(Stop::OutOfMemory);
     }
-    if looks_up_several(call) {
-        let keys = HashedKeys::of(call, store.stripes.stripes());
-        return run_call(alloc, store, &HashedCall::with(call, keys));
+    let hashed = HashedCall {
+        call,
+        key: key_of(call),
+    };
+    match plan_call(alloc, store, &hashed) {
+        Ok(planned) => Ok(planned.install(&mut store.stripes, &hashed)),
+        Err(stop) => Err(stop),
     }
-    run_call(alloc, store, &HashedCall::of(call))
 }
 
 /// Runs a call in one round with no page staged, and tells its reply, or how many pages it wants.
@@ -139,7 +124,10 @@ pub fn submit_once<D: Device>(
         return Err(0);
     }
     let staged = Staged::new(alloc);
-    let hashed = HashedCall::of(call);
+    let hashed = HashedCall {
+        call,
+        key: key_of(call),
+    };
     match plan(
         alloc,
         &mut store.stripes,
@@ -160,7 +148,10 @@ pub fn undo<D: Device>(alloc: Global, store: &mut Store<D>, seat: u64, call: &Ca
         return false;
     }
     let staged = Staged::new(alloc);
-    let hashed = HashedCall::of(call);
+    let hashed = HashedCall {
+        call,
+        key: key_of(call),
+    };
     match plan(
         alloc,
         &mut store.stripes,

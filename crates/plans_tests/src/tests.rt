@@ -20,7 +20,6 @@ use words::word::{Word, Words};
 mod drawn;
 mod freeing;
 mod full;
-mod several;
 mod sizes;
 mod stops;
 

@@ -26,7 +26,7 @@ ghost use Rattle.world.specs.Planning.{HasArranged, HasCleared, HasEnded, HasMet
 use crate::desk::{Desk, Plan};
 use crate::laws::plan_laws;
 use hybrid::Staged;
-use plans::hashed::HashedCall;
+use plans::hashed::{HashedCall, key_of};
 use plans::marks::forget;
 use plans::plan::plan;
 use plans::planned::Planned;
@@ -70,7 +70,10 @@ fn plan_naming(
     ensures full { IfErr result (λ stop. IfFull stop (λ stripe. HasMet log.old client call.now stripe log.new)) }
 {
     log.stripes.act_for(client);
-    let hashed = HashedCall::of(call);
+    let hashed = HashedCall {
+        call,
+        key: key_of(call),
+    };
     match plan(alloc, &mut log.stripes, &hashed, staged, &mut log.device) {
         Ok(planned) => Ok(planned),
         Err(stop) => Err(stop),
@@ -98,7 +101,10 @@ fn plan_with_reads(
 {
     plan_laws();
     log.stripes.act_for(client);
-    let hashed = HashedCall::of(call);
+    let hashed = HashedCall {
+        call,
+        key: key_of(call),
+    };
     match plan_reading(alloc, &mut log.stripes, &hashed, staged, &mut log.device) {
         Ok(planned) => Ok(planned),
         Err(stop) => Err(stop),
@@ -252,7 +258,10 @@ pub(crate) fn run(
 {
     log.stripes.act_for(client);
     let staged = Staged::new(alloc);
-    let hashed = HashedCall::of(call);
+    let hashed = HashedCall {
+        call,
+        key: key_of(call),
+    };
     let Ok(planned) = plan(alloc, &mut log.stripes, &hashed, &staged, &mut log.device) else {
         return Err(Stopped);
     };
@@ -273,7 +282,10 @@ pub(crate) fn install(log: &mut WorldLog, client: usize, call: &Call, planned: P
     ensures put { HasPut log.old client call.now planned log.new }
 {
     log.stripes.act_for(client);
-    let hashed = HashedCall::of(call);
+    let hashed = HashedCall {
+        call,
+        key: key_of(call),
+    };
     planned.install(&mut log.stripes, &hashed)
 }
 

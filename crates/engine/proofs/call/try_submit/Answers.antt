@@ -1,13 +1,12 @@
-use Rattle.std.proofs.Common.{refl, ◌≡◌, ◌∙◌, ℕ, [], sym, ap, subst, rules}
+use Rattle.std.proofs.Common.{refl, ◌∙◌, ℕ, [], sym, ap, subst, rules}
 use Rattle.gates.specs.declared.view.Knowledge.{Knowledge}
 use Rattle.gates.specs.Passes.{ToldBusy, known, stripes_of}
 use Rattle.gates.specs.Helds.{held_stripes, known_to}
-use Rattle.transact.specs.declared.call.Call.{Call}
 use Rattle.transact.specs.Calls.{call_keys}
 use Rattle.transact.specs.Submits.{stripes_asked}
 use Rattle.engine.specs.Answers.{IsAnswered}
 use Rattle.engine.specs.Calls.{promises_of}
-use Rattle.engine.specs.Entering.{MayBegin, given}
+use Rattle.engine.specs.Entering.{given}
 use Rattle.engine.specs.Passes.{know}
 use Rattle.engine.proofs.Entering.{given_here, may_begin, parts_of}
 use Rattle.engine.proofs.Behind.{answered_behind, answered_counted}
@@ -15,12 +14,10 @@ use Rattle.engine.proofs.call.try_submit.Goals as goal
 
 pub enter_at_once-answer-requires-clause-begin : goal.enter_at_once-answer-requires-clause-begin
 enter_at_once-answer-requires-clause-begin g c =
-    let is : c.of-hashed.result ≡ c.args.call = c.of-hashed.ensures in
     let taken = c.hold-held.ensures.taken _ c.in-Ok.ensures.ok in
-    let exact = rw is at c.stripes-wanted.ensures.exact in
-    subst (λ (call : Call). MayBegin g.R.Shows.is_steady call c.hold-held.result) (sym is) (may_begin g.R.Shows.is_steady c.args.call c.args.site.now.gates.now c.stripes-wanted.result _ c.hold-held.result
-    (c.stripes_hold_keys.ensures (stripes_of c.args.site.now.gates.now) (parts_of g.R.Shows.is_steady c.hold-held.result) c.stripes-wanted.result (call_keys c.args.call) (exact ∙ ap (λ (n : ℕ). stripes_asked n c.args.call) c.stripes.ensures.count) taken.has)
-    taken c.requires.may)
+    may_begin g.R.Shows.is_steady c.args.call c.args.site.now.gates.now c.stripes-wanted.result _ c.hold-held.result
+    (c.stripes_hold_keys.ensures (stripes_of c.args.site.now.gates.now) (parts_of g.R.Shows.is_steady c.hold-held.result) c.stripes-wanted.result (call_keys c.args.call) (c.stripes-wanted.ensures.exact ∙ ap (λ (n : ℕ). stripes_asked n c.args.call) c.stripes.ensures.count) taken.has)
+    taken c.requires.may
 
 pub give_back-requires : goal.give_back-requires
 give_back-requires g c =
@@ -39,10 +36,9 @@ returns-in-Some-clause-answered g c =
     let f1 : ℕ = g.D.Device.failures c.enter_at_once-answer.new.device in
     let promises = promises_of g.R.Shows.is_steady g.R.Shows.lends (stripes_of c.args.site.now.gates.now) in
     let answer = c.enter_at_once-answer.result.answer in
-    let answered = rw (c.of-hashed.ensures) at c.enter_at_once-answer.ensures.entered.answered in
     subst (λ (k : Knowledge). IsAnswered promises [] c.args.call answer (know before f0) (know k f1)) (sym (search (rules, last)))
     (answered_behind [] before mid f0 (know (given c.enter_at_once-answer.result.ends c.enter_at_once-answer.result.report (known_to c.enter_at_once-answer.new.held)) f1) taken.learned told
-    promises answer c.args.call (answered_counted g.R.Shows.is_steady g.R.Shows.lends (held_stripes c.hold-held.result) (stripes_of c.args.site.now.gates.now) (ap (λ gates. stripes_of gates) taken.gates_are) answer c.args.call _ _ answered))
+    promises answer c.args.call (answered_counted g.R.Shows.is_steady g.R.Shows.lends (held_stripes c.hold-held.result) (stripes_of c.args.site.now.gates.now) (ap (λ gates. stripes_of gates) taken.gates_are) answer c.args.call _ _ c.enter_at_once-answer.ensures.entered.answered))
 
 pub returns-in-Err-clause-stripe : goal.returns-in-Err-clause-stripe
 returns-in-Err-clause-stripe g c = search rules

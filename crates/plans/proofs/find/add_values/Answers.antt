@@ -16,8 +16,8 @@ loop-first-init g c = record {
   items = λ right. refl;
 }
 
-pub value_near-requires : goal.value_near-requires
-value_near-requires g c =
+pub value_of-requires : goal.value_of-requires
+value_of-requires g c =
     let n : ℕ = g.P.Parts.stripes_of c.args.parts.now in
     let inv = c.loop-first.invariant in
     let parts = g.P.Parts.part_of c.args.parts.now in
@@ -28,7 +28,7 @@ value_near-requires g c =
     record {
       may = record {
         can_lend = inv.is_open;
-        there = rw count (subst (λ p. AreThere n p (first ∷ [])) (sym inv.same) (there.0, tt));
+        there = rw count (subst (λ p. AreThere n p (c.new.result ∷ [])) (sym inv.same) (subst (λ (k : Bytes). AreThere n parts (k ∷ [])) (sym c.new.ensures) (there.0, tt)));
       };
     }
 
@@ -45,13 +45,13 @@ loop-first-preserved g c =
     let count = g.met.P.Parts.same_stripes c.args.parts.now c.loop-first.parts inv.keeps in
     let value = rw count at c.in-Ok.ensures.value in
     record {
-      is_open = c.value_near.ensures.held.open_still;
-      keeps = g.met.P.Parts.keeps_both c.args.parts.now c.loop-first.parts c.value_near.new.parts inv.keeps c.value_near.ensures.held.kept;
-      same = c.value_near.ensures.same ∙ inv.same;
+      is_open = c.value_of.ensures.held.open_still;
+      keeps = g.met.P.Parts.keeps_both c.args.parts.now c.loop-first.parts c.value_of.new.parts inv.keeps c.value_of.ensures.held.kept;
+      same = c.value_of.ensures.same ∙ inv.same;
       there = there.1;
       items = λ right.
           let found : c.in-Ok.value ≡ store first =
-          value.is right ∙ ap (λ p. joined (shard_meaning g.R.Shows.is_steady) n p first) inv.same in
+          value.is right ∙ ap (λ p. joined (shard_meaning g.R.Shows.is_steady) n p c.new.result) inv.same ∙ ap store c.new.ensures in
           let item : c.of.result ≡ item_of (store first) = c.of.ensures ∙ ap item_of found in
           ap (λ (l : List Item). l ++ items_of store others) (c.in-Ok-push.ensures.items ∙ ap (λ (i : Item). c.loop-first.items.items ++ i ∷ []) item)
           ∙ append_assoc c.loop-first.items.items (item_of (store first) ∷ []) (items_of store others)

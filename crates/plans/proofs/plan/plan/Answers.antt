@@ -27,9 +27,6 @@ plan_one-requires-clause-may g c = record {
   there = subst (λ (x : Call). AreThere (g.P.Parts.stripes_of c.args.parts.now) (g.P.Parts.part_of c.args.parts.now) (call_keys x)) (sym c.call.ensures ∙ c.in-One.is) c.requires.may.may.there;
 }
 
-pub plan_one-requires-clause-is : goal.plan_one-requires-clause-is
-plan_one-requires-clause-is g c = sym c.call.ensures ∙ c.in-One.is
-
 pub plan_one-requires-clause-sized : goal.plan_one-requires-clause-sized
 plan_one-requires-clause-sized g c =
     sized_one c.writes_are_bounded.ensures c.in-One.command (subst IsPlaced (sym c.call.ensures ∙ c.in-One.is) c.requires.may.place)

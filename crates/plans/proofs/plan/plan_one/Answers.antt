@@ -1,7 +1,6 @@
-use Rattle.std.proofs.Common.{rules, ◌∙◌, ap, sym, subst, refl, IfErr}
+use Rattle.std.proofs.Common.{rules, sym, subst, refl, IfErr}
 use Rattle.words.specs.declared.command.Command.{Command}
 use Rattle.hybrid.specs.Staging.{AreRight}
-use Rattle.transact.specs.Calls.{call_keys}
 use Rattle.shards.specs.Receipts.{kept_by}
 use Rattle.shards.specs.Shards.{logs_of, shard_meaning}
 use Rattle.plans.specs.Planning.{AreDue, AreWanted, HasStopped, TakesMemory, of_command, of_get}
@@ -13,7 +12,7 @@ use Rattle.plans.proofs.plan.plan_one.Goals as goal
 
 pub plan_key-requires : goal.plan_key-requires
 plan_key-requires g c = record {
-  one = sym (ap call_keys c.requires.is) ∙ c.in-Some.ensures;
+  one = rw c.in-Some.is at c.requires.key;
   may = c.requires.may;
   touches = c.requires.touches;
   sized = c.requires.sized;

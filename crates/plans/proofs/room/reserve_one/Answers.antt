@@ -13,7 +13,7 @@ pub returns-clause-room : goal.returns-clause-room
 returns-clause-room g c =
     let n : ℕ = g.P.Parts.stripes_of c.args.parts.now in
     let w : Write = c.args.write.now in
-    let at : c.stripe_near-stripe.result ≡ stripe_of n w.0 = c.stripe_near-stripe.ensures ∙ ap (stripe_of n) c.key.ensures in
+    let at : c.stripe_in-stripe.result ≡ stripe_of n w.0 = c.stripe_in-stripe.ensures ∙ ap (stripe_of n) c.key.ensures in
     let below : stripe_of n w.0 < n = stripe_below n w.0 (g.met.P.Parts.are_few c.args.parts.now c.requires.may.can_lend).0 in
     let e = rw (at, c.weigh.ensures, c.purpose_for.ensures) at c.reserve_share.ensures in
     has_room_one g.D.Device.wrote (kept_by g.R.Shows.identity g.R.Shows.shown) n w g.D.Device.failures
@@ -24,7 +24,7 @@ pub returns-clause-few : goal.returns-clause-few
 returns-clause-few g c =
     let n : ℕ = g.P.Parts.stripes_of c.args.parts.now in
     let w : Write = c.args.write.now in
-    let at : c.stripe_near-stripe.result ≡ stripe_of n w.0 = c.stripe_near-stripe.ensures ∙ ap (stripe_of n) c.key.ensures in
+    let at : c.stripe_in-stripe.result ≡ stripe_of n w.0 = c.stripe_in-stripe.ensures ∙ ap (stripe_of n) c.key.ensures in
     let before = logs_of (g.P.Parts.part_of c.args.parts.now) in
     let e = rw (at, c.weigh.ensures, c.purpose_for.ensures) at c.reserve_share.ensures.reserved in
     few_more n (stripe_of n w.0) (weigh w) (purpose_of (w ∷ [])) (w ∷ []) before before (logs_of (g.P.Parts.part_of c.reserve_share.new.parts))
@@ -34,7 +34,7 @@ pub returns-clause-stopped : goal.returns-clause-stopped
 returns-clause-stopped g c =
     let n : ℕ = g.P.Parts.stripes_of c.args.parts.now in
     let w : Write = c.args.write.now in
-    let at : c.stripe_near-stripe.result ≡ stripe_of n w.0 = c.stripe_near-stripe.ensures ∙ ap (stripe_of n) c.key.ensures in
+    let at : c.stripe_in-stripe.result ≡ stripe_of n w.0 = c.stripe_in-stripe.ensures ∙ ap (stripe_of n) c.key.ensures in
     let below : stripe_of n w.0 < n = stripe_below n w.0 (g.met.P.Parts.are_few c.args.parts.now c.requires.may.can_lend).0 in
     let before = logs_of (g.P.Parts.part_of c.args.parts.now) in
     let e = rw (at, c.weigh.ensures, c.purpose_for.ensures) at c.reserve_share.ensures in

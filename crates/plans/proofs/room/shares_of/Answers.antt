@@ -20,7 +20,7 @@ overflow_add-shares c =
     let first : Write = c.in-Some.first.now in
     let others : List Write = c.in-Some.others.now in
     let s : ℕ = c.stripe_of-stripe.result in
-    let at : stripe_of n first.0 ≡ s = ap (stripe_of n) (sym c.key.ensures) ∙ sym c.stripe_of-stripe.ensures.stripe in
+    let at : stripe_of n first.0 ≡ s = ap (stripe_of n) (sym (c.as_slice.ensures ∙ c.key.ensures)) ∙ sym c.stripe_of-stripe.ensures.stripe in
     let sum = c.loop-first.invariant.sum s (omega (arith, c.stripe_of-stripe.ensures.below, c.requires.most)) in
     let split : share n s c.loop-first.left.now ≡ c.weigh_before.result + share n s others =
     ap (share n s) c.in-Some.ensures.cases.0 ∙ share_here n s first others at ∙ ap (λ (k : ℕ). k + share n s others) (sym c.weigh_before.ensures) in
@@ -34,7 +34,7 @@ loop-first-preserved c =
     let others : List Write = c.in-Some.others.now in
     let is : c.loop-first.left.now ≡ first ∷ others = c.in-Some.ensures.cases.0 in
     let s : ℕ = c.stripe_of-stripe.result in
-    let at : stripe_of n first.0 ≡ s = ap (stripe_of n) (sym c.key.ensures) ∙ sym c.stripe_of-stripe.ensures.stripe in
+    let at : stripe_of n first.0 ≡ s = ap (stripe_of n) (sym (c.as_slice.ensures ∙ c.key.ensures)) ∙ sym c.stripe_of-stripe.ensures.stripe in
     let light : weight (first ∷ others) ≤ WEIGHT_MAX = subst (λ (ws : List Write). weight ws ≤ WEIGHT_MAX) is inv.light in
     let w : ℕ = c.weigh_before.result in
     let old : ℕ = slice_index c.loop-first.shares s + w in

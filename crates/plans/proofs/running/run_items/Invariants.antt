@@ -6,8 +6,8 @@ use Rattle.transact.specs.Tables.{AreThere, joined}
 use Rattle.shards.specs.Shards.{shard_meaning}
 use Rattle.plans.proofs.running.run_items.Given as goal
 
-abbrev pub invariant-loop-key : goal.invariant-loop-key
-invariant-loop-key g l = record {
+abbrev pub invariant-loop-first : goal.invariant-loop-first
+invariant-loop-first g l = record {
   is_open : g.P.Parts.is_open l.parts;
   keeps : g.P.Parts.keeps l.fn.parts l.parts;
   same : g.P.Parts.part_of l.parts ≡ g.P.Parts.part_of l.fn.parts;
@@ -18,5 +18,5 @@ invariant-loop-key g l = record {
       ≡ items_of (written (joined (shard_meaning g.R.Shows.is_steady) (g.P.Parts.stripes_of l.fn.parts) (g.P.Parts.part_of l.fn.parts)) l.fn.writes) l.keys;
 }
 
-abbrev pub decreases-loop-key : goal.decreases-loop-key
-decreases-loop-key g l = length l.left
+abbrev pub decreases-loop-first : goal.decreases-loop-first
+decreases-loop-first g l = length l.left

@@ -12,6 +12,6 @@ returns-clause-ran g c =
     let parts = g.P.Parts.part_of c.args.parts.now in
     let contents = shard_meaning g.R.Shows.is_steady in
     let key : Bytes = c.args.key.now in
-    let there : parts (stripe_of n key) ≡ Some part = sym (ap parts c.stripe_at-stripe.ensures) ∙ c.part.ensures.value in
+    let there : parts (stripe_of n key) ≡ Some part = sym (ap parts (c.stripe_at-stripe.ensures ∙ ap (stripe_of n) c.new-key.ensures)) ∙ c.part.ensures.value in
     let same : joined contents n parts key ≡ shard_store part key = sym (ap (value_in contents key) (sym there)) in
-    c.run_at.ensures (joined contents n parts) same
+    rw c.new-key.ensures at c.run_at.ensures (joined contents n parts) same
