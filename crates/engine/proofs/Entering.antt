@@ -46,12 +46,14 @@ use Rattle.plans.specs.declared.stop.Stop.TheVariants as stop
 use Rattle.plans.specs.Stops.{IfCold, IfFull, IfNoMemory, faults}
 use Rattle.transact.specs.Submits.{IfFault, IfReply, asked_for}
 use Rattle.transact.specs.Tables.{AreThere, Became, HasBegun, Stand, clears, stays, touches_and_clears}
-use Rattle.engine.specs.Calls.{Forgot, HasItsPlace, IsCause, IsDone, IsUndone, Promises}
-use Rattle.engine.specs.Entering.{MayBeGiven, MayBegin, MayEnter, MaySubmit, at_fault}
+use Rattle.engine.specs.Calls.{Forgot, HasItsPlace, IsCause, IsDone, IsUndone, Promises, promises_of}
+use Rattle.engine.specs.Answers.{IsAnswered}
+use Rattle.engine.specs.declared.enter.Entered.{Entered}
+use Rattle.engine.specs.Entering.{HasEntered, MayBeGiven, MayBegin, MayEnter, MaySubmit, WasCold, at_fault, given, own_answer}
 use Rattle.engine.specs.Memory.{AsksNoMemory}
 use Rattle.engine.specs.Passes.{Known, know}
 use Rattle.engine.specs.Stops.{IfSpent, IsOfCall, fault_of, report_of}
-use Rattle.engine.proofs.Parts.{there_after}
+use Rattle.engine.proofs.Parts.{became_same, there_after}
 use Rattle.engine.proofs.Fit.{forgot_all, installed_all, kept_all, keys_held, stand_of}
 
 pub asks : (call : Call) → IsEntry call → asked_of call ≡ Some (asked_for call)
@@ -254,6 +256,45 @@ module _ {R : Type 0} (steady : Type 0) where
     there = subst (λ (m : ℕ). AreThere m (parts_of mid) (call_keys call)) (sym (counted start mid gates)) (there_after (held_stripes start) (call_keys call) (parts_of start) (parts_of mid) there may.there);
     fit = subst (λ (m : ℕ). Fit m mid) (sym (counted start mid gates)) fit;
   }
+
+  -- a call may begin still, where parts are the same
+  pub begin_still : (call : Call) (start mid : Held (Shard R)) → MayBegin steady call start → IsOpen steady mid → SameHold start mid → parts_of mid ≡ parts_of start → MayBegin steady call mid
+  begin_still call start mid begin opened same parts = record {
+    may = may_still call start mid begin.may opened (same.committed ∙ begin.may.fresh) (ap (λ (g : Bor (Gates (Shard R))). g.now) same.gates)
+        (λ i some. subst (λ (p : ℕ → Option (Shard R)). IsSome (p i)) (sym parts) some)
+        (fit_kept (held_stripes start) start mid same begin.may.fit (became_same (held_stripes start) (shard_meaning steady) (parts_of start) (parts_of mid) parts));
+    lent = λ stripe part is. subst (λ (l : List (ℕ × (ℕ × Shard R))). (moment : ℕ) × (part_at l stripe ≡ Some (moment, part))) (sym same.taken) (begin.lent stripe part (ap (λ (p : ℕ → Option (Shard R)). p stripe) (sym parts) ∙ is));
+    place = subst (λ (k : Knowledge). HasItsPlace k.watched (asked_of call)) (sym same.known) begin.place;
+    ends = subst (λ (k : Knowledge). EndsAll call k.watched) (sym same.known) begin.ends;
+  }
+
+  -- what a call came to, from before the last steps, in which nothing was learned
+  pub entered_behind : {A : Type 0} (lends : Type 0) (call : Call) (says : A → Answer) (start mid last : Held (Shard R)) (f0 f1 : ℕ) (entered : Entered A) → SameHold start mid
+      → HasEntered (promises_of steady lends (held_stripes mid)) call says (mid, f0) (last, f1) entered → HasEntered (promises_of steady lends (held_stripes start)) call says (start, f0) (last, f1) entered
+  entered_behind lends call says start mid last f0 f1 entered same has =
+      let gates : gates_of mid ≡ gates_of start = ap (λ (g : Bor (Gates (Shard R))). g.now) same.gates in
+      record {
+        back = given_behind entered.ends entered.report start mid last gates same.pass has.back;
+        answered = subst (λ (n : ℕ). IsAnswered (promises_of steady lends n) [] call (says entered.answer) (know (known_to start) f0) (know (given entered.ends entered.report (known_to last)) f1)) (counted start mid gates)
+            (subst (λ (k : Knowledge). IsAnswered (promises_of steady lends (held_stripes mid)) [] call (says entered.answer) (know k f0) (know (given entered.ends entered.report (known_to last)) f1)) same.known has.answered);
+      }
+
+  -- the same of one that wants pages
+  pub cold_behind : (lends : Type 0) (call : Call) (start mid last : Held (Shard R)) (f0 f1 : ℕ) → SameHold start mid → WasCold steady lends call (mid, f0) (last, f1) → WasCold steady lends call (start, f0) (last, f1)
+  cold_behind lends call start mid last f0 f1 same cold = record {
+    back = given_behind false report.Nothing start mid last (ap (λ (g : Bor (Gates (Shard R))). g.now) same.gates) same.pass cold.back;
+    known = cold.known ∙ same.known;
+    unlent = cold.unlent;
+    planned = cold.planned;
+    no_fault = cold.no_fault;
+  }
+
+  -- what a call came to, where the call and what it came to are said otherwise
+  pub entered_as : (promises : Promises) (call other : Call) (entered said : Entered Answer) (before later : Held (Shard R) × ℕ) → call ≡ other → entered ≡ said
+      → HasEntered promises other own_answer before later said → HasEntered promises call own_answer before later entered
+  entered_as promises call other entered said before later is told has =
+      subst (λ (x : Call). HasEntered promises x own_answer before later entered) (sym is)
+      (subst (λ (e : Entered Answer). HasEntered promises other own_answer before later e) (sym told) has)
 
   -- what may be given back, as it is held now
   pub given_here : (ends : Bool) (report : Report) (start held : Held (Shard R)) → MayBeGiven steady ends report start held → MayBeGiven steady ends report held held

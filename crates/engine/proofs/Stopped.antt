@@ -1,6 +1,9 @@
 -- Plans that were not made, and what they are answered.
-use Rattle.std.proofs.Common.{◌≡◌, ◌+◌, ◌<◌, ℕ, List, [], ◌∷◌, Some, false, cond, eq-eqb, refl, sym, ap, subst, arith}
+use Rattle.std.proofs.Common.{◌≡◌, ◌+◌, ◌<◌, ℕ, List, [], ◌∷◌, Some, true, false, cond, eq-eqb, refl, sym, ap, subst, arith}
+use Rattle.words.specs.declared.command.Command.{Command}
 use Rattle.words.specs.declared.command.Command.TheVariants.{Set}
+use Rattle.words.specs.Commands.{touches_keys}
+use Rattle.words.specs.declared.reply.Reply.{Reply}
 use Rattle.words.specs.declared.command.When.TheVariants.{Always}
 use Rattle.words.specs.History.{Pair, after}
 use Rattle.words.specs.Session.{line_reply, watched_at_fault}
@@ -90,15 +93,22 @@ module _ {R : Type 0} where
   stopped_quietly promises call (stop.StoreFull stripe) start mid f0 f1 entry kept same cold full failures memory = absurd full
   stopped_quietly promises call (stop.Cold receipts) start mid f0 f1 entry kept same cold full failures memory = absurd cold
 
+  -- there was no room for what a command gives its key
+  pub put_stopped : (promises : Promises) (command : Command) (key value : Bytes) (said : Reply) (s : Stop R) (refused : Refused) (start mid : Knowledge) (f0 f1 : ℕ) → touches_keys command ≡ true → mid ≡ start → IfCold s (λ receipts. ⊥)
+      → IfNoMemory s ⊥ → f1 ≡ f0 + faults s → IfFull s (λ stripe. stripe ≡ stripe_of promises.stripes key) → (promises.steady → IsPlan start.seen (Run command) said ((key, Some value) ∷ []))
+      → IsUndone promises [] (asked_of (One command)) (fault_of s) (know start f0) (know (given false (report_of s refused) mid) f1)
+  put_stopped promises command key value said stop.OutOfMemory refused start mid f0 f1 touches same cold memory failures own plan = absurd memory
+  put_stopped promises command key value said stop.DeviceFault refused start mid f0 f1 touches same cold memory failures own plan =
+      stopped_by {R = R} promises (One command) stop.DeviceFault refused start mid mid f0 f1 touches refl same cold failures tt tt
+  put_stopped promises command key value said (stop.StoreFull stripe) refused start mid f0 f1 touches same cold memory failures own plan =
+      stopped_by {R = R} promises (One command) (stop.StoreFull stripe) refused start mid (given false (report_of {R = R} (stop.StoreFull stripe) refused) mid) f0 f1 touches refl same cold failures tt
+      (λ t. subst (λ (i : ℕ). 0 < share promises.stripes i (made start.seen (Run command))) (sym own)
+      (subst (λ (l : List Write). 0 < share promises.stripes (stripe_of promises.stripes key) l) (plan t).writes_due (written_there promises.stripes key value)))
+  put_stopped promises command key value said (stop.Cold receipts) refused start mid f0 f1 touches same cold memory failures own plan = absurd cold
+
   -- there was no room for what a SET without an option writes
   pub set_stopped : (promises : Promises) (key value : Bytes) (s : Stop R) (refused : Refused) (start mid : Knowledge) (f0 f1 : ℕ) → mid ≡ start → IfCold s (λ receipts. ⊥) → IfNoMemory s ⊥ → f1 ≡ f0 + faults s
       → IfFull s (λ stripe. stripe ≡ stripe_of promises.stripes key) → IsPlan start.seen (Run (Set key value Always)) (line_reply Done) ((key, Some value) ∷ [])
       → IsUndone promises [] (asked_of (set_call key value)) (fault_of s) (know start f0) (know (given false (report_of s refused) mid) f1)
-  set_stopped promises key value stop.OutOfMemory refused start mid f0 f1 same cold memory failures own plan = absurd memory
-  set_stopped promises key value stop.DeviceFault refused start mid f0 f1 same cold memory failures own plan =
-      stopped_by {R = R} promises (set_call key value) stop.DeviceFault refused start mid mid f0 f1 refl refl same cold failures tt tt
-  set_stopped promises key value (stop.StoreFull stripe) refused start mid f0 f1 same cold memory failures own plan =
-      stopped_by {R = R} promises (set_call key value) (stop.StoreFull stripe) refused start mid (given false (report_of {R = R} (stop.StoreFull stripe) refused) mid) f0 f1 refl refl same cold failures tt
-      (λ t. subst (λ (i : ℕ). 0 < share promises.stripes i (made start.seen (Run (Set key value Always)))) (sym own)
-      (subst (λ (l : List Write). 0 < share promises.stripes (stripe_of promises.stripes key) l) plan.writes_due (written_there promises.stripes key value)))
-  set_stopped promises key value (stop.Cold receipts) refused start mid f0 f1 same cold memory failures own plan = absurd cold
+  set_stopped promises key value s refused start mid f0 f1 same cold memory failures own plan =
+      put_stopped promises (Set key value Always) key value (line_reply Done) s refused start mid f0 f1 refl same cold memory failures own (λ t. plan)

@@ -16,6 +16,7 @@ ghost use Rattle.shards.specs.Shards.{shard_meaning};
 ghost use Rattle.plans.specs.Stops.{IfCold};
 ghost use Rattle.plans.specs.declared.reading.WhenCold.TheVariants.{Stops};
 
+use crate::count::enter_counting;
 use crate::set::enter_set;
 use crate::site::Site;
 use device::{Device, Shows};
@@ -95,7 +96,7 @@ pub(crate) fn enter_call<L: Latch, R: Shows, D: Device<Receipt = R>, S: Retires>
                 report,
             })
         }
-        _ => enter(site, held, device, hands, call, cold),
+        _ => enter_counting(site, held, device, hands, call, cold),
     }
 }
 
@@ -136,7 +137,7 @@ pub(crate) fn give_back<R: Shows>(held: Held<'_, Shard<R>>, ends: bool, report: 
 
 /// Runs a call over the parts that are held: plans it, commits its one entry, and installs what it writes. With a fault
 /// nothing was committed, and values are as they were.
-fn enter<L: Latch, R: Shows, D: Device<Receipt = R>, S: Retires>(
+pub(crate) fn enter<L: Latch, R: Shows, D: Device<Receipt = R>, S: Retires>(
     site: &Site<L, R>,
     held: &mut Held<'_, Shard<R>>,
     device: &mut D,

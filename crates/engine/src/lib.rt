@@ -45,6 +45,7 @@ use words::reply::{Fault, Line};
 use words::word::{OutOfMemory, Word};
 
 mod call;
+mod count;
 mod deal;
 mod enter;
 mod get;

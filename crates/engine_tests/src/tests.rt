@@ -265,6 +265,11 @@ fn counters_with_each_growth_refused(rt: HostRuntime) {
         DEL key-of-more-than-22-bytes -> :1 -> null\n\
         DECRBY key-of-more-than-22-bytes 41 -> :-41 -> $-41\n\
         DECR key-of-more-than-22-bytes -> :-42 -> $-42\n\
+        DECRBY key-of-more-than-22-bytes 9223372036854775766 -> :-9223372036854775808 -> $-9223372036854775808\n\
+        DECR key-of-more-than-22-bytes -> -ERR increment or decrement would overflow -> $-9223372036854775808\n\
+        INCRBY key-of-more-than-22-bytes -1 -> -ERR increment or decrement would overflow -> $-9223372036854775808\n\
+        SET key-of-more-than-22-bytes 01 -> +OK -> $01\n\
+        DECR key-of-more-than-22-bytes -> -ERR value is not an integer or out of range -> $01\n\
         SET key-of-more-than-22-bytes one-of-more-than-22-bytes -> +OK -> $one-of-more-than-22-bytes\n\
         INCR key-of-more-than-22-bytes -> -ERR value is not an integer or out of range -> $one-of-more-than-22-bytes";
     all_answered(&rt, rt.alloc(), '\n', text);

@@ -36,22 +36,30 @@ top-in : (p : HybridLog) (log : Log) → IsHybridLog p → ((e : ℕ × Stored) 
 top-in p [] is within = omega (arith, is.tail)
 top-in p (e ∷ log) is within = omega (arith, (at-page p e is (within e (here e log))).high)
 
+head-below : (p : HybridLog) (b : ℕ) → IsHybridLog p → b < length p.heads → slice_index p.heads b < next_number p.resident * PAGE_SIZE
+head-below p b is within = elim (joins_low (bucket_of p) (begin_of p.oldest) (log_of p) (slice_index p.heads b) b is.linked (is.joined b within)) [
+  | inl l ↦ omega (arith, l, is.live, is.tail)
+  | inr l ↦ omega (arith, l, top-in p (log_of p) is (λ e c. c))
+]
+
 start : (p : HybridLog) (key : List ℕ) (Near : ℕ × Stored → Type 0) → IsHybridLog p → IsStart p key Near (slice_index p.heads (bucket_of p key))
 start p key Near is =
     let w = walk-start p key Near is in
     record {
       is = is;
-      below = elim (joins_low (bucket_of p) (begin_of p.oldest) (log_of p) (slice_index p.heads (bucket_of p key)) (bucket_of p key) is.linked (is.joined (bucket_of p key) (mod-lt _ is.buckets))) [
-        | inl l ↦ omega (arith, l, is.live, is.tail)
-        | inr l ↦ omega (arith, l, top-in p (log_of p) is (λ e c. c))
-      ];
+      below = head-below p (bucket_of p key) is (mod-lt _ is.buckets);
       walk = w;
     }
 
+-- what the index gets of the hash of a key
+pub part-is : (v now : HybridLog) (key : List ℕ) (hash part : ℕ) → v ≡ now → hash ≡ hash_of key → part ≡ hash / now.stripes → part ≡ hash_of key / v.stripes
+part-is v now key hash part same hashed parted = parted ∙ ap (λ (q : HybridLog). hash / q.stripes) (sym same) ∙ ap (λ (h : ℕ). h / v.stripes) hashed
+
 -- the walk starts at the head of the bucket
-pub start-from : (v now : HybridLog) (key : List ℕ) (Near : ℕ × Stored → Type 0) (hash a : ℕ) → v ≡ now → IsHybridLog v → hash ≡ hash_of key → a ≡ slice_index v.heads (hash / v.stripes % length v.heads) → IsStart now key Near a
-start-from v now key Near hash a same is hashed at =
-    let at_head : a ≡ slice_index v.heads (bucket_of v key) = at ∙ ap (λ (h : ℕ). slice_index v.heads (h / v.stripes % length v.heads)) hashed in
+pub start-from : (v now : HybridLog) (key : List ℕ) (Near : ℕ × Stored → Type 0) (hash part a : ℕ) → v ≡ now → IsHybridLog v → hash ≡ hash_of key → part ≡ hash / now.stripes → a ≡ slice_index v.heads (part % length v.heads) → IsStart now key Near a
+start-from v now key Near hash part a same is hashed parted at =
+    let at_head : a ≡ slice_index v.heads (bucket_of v key) =
+    at ∙ ap (λ (n : ℕ). slice_index v.heads (n % length v.heads)) (part-is v now key hash part same hashed parted) in
     subst (λ (q : HybridLog). IsStart q key Near a) same (subst (λ (n : ℕ). IsStart v key Near n) (sym at_head) (start v key Near is))
 
 -- the record that the walk has come to stands in the page of its address
@@ -82,12 +90,12 @@ pub now-is : (v now : HybridLog) → v ≡ now → IsHybridLog v → IsHybridLog
 now-is v now same is = subst (λ (q : HybridLog). IsHybridLog q) same is
 
 -- a record of the log that stands at the head of its bucket is the newest of its key
-pub at-head : (v now : HybridLog) (key : List ℕ) (hash head address : ℕ) (r : Stored) → v ≡ now → IsHybridLog v → hash ≡ hash_of key → head ≡ slice_index v.heads (hash / v.stripes % length v.heads)
+pub at-head : (v now : HybridLog) (key : List ℕ) (hash part head address : ℕ) (r : Stored) → v ≡ now → IsHybridLog v → hash ≡ hash_of key → part ≡ hash / now.stripes → head ≡ slice_index v.heads (part % length v.heads)
     → Contains (log_of now) (address, r) → r.key ≡ key → address ≡ head → newest (log_of now) key ≡ Some (address, r)
-at-head v now key hash head address r same is hashed at listed keyed first =
+at-head v now key hash part head address r same is hashed parted at listed keyed first =
     let linked = (now-is v now same is).linked in
     let low = listed-live (bucket_of now) (begin_of now.oldest) (log_of now) (address, r) linked listed in
-    let walk = (start-from v now key (λ _. ⊤) hash address same is hashed (first ∙ at)).walk in
+    let walk = (start-from v now key (λ _. ⊤) hash part address same is hashed parted (first ∙ at)).walk in
     let h = walk-here (bucket_of now) (begin_of now.oldest) (log_of now) key (λ _. ⊤) address low walk in
     let it : h.stored ≡ r = unique (bucket_of now) (begin_of now.oldest) (log_of now) address h.stored r linked h.listed listed in
     here-found (bucket_of now) (begin_of now.oldest) (log_of now) key (λ _. ⊤) address h (ap (λ (x : Stored). x.key) it ∙ keyed) ∙ ap (λ (x : Stored). Some (address, x)) it

@@ -12,6 +12,7 @@ use Rattle.frames.specs.Resident.{next_number, page_of, first_mutable}
 use Rattle.words.specs.Stripes.{hash_of}
 use Rattle.hybrid.specs.Log.{Log, log_from, page_log, newest_first, addressed, AllLaid, Fits, IsAppended, IsShort, Joins, begin_of}
 use Rattle.hybrid.specs.HybridLog.{HybridLog, IsHybridLog, IsPut, bucket_of, head_of, pages_of, page_at, log_of, tail_bytes}
+use Rattle.hybrid.proofs.Finding.{part-is}
 use Rattle.hybrid.proofs.Parts.{address-in, from-page_log, top-below, number-at}
 use Rattle.hybrid.proofs.Tail.{laid-at, size-short, used-fits}
 use Rattle.hybrid.proofs.Replacing.{with_bytes, IsReplaced, replaced, page-resident, pages-size}
@@ -133,18 +134,18 @@ pub record IsPutIn (now new : HybridLog) (a : ℕ) (key : List ℕ) (value : Opt
   pub address : a ≡ begin_of (next_number now.resident - 1) + tail_bytes now
   pub resident : begin_of now.resident.oldest ≤ a
 
-pub put-from : (v now : HybridLog) (number offset a head link hash : ℕ) (page w heads key : List ℕ) (value : Option (List ℕ)) → v ≡ now → IsHybridLog v → number ≡ next_number v.resident - 1 → page ≡ page_of v.resident number → IsLaidOut w → number_of w ≡ number_of page
+pub put-from : (v now : HybridLog) (number offset a head link hash part : ℕ) (page w heads key : List ℕ) (value : Option (List ℕ)) → v ≡ now → IsHybridLog v → number ≡ next_number v.resident - 1 → page ≡ page_of v.resident number → IsLaidOut w → number_of w ≡ number_of page
     → records_of w ≡ records_of page ++ (used_end page, new_record link hash key value) ∷ [] → used_end w ≡ used_end page + size_for (length key) (length (value_bytes value)) → offset ≡ used_end page
-    → hash ≡ hash_of key → link ≡ slice_index v.heads (hash / v.stripes % length v.heads) → a ≡ number * PAGE_SIZE + offset → head ≡ a → heads ≡ set v.heads (hash / v.stripes % length v.heads) head → Fits key value
+    → hash ≡ hash_of key → part ≡ hash / now.stripes → link ≡ slice_index v.heads (part % length v.heads) → a ≡ number * PAGE_SIZE + offset → head ≡ a → heads ≡ set v.heads (part % length v.heads) head → Fits key value
     → IsPutIn now (with_bytes v number w heads) a key value
-put-from v now number offset a head link hash page w heads key value same is at there laid numbered records end offset_is hashed linked placed headed moved fits =
+put-from v now number offset a head link hash part page w heads key value same is at there laid numbered records end offset_is hashed parted linked placed headed moved fits =
     let t = tail-is v number page is at there in
     let r : Stored = new_record link hash key value in
-    let b_is : hash / v.stripes % length v.heads ≡ bucket_of v key = ap (λ (h : ℕ). h / v.stripes % length v.heads) hashed in
+    let b_is : part % length v.heads ≡ bucket_of v key = ap (λ (n : ℕ). n % length v.heads) (part-is v now key hash part same hashed parted) in
     let size : size_of r ≡ size_for (length key) (length (value_bytes value)) = omega arith in
     let short : IsShort r = record { size = omega (arith, size, size-short (length key) (length (value_bytes value)) fits.key_fits fits.value_fits); fits = fits } in
     let link_is : link ≡ head_of v key = linked ∙ ap (slice_index v.heads) b_is in
-    let heads_are : heads ≡ set v.heads (bucket_of v key) a = moved ∙ ap (set v.heads (hash / v.stripes % length v.heads)) headed ∙ ap (λ (b : ℕ). set v.heads b a) b_is in
+    let heads_are : heads ≡ set v.heads (bucket_of v key) a = moved ∙ ap (set v.heads (part % length v.heads)) headed ∙ ap (λ (b : ℕ). set v.heads b a) b_is in
     let records_there : records_of w ≡ records_of (page_of v.resident number) ++ (used_end (page_of v.resident number), r) ∷ [] = subst (λ (q : List ℕ). records_of w ≡ records_of q ++ (used_end q, r) ∷ []) there records in
     let a_is : a ≡ number * PAGE_SIZE + used_end (page_of v.resident number) = placed ∙ ap (λ (o : ℕ). number * PAGE_SIZE + o) (offset_is ∙ ap used_end there) in
     let low : HEADER_SIZE ≤ used_end (page_of v.resident number) = subst (λ (q : List ℕ). HEADER_SIZE ≤ used_end q) there t.low in

@@ -1,6 +1,6 @@
 // A stripe's log: its pages, receipts and index.
 
-ghost use Rattle.std.specs.Prelude.{◌≡◌, ◌+◌, ◌-◌, ◌<◌, ◌≤◌, ◌^◌, ◌↔◌, [], length, List, None, slice_index_or, IsTrue, IsSome, IfOk, IfSome, MatchOption, OnErr, OnOk, ◌⊎◌, ℕ, option_map};
+ghost use Rattle.std.specs.Prelude.{◌≡◌, ◌+◌, ◌-◌, ◌/◌, ◌<◌, ◌≤◌, ◌^◌, ◌↔◌, [], length, List, None, slice_index_or, IsTrue, IsSome, IfOk, IfSome, MatchOption, OnErr, OnOk, ◌⊎◌, ℕ, option_map};
 ghost use Rattle.std.specs.Bool.{OnTrue, OnFalse};
 ghost use Rattle.records.specs.Page.{used_end};
 ghost use Rattle.frames.specs.Resident.{IsResident, next_number, page_of};
@@ -16,7 +16,9 @@ use records::{HEADER_SIZE, KEY_BYTES_MAX, PAGE_SIZE, Page, RECORD_HEADER};
 use std::alloc::{AllocError, Global};
 use std::collections::VecDeque;
 use std::marker::Model;
-use words::limits::{FRAMES_MIN, Limits, VALUE_BYTES_MAX, WEIGHT_MAX};
+use words::limits::{
+    FRAMES_MIN, Limits, STRIPES_DEFAULT, STRIPES_MAX, VALUE_BYTES_MAX, WEIGHT_MAX,
+};
 
 pub mod clean;
 pub mod find;
@@ -209,6 +211,23 @@ impl<R: Shows> Stripe<R> {
         ensures in_range { result < 2 ^ NUMBER_BITS }
     {
         self.frames.next_number()
+    }
+
+    // What the index gets of a hash: the hash divided by the number of stripes.
+    #[inline]
+    fn index_hash(&self, hash: u64) -> u64
+        ensures { result ≡ hash / self.now.stripes }
+    {
+        // One stripe, the default and the most compile to a shift at most, other numbers to a division.
+        if self.stripes == STRIPES_DEFAULT as u64 {
+            hash / STRIPES_DEFAULT as u64
+        } else if self.stripes == STRIPES_MAX as u64 {
+            hash / STRIPES_MAX as u64
+        } else if self.stripes == 1 {
+            hash
+        } else {
+            hash / self.stripes
+        }
     }
 
     // How many frames have no page.

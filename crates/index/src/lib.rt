@@ -10,6 +10,12 @@ ghost use Rattle.std.specs.Prelude.{◌≡◌, ◌<◌, ◌%◌, length, replica
 use std::alloc::{AllocError, Global};
 use std::marker::Model;
 
+/// The buckets of a stripe's index where nothing else is asked for: `BUCKETS_DEFAULT` of `words::limits`. Any other number is as
+/// right, only slower.
+const BUCKETS_DEFAULT: u64 = 4_096;
+/// The most buckets of a stripe's index: `BUCKETS_MAX` of `words::limits`.
+const BUCKETS_MAX: u64 = 65_536;
+
 /// A table of record addresses, one for each bucket. The bucket of a hash is the hash modulo the
 /// number of buckets. An address of 0 says that the bucket has no record.
 ///
@@ -61,7 +67,16 @@ impl Index {
         ensures bucket { result ≡ hash % length self.now }
         ensures in_range { result < length self.now }
     {
-        (hash % self.heads.len() as u64) as usize
+        // The default and the most compile to a mask, other numbers to a division.
+        let buckets = self.heads.len() as u64;
+        let bucket = if buckets == BUCKETS_DEFAULT {
+            hash % BUCKETS_DEFAULT
+        } else if buckets == BUCKETS_MAX {
+            hash % BUCKETS_MAX
+        } else {
+            hash % buckets
+        };
+        bucket as usize
     }
 }
 

@@ -22,3 +22,4 @@ pub mod Raised
 pub mod Freed
 pub mod Questions
 pub mod Reserved
+pub mod Counts

@@ -7,3 +7,4 @@ pub mod Finding
 pub mod Running
 pub mod Reserving
 pub mod Holding
+pub mod Counting

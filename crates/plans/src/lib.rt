@@ -7,6 +7,7 @@
 #![tactic(auto)]
 
 mod cells;
+pub mod counting;
 mod find;
 pub mod freeing;
 pub mod hands;

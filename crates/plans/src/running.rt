@@ -59,7 +59,7 @@ fn run_after(
 }
 
 /// What a key has, where it lies. `None` where a page is wanted.
-fn value_at<'a, R: Shows>(
+pub(crate) fn value_at<'a, R: Shows>(
     part: &'a Shard<R>,
     key: &Hashed,
     staged: &'a Staged<R>,

@@ -177,7 +177,7 @@ impl<R: Shows> Stripe<R> {
             return Ok(false);
         }
         let hash = hash_of(key);
-        if address == Address::from_number(self.index.head(hash / self.stripes)) {
+        if address == Address::from_number(self.index.head(self.index_hash(hash))) {
             return Ok(true);
         }
         match self.newest_address(hash, key, staged)? {

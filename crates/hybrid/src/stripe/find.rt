@@ -89,7 +89,7 @@ impl<R: Shows> Stripe<R> {
         ensures far { R.is_honest → AreRight staged.now → IfErr result (λ address. IsFirstFar R.lends self.now staged.now key.now (address / PAGE_SIZE)) }
     {
         let begin = Address::of(self.oldest, HEADER_SIZE);
-        let mut address = Address::from_number(self.index.head(hash / self.stripes));
+        let mut address = Address::from_number(self.index.head(self.index_hash(hash)));
         while begin <= address {
             let Some(found) = self.live_record(address, staged) else {
                 return Err(address);
@@ -166,7 +166,7 @@ impl<R: Shows> Stripe<R> {
         ensures { MatchOption result ((address : ℕ) → IsInPlace self.now key.now size address → ⊥) (λ address. IsInPlace self.now key.now size address) }
     {
         let begin = Address::of(self.frames.first_mutable(), HEADER_SIZE);
-        let mut address = Address::from_number(self.index.head(hash / self.stripes));
+        let mut address = Address::from_number(self.index.head(self.index_hash(hash)));
         while begin <= address {
             let Some(record) = self.resident_record(address) else {
                 unreachable!()

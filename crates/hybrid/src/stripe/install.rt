@@ -140,7 +140,8 @@ impl<R: Shows> Stripe<R> {
         ensures bytes { tail_bytes self.new ≡ tail_bytes self.old + size_for (length key.now) (length (value_bytes (option_copied value.entry))) }
         ensures put { IsPut self.old self.new }
     {
-        let link = self.index.head(hash / self.stripes);
+        let index_hash = self.index_hash(hash);
+        let link = self.index.head(index_hash);
         let number = self.frames.next_number() - 1;
         let Some(page) = self.frames.page_mut(number) else {
             unreachable!()
@@ -149,7 +150,7 @@ impl<R: Shows> Stripe<R> {
             unreachable!()
         };
         let address = Address::of(number, offset);
-        self.index.set_head(hash / self.stripes, address.number());
+        self.index.set_head(index_hash, address.number());
         address
     }
 }

@@ -10,7 +10,7 @@ use Rattle.hybrid.proofs.stripe.Stripe.newest.Goals as goal
 
 pub loop-begin-init : goal.loop-begin-init
 loop-begin-init g c =
-    let s = start-from _ _ c.args.key.now (IsNear g.R.Shows.lends c.args.self.now c.args.staged.now) c.args.hash c.from_number-address.result c.self.view_is c.self.invariant.0 c.requires.hash (c.from_number-address.ensures ∙ c.head.ensures.head) in
+    let s = start-from _ _ c.args.key.now (IsNear g.R.Shows.lends c.args.self.now c.args.staged.now) c.args.hash c.index_hash.result c.from_number-address.result c.self.view_is c.self.invariant.0 c.requires.hash c.index_hash.ensures (c.from_number-address.ensures ∙ c.head.ensures.head) in
     record { below = s.below; walk = λ honest right. s.walk }
 
 pub returns-in_default-clause-leads : goal.returns-in_default-clause-leads

@@ -12,7 +12,7 @@ use Rattle.hybrid.proofs.stripe.Stripe.place.Goals as goal
 
 pub loop-begin-init : goal.loop-begin-init
 loop-begin-init g c =
-    (start-from _ _ c.args.key.now (λ _. ⊤) c.args.hash c.from_number-address.result c.self.view_is c.self.invariant.0 c.requires (c.from_number-address.ensures ∙ c.head.ensures.head)).walk
+    (start-from _ _ c.args.key.now (λ _. ⊤) c.args.hash c.index_hash.result c.from_number-address.result c.self.view_is c.self.invariant.0 c.requires c.index_hash.ensures (c.from_number-address.ensures ∙ c.head.ensures.head)).walk
 
 pub unreachable-requires : goal.unreachable-requires
 unreachable-requires g c =
