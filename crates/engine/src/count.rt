@@ -95,7 +95,8 @@ fn enter_count<L: Latch, R: Shows, D: Device<Receipt = R>, S: Retires>(
     requires begin { MayBegin R.is_steady call.now held.old }
     requires planned { IsPlanned call.now }
     requires one { keys_of counter.0.now ≡ counter.1.now ∷ [] }
-    requires due { R.is_steady → IsPlan (known_to held.old).seen (Run counter.0.now) (number_reply number) ((counter.1.now, Some text.now) ∷ []) }
+    requires due { R.is_steady → IsPlan (known_to held.old).seen (Run counter.0.now) (number_reply number)
+        ((counter.1.now, Some text.now) ∷ []) }
     requires light { weigh (counter.1.now, Some text.now) ≤ WEIGHT_MAX }
     requires fits { Fits counter.1.now (Some text.now) }
     requires is { S.is_of site.now.epochs.now own.old }

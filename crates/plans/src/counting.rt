@@ -78,8 +78,8 @@ fn count_at<R: Shows>(
 
 /// The number that the key of a command that counts has after it, if it has this value before it.
 fn number_after(command: &Command, value: Option<&[u8]>) -> Option<i64>
-    ensures { (key : Bytes) (store : Store) → keys_of command.now ≡ key ∷ [] → store key ≡ option_copied value.entry → IfSome result (λ number.
-        answer store command.now ≡ (One (Integer number), (key, Some (signed_decimal number)) ∷ [])) }
+    ensures { (key : Bytes) (store : Store) → keys_of command.now ≡ key ∷ [] → store key ≡ option_copied value.entry
+        → IfSome result (λ number. answer store command.now ≡ (One (Integer number), (key, Some (signed_decimal number)) ∷ [])) }
 {
     match command {
         Command::Add(_, number) => number_in(value)?.checked_add(*number),
