@@ -12,7 +12,9 @@ use Rattle.words.specs.Store.{Bytes}
 use Rattle.words.specs.Spelling.{IsRequest}
 use Rattle.words.specs.Commands.{command_of, touches_keys}
 use Rattle.words.specs.Bounds.{IsBounded}
-use Rattle.words.specs.Briefs.{IsGet, IsSet, IsPing}
+use Rattle.words.specs.Briefs.{counting, IsCounting, IsGet, IsSet, IsPing}
+use Rattle.words.specs.declared.command.Count.{Count}
+use Rattle.words.specs.declared.command.Count.TheVariants as by
 use Rattle.words.specs.Session.{Idle, Says, Calls, Run, turn, turn_idle, line_reply}
 use Rattle.transact.specs.declared.call.Call.TheVariants.{One}
 use Rattle.transact.specs.declared.call.Answer.{Answer}
@@ -112,6 +114,19 @@ turned_set was now stripes words a reply at entry law attends idle request set b
     turned_brief was now stripes words (Set set.key set.value Always) a reply at entry law attends idle request (ap (turn_idle idle.0) set.command)
     (refl, bounded) done undone says
 
+counts_touch : (change : Count) (key : Bytes) → IsTrue (touches_keys (counting change key))
+counts_touch (by.Add n) key = refl
+counts_touch (by.Subtract n) key = refl
+
+-- of a command that counts
+pub turned_count : {promises : Promises} (was now : Known) (stripes : List ℕ) (words : List Bytes) (change : Count) (a : Answer) (reply : Reply) (at : Progress)
+    → WatchesPairsOfEntry → WatchesPairsOfFault → Attends was at → IsIdle at.stage → IsRequest words → (count : IsCounting change words) → IsBounded (counting change count.key)
+    → IfReply a (λ given. IsDone stripes (Some (Run (counting change count.key))) given was now)
+    → IfFault a (λ f. IsUndone promises stripes (Some (Run (counting change count.key))) f was now)
+    → reply ≡ reply_to a → Turned promises was now (before words at) at reply
+turned_count was now stripes words change a reply at entry law attends idle request count bounded done undone says =
+    turned_command was now stripes words (counting change count.key) a reply at entry law attends idle request (sym count.command) (counts_touch change count.key) bounded done undone says
+
 -- of a PING without a text
 pub turned_ping : {promises : Promises} (was : Known) (words : List Bytes) (at : Progress) → Attends was at → IsIdle at.stage → IsRequest words → IsPing words
     → Turned promises was was (before words at) at (line_reply Pong)
@@ -120,7 +135,7 @@ turned_ping was words at attends idle request ping =
     turned_said was (before words at) at (line_reply Pong) (attends_before was words at attends)
     (words, record { request = request; taken = refl }, (stands Idle idle.0, idle.1, rw (idle.1, says) (refl, refl)))
 
--- A GET and a SET without an option of a request within the limits are within them.
+-- A GET, a SET without an option and a command that counts, of a request within the limits, are within them.
 
 pub get_bounded : ((words : List Bytes) → IsRequest words → IfOk (command_of words) IsBounded) → (words : List Bytes) → IsRequest words → (get : IsGet words)
     → IsBounded (Get get.key)
@@ -129,3 +144,7 @@ get_bounded bounded words request get = subst (λ (made : Result Command Refusal
 pub set_bounded : ((words : List Bytes) → IsRequest words → IfOk (command_of words) IsBounded) → (words : List Bytes) → IsRequest words → (set : IsSet words)
     → IsBounded (Set set.key set.value Always)
 set_bounded bounded words request set = subst (λ (made : Result Command Refusal). IfOk made IsBounded) set.command (bounded words request)
+
+pub count_bounded : ((words : List Bytes) → IsRequest words → IfOk (command_of words) IsBounded) → (words : List Bytes) (change : Count) → IsRequest words
+    → (count : IsCounting change words) → IsBounded (counting change count.key)
+count_bounded bounded words change request count = subst (λ (made : Result Command Refusal). IfOk made IsBounded) count.command (bounded words request)

@@ -239,8 +239,8 @@ fn answer_next<T: Wait, L: Latch, D: Device>(
 }
 
 /// Answers the request of these words, which was taken off, of a client whose session is in no transaction.
-/// A GET and a SET without an option go to the engine with their words as they lie: the session does no more
-/// to them than to hand them on. A PING without a text is answered at once.
+/// A GET, a SET without an option and a command that counts go to the engine with their words as they lie: the session
+/// does no more to them than to hand them on. A PING without a text is answered at once.
 #[inline]
 fn answer_idle<T: Wait, L: Latch, D: Device>(
     store: &Store<T, L, D>,
@@ -273,6 +273,13 @@ fn answer_idle<T: Wait, L: Latch, D: Device>(
             let key = &words.as_slice()[1];
             let value = &words.as_slice()[2];
             Due::Line(line_of(store.engine.set(store.rt, pass, key, value, store.latch)))
+        }
+        Brief::Count(by) => {
+            watches_follow_entries();
+            commands_are_bounded();
+            let key = &words.as_slice()[1];
+            let counted = store.engine.count(store.rt, pass, key, by, store.latch);
+            Due::Reply(counted.into_reply())
         }
         Brief::Ping => Due::Line(Line::Pong),
         Brief::Other => answer_command(store, client, words, pass),

@@ -6,7 +6,6 @@ use Rattle.words.specs.declared.reply.Fault.{Fault}
 use Rattle.words.specs.declared.reply.Fault.TheVariants as fault
 use Rattle.words.specs.declared.history.Entry.{Entry}
 use Rattle.words.specs.declared.history.Operation.{Operation}
-use Rattle.words.specs.declared.command.Command.{Command}
 use Rattle.words.specs.Commands.{keys_of_all}
 use Rattle.words.specs.Store.{Bytes, Write}
 use Rattle.words.specs.History.{HasPlace, History, Pair, after, due, keys_named, keys_of_pairs}

@@ -1,5 +1,5 @@
 -- Calls that give their stripes back and take them again.
-use Rattle.std.proofs.Common.{false, IfOk, Result, Ok, Err, Option, Some, ◌≡◌, ◌∙◌, ◌+◌, ℕ, List, [], ◌∷◌, ◌++◌, append_assoc, refl, sym, ap, subst}
+use Rattle.std.proofs.Common.{false, Option, Some, ◌≡◌, ◌∙◌, ◌+◌, ℕ, List, [], ◌∷◌, ◌++◌, append_assoc, refl, sym, ap, subst}
 use Rattle.hybrid.specs.HybridLog.{Kept}
 use Rattle.plans.specs.Reading.{ServesEach}
 use Rattle.words.specs.History.{History, after}

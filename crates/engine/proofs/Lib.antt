@@ -10,3 +10,4 @@ pub mod Memory
 pub mod Later
 pub mod MemoryRows
 pub mod SizeRows
+pub mod Counts

@@ -1,5 +1,6 @@
 -- Calls that are entered over the stripes that a pass holds.
 use Rattle.std.specs.Prelude.{ℕ, ◌≡◌, Bool, false, List, []}
+use Rattle.words.specs.Briefs.{counting}
 use Rattle.words.specs.Store.{Bytes}
 use Rattle.words.specs.declared.reply.Reply.{Reply}
 use Rattle.words.specs.Session.{Asked, Run, value_reply, watched_at_fault}
@@ -30,8 +31,9 @@ use Rattle.plans.specs.declared.hands.Hands.{Hands}
 use Rattle.engine.specs.declared.enter.Entered.{Entered}
 use Rattle.engine.specs.Answers.{IsAnswered}
 use Rattle.engine.specs.Calls.{HasItsPlace, Promises}
-use Rattle.engine.specs.Memory.{get_call, set_call}
+use Rattle.engine.specs.Memory.{count_call, get_call, set_call}
 use Rattle.engine.specs.Passes.{know}
+use Rattle.engine.specs.declared.count.Counting.{Counting}
 use Rattle.engine.specs.declared.get.Found.{Found}
 use Rattle.engine.specs.declared.get.Getting.{Getting}
 use Rattle.engine.specs.declared.set.Setting.{Setting}
@@ -55,6 +57,14 @@ getting_asked getting = Run (Get getting.key.now)
 -- the call that a GET stands for
 abbrev pub getting_call : Getting → Call
 getting_call getting = get_call getting.key.now
+
+-- what a command that counts asks
+abbrev pub counting_asked : Counting → Asked
+counting_asked asks = Run (counting asks.by asks.key.now)
+
+-- the call that a command that counts stands for
+abbrev pub counting_call : Counting → Call
+counting_call asks = count_call asks.by asks.key.now
 
 -- what is said to a GET that found this
 abbrev pub found_reply : Found → Reply

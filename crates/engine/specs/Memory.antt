@@ -2,6 +2,8 @@
 use Rattle.words.specs.declared.command.Command.{Command}
 use Rattle.words.specs.declared.command.Command.TheVariants.{Set}
 use Rattle.words.specs.declared.command.When.TheVariants.{Always}
+use Rattle.words.specs.declared.command.Count.{Count}
+use Rattle.words.specs.Briefs.{counting}
 use Rattle.words.specs.Store.{Bytes, Store}
 use Rattle.words.specs.Session.{Asked, Run, Watch, Exec}
 use Rattle.transact.specs.declared.call.Call.{Call}
@@ -28,3 +30,7 @@ set_call key value = One (Set key value Always)
 -- a call that reads a key
 abbrev pub get_call : Bytes → Call
 get_call key = One (Get key)
+
+-- a call that changes the number of a key by so much
+abbrev pub count_call : Count → Bytes → Call
+count_call by key = One (counting by key)

@@ -16,7 +16,6 @@ ghost use Rattle.shards.specs.Shards.{shard_meaning};
 ghost use Rattle.plans.specs.Stops.{IfCold};
 ghost use Rattle.plans.specs.declared.reading.WhenCold.TheVariants.{Stops};
 
-use crate::count::enter_counting;
 use crate::set::enter_set;
 use crate::site::Site;
 use device::{Device, Shows};
@@ -96,7 +95,7 @@ pub(crate) fn enter_call<L: Latch, R: Shows, D: Device<Receipt = R>, S: Retires>
                 report,
             })
         }
-        _ => enter_counting(site, held, device, hands, call, cold),
+        _ => enter(site, held, device, hands, call, cold),
     }
 }
 

@@ -7,12 +7,14 @@
 //! nobody waits for its reads. After three such rounds it reads while it holds, so that it ends. The stay goes on until
 //! the call is answered, which keeps the places of these pages from being used anew.
 //!
-//! GET and a SET without an option have ways of their own ([`Engine::get`], [`Engine::set`]), with no plan made.
+//! GET, a SET without an option and the commands that count have ways of their own ([`Engine::get`], [`Engine::set`],
+//! [`Engine::count`]), with no plan made.
 //! Background threads make their steps by a [`Pass`] too.
 #![tactic(auto)]
 
 ghost use Rattle.std.specs.Prelude.{◌≡◌, ◌+◌, ◌<◌, [], ℕ, All, IfOk, IfErr, vec_len};
 ghost use Rattle.words.specs.Bounds.{IsBounded};
+ghost use Rattle.words.specs.Briefs.{counting};
 ghost use Rattle.words.specs.declared.command.Command.TheVariants as command;
 ghost use Rattle.words.specs.declared.command.When.TheVariants.{Always};
 ghost use Rattle.gates.specs.Plays.{AreEmpty};
@@ -21,12 +23,13 @@ ghost use Rattle.transact.specs.Calls.{answer_of, answer_with, asked_of};
 ghost use Rattle.transact.specs.Plans.{EndsAll};
 ghost use Rattle.transact.specs.Submits.{stripes_asked};
 ghost use Rattle.shards.specs.Shards.{shard_meaning};
-ghost use Rattle.engine.specs.Memory.{get_call, set_call};
+ghost use Rattle.engine.specs.Memory.{count_call, get_call, set_call};
 ghost use Rattle.engine.specs.Passes.{AreOf, knows, Rests, stripe_count};
 ghost use Rattle.engine.specs.Answers.{ComesTo, WaitsAndComesTo};
 ghost use Rattle.engine.specs.Calls.{FoundBusy, HasItsPlace, HasLearned};
 
 use crate::call::{submit, try_submit};
+use crate::count::submit_count;
 use crate::deal::deal;
 use crate::get::submit_get;
 use crate::set::{Setting, submit_set};
@@ -39,6 +42,7 @@ use std::alloc::Global;
 use std::marker::PhantomData;
 use std::sync::Wait;
 use transact::call::{Answer, Busy, Call};
+use words::command::Count;
 use words::hash::Hashed;
 use words::limits::Limits;
 use words::reply::{Fault, Line};
@@ -239,6 +243,43 @@ impl<D: Device> Engine<D> {
                 key: &Hashed::new(key),
                 value,
             },
+        );
+        latch.at(number, Point::After);
+        answer
+    }
+
+    /// The same as [`submit_with`](Engine::submit_with) of a command that changes the number of a key by so much, and whose key stays
+    /// the caller's. Where the number lies near and its text fits over the old one, it is looked up once and takes no memory; a key of
+    /// more than `WORD_INLINE` bytes is copied where it does not lie near, or is no number.
+    pub fn count<T: Wait, L: Latch>(
+        &self,
+        rt: &T,
+        pass: &mut Pass<D>,
+        key: &Word,
+        by: Count,
+        latch: &L,
+    ) -> Answer
+        requires rests { Rests D.Receipt.is_steady self.now pass.old }
+        requires place { IsBounded (counting by key.now) }
+        ensures rests { Rests D.Receipt.is_steady self.now pass.new }
+        ensures answered { WaitsAndComesTo D.Receipt.is_steady D.Receipt.lends D.failures self.now (count_call by key.now) result
+            pass.old pass.new }
+    {
+        let number = pass.gates.number();
+        latch.at(number, Point::Before);
+        let site = Site {
+            gates: &self.gates,
+            epochs: &self.epochs,
+            latch,
+        };
+        let answer = submit_count(
+            rt,
+            &site,
+            &mut pass.gates,
+            &mut pass.device,
+            &mut pass.hands,
+            key,
+            by,
         );
         latch.at(number, Point::After);
         answer

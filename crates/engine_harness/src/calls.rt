@@ -10,10 +10,12 @@ use gates::{Latch, Open};
 use std::alloc::Global;
 use std::sync::Wait;
 use transact::call::{Answer, Call};
+use words::command::{Command, Count};
 use words::limits::{KEY_BYTES_MAX, VALUE_BYTES_MAX};
 use words::word::Word;
 
-/// What a pass is answered. `None` where there was no memory for the request's own words.
+/// What a pass is answered. A command that counts goes by [`Engine::count`], as the server's do. `None` where there was no memory
+/// for the request's own words.
 pub fn answer_of<R: Wait, L: Latch, D: Device>(
     rt: &R,
     alloc: Global,
@@ -26,6 +28,16 @@ pub fn answer_of<R: Wait, L: Latch, D: Device>(
     ensures { Rests D.Receipt.is_steady engine.now pass.new }
 {
     match keyed(alloc, request) {
+        Some(Command::Add(key, number)) => {
+            let answer = engine.count(rt, pass, &key, Count::Add(number), latch);
+            drop(key);
+            Some(answer)
+        }
+        Some(Command::Subtract(key, number)) => {
+            let answer = engine.count(rt, pass, &key, Count::Subtract(number), latch);
+            drop(key);
+            Some(answer)
+        }
         Some(command) => Some(engine.submit_with(rt, pass, Call::One(command), latch)),
         None => None,
     }

@@ -1,5 +1,5 @@
 -- The loop that looks for a place in the mutable part.
-use Rattle.std.proofs.Common.{◌≡◌, ℕ, ◌/◌, ◌%◌, ◌<◌, ◌≤◌, List, sym, ap, ◌∙◌, subst, arith}
+use Rattle.std.proofs.Common.{◌≡◌, ℕ, ◌/◌, ◌%◌, ◌<◌, ◌≤◌, List, subst, arith}
 use Rattle.std.specs.Prelude.{⊤}
 use Rattle.std.specs.List.{Contains}
 use Rattle.records.specs.declared.pages.TheConstants.{PAGE_SIZE}
@@ -8,8 +8,8 @@ use Rattle.frames.specs.Resident.{page_of, first_mutable, IsResident}
 use Rattle.hybrid.specs.Log.{begin_of}
 use Rattle.hybrid.specs.HybridLog.{HybridLog, IsHybridLog, bucket_of, log_of, page_at}
 use Rattle.hybrid.specs.Lookups.{IsInPlace, IsRoomy, IsResidentAt}
-use Rattle.hybrid.proofs.Logs.{some_is, newest-listed}
-use Rattle.hybrid.proofs.Walk.{IsWalk, IsHere, walk-here, walk-low, here-found, link-falls}
+use Rattle.hybrid.proofs.Logs.{newest-listed}
+use Rattle.hybrid.proofs.Walk.{IsWalk, IsHere, walk-here, walk-low, link-falls}
 use Rattle.hybrid.proofs.Overwriting.{at-page}
 use Rattle.hybrid.proofs.Replacing.{page-resident}
 
@@ -45,21 +45,6 @@ reached p key address is low walk =
       there = record { listed = h.listed; resident = omega (arith, low) };
       falls = link-falls (bucket_of p) (begin_of p.oldest) (log_of p) key (λ _. ⊤) address begin h;
     }
-
-pub place-here : (p : HybridLog) (key : List ℕ) (size address : ℕ) → begin_of (first_mutable p.resident) ≤ address → (h : IsHere (bucket_of p) (begin_of p.oldest) (log_of p) key (λ _. ⊤) address) → h.stored.key ≡ key → size ≤ h.stored.capacity → IsInPlace p key size address
-place-here p key size address low h same fits = record {
-  stored = h.stored;
-  newest = here-found (bucket_of p) (begin_of p.oldest) (log_of p) key (λ _. ⊤) address h same;
-  mutable = low;
-  fits = fits;
-}
-
--- the newest record has no room
-pub place-small : (p : HybridLog) (key : List ℕ) (size address : ℕ) → (h : IsHere (bucket_of p) (begin_of p.oldest) (log_of p) key (λ _. ⊤) address) → h.stored.key ≡ key → h.stored.capacity < size → (other : ℕ) → IsInPlace p key size other → ⊥
-place-small p key size address h same small other there =
-    let it : (other, there.stored) ≡ (address, h.stored) = some_is (other, there.stored) (address, h.stored) (sym there.newest ∙ here-found (bucket_of p) (begin_of p.oldest) (log_of p) key (λ _. ⊤) address h same) in
-    let room : there.stored.capacity ≡ h.stored.capacity = ap (λ (e : ℕ × Stored). e.1.capacity) it in
-    omega (arith, room, small, there.fits)
 
 -- the newest record, if any, is older than the mutable part
 pub place-below : (p : HybridLog) (key : List ℕ) (size address : ℕ) → address < begin_of (first_mutable p.resident) → IsWalk (bucket_of p) (begin_of p.oldest) (log_of p) key (λ _. ⊤) address → (other : ℕ) → IsInPlace p key size other → ⊥

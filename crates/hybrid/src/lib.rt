@@ -7,8 +7,8 @@
 //! a receipt for it, and may then leave its frame. The oldest page leaves the log once the records that
 //! still count have been copied to the tail.
 //!
-//! Only `install_one` changes what keys have. Only `Stripe::new`, `Staged` and the devices that are passed
-//! in take memory.
+//! Only `install_one` and `overwrite_at` change what keys have. Only `Stripe::new`, `Staged` and the devices
+//! that are passed in take memory.
 #![tactic(auto)]
 
 mod address;
@@ -21,7 +21,7 @@ mod write;
 pub use piece::PIECE_BYTES;
 pub use staged::{ReadFault, Staged};
 pub use stripe::clean::{Cleaned, Weighed};
-pub use stripe::find::Lookup;
+pub use stripe::find::{Lookup, Spot};
 pub use stripe::room::{Fault, Purpose, Room};
 pub use stripe::{
     CALL_PAGES, CLEAN_PAGES, CLEAN_WEIGHT, CLOSED_MIN, LAST_PAGE, RECORD_MAX, Stripe,

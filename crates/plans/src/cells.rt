@@ -12,6 +12,7 @@ ghost use Rattle.transact.specs.Tables.{stays};
 ghost use Rattle.shards.specs.Devices.{StillServes};
 ghost use Rattle.shards.specs.Receipts.{kept_by};
 ghost use Rattle.shards.specs.Shards.{SameLogs, SameWaits, logs_of, shard_log, shard_store};
+ghost use Rattle.plans.specs.Counting.{IsSpotIn};
 ghost use Rattle.plans.specs.Finding.{FindsInPlaceAt, FindsInPlaceIn, JoinsWanted, LooksUpAt, LooksUpIn, WantsPage};
 ghost use Rattle.plans.specs.Planning.{IsStillHeld, MayLookUp, MissedAt};
 ghost use Rattle.plans.specs.Reserving.{FailsToReserveAt, GrowsBy, HasRoomAt, HasShedAt, IsRoomyFor, LeavesRoom, ReservesAt};
@@ -20,7 +21,7 @@ ghost use Rattle.plans.specs.Holding.{Becomes, BecomesWritten, BeginsWatches, En
 use crate::stop::{Receipts, Stop, Wanted};
 use device::{Device, Shows};
 use gates::Parts;
-use hybrid::{Fault, Lookup, Purpose, Staged};
+use hybrid::{Fault, Lookup, Purpose, Spot, Staged};
 use shards::shard::Shard;
 use std::alloc::Global;
 use strings::writes::{Write, Writes};
@@ -249,6 +250,25 @@ pub(crate) fn set<R: Shows, P: Parts<Shard<R>>>(parts: &mut P, key: &Hashed, val
 {
     let stripe = stripe_at(&*parts, key);
     parts.part(stripe).set(key, value);
+}
+
+/// Gives a key a value in place.
+pub(crate) fn set_at<R: Shows, P: Parts<Shard<R>>>(
+    parts: &mut P,
+    key: &Hashed,
+    spot: Spot,
+    value: &Word,
+)
+    requires open { P.is_open parts.old }
+    requires there { IsSome (P.part_of parts.old (striping.stripe_of (P.stripes_of parts.old) key.now)) }
+    requires spot { IsSpotIn P.stripes_of P.part_of parts.old key.now value.now spot }
+    requires fits { Fits key.now (Some value.now) }
+    ensures became { BecomesWritten R.is_steady P.stripes_of P.part_of parts.old parts.new ((key.now, Some value.now) ∷ []) }
+    ensures grown { GrowsBy (P.stripes_of parts.old) (key.now, Some value.now) (P.part_of parts.old) (P.part_of parts.new) }
+    ensures held { IsStillHeld P.is_open P.keeps parts.old parts.new }
+{
+    let stripe = stripe_at(&*parts, key);
+    parts.part(stripe).set_at(key, spot, value);
 }
 
 /// A session watches a key from here on. It answers whether it did not watch the key.

@@ -3,7 +3,6 @@
 ghost use Rattle.std.specs.Prelude.{◌≡◌, ◌≤◌, ◌∷◌, [], IfSome};
 ghost use Rattle.words.specs.Commands.{keys_of};
 ghost use Rattle.gates.specs.Sets.{AreBelow};
-ghost use Rattle.transact.specs.declared.call.Call.TheVariants.{One};
 ghost use Rattle.transact.specs.Calls.{call_keys};
 ghost use Rattle.transact.specs.Plans.{stripes_with};
 
@@ -52,18 +51,6 @@ impl HashedCall<'_> {
         self.call
     }
 
-    /// The command and its key, if the call is one command that counts.
-    #[inline]
-    pub fn counter(&self) -> Option<(&Command, &Hashed<'_>)>
-        ensures is { IfSome result (λ counter. self.now ≡ One counter.0.now) }
-        ensures one { IfSome result (λ counter. keys_of counter.0.now ≡ counter.1.now ∷ []) }
-    {
-        match (self.call, &self.key) {
-            (Call::One(command), Some(key)) if counts(command) => Some((command, key)),
-            _ => None,
-        }
-    }
-
     /// The stripes of the keys that the call names, of this many, those that its session watches among them where it ends
     /// their watches. It takes no memory.
     pub fn stripes(&self, count: usize) -> Sorted
@@ -77,11 +64,6 @@ impl HashedCall<'_> {
             None => keys_of(self.call, count),
         }
     }
-}
-
-/// Whether a command counts.
-fn counts(command: &Command) -> bool {
-    matches!(command, Command::Add(_, _) | Command::Subtract(_, _))
 }
 
 /// The key of a call that names one alone. It is hashed here.

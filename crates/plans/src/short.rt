@@ -1,7 +1,7 @@
-//! The short ways of a GET and of a SET without an option. The GET makes one copy of the value. For the SET nothing
-//! is looked up and nothing is copied but into the page, so that it never wants memory.
+//! The short ways of a GET, of a SET without an option, and of a command that counts. The GET makes one copy of the value. For
+//! the SET nothing is looked up and nothing is copied but into the page, so that it never wants memory.
 
-ghost use Rattle.std.specs.Prelude.{◌≡◌, ◌+◌, [], ◌∷◌, Some, IfErr, IfOk, OnOk};
+ghost use Rattle.std.specs.Prelude.{◌≡◌, ◌+◌, [], ◌∷◌, Some, IfErr, IfOk, IsSome, OnOk};
 ghost use Rattle.words.specs.Stripes as striping;
 ghost use Rattle.hybrid.specs.declared.stripe.room.Purpose.TheVariants as purpose;
 ghost use Rattle.hybrid.specs.Log.{Fits};
@@ -9,15 +9,16 @@ ghost use Rattle.hybrid.specs.Staging.{AreRight};
 ghost use Rattle.transact.specs.Tables.{touches};
 ghost use Rattle.shards.specs.Devices.{StillServes};
 ghost use Rattle.shards.specs.Receipts.{kept_by};
+ghost use Rattle.plans.specs.Counting.{IsSpotIn};
 ghost use Rattle.plans.specs.Planning.{HasMissedIn, HaveFailed, IsStillHeld, IsValueIn, MayLookUp, MayPut};
 ghost use Rattle.plans.specs.Reserving.{GrowsBy, HasNoRoomToPut, HasRoomToPut, HasShedAt, IsRoomyFor, ReservesToPut};
 ghost use Rattle.plans.specs.Holding.{BecomesWritten};
 
-use crate::cells::{copy_of, reserve_at, set, stripe_at};
+use crate::cells::{copy_of, reserve_at, set, set_at, stripe_at};
 use crate::stop::Stop;
 use device::{Device, Shows};
 use gates::Parts;
-use hybrid::{Fault, Purpose, Staged};
+use hybrid::{Fault, Purpose, Spot, Staged};
 use shards::shard::Shard;
 use std::alloc::Global;
 use words::hash::Hashed;
@@ -90,4 +91,23 @@ pub fn install_set<R: Shows, P: Parts<Shard<R>>>(parts: &mut P, key: &Hashed, va
     ensures held { IsStillHeld P.is_open P.keeps parts.old parts.new }
 {
     set(parts, key, value);
+}
+
+/// Gives a key a value in place, where its newest record stands and has room for it, and touches its marks. It takes no memory and
+/// wants no room.
+pub fn install_at<R: Shows, P: Parts<Shard<R>>>(
+    parts: &mut P,
+    key: &Hashed,
+    spot: Spot,
+    value: &Word,
+)
+    requires open { P.is_open parts.old }
+    requires there { IsSome (P.part_of parts.old (striping.stripe_of (P.stripes_of parts.old) key.now)) }
+    requires spot { IsSpotIn P.stripes_of P.part_of parts.old key.now value.now spot }
+    requires fits { Fits key.now (Some value.now) }
+    ensures became { BecomesWritten R.is_steady P.stripes_of P.part_of parts.old parts.new ((key.now, Some value.now) ∷ []) }
+    ensures grown { GrowsBy (P.stripes_of parts.old) (key.now, Some value.now) (P.part_of parts.old) (P.part_of parts.new) }
+    ensures held { IsStillHeld P.is_open P.keeps parts.old parts.new }
+{
+    set_at(parts, key, spot, value);
 }

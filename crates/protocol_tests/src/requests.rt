@@ -6,7 +6,7 @@ ghost use Rattle.std.specs.Prelude.{◌<◌, ◌≤◌};
 use std::alloc::Global;
 use std::cmp::Ordering;
 use std::process::Abort;
-use words::command::{Brief, Command, SessionCommand, When};
+use words::command::{Brief, Command, Count, SessionCommand, When};
 use words::limits::{Limits, WORDS_MAX};
 use words::reply::Refusal;
 use words::word::{Word, Words};
@@ -426,7 +426,7 @@ fn brief(rt: &impl Abort, alloc: Global, words: &[&[u8]]) -> Brief {
 /// Those that are asked most, in any case, and requests that are like them.
 #[test]
 fn briefs(rt: HostRuntime) {
-    let rows: [(&[&[u8]], Brief); 11] = [
+    let rows: [(&[&[u8]], Brief); 20] = [
         (&[b"GET", b"k"], Brief::Get),
         (&[b"get", b"k"], Brief::Get),
         (&[b"GET", &[b'k'; 512]], Brief::Get),
@@ -435,6 +435,18 @@ fn briefs(rt: HostRuntime) {
         (&[b"sEt", b"k", b"v"], Brief::Set),
         (&[b"SET", &[b'k'; 513], b"v"], Brief::Other),
         (&[b"SET", b"k", b"v", b"NX"], Brief::Other),
+        (&[b"INCR", b"k"], Brief::Count(Count::Add(1))),
+        (&[b"decr", b"k"], Brief::Count(Count::Subtract(1))),
+        (&[b"INCRBY", b"k", b"-5"], Brief::Count(Count::Add(-5))),
+        (
+            &[b"DecrBy", b"k", b"-9223372036854775808"],
+            Brief::Count(Count::Subtract(-9_223_372_036_854_775_808)),
+        ),
+        (&[b"INCRBY", b"k", b"01"], Brief::Other),
+        (&[b"DECRBY", b"k", b"x"], Brief::Other),
+        (&[b"INCR", &[b'k'; 513]], Brief::Other),
+        (&[b"INCR", b"k", b"1"], Brief::Other),
+        (&[b"INCRBY", b"k"], Brief::Other),
         (&[b"ping"], Brief::Ping),
         (&[b"PING", b"text"], Brief::Other),
         (&[b"EXEC"], Brief::Other),

@@ -1,12 +1,13 @@
 //! The log of a stripe, with what becomes of its places on the device.
 
-ghost use Rattle.std.specs.Prelude.{◌≡◌, ◌+◌, ◌<◌, ◌≤◌, ℕ, List, [], None, IsSome, IsTrue, ⊤, ◌↔◌, IfOk, IfSome, IfNone};
+ghost use Rattle.std.specs.Prelude.{◌≡◌, ◌+◌, ◌<◌, ◌≤◌, ℕ, List, [], None, Some, IsSome, IsTrue, ⊤, ◌↔◌, IfOk, IfSome, IfNone};
 ghost use Rattle.std.specs.Prelude.{OnOk, OnErr, length};
 ghost use Rattle.std.specs.Bool.{OnTrue, OnFalse};
 ghost use Rattle.words.specs.Stripes.{hash_of};
 ghost use Rattle.words.specs.declared.limits.TheConstants.{WEIGHT_MAX};
 ghost use Rattle.hybrid.specs.HybridLog.{HasRoom, IsGrown, IsHybridLog, log_of, receipt_of, with_dropped};
 ghost use Rattle.hybrid.specs.Log.{Fits, contents};
+ghost use Rattle.hybrid.specs.Lookups.{IsInPlace};
 ghost use Rattle.hybrid.specs.Reserving.{IsFull};
 ghost use Rattle.hybrid.specs.Writing.{IsWritten, write_weight};
 ghost use Rattle.hybrid.specs.Staging.{AreRight, IsMissing};
@@ -22,7 +23,7 @@ ghost use Rattle.shards.specs.Rooms.{LacksRoom, LeavesFrames, ShedsFew};
 use crate::retires::Retires;
 use device::{Device, Releasable, Shows};
 use epoch::{Epochs, Retired};
-use hybrid::{Cleaned, Fault, Purpose, Room, Staged, Stripe, Write};
+use hybrid::{Cleaned, Fault, Purpose, Room, Spot, Staged, Stripe, Write};
 use records::Page;
 use std::alloc::Global;
 use std::collections::VecDeque;
@@ -192,6 +193,19 @@ impl<R: Shows> CountedLog<R> {
         ensures waits { waiting_of self.new ≡ waiting_of self.old }
     {
         self.stripe.install_one_hashed(hash, write);
+    }
+
+    /// Gives a key another value in place, where its newest record has room for it. It takes no memory and no room.
+    #[inline]
+    pub fn overwrite_at(&mut self, key: &[u8], spot: Spot, value: &[u8])
+        requires place { IsInPlace self.old.log key.now (length value.now) spot.address }
+        requires fits { Fits key.now (Some value.now) }
+        ensures written { IsWritten self.old.log key.now (Some value.now) self.new.log }
+        ensures contents { SetsKey key.now (Some value.now) self.old.log self.new.log }
+        ensures grown { IsGrown self.old.log self.new.log (write_weight key.now (Some value.now)) }
+        ensures waits { waiting_of self.new ≡ waiting_of self.old }
+    {
+        self.stripe.overwrite_at(key, spot, value);
     }
 
     /// Drops the oldest resident page from its frame, where its receipt is kept, and says whether it did.

@@ -1,10 +1,11 @@
 //! What one stripe has: the log of its keys with its places on the device, and the marks of the keys that are watched.
 
-ghost use Rattle.std.specs.Prelude.{◌≡◌, ◌+◌, ◌<◌, ◌≤◌, ⊤, ℕ, List, None, Some, IfOk, OnOk, OnErr, IsSome, option_map, is_none, length};
-ghost use Rattle.std.specs.Prelude.{◌↔◌, [], IsTrue};
+ghost use Rattle.std.specs.Prelude.{◌≡◌, ◌+◌, ◌<◌, ◌≤◌, ⊤, ℕ, List, None, Some, IfNone, IfOk, OnOk, OnErr, IsSome, option_map, is_none, length};
+ghost use Rattle.std.specs.Prelude.{◌↔◌, [], IfSome, IsTrue};
 ghost use Rattle.std.specs.Bool.{OnTrue, OnFalse};
 ghost use Rattle.std.specs.Borrow.{sem, Lends};
 ghost use Rattle.std.specs.Map.{update};
+ghost use Rattle.std.specs.Option.{option_copied};
 ghost use Rattle.shards.specs.contracts.counted.CountedLog.{the_row as log_row};
 ghost use Rattle.shards.specs.contracts.shard.Shard.{the_row};
 ghost use Rattle.std.specs.Str.{bytes_eq};
@@ -18,7 +19,7 @@ ghost use Rattle.gates.specs.declared.view.Work.TheVariants.{Clean, Evict, Flush
 ghost use Rattle.gates.specs.declared.view.Refused.{Refused};
 ghost use Rattle.watch.specs.Marked.{are_these, cleared};
 ghost use Rattle.hybrid.specs.HybridLog.{HasRoom, IsGrown, receipt_at, receipt_of};
-ghost use Rattle.hybrid.specs.Lookups.{MatchLookup};
+ghost use Rattle.hybrid.specs.Lookups.{IsInPlace, MatchLookup};
 ghost use Rattle.hybrid.specs.Reserving.{IsFull};
 ghost use Rattle.hybrid.specs.Staging.{AreRight, IsMissing};
 ghost use Rattle.hybrid.specs.Log.{Fits};
@@ -36,7 +37,7 @@ use crate::counted::{Begun, CountedLog, Moved, is_laid_out};
 use device::{Device, Shows};
 use epoch::{EpochSeat, Epochs};
 use gates::Part;
-use hybrid::{Fault, Lookup, Purpose, Staged};
+use hybrid::{Fault, Lookup, Purpose, Spot, Staged};
 use records::Page;
 use std::alloc::Global;
 use strings::writes::Write;
@@ -129,6 +130,15 @@ impl<R: Shows> Shard<R> {
         }
     }
 
+    /// Where the newest record of a key stands, if it may be written in place, and what the key has.
+    pub fn spot<'a>(&'a self, key: &Hashed) -> Option<(Spot, Option<&'a [u8]>)>
+        ensures place { IfSome result (λ found. IsInPlace (shard_log self.now) key.now found.0.capacity found.0.address) }
+        ensures value { IfSome result (λ found. shard_store self.now key.now ≡ option_copied found.1) }
+        ensures none { IfNone result ((size address : ℕ) → IsInPlace (shard_log self.now) key.now size address → ⊥) }
+    {
+        self.log.stripe().spot(key.hash(), key.key().as_slice())
+    }
+
     /// Its log, with what becomes of its places.
     pub fn counted(&self) -> &CountedLog<R>
         ensures { result.now ≡ shard_counted self.now }
@@ -211,6 +221,22 @@ impl<R: Shows> Shard<R> {
         };
         self.log.install_one(key.hash(), &put);
         self.marks.touch(put.key);
+    }
+
+    /// Gives a key a value in place, where its newest record has room for it, and touches its marks. It takes no memory
+    /// and no room.
+    pub fn set_at(&mut self, key: &Hashed, spot: Spot, value: &Word)
+        requires place { IsInPlace (shard_log self.old) key.now (length value.now) spot.address }
+        requires fits { Fits key.now (Some value.now) }
+        ensures waits { shard_waiting self.new ≡ shard_waiting self.old }
+        ensures value { (k : List ℕ) → shard_store self.new k ≡ update bytes_eq (shard_store self.old) key.now (Some value.now) k }
+        ensures marks { TouchesKey key.now self.old self.new }
+        ensures grown { IsGrown (shard_log self.old) (shard_log self.new) (weigh (key.now, Some value.now)) }
+    {
+        let word = key.key();
+        self.log
+            .overwrite_at(word.as_slice(), spot, value.as_slice());
+        self.marks.touch(word);
     }
 
     /// The mark that a session has of a key, if it watches the key: whether the key was written since.

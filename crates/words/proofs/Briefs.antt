@@ -1,13 +1,16 @@
--- A request that its words show to be a SET without an option, or a PING without a text: what command it is.
-use Rattle.std.proofs.Common.{◌≡◌, Bool, true, false, not, ◌&&◌, List, [], ◌∷◌, refl, subst, if◌then◌else◌}
-use Rattle.std.specs.Prelude.{codes}
+-- A request that its words show to be one of those that are asked most: what command it is.
+use Rattle.std.proofs.Common.{◌≡◌, Bool, true, false, List, [], ◌∷◌, Option, None, Some, refl, subst, if◌then◌else◌}
+use Rattle.std.specs.Prelude.{ℤ, pos, codes, Ok}
 use Rattle.std.specs.Str.{bytes_eq, str_to_ascii_lowercase}
 use Rattle.std.proofs.lemmas.Slice.Eq.{bytes_eq-Decides}
 use Rattle.words.specs.declared.command.Brief.{Brief}
 use Rattle.words.specs.declared.command.Brief.TheVariants as brief
+use Rattle.words.specs.declared.command.Count.{Count}
+use Rattle.words.specs.declared.command.Count.TheVariants as count
 use Rattle.words.specs.Store.{Bytes}
-use Rattle.words.specs.Commands.{is_name, is_long}
-use Rattle.words.specs.Briefs.{brief_of, names_key, IsSet, IsPing}
+use Rattle.words.specs.Numbers.{number_of}
+use Rattle.words.specs.Commands.{command_of, is_name, is_long}
+use Rattle.words.specs.Briefs.{brief_of, brief_of_key, brief_of_setting, counting, counts_by, IsCounting, IsGet, IsSet, IsPing}
 
 -- a word that is one name is none that is spelled otherwise
 no_other : (name other word : Bytes) → is_name name word ≡ true
@@ -16,29 +19,16 @@ no_other name other word is differs =
     subst (λ (lower : Bytes). bytes_eq (str_to_ascii_lowercase other) lower ≡ false)
     ((bytes_eq-Decides (str_to_ascii_lowercase name) (str_to_ascii_lowercase word)).0 is) differs
 
-set_by : (named long : Bool) (name key value : Bytes) → is_name (codes "SET") name ≡ named → is_long key ≡ long
-    → (if named && not long then brief.Set else brief.Other) ≡ brief.Set → IsSet (name ∷ key ∷ value ∷ [])
-set_by true false name key value names fits is =
-    record { name = name; key = key; value = value; words_are = refl; command = rw (no_other (codes "SET") (codes "GET") name names refl, names, fits) refl }
-set_by true true name key value names fits is = absurd (cc is)
-set_by false long name key value names fits is = absurd (cc is)
+-- What a brief request says of its words.
+abbrev Says : List Bytes → Brief → Type 0
+Says words brief.Get = IsGet words
+Says words brief.Set = IsSet words
+Says words (brief.Count by) = IsCounting by words
+Says words brief.Ping = IsPing words
+Says words brief.Other = Unit {0}
 
--- one of two is no third
-neither : (test : Bool) (one two third : Brief) → (one ≡ third → ⊥) → (two ≡ third → ⊥) → (if test then one else two) ≡ third → ⊥
-neither true one two third first second is = first is
-neither false one two third first second is = second is
-
--- a SET without an option
-pub brief_set : (words : List Bytes) → brief_of words ≡ brief.Set → IsSet words
-brief_set [] is = absurd (cc is)
-brief_set (name ∷ []) is = absurd (neither (is_name (codes "PING") name) brief.Ping brief.Other brief.Set (λ x. cc x) (λ x. cc x) is)
-brief_set (name ∷ key ∷ []) is = absurd (neither (names_key (codes "GET") name key) brief.Get brief.Other brief.Set (λ x. cc x) (λ x. cc x) is)
-brief_set (name ∷ key ∷ value ∷ []) is = set_by (is_name (codes "SET") name) (is_long key) name key value refl refl is
-brief_set (name ∷ key ∷ value ∷ option ∷ options) is = absurd (cc is)
-
-ping_by : (named : Bool) (name : Bytes) → is_name (codes "PING") name ≡ named → (if named then brief.Ping else brief.Other) ≡ brief.Ping
-    → IsPing (name ∷ [])
-ping_by true name names is =
+of_ping : (named : Bool) (name : Bytes) → is_name (codes "PING") name ≡ named → Says (name ∷ []) (if named then brief.Ping else brief.Other)
+of_ping true name names =
     let not_named : (other : Bytes) → bytes_eq (str_to_ascii_lowercase other) (str_to_ascii_lowercase (codes "PING")) ≡ false → is_name other name ≡ false =
     λ other. no_other (codes "PING") other name names
     in
@@ -70,12 +60,196 @@ ping_by true name names is =
           )
           refl;
     }
-ping_by false name names is = absurd (cc is)
+of_ping false name names = tt
+
+of_incr : (name key : Bytes) → is_name (codes "INCR") name ≡ true → is_long key ≡ false → IsCounting (count.Add (pos 1)) (name ∷ key ∷ [])
+of_incr name key names fits =
+    let other : (other : Bytes) → bytes_eq (str_to_ascii_lowercase other) (str_to_ascii_lowercase (codes "INCR")) ≡ false → is_name other name ≡ false =
+    λ other. no_other (codes "INCR") other name names
+    in
+    record {
+      name = name;
+      key = key;
+      others = [];
+      words_are = refl;
+      command =
+          rw (
+            other (codes "GET") refl,
+            other (codes "SET") refl,
+            other (codes "SETNX") refl,
+            other (codes "GETSET") refl,
+            other (codes "GETDEL") refl,
+            other (codes "STRLEN") refl,
+            other (codes "EXISTS") refl,
+            other (codes "DEL") refl,
+            other (codes "APPEND") refl,
+            other (codes "SETRANGE") refl,
+            other (codes "GETRANGE") refl,
+            names,
+            fits,
+          )
+          refl;
+    }
+
+of_decr : (name key : Bytes) → is_name (codes "DECR") name ≡ true → is_long key ≡ false → IsCounting (count.Subtract (pos 1)) (name ∷ key ∷ [])
+of_decr name key names fits =
+    let other : (other : Bytes) → bytes_eq (str_to_ascii_lowercase other) (str_to_ascii_lowercase (codes "DECR")) ≡ false → is_name other name ≡ false =
+    λ other. no_other (codes "DECR") other name names
+    in
+    record {
+      name = name;
+      key = key;
+      others = [];
+      words_are = refl;
+      command =
+          rw (
+            other (codes "GET") refl,
+            other (codes "SET") refl,
+            other (codes "SETNX") refl,
+            other (codes "GETSET") refl,
+            other (codes "GETDEL") refl,
+            other (codes "STRLEN") refl,
+            other (codes "EXISTS") refl,
+            other (codes "DEL") refl,
+            other (codes "APPEND") refl,
+            other (codes "SETRANGE") refl,
+            other (codes "GETRANGE") refl,
+            other (codes "INCR") refl,
+            names,
+            fits,
+          )
+          refl;
+    }
+
+of_key : (get incr decr long : Bool) (name key : Bytes) → is_name (codes "GET") name ≡ get → is_name (codes "INCR") name ≡ incr
+    → is_name (codes "DECR") name ≡ decr → is_long key ≡ long
+    → Says (name ∷ key ∷ []) (
+    if long then brief.Other
+    else (
+    if get then brief.Get
+    else (
+    if incr then brief.Count (count.Add (pos 1))
+    else (if decr then brief.Count (count.Subtract (pos 1)) else brief.Other)
+    )
+    )
+    )
+of_key get incr decr true name key is_get is_incr is_decr fits = tt
+of_key true incr decr false name key is_get is_incr is_decr fits =
+    record { name = name; key = key; words_are = refl; command = rw (is_get, fits) refl }
+of_key false true decr false name key is_get is_incr is_decr fits = of_incr name key is_incr fits
+of_key false false true false name key is_get is_incr is_decr fits = of_decr name key is_decr fits
+of_key false false false false name key is_get is_incr is_decr fits = tt
+
+of_incrby : (name key value : Bytes) (by : Option ℤ) → is_name (codes "INCRBY") name ≡ true → is_long key ≡ false → number_of value ≡ by
+    → Says (name ∷ key ∷ value ∷ []) (counts_by count.Add by)
+of_incrby name key value None names fits number = tt
+of_incrby name key value (Some n) names fits number =
+    let other : (other : Bytes) → bytes_eq (str_to_ascii_lowercase other) (str_to_ascii_lowercase (codes "INCRBY")) ≡ false → is_name other name ≡ false =
+    λ other. no_other (codes "INCRBY") other name names
+    in
+    record {
+      name = name;
+      key = key;
+      others = value ∷ [];
+      words_are = refl;
+      command =
+          rw (
+            other (codes "GET") refl,
+            other (codes "SET") refl,
+            other (codes "SETNX") refl,
+            other (codes "GETSET") refl,
+            other (codes "GETDEL") refl,
+            other (codes "STRLEN") refl,
+            other (codes "EXISTS") refl,
+            other (codes "DEL") refl,
+            other (codes "APPEND") refl,
+            other (codes "SETRANGE") refl,
+            other (codes "GETRANGE") refl,
+            other (codes "INCR") refl,
+            other (codes "DECR") refl,
+            names,
+            fits,
+            number,
+          )
+          refl;
+    }
+
+of_decrby : (name key value : Bytes) (by : Option ℤ) → is_name (codes "DECRBY") name ≡ true → is_long key ≡ false → number_of value ≡ by
+    → Says (name ∷ key ∷ value ∷ []) (counts_by count.Subtract by)
+of_decrby name key value None names fits number = tt
+of_decrby name key value (Some n) names fits number =
+    let other : (other : Bytes) → bytes_eq (str_to_ascii_lowercase other) (str_to_ascii_lowercase (codes "DECRBY")) ≡ false → is_name other name ≡ false =
+    λ other. no_other (codes "DECRBY") other name names
+    in
+    record {
+      name = name;
+      key = key;
+      others = value ∷ [];
+      words_are = refl;
+      command =
+          rw (
+            other (codes "GET") refl,
+            other (codes "SET") refl,
+            other (codes "SETNX") refl,
+            other (codes "GETSET") refl,
+            other (codes "GETDEL") refl,
+            other (codes "STRLEN") refl,
+            other (codes "EXISTS") refl,
+            other (codes "DEL") refl,
+            other (codes "APPEND") refl,
+            other (codes "SETRANGE") refl,
+            other (codes "GETRANGE") refl,
+            other (codes "INCR") refl,
+            other (codes "DECR") refl,
+            other (codes "INCRBY") refl,
+            names,
+            fits,
+            number,
+          )
+          refl;
+    }
+
+of_setting : (set incrby decrby long : Bool) (name key value : Bytes) → is_name (codes "SET") name ≡ set → is_name (codes "INCRBY") name ≡ incrby
+    → is_name (codes "DECRBY") name ≡ decrby → is_long key ≡ long
+    → Says (name ∷ key ∷ value ∷ []) (
+    if long then brief.Other
+    else (
+    if set then brief.Set
+    else (
+    if incrby then counts_by count.Add (number_of value)
+    else (if decrby then counts_by count.Subtract (number_of value) else brief.Other)
+    )
+    )
+    )
+of_setting set incrby decrby true name key value is_set is_incrby is_decrby fits = tt
+of_setting true incrby decrby false name key value is_set is_incrby is_decrby fits =
+    record { name = name; key = key; value = value; words_are = refl; command = rw (no_other (codes "SET") (codes "GET") name is_set refl, is_set, fits) refl }
+of_setting false true decrby false name key value is_set is_incrby is_decrby fits = of_incrby name key value (number_of value) is_incrby fits refl
+of_setting false false true false name key value is_set is_incrby is_decrby fits = of_decrby name key value (number_of value) is_decrby fits refl
+of_setting false false false false name key value is_set is_incrby is_decrby fits = tt
+
+-- what the words of a brief request say
+pub says : (words : List Bytes) → Says words (brief_of words)
+says [] = tt
+says (name ∷ []) = of_ping (is_name (codes "PING") name) name refl
+says (name ∷ key ∷ []) =
+    of_key (is_name (codes "GET") name) (is_name (codes "INCR") name) (is_name (codes "DECR") name) (is_long key) name key refl refl refl refl
+says (name ∷ key ∷ value ∷ []) =
+    of_setting (is_name (codes "SET") name) (is_name (codes "INCRBY") name) (is_name (codes "DECRBY") name) (is_long key) name key value refl refl refl refl
+says (name ∷ key ∷ value ∷ option ∷ options) = tt
+
+-- a GET
+pub brief_get : (words : List Bytes) → brief_of words ≡ brief.Get → IsGet words
+brief_get words is = subst (Says words) is (says words)
+
+-- a SET without an option
+pub brief_set : (words : List Bytes) → brief_of words ≡ brief.Set → IsSet words
+brief_set words is = subst (Says words) is (says words)
+
+-- a command that counts
+pub brief_count : (words : List Bytes) (by : Count) → brief_of words ≡ brief.Count by → IsCounting by words
+brief_count words by is = subst (Says words) is (says words)
 
 -- a PING without a text
 pub brief_ping : (words : List Bytes) → brief_of words ≡ brief.Ping → IsPing words
-brief_ping [] is = absurd (cc is)
-brief_ping (name ∷ []) is = ping_by (is_name (codes "PING") name) name refl is
-brief_ping (name ∷ key ∷ []) is = absurd (neither (names_key (codes "GET") name key) brief.Get brief.Other brief.Ping (λ x. cc x) (λ x. cc x) is)
-brief_ping (name ∷ key ∷ value ∷ []) is = absurd (neither (names_key (codes "SET") name key) brief.Set brief.Other brief.Ping (λ x. cc x) (λ x. cc x) is)
-brief_ping (name ∷ key ∷ value ∷ option ∷ options) is = absurd (cc is)
+brief_ping words is = subst (Says words) is (says words)

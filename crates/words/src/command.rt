@@ -6,9 +6,10 @@ ghost use Rattle.words.specs.Commands.{command_of, command_in, AsksNoMemory, is_
 ghost use Rattle.words.specs.Bounds.{AreKeysBounded, AreValuesBounded, IsBounded, values_set};
 ghost use Rattle.words.specs.Store.{Bytes};
 ghost use Rattle.words.specs.Verbs.{shaped};
-ghost use Rattle.words.specs.Briefs.{brief_of, names_key, IsGet, IsSet, IsPing};
+ghost use Rattle.words.specs.Briefs.{brief_of, brief_of_key, brief_of_setting, IsCounting, IsGet, IsSet, IsPing};
 
 use crate::limits::{KEY_BYTES_MAX, VALUE_BYTES_MAX};
+use crate::number;
 use crate::reply::Refusal;
 use crate::sequence::Sequence;
 use crate::shapes::{
@@ -103,6 +104,15 @@ pub enum Command {
     Bad(Refusal),
 }
 
+/// By how much a command that counts changes the number of its key.
+#[derive(Clone, Copy, Debug, PartialEq, Eq)]
+pub enum Count {
+    /// It adds this.
+    Add(i64),
+    /// It takes this away.
+    Subtract(i64),
+}
+
 /// Which of the commands that are asked most a request is, whose words then are the command's as they lie.
 #[derive(Clone, Copy, Debug, PartialEq, Eq)]
 pub enum Brief {
@@ -110,6 +120,8 @@ pub enum Brief {
     Get,
     /// A SET without an option: the second word is its key, and the third the value.
     Set,
+    /// An INCR, a DECR, an INCRBY or a DECRBY: the second word is its key.
+    Count(Count),
     /// A PING without a text.
     Ping,
     /// Any other request.
@@ -122,29 +134,62 @@ impl Brief {
         ensures exact { result ≡ brief_of words.now }
         ensures get { result ≡ Brief.Get → IsGet words.now }
         ensures set { result ≡ Brief.Set → IsSet words.now }
+        ensures count { (by : Count) → result ≡ Brief.Count by → IsCounting by words.now }
         ensures ping { result ≡ Brief.Ping → IsPing words.now }
     {
-        match words.as_slice() {
-            [name, key] if is_get(name, key) => Brief::Get,
-            [name, key, _] if is_set(name, key) => Brief::Set,
-            [name] if is_named(name.as_slice(), b"PING") => Brief::Ping,
-            _ => Brief::Other,
-        }
+        of_words(words.as_slice())
     }
 }
 
-/// Whether a request of this name and one word is a GET of a key that is not too long.
-fn is_get(name: &Word, key: &Word) -> bool
-    ensures { result ≡ names_key (codes "GET") name.now key.now }
+/// Which the request of these words is.
+#[inline]
+fn of_words(words: &[Word]) -> Brief
+    ensures { result ≡ brief_of words.now }
 {
-    is_named(name.as_slice(), b"GET") && !is_long(key)
+    match words {
+        [name, key] if !is_long(key) => of_key(name.as_slice()),
+        [name, key, value] if !is_long(key) => of_setting(name.as_slice(), value),
+        [name] if is_named(name.as_slice(), b"PING") => Brief::Ping,
+        _ => Brief::Other,
+    }
 }
 
-/// Whether a request of this name and two words is a SET of a key that is not too long.
-fn is_set(name: &Word, key: &Word) -> bool
-    ensures { result ≡ names_key (codes "SET") name.now key.now }
+/// Which a request of this name and a key is.
+#[inline]
+fn of_key(name: &[u8]) -> Brief
+    ensures { result ≡ brief_of_key name.now }
 {
-    is_named(name.as_slice(), b"SET") && !is_long(key)
+    if is_named(name, b"GET") {
+        Brief::Get
+    } else if is_named(name, b"INCR") {
+        Brief::Count(Count::Add(1))
+    } else if is_named(name, b"DECR") {
+        Brief::Count(Count::Subtract(1))
+    } else {
+        Brief::Other
+    }
+}
+
+/// Which a request of this name, a key and another word is.
+#[inline]
+fn of_setting(name: &[u8], value: &Word) -> Brief
+    ensures { result ≡ brief_of_setting name.now value.now }
+{
+    if is_named(name, b"SET") {
+        Brief::Set
+    } else if is_named(name, b"INCRBY") {
+        match number::parse(value.as_slice()) {
+            Some(number) => Brief::Count(Count::Add(number)),
+            None => Brief::Other,
+        }
+    } else if is_named(name, b"DECRBY") {
+        match number::parse(value.as_slice()) {
+            Some(number) => Brief::Count(Count::Subtract(number)),
+            None => Brief::Other,
+        }
+    } else {
+        Brief::Other
+    }
 }
 
 /// The command's name alone: its words may be long, and they are a user's.

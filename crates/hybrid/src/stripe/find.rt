@@ -32,6 +32,15 @@ pub enum Lookup<'a> {
     Cold(u64, usize),
 }
 
+/// Where the newest record of a key stands in the mutable part, where it may take another value in place.
+#[derive(Clone, Copy, Debug)]
+pub struct Spot {
+    /// Its address.
+    pub address: u64,
+    /// How long a value may be that takes the place of its own.
+    pub capacity: usize,
+}
+
 impl<R: Shows> Stripe<R> {
     /// What a key has. A value has at most `VALUE_BYTES_MAX` bytes, whatever the device gives.
     ///
@@ -158,12 +167,48 @@ impl<R: Shows> Stripe<R> {
         }
     }
 
+    /// Where the newest record of a key with this hash stands, if it lies in the mutable part, and what the
+    /// key has. It is the right answer over any device: a resident page is what was written to it.
+    pub fn spot<'a>(&'a self, hash: u64, key: &[u8]) -> Option<(Spot, Option<&'a [u8]>)>
+        requires hash { hash ≡ hash_of key.now }
+        ensures place { IfSome result (λ found. IsInPlace self.now key.now found.0.capacity found.0.address) }
+        ensures value { IfSome result (λ found. contents (log_of self.now) key.now ≡ option_copied found.1) }
+        ensures none { IfNone result ((size address : ℕ) → IsInPlace self.now key.now size address → ⊥) }
+    {
+        match self.newest_mutable(hash, key) {
+            Some((address, record)) => {
+                let spot = Spot {
+                    address: address.number(),
+                    capacity: record.capacity,
+                };
+                Some((spot, record.value))
+            }
+            None => None,
+        }
+    }
+
     // The address of the newest record of a key with this hash, if it lies in the mutable part and has
     // room for a value of this length.
     #[inline]
     pub(crate) fn place(&self, hash: u64, key: &[u8], size: usize) -> Option<Address>
         requires { hash ≡ hash_of key.now }
         ensures { MatchOption result ((address : ℕ) → IsInPlace self.now key.now size address → ⊥) (λ address. IsInPlace self.now key.now size address) }
+    {
+        match self.newest_mutable(hash, key) {
+            Some((address, record)) if size <= record.capacity => Some(address),
+            Some(_) => None,
+            None => None,
+        }
+    }
+
+    // The newest record of a key with this hash, and its address, if it lies in the mutable part.
+    #[inline]
+    fn newest_mutable<'a>(&'a self, hash: u64, key: &[u8]) -> Option<(Address, Record<'a>)>
+        requires { hash ≡ hash_of key.now }
+        ensures found { IfSome result (λ x. newest (log_of self.now) key.now ≡ Some (x.0, shown x.1)) }
+        ensures mutable { IfSome result (λ x. begin_of (first_mutable self.now.resident) ≤ x.0) }
+        ensures value { IfSome result (λ x. contents (log_of self.now) key.now ≡ option_copied x.1.value) }
+        ensures none { IfNone result ((size address : ℕ) → IsInPlace self.now key.now size address → ⊥) }
     {
         let begin = Address::of(self.frames.first_mutable(), HEADER_SIZE);
         let mut address = Address::from_number(self.index.head(self.index_hash(hash)));
@@ -172,11 +217,7 @@ impl<R: Shows> Stripe<R> {
                 unreachable!()
             };
             if record.has_key(key) {
-                return if size <= record.capacity {
-                    Some(address)
-                } else {
-                    None
-                };
+                return Some((address, record));
             }
             address = Address::from_number(record.link);
         }

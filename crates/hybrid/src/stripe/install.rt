@@ -13,6 +13,7 @@ ghost use Rattle.hybrid.specs.Lookups.{IsInPlace, IsRoomy};
 ghost use Rattle.hybrid.specs.Writing.{IsAdded, IsWritten, write_weight};
 
 use crate::address::Address;
+use crate::stripe::find::Spot;
 use crate::stripe::{LAST_PAGE, Stripe};
 use crate::write::{Write, length_of};
 use device::Shows;
@@ -51,6 +52,20 @@ impl<R: Shows> Stripe<R> {
     {
         self.write(hash, write.key(), write.value());
         let _oldest = self.oldest();
+    }
+
+    /// Gives a key another value in place, where its newest record stands in the mutable part and has room
+    /// for it. It takes no memory and no room.
+    pub fn overwrite_at(&mut self, key: &[u8], spot: Spot, value: &[u8])
+        requires place { IsInPlace self.old key.now (length value.now) spot.address }
+        requires fits { length value.now ≤ VALUE_BYTES_MAX }
+        ensures written { IsWritten self.old key.now (Some value.now) self.new }
+        ensures contents { (other : List ℕ) → contents (log_of self.new) other
+            ≡ update bytes_eq (contents (log_of self.old)) key.now (Some value.now) other }
+        ensures grown { IsGrown self.old self.new (write_weight key.now (Some value.now)) }
+    {
+        let _ = key;
+        self.overwrite(Address::from_number(spot.address), Some(value));
     }
 
     // Gives a key with this hash another value, or none.

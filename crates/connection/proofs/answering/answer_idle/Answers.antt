@@ -2,11 +2,12 @@ use Rattle.std.proofs.Common.{rules, ◌≡◌, Ok, Err, refl, sym, subst}
 use Rattle.words.specs.declared.reply.Line.TheVariants.{Faulty}
 use Rattle.words.specs.Store.{Bytes}
 use Rattle.words.specs.Bounds.{IsBounded}
+use Rattle.words.specs.Briefs.{counting}
 use Rattle.words.specs.declared.command.Command.TheVariants.{Get}
 use Rattle.words.specs.Session.{line_reply, value_reply}
 use Rattle.transact.specs.Calls.{answer_of, answer_with}
 use Rattle.connection.proofs.Called.{attends_turned}
-use Rattle.connection.proofs.Briefs.{get_bounded, set_bounded, turned_get, turned_set, turned_ping}
+use Rattle.connection.proofs.Briefs.{count_bounded, get_bounded, set_bounded, turned_count, turned_get, turned_set, turned_ping}
 use Rattle.connection.proofs.answering.answer_idle.Goals as goal
 
 pub returns-in-Ok-clause-due : goal.returns-in-Ok-clause-due
@@ -55,3 +56,22 @@ set-requires-clause-place g c =
     let same : c.index-as_slice-1-in-Set.result ≡ set.key = search (rules, set.words_are) in
     let value : c.index-as_slice-2.result ≡ set.value = search (rules, set.words_are) in
     rw (same, value) (set_bounded c.commands_are_bounded-in-Set.ensures c.args.words.now c.requires.request set)
+
+pub count-counted-requires-clause-place : goal.count-counted-requires-clause-place
+count-counted-requires-clause-place g c =
+    let count = c.in-Count.ensures.count c.in-Count.by refl in
+    let same : c.index-as_slice-1-in-Count.result ≡ count.key = search (rules, count.words_are) in
+    subst (λ (key : Bytes). IsBounded (counting c.in-Count.by key)) (sym same)
+    (count_bounded c.commands_are_bounded-in-Count.ensures c.args.words.now c.in-Count.by c.requires.request count)
+
+pub returns-in-Count-clause-due : goal.returns-in-Count-clause-due
+returns-in-Count-clause-due g c =
+    let count = c.in-Count.ensures.count c.in-Count.by refl in
+    let same : c.index-as_slice-1-in-Count.result ≡ count.key = search (rules, count.words_are) in
+    turned_count _ _ _ c.args.words.now c.in-Count.by c.count-counted.result c.into_reply.result _ c.watches_follow_entries-in-Count.ensures.entry
+    c.watches_follow_entries-in-Count.ensures.fault
+    c.requires.attends c.requires.idle c.requires.request count (count_bounded c.commands_are_bounded-in-Count.ensures c.args.words.now c.in-Count.by c.requires.request count)
+    (rw same at c.count-counted.ensures.answered.done) (rw same at c.count-counted.ensures.answered.undone) c.into_reply.ensures
+
+pub returns-in-Count-clause-attends : goal.returns-in-Count-clause-attends
+returns-in-Count-clause-attends g c = attends_turned _ _ _ _ _ (returns-in-Count-clause-due g c)

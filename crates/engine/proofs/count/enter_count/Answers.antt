@@ -1,13 +1,14 @@
-use Rattle.std.proofs.Common.{rules, ◌≡◌, ◌∙◌, ℕ, List, [], ◌∷◌, Some, true, false, refl, sym, ap, subst}
+use Rattle.std.proofs.Common.{rules, ◌≡◌, ◌∙◌, ℕ, List, [], ◌∷◌, Some, false, refl, sym, ap, subst}
 use Rattle.std.specs.Borrow.{Bor}
 use Rattle.words.specs.declared.command.Command.{Command}
+use Rattle.words.specs.Briefs.{counting}
 use Rattle.words.specs.declared.reply.Fault.{Fault}
 use Rattle.words.specs.declared.reply.CommandReply.TheVariants.{One}
 use Rattle.words.specs.declared.reply.Item.TheVariants.{Integer}
 use Rattle.words.specs.declared.reply.Reply.{Reply}
 use Rattle.words.specs.declared.reply.Reply.TheVariants.{Single}
 use Rattle.words.specs.declared.history.Operation.TheVariants.{Run}
-use Rattle.words.specs.History.{HasPlace, due}
+use Rattle.words.specs.History.{HasPlace}
 use Rattle.words.specs.Session as asked
 use Rattle.words.specs.Session.{operation_of}
 use Rattle.words.specs.Store.{Bytes, Write}
@@ -17,37 +18,35 @@ use Rattle.gates.specs.declared.held.Held.{Held}
 use Rattle.gates.specs.declared.report.Report.{Report}
 use Rattle.gates.specs.declared.report.Report.TheVariants.{Nothing}
 use Rattle.gates.specs.declared.view.Knowledge.{Knowledge}
-use Rattle.gates.specs.declared.view.Refused.{Refused}
 use Rattle.gates.specs.Background.{IsToldOf}
 use Rattle.gates.specs.Passes.{AreAsTaken}
 use Rattle.gates.specs.Sets.{part_at}
-use Rattle.gates.specs.Helds.{held_stripes, held_parts, held_taken, known_to, operation_asked, same_as_it}
-use Rattle.transact.specs.declared.call.Answer.{Answer}
-use Rattle.transact.specs.declared.call.Call.{Call}
+use Rattle.gates.specs.Helds.{held_stripes, held_parts, held_taken, known_to, same_as_it}
 use Rattle.transact.specs.declared.call.Call.TheVariants as call
 use Rattle.transact.specs.Calls.{asked_of, call_keys}
-use Rattle.transact.specs.Plans.{IsEntry, IsPlan}
+use Rattle.transact.specs.Plans.{IsPlan}
 use Rattle.transact.specs.Submits.{asked_for}
 use Rattle.transact.specs.Tables.{AreThere, Became, stays, touches}
 use Rattle.shards.specs.declared.shard.Shard.{Shard}
 use Rattle.shards.specs.Rooms.{IsRoomyAt}
 use Rattle.shards.specs.Shards.{logs_of, shard_meaning, weigh}
 use Rattle.plans.specs.Counting.{number_reply}
-use Rattle.engine.specs.declared.enter.Entered.{Entered}
 use Rattle.engine.specs.Calls.{IsUndone, promises_of}
 use Rattle.engine.specs.Entering.{given}
+use Rattle.engine.specs.Memory.{count_call}
 use Rattle.engine.specs.Passes.{know}
-use Rattle.engine.specs.Stops.{IfSpent, IsWornBy, fault_of}
+use Rattle.engine.specs.Stops.{fault_of}
+use Rattle.engine.proofs.Counts.{counts_one, counts_touch}
 use Rattle.engine.proofs.Parts.{there_after}
 use Rattle.engine.proofs.Stopped.{cold_in, full_in, full_then, memory_in, put_stopped}
-use Rattle.engine.proofs.Entering.{WasCommitted, counted, done_by, entered_as, fit_installed, fit_kept, fit_undone, given_still, named_held, parts_of, placed, reply_due, spent_of, stands, told_stop, was_worn}
+use Rattle.engine.proofs.Entering.{WasCommitted, counted, done_by, entered_as, fit_installed, fit_kept, fit_undone, given_still, named_held, parts_of, placed, reply_due, stands, told_stop, was_worn}
 use Rattle.engine.proofs.count.enter_count.Goals as goal
 
 pub reserve_freeing-requires-clause-may : goal.reserve_freeing-requires-clause-may
 reserve_freeing-requires-clause-may g c = record {
   may = record {
     can_lend = c.requires.begin.may.is_open;
-    there = subst (λ (l : List Bytes). AreThere (held_stripes c.args.held.now) (parts_of g.R.Shows.is_steady c.args.held.now) l) (ap call_keys c.requires.is_call ∙ c.requires.one) c.requires.begin.may.there;
+    there = subst (λ (l : List Bytes). AreThere (held_stripes c.args.held.now) (parts_of g.R.Shows.is_steady c.args.held.now) l) (counts_one c.args.counter.now.by c.args.counter.now.key.now) c.requires.begin.may.there;
   };
   light = c.requires.light;
 }
@@ -55,23 +54,17 @@ reserve_freeing-requires-clause-may g c = record {
 pub told_of-fault-requires : goal.told_of-fault-requires
 told_of-fault-requires g c = record { never_cold = cold_in c.in-Err.halt.stop _ _ _ _ c.in-Err.ensures.halted }
 
-pub returns-in-Err-clause-worn : goal.returns-in-Err-clause-worn
-returns-in-Err-clause-worn g c =
-    let P : Refused → Type 0 = IsWornBy (g.S.Retires.knows c.args.own.now) (g.S.Retires.knows c.reserve_freeing.new.own) in
-    subst (λ (e : Entered Answer). IfSpent e.report P) (sym c.ended.ensures)
-    (subst (λ (r : Report). IfSpent r P) (sym c.told_of-fault.ensures.report) (spent_of P c.in-Err.halt.stop c.in-Err.halt.refused (full_then c.in-Err.halt.stop _ _ (λ stripe stuck. stuck.worn) c.in-Err.ensures.full)))
-
 pub returns-in-Err-clause-entered : goal.returns-in-Err-clause-entered
 returns-in-Err-clause-entered g c =
     let s : Type 0 = g.R.Shows.is_steady in
     let start : Held (Shard _) = c.args.held.now in
     let mid : Held (Shard _) = c.reserve_freeing.new.parts in
     let same = c.reserve_freeing.ensures.held.kept in
-    let command : Command = c.args.counter.0.now in
+    let command : Command = counting c.args.counter.now.by c.args.counter.now.key.now in
     let f0 : ℕ = g.D.Device.failures c.args.device.now in
     let f1 : ℕ = g.D.Device.failures c.reserve_freeing.new.device in
     let P : Fault → Report → Type 0 = λ f r. IsUndone (promises_of s g.R.Shows.lends (held_stripes start)) [] (asked_of (call.One command)) f (know (known_to start) f0) (know (given false r (known_to mid)) f1) in
-    entered_as s _ c.args.call.now (call.One command) c.ended.result _ (start, f0) (mid, f1) c.requires.is_call c.ended.ensures (record {
+    entered_as s _ (count_call c.args.counter.now.by c.args.counter.now.key.now) (call.One command) c.ended.result _ (start, f0) (mid, f1) refl c.ended.ensures (record {
       back =
           given_still s c.told_of-fault.result.report start mid c.reserve_freeing.ensures.held.open_still
           (subst (λ (r : Report). IsToldOf (shard_meaning s) (held_taken mid) (held_parts mid) r) (sym c.told_of-fault.ensures.report)
@@ -84,8 +77,8 @@ returns-in-Err-clause-entered g c =
         undone =
             subst (λ (f : Fault). P f c.told_of-fault.result.report) (sym c.told_of-fault.ensures.fault)
             (subst (λ (r : Report). P (fault_of c.in-Err.halt.stop) r) (sym c.told_of-fault.ensures.report)
-            (put_stopped (promises_of s g.R.Shows.lends (held_stripes start)) command c.args.counter.1.now c.args.text.now (number_reply c.args.number) c.in-Err.halt.stop c.in-Err.halt.refused (known_to start) (known_to mid) f0 f1
-            (subst IsEntry c.requires.is_call c.requires.planned.entry) same.known (cold_in c.in-Err.halt.stop _ _ _ _ c.in-Err.ensures.halted) (memory_in c.in-Err.halt.stop _ _ _ _ c.in-Err.ensures.halted (λ never. never))
+            (put_stopped (promises_of s g.R.Shows.lends (held_stripes start)) command c.args.counter.now.key.now c.args.text.now (number_reply c.args.number) c.in-Err.halt.stop c.in-Err.halt.refused (known_to start) (known_to mid) f0 f1
+            (counts_touch c.args.counter.now.by c.args.counter.now.key.now) same.known (cold_in c.in-Err.halt.stop _ _ _ _ c.in-Err.ensures.halted) (memory_in c.in-Err.halt.stop _ _ _ _ c.in-Err.ensures.halted (λ never. never))
             c.in-Err.ensures.failed (full_in c.in-Err.halt.stop _ _ _ _ c.in-Err.ensures.halted) c.requires.due));
       };
     })
@@ -93,30 +86,29 @@ returns-in-Err-clause-entered g c =
 pub commit-requires-clause-due : goal.commit-requires-clause-due
 commit-requires-clause-due g c =
     let s : Type 0 = g.R.Shows.is_steady in
-    let command : Command = c.args.counter.0.now in
+    let command : Command = counting c.args.counter.now.by c.args.counter.now.key.now in
     let reply : Reply = Single c.integer.result in
     let said : c.integer.result ≡ One (Integer c.args.number) = search rules in
-    subst (λ (x : Call). s → reply ≡ due (known_to c.reserve_freeing.new.parts).seen (operation_asked c.reserve_freeing.new.parts (asked_for x))) (sym c.requires.is_call)
-    (reply_due s c.args.held.now c.reserve_freeing.new.parts (asked.Run command) reply ((c.args.counter.1.now, Some c.args.text.now) ∷ []) c.reserve_freeing.ensures.held.kept
-    (λ t. subst (λ (r : Reply). IsPlan (known_to c.args.held.now).seen (Run command) r ((c.args.counter.1.now, Some c.args.text.now) ∷ [])) (sym (ap Single said)) (c.requires.due t)))
+    reply_due s c.args.held.now c.reserve_freeing.new.parts (asked.Run command) reply ((c.args.counter.now.key.now, Some c.args.text.now) ∷ []) c.reserve_freeing.ensures.held.kept
+    (λ t. subst (λ (r : Reply). IsPlan (known_to c.args.held.now).seen (Run command) r ((c.args.counter.now.key.now, Some c.args.text.now) ∷ [])) (sym (ap Single said)) (c.requires.due t))
 
 pub commit-requires-clause-keys : goal.commit-requires-clause-keys
 commit-requires-clause-keys g c =
     let s : Type 0 = g.R.Shows.is_steady in
-    named_held s (held_stripes c.args.held.now) c.args.held.now c.reserve_freeing.new.parts c.args.call.now c.reserve_freeing.ensures.held.kept refl c.requires.planned.entry c.requires.begin.ends
-    (there_after (held_stripes c.args.held.now) (call_keys c.args.call.now) (parts_of s c.args.held.now) (parts_of s c.reserve_freeing.new.parts) c.reserve_freeing.ensures.became.there c.requires.begin.may.there)
+    named_held s (held_stripes c.args.held.now) c.args.held.now c.reserve_freeing.new.parts (count_call c.args.counter.now.by c.args.counter.now.key.now) c.reserve_freeing.ensures.held.kept refl (counts_touch c.args.counter.now.by c.args.counter.now.key.now) c.requires.begin.ends
+    (there_after (held_stripes c.args.held.now) (call_keys (count_call c.args.counter.now.by c.args.counter.now.key.now)) (parts_of s c.args.held.now) (parts_of s c.reserve_freeing.new.parts) c.reserve_freeing.ensures.became.there c.requires.begin.may.there)
 
 pub commit-requires-clause-place : goal.commit-requires-clause-place
 commit-requires-clause-place g c =
-    subst (λ (k : Knowledge). HasPlace (operation_of k.watched (asked_for c.args.call.now))) (sym c.reserve_freeing.ensures.held.kept.known)
-    (placed c.args.call.now (known_to c.args.held.now).watched c.requires.planned.entry c.requires.begin.place)
+    subst (λ (k : Knowledge). HasPlace (operation_of k.watched (asked_for (count_call c.args.counter.now.by c.args.counter.now.key.now)))) (sym c.reserve_freeing.ensures.held.kept.known)
+    (placed (count_call c.args.counter.now.by c.args.counter.now.key.now) (known_to c.args.held.now).watched (counts_touch c.args.counter.now.by c.args.counter.now.key.now) c.requires.begin.place)
 
 pub install_set-requires-clause-room : goal.install_set-requires-clause-room
 install_set-requires-clause-room g c =
     let s : Type 0 = g.R.Shows.is_steady in
     let start : Held (Shard _) = c.args.held.now in
     let done : Held (Shard _) = c.commit.new.self in
-    let key : Bytes = c.args.counter.1.now in
+    let key : Bytes = c.args.counter.now.key.now in
     let w : Write = (key, Some c.args.text.now) in
     let count = counted s start done (c.commit.ensures.gates ∙ ap (λ (g : Bor (Gates (Shard _))). g.now) c.reserve_freeing.ensures.held.kept.gates) in
     subst (λ (m : ℕ). IsRoomyAt (logs_of (parts_of s done)) (stripe_of m key) (weigh w)) (sym count) (subst (λ (l : List (ℕ × Shard _)). IsRoomyAt (logs_of (part_at l)) (stripe_of (held_stripes start) key) (weigh w)) (sym c.commit.ensures.parts) c.in_default.ensures.room)
@@ -130,18 +122,18 @@ returns-in-Ok-clause-entered g c =
     let done : Held (Shard _) = c.commit.new.self in
     let last : Held (Shard _) = c.install_set.new.parts in
     let same = c.reserve_freeing.ensures.held.kept in
-    let command : Command = c.args.counter.0.now in
+    let command : Command = counting c.args.counter.now.by c.args.counter.now.key.now in
     let reply : Reply = Single c.integer.result in
     let said : c.integer.result ≡ One (Integer c.args.number) = search rules in
-    let w : Write = (c.args.counter.1.now, Some c.args.text.now) in
+    let w : Write = (c.args.counter.now.key.now, Some c.args.text.now) in
     let f0 : ℕ = g.D.Device.failures c.args.device.now in
     let f1 : ℕ = g.D.Device.failures c.reserve_freeing.new.device in
     let count = counted s start done (c.commit.ensures.gates ∙ ap (λ (g : Bor (Gates (Shard _))). g.now) same.gates) in
-    let did : WasCommitted s c.in-Ok.field-0 (asked.Run command) reply mid done = subst (λ (x : Call). WasCommitted s c.in-Ok.field-0 (asked_for x) reply mid done) c.requires.is_call c.in-Ok.ensures.ok in
+    let did : WasCommitted s c.in-Ok.field-0 (asked.Run command) reply mid done = c.in-Ok.ensures.ok in
     let installed = subst (λ (m : ℕ). Became (shard_meaning s) m (w ∷ []) (touches (w ∷ [])) (parts_of s done) (parts_of s last)) count c.install_set.ensures.became in
     let reserved : Became (shard_meaning s) n [] stays (parts_of s start) (parts_of s done) =
     subst (λ (l : List (ℕ × Shard _)). Became (shard_meaning s) n [] stays (parts_of s start) (part_at l)) (sym c.commit.ensures.parts) c.reserve_freeing.ensures.became in
-    entered_as s _ c.args.call.now (call.One command) c.ended-in-Ok.result _ (start, f0) (last, f1) c.requires.is_call c.ended-in-Ok.ensures (record {
+    entered_as s _ (count_call c.args.counter.now.by c.args.counter.now.key.now) (call.One command) c.ended-in-Ok.result _ (start, f0) (last, f1) refl c.ended-in-Ok.ensures (record {
       back =
           given_still s Nothing start last c.install_set.ensures.held.open_still tt
           (ap (λ (g : Bor (Gates (Shard _))). g.now) c.install_set.ensures.held.kept.gates ∙ c.commit.ensures.gates ∙ ap (λ (g : Bor (Gates (Shard _))). g.now) same.gates)
@@ -155,7 +147,7 @@ returns-in-Ok-clause-entered g c =
       answered = record {
         done =
             done_by (call.One command) reply _ c.in-Ok.field-0 _ (known_to start) (known_to mid) (known_to done) (known_to last) f0 f1
-            (subst IsEntry c.requires.is_call c.requires.planned.entry) same.known c.install_set.ensures.held.kept.known did c.in_default.ensures.failed;
+            (counts_touch c.args.counter.now.by c.args.counter.now.key.now) same.known c.install_set.ensures.held.kept.known did c.in_default.ensures.failed;
         undone = tt;
       };
     })
@@ -168,10 +160,10 @@ returns-in-Err-commit-clause-entered g c =
     let mid : Held (Shard _) = c.reserve_freeing.new.parts in
     let last : Held (Shard _) = c.commit.new.self in
     let same = c.reserve_freeing.ensures.held.kept in
-    let command : Command = c.args.counter.0.now in
+    let command : Command = counting c.args.counter.now.by c.args.counter.now.key.now in
     let f0 : ℕ = g.D.Device.failures c.args.device.now in
     let f1 : ℕ = g.D.Device.failures c.reserve_freeing.new.device in
-    entered_as s _ c.args.call.now (call.One command) c.ended-in-Err-commit.result _ (start, f0) (last, f1) c.requires.is_call c.ended-in-Err-commit.ensures (record {
+    entered_as s _ (count_call c.args.counter.now.by c.args.counter.now.key.now) (call.One command) c.ended-in-Err-commit.result _ (start, f0) (last, f1) refl c.ended-in-Err-commit.ensures (record {
       back =
           given_still s Nothing start last c.commit.ensures.open_still tt (c.commit.ensures.gates ∙ ap (λ (g : Bor (Gates (Shard _))). g.now) same.gates)
           (c.commit.ensures.pass ∙ same.pass)
@@ -181,6 +173,6 @@ returns-in-Err-commit-clause-entered g c =
         done = tt;
         undone =
             was_worn (promises_of s g.R.Shows.lends n) (call.One command) (known_to start) (known_to mid) (known_to last) (known_to last) (known_to last) f0 f1
-            (subst IsEntry c.requires.is_call c.requires.planned.entry) refl refl same.known c.in-Err-commit.ensures.worn c.in_default.ensures.failed;
+            (counts_touch c.args.counter.now.by c.args.counter.now.key.now) refl refl same.known c.in-Err-commit.ensures.worn c.in_default.ensures.failed;
       };
     })

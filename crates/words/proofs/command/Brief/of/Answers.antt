@@ -1,13 +1,20 @@
-use Rattle.std.proofs.Common.{rules, ◌≡◌}
-use Rattle.words.specs.declared.command.Brief.TheVariants as brief
+use Rattle.std.proofs.Common.{rules, ◌≡◌, ◌∙◌}
 use Rattle.words.specs.Briefs.{brief_of}
-use Rattle.words.proofs.Briefs.{brief_set, brief_ping}
+use Rattle.words.proofs.Briefs.{brief_get, brief_set, brief_count, brief_ping}
 use Rattle.words.proofs.command.Brief.of.Goals as goal
 
-pub returns-in-len3-clause-set : goal.returns-in-len3-clause-set
-returns-in-len3-clause-set c = λ is.
-    let exact : brief_of c.args.words.now ≡ brief.Set = Prim.search rules in brief_set c.args.words.now exact
+pub returns-clause-get : goal.returns-clause-get
+returns-clause-get c =
+    let exact : brief_of c.args.words.now ≡ c.of_words.result = Prim.search rules in λ is. brief_get c.args.words.now (exact ∙ is)
 
-pub returns-in-len1-clause-ping : goal.returns-in-len1-clause-ping
-returns-in-len1-clause-ping c = λ is.
-    let exact : brief_of c.args.words.now ≡ brief.Ping = Prim.search rules in brief_ping c.args.words.now exact
+pub returns-clause-set : goal.returns-clause-set
+returns-clause-set c =
+    let exact : brief_of c.args.words.now ≡ c.of_words.result = Prim.search rules in λ is. brief_set c.args.words.now (exact ∙ is)
+
+pub returns-clause-count : goal.returns-clause-count
+returns-clause-count c =
+    let exact : brief_of c.args.words.now ≡ c.of_words.result = Prim.search rules in λ by is. brief_count c.args.words.now by (exact ∙ is)
+
+pub returns-clause-ping : goal.returns-clause-ping
+returns-clause-ping c =
+    let exact : brief_of c.args.words.now ≡ c.of_words.result = Prim.search rules in λ is. brief_ping c.args.words.now (exact ∙ is)
