@@ -1,6 +1,6 @@
 -- The turn of a client in no transaction whose request goes to the engine with its words as they lie, or as the command that they make, or is a
 -- PING without a text.
-use Rattle.std.proofs.Common.{◌≡◌, ◌∙◌, ℕ, List, Some, refl, sym, ap, subst, IsTrue}
+use Rattle.std.proofs.Common.{◌≡◌, ◌∙◌, ◌∷◌, ℕ, List, Some, refl, sym, ap, subst, IsTrue}
 use Rattle.std.specs.Prelude.{Result, Ok, IfOk}
 use Rattle.words.specs.declared.command.Command.{Command}
 use Rattle.words.specs.declared.command.Command.TheVariants.{Ping, Echo, Get, Set, SetGet, SetNx, GetSet, GetDel, StrLen, Exists, Del, Append, SetRange, GetRange, Add, Subtract, MGet, MSet, MSetNx, Rename, Session, Bad}
@@ -12,7 +12,7 @@ use Rattle.words.specs.Store.{Bytes}
 use Rattle.words.specs.Spelling.{IsRequest}
 use Rattle.words.specs.Commands.{command_of, touches_keys}
 use Rattle.words.specs.Bounds.{IsBounded}
-use Rattle.words.specs.Briefs.{counting, IsCounting, IsGet, IsSet, IsPing}
+use Rattle.words.specs.Briefs.{counting, IsCounting, IsGet, IsMGet, IsSet, IsPing}
 use Rattle.words.specs.declared.command.Count.{Count}
 use Rattle.words.specs.declared.command.Count.TheVariants as by
 use Rattle.words.specs.Session.{Idle, Says, Calls, Run, turn, turn_idle, line_reply}
@@ -114,6 +114,9 @@ turned_set was now stripes words a reply at entry law attends idle request set b
     turned_brief was now stripes words (Set set.key set.value Always) a reply at entry law attends idle request (ap (turn_idle idle.0) set.command)
     (refl, bounded) done undone says
 
+tails : (a b : Bytes) (first second : List Bytes) → a ∷ first ≡ b ∷ second → first ≡ second
+tails a b first second e = cc e
+
 counts_touch : (change : Count) (key : Bytes) → IsTrue (touches_keys (counting change key))
 counts_touch (by.Add n) key = refl
 counts_touch (by.Subtract n) key = refl
@@ -127,6 +130,19 @@ pub turned_count : {promises : Promises} (was now : Known) (stripes : List ℕ) 
 turned_count was now stripes words change a reply at entry law attends idle request count bounded done undone says =
     turned_command was now stripes words (counting change count.key) a reply at entry law attends idle request (sym count.command) (counts_touch change count.key) bounded done undone says
 
+-- of an MGET
+pub turned_values : {promises : Promises} (was now : Known) (stripes : List ℕ) (words : List Bytes) (a : Answer) (reply : Reply) (at : Progress)
+    → WatchesPairsOfEntry → WatchesPairsOfFault → Attends was at → IsIdle at.stage → IsRequest words → (mget : IsMGet words) → IsBounded (MGet mget.keys)
+    → IfReply a (λ given. IsDone stripes (Some (Run (MGet mget.keys))) given was now)
+    → IfFault a (λ f. IsUndone promises stripes (Some (Run (MGet mget.keys))) f was now)
+    → reply ≡ reply_to a → Turned promises was now (before words at) at reply
+turned_values was now stripes words a reply at entry law attends idle request mget bounded done undone says =
+    turned_command was now stripes words (MGet mget.keys) a reply at entry law attends idle request (sym mget.command) refl bounded done undone says
+
+-- the keys of an MGET
+pub keys_same : (words : List Bytes) (name : Bytes) (keys : List Bytes) → words ≡ name ∷ keys → (mget : IsMGet words) → keys ≡ mget.keys
+keys_same words name keys are mget = tails name mget.name keys mget.keys (sym are ∙ mget.words_are)
+
 -- of a PING without a text
 pub turned_ping : {promises : Promises} (was : Known) (words : List Bytes) (at : Progress) → Attends was at → IsIdle at.stage → IsRequest words → IsPing words
     → Turned promises was was (before words at) at (line_reply Pong)
@@ -135,7 +151,7 @@ turned_ping was words at attends idle request ping =
     turned_said was (before words at) at (line_reply Pong) (attends_before was words at attends)
     (words, record { request = request; taken = refl }, (stands Idle idle.0, idle.1, rw (idle.1, says) (refl, refl)))
 
--- A GET, a SET without an option and a command that counts, of a request within the limits, are within them.
+-- A GET, an MGET, a SET without an option and a command that counts, of a request within the limits, are within them.
 
 pub get_bounded : ((words : List Bytes) → IsRequest words → IfOk (command_of words) IsBounded) → (words : List Bytes) → IsRequest words → (get : IsGet words)
     → IsBounded (Get get.key)
@@ -148,3 +164,7 @@ set_bounded bounded words request set = subst (λ (made : Result Command Refusal
 pub count_bounded : ((words : List Bytes) → IsRequest words → IfOk (command_of words) IsBounded) → (words : List Bytes) (change : Count) → IsRequest words
     → (count : IsCounting change words) → IsBounded (counting change count.key)
 count_bounded bounded words change request count = subst (λ (made : Result Command Refusal). IfOk made IsBounded) count.command (bounded words request)
+
+pub values_bounded : ((words : List Bytes) → IsRequest words → IfOk (command_of words) IsBounded) → (words : List Bytes) → IsRequest words → (mget : IsMGet words)
+    → IsBounded (MGet mget.keys)
+values_bounded bounded words request mget = subst (λ (made : Result Command Refusal). IfOk made IsBounded) mget.command (bounded words request)

@@ -10,7 +10,7 @@ use Rattle.words.specs.Stream.{front, Part, Faulty}
 use Rattle.words.specs.Stream as stream
 use Rattle.words.specs.Encoding.{encoding, encodings}
 use Rattle.words.specs.History.{Pair, Placed, keys_of_pairs}
-use Rattle.words.specs.Session.{Asked, Mode, Idle, Closed, Turn, Calls, Transcript, line_reply, value_reply}
+use Rattle.words.specs.Session.{Asked, Mode, Idle, Closed, Turn, Calls, Transcript, line_reply, value_reply, values_reply}
 use Rattle.gates.specs.declared.view.Note.{Note}
 use Rattle.streams.specs.declared.observed.Told.{Told}
 use Rattle.streams.specs.declared.observed.Told.TheVariants as told
@@ -166,6 +166,7 @@ module _ (promises : Promises) where
   abbrev pub IsDue : (was now : Known) → Progress → Due → Progress → Type 0
   IsDue was now old (due.Reply reply) new = Turned was now old new reply
   IsDue was now old (due.Line said) new = Turned was now old new (line_reply said)
+  IsDue was now old (due.Values found) new = Turned was now old new (values_reply found)
   IsDue was now old (due.Value found) new = Turned was now old new (value_reply found)
   IsDue was now old _ new = now ≡ was
 
@@ -278,6 +279,7 @@ LeavesRoom waiting.NoMemory held = Unit {0}
 abbrev pub HasTurned : Progress → Due → Progress → Type 0
 HasTurned old (due.Reply reply) new = (words : List Bytes) × TakesOff old.unread words new.unread
 HasTurned old (due.Line said) new = (words : List Bytes) × TakesOff old.unread words new.unread
+HasTurned old (due.Values found) new = (words : List Bytes) × TakesOff old.unread words new.unread
 HasTurned old (due.Value found) new = (words : List Bytes) × TakesOff old.unread words new.unread
 HasTurned old due.Input new = (stream.front old.unread ≡ stream.Part) × IsOpen (mode_of old.stage) × (new ≡ old)
 HasTurned old (due.Malformed fault) new = (stream.front old.unread ≡ stream.Faulty fault) × IsOpen (mode_of old.stage) × (new ≡ old)

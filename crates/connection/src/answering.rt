@@ -16,11 +16,11 @@ ghost use Rattle.connection.specs.Served.{HasTurned, IsDue, Attends, Conversing,
 ghost use Rattle.std.specs.Io.KnownBytes.{Appends, Consumes};
 
 use crate::client::{Client, Front, Next};
-use crate::output::{flush, say_line, say_spent, say_value};
+use crate::output::{flush, say_line, say_spent, say_value, say_values};
 use crate::reading::{MORE_PIECES, Waiting, take_waiting};
 use crate::serving::{Ended, Store, Talk};
 use device::Device;
-use engine::Pass;
+use engine::{Gathered, Pass};
 use gates::Latch;
 use session::watches_follow_entries;
 use std::io::Write;
@@ -28,6 +28,7 @@ use std::sync::Wait;
 use streams::{Noted, ReadReady};
 use transact::call::Call;
 use words::bounds::commands_are_bounded;
+use words::bulks::Bulks;
 use words::command::{Brief, Command};
 use words::reply::{Fault, Line, ProtocolFault, Refusal, Reply};
 use words::word::{Word, Words};
@@ -39,6 +40,8 @@ pub(crate) enum Due {
     Reply(Reply),
     /// A request is answered with this line.
     Line(Line),
+    /// An MGET is answered with what it found.
+    Values(Bulks),
     /// A GET is answered with what it found.
     Value(Option<Word>),
     /// No whole request is left.
@@ -102,6 +105,11 @@ pub(crate) fn answer_all<T: Wait, L: Latch, W: Write, D: Device>(
             }
             Due::Line(line) => {
                 if let Err(_) = say_line(line, &mut talk.out, writer) {
+                    return Paused::WriteFailed;
+                }
+            }
+            Due::Values(values) => {
+                if let Err(_) = say_values(values, &mut talk.out, writer) {
                     return Paused::WriteFailed;
                 }
             }
@@ -239,7 +247,7 @@ fn answer_next<T: Wait, L: Latch, D: Device>(
 }
 
 /// Answers the request of these words, which was taken off, of a client whose session is in no transaction.
-/// A GET, a SET without an option and a command that counts go to the engine with their words as they lie: the session
+/// A GET, an MGET, a SET without an option and a command that counts go to the engine with their words as they lie: the session
 /// does no more to them than to hand them on. A PING without a text is answered at once.
 #[inline]
 fn answer_idle<T: Wait, L: Latch, D: Device>(
@@ -280,6 +288,17 @@ fn answer_idle<T: Wait, L: Latch, D: Device>(
             let key = &words.as_slice()[1];
             let counted = store.engine.count(store.rt, pass, key, by, store.latch);
             Due::Reply(counted.into_reply())
+        }
+        Brief::Values => {
+            watches_follow_entries();
+            commands_are_bounded();
+            let Some((_name, keys)) = words.as_slice().split_first() else {
+                unreachable!()
+            };
+            match store.engine.values(store.rt, pass, keys, store.latch) {
+                Gathered::Found(values) => Due::Values(values),
+                Gathered::Planned(planned) => Due::Reply(planned.into_reply()),
+            }
         }
         Brief::Ping => Due::Line(Line::Pong),
         Brief::Other => answer_command(store, client, words, pass),

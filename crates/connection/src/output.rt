@@ -3,12 +3,15 @@
 
 ghost use Rattle.std.specs.Prelude.{◌≡◌, ◌≤◌, [], OnOk, is_ok, vec_len, vec_capacity};
 ghost use Rattle.words.specs.Encoding.{encoding};
-ghost use Rattle.words.specs.Session.{line_reply, value_reply};
+ghost use Rattle.words.specs.Session.{line_reply, value_reply, values_reply};
 ghost use Rattle.streams.specs.Streams.{IsSent, IsPut, stream_of, told_of, told_when};
 
-use resp_write::{encode_line_within, encode_value_within, encode_within, send};
+use resp_write::{
+    encode_line_within, encode_value_within, encode_values_within, encode_within, send, send_values,
+};
 use std::io::Write;
 use streams::{Noted, WriteFault};
+use words::bulks::Bulks;
 use words::reply::{Line, Reply};
 use words::word::Word;
 
@@ -106,4 +109,44 @@ pub(crate) fn say_value<W: Write>(
         return Ok(());
     }
     say_spent(Reply::value(value), out, writer)
+}
+
+/// Says what an MGET found, as a reply is said, and lets it go.
+#[inline]
+pub(crate) fn say_values<W: Write>(
+    values: Bulks,
+    out: &mut Vec<u8>,
+    writer: &mut Noted<W>,
+) -> Result<(), WriteFault>
+    ensures put { IsPut (W.contents (stream_of writer.old)) (W.contents (stream_of writer.new))
+        out.old.items out.new.items result (encoding (values_reply values)) }
+    ensures told { told_of writer.new ≡ told_when (is_ok result) (told_of writer.old) }
+    ensures within { vec_len out.new ≤ vec_capacity out.old }
+{
+    let said = say_all(&values, out, writer);
+    drop(values);
+    said
+}
+
+/// Says what an MGET found, as [`say`] does.
+fn say_all<W: Write>(
+    values: &Bulks,
+    out: &mut Vec<u8>,
+    writer: &mut Noted<W>,
+) -> Result<(), WriteFault>
+    ensures put { IsPut (W.contents (stream_of writer.old)) (W.contents (stream_of writer.new))
+        out.old.items out.new.items result (encoding (values_reply values.now)) }
+    ensures told { told_of writer.new ≡ told_when (is_ok result) (told_of writer.old) }
+    ensures within { vec_len out.new ≤ vec_capacity out.old }
+{
+    if encode_values_within(values, out) {
+        return Ok(());
+    }
+    if let Err(fault) = flush(out, writer) {
+        return Err(fault);
+    }
+    if encode_values_within(values, out) {
+        return Ok(());
+    }
+    send_values(values, writer)
 }

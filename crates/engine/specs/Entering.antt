@@ -3,8 +3,8 @@ use Rattle.std.specs.Prelude.{ℕ, ◌≡◌, Bool, false, List, []}
 use Rattle.words.specs.Briefs.{counting}
 use Rattle.words.specs.Store.{Bytes}
 use Rattle.words.specs.declared.reply.Reply.{Reply}
-use Rattle.words.specs.Session.{Asked, Run, value_reply, watched_at_fault}
-use Rattle.words.specs.declared.command.Command.TheVariants.{Get, Set}
+use Rattle.words.specs.Session.{Asked, Run, value_reply, values_reply, watched_at_fault}
+use Rattle.words.specs.declared.command.Command.TheVariants.{Get, MGet, Set}
 use Rattle.words.specs.declared.command.When.TheVariants.{Always}
 use Rattle.gates.specs.declared.held.Held.{Held}
 use Rattle.gates.specs.declared.report.Report.{Report}
@@ -20,6 +20,7 @@ use Rattle.gates.specs.Helds.{IsOpen, borrow_of, gates_of, has_committed, held_p
 use Rattle.words.specs.declared.history.Operation.{Operation}
 use Rattle.hybrid.specs.Staging.{AreRight}
 use Rattle.transact.specs.declared.call.Answer.{Answer}
+use Rattle.transact.specs.declared.call.Answer.TheVariants as answer
 use Rattle.transact.specs.declared.call.Call.{Call}
 use Rattle.transact.specs.Calls.{asked_of, call_keys}
 use Rattle.transact.specs.Plans.{EndsAll, IsEntry}
@@ -31,12 +32,16 @@ use Rattle.plans.specs.declared.hands.Hands.{Hands}
 use Rattle.engine.specs.declared.enter.Entered.{Entered}
 use Rattle.engine.specs.Answers.{IsAnswered}
 use Rattle.engine.specs.Calls.{HasItsPlace, Promises}
-use Rattle.engine.specs.Memory.{count_call, get_call, set_call}
+use Rattle.engine.specs.Memory.{count_call, get_call, set_call, values_call}
 use Rattle.engine.specs.Passes.{know}
 use Rattle.engine.specs.declared.count.Counting.{Counting}
 use Rattle.engine.specs.declared.get.Found.{Found}
 use Rattle.engine.specs.declared.get.Getting.{Getting}
 use Rattle.engine.specs.declared.set.Setting.{Setting}
+use Rattle.engine.specs.declared.gather.Reading.{Reading}
+use Rattle.engine.specs.declared.gather.Told.{Told}
+use Rattle.engine.specs.declared.gather.Gathered.{Gathered}
+use Rattle.engine.specs.declared.gather.Gathered.TheVariants as gathered
 
 -- an answer, told as it is
 abbrev pub own_answer : Answer → Answer
@@ -65,6 +70,27 @@ counting_asked asks = Run (counting asks.by asks.key.now)
 -- the call that a command that counts stands for
 abbrev pub counting_call : Counting → Call
 counting_call asks = count_call asks.by asks.key.now
+
+-- what an MGET asks
+abbrev pub reading_asked : Reading → Asked
+reading_asked reading = Run (MGet reading.keys.now)
+
+-- the call that an MGET stands for
+abbrev pub reading_call : Reading → Call
+reading_call reading = values_call reading.keys.now
+
+-- what is said to an MGET that found this
+abbrev pub told_reply : Told → Reply
+told_reply told = values_reply told.values.now
+
+-- the answer that an MGET's values stand for
+abbrev pub values_answer : Gathered → Answer
+values_answer (gathered.Found items) = answer.Reply (values_reply items)
+values_answer (gathered.Planned told) = told
+
+-- what a call came to that was planned, as what an MGET came to
+abbrev pub as_planned : Entered Answer → Entered Gathered
+as_planned entered = record { answer = gathered.Planned entered.answer; ends = entered.ends; report = entered.report }
 
 -- what is said to a GET that found this
 abbrev pub found_reply : Found → Reply

@@ -9,7 +9,8 @@ use Rattle.words.specs.Session.{Asked, Run, Watch, Exec}
 use Rattle.transact.specs.declared.call.Call.{Call}
 use Rattle.transact.specs.declared.call.Call.TheVariants.{One}
 use Rattle.plans.specs.Memory.{IsPlannedInPlace}
-use Rattle.words.specs.declared.command.Command.TheVariants.{Get}
+use Rattle.words.specs.declared.command.Command.TheVariants.{Get, MGet}
+use Rattle.std.specs.Prelude.{List}
 
 -- A command that needs no memory on a store: one that gives a key a value, without an option; and, where no page has to be read, one that is
 -- planned without a growth.
@@ -34,3 +35,7 @@ get_call key = One (Get key)
 -- a call that changes the number of a key by so much
 abbrev pub count_call : Count → Bytes → Call
 count_call by key = One (counting by key)
+
+-- a call that reads these keys
+abbrev pub values_call : List Bytes → Call
+values_call keys = One (MGet keys)

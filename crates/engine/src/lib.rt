@@ -7,8 +7,8 @@
 //! nobody waits for its reads. After three such rounds it reads while it holds, so that it ends. The stay goes on until
 //! the call is answered, which keeps the places of these pages from being used anew.
 //!
-//! GET, a SET without an option and the commands that count have ways of their own ([`Engine::get`], [`Engine::set`],
-//! [`Engine::count`]), with no plan made.
+//! GET, MGET, a SET without an option and the commands that count have ways of their own ([`Engine::get`], [`Engine::values`],
+//! [`Engine::set`], [`Engine::count`]), with no plan made.
 //! Background threads make their steps by a [`Pass`] too.
 #![tactic(auto)]
 
@@ -23,7 +23,8 @@ ghost use Rattle.transact.specs.Calls.{answer_of, answer_with, asked_of};
 ghost use Rattle.transact.specs.Plans.{EndsAll};
 ghost use Rattle.transact.specs.Submits.{stripes_asked};
 ghost use Rattle.shards.specs.Shards.{shard_meaning};
-ghost use Rattle.engine.specs.Memory.{count_call, get_call, set_call};
+ghost use Rattle.engine.specs.Entering.{values_answer};
+ghost use Rattle.engine.specs.Memory.{count_call, get_call, set_call, values_call};
 ghost use Rattle.engine.specs.Passes.{AreOf, knows, Rests, stripe_count};
 ghost use Rattle.engine.specs.Answers.{ComesTo, WaitsAndComesTo};
 ghost use Rattle.engine.specs.Calls.{FoundBusy, HasItsPlace, HasLearned};
@@ -31,6 +32,7 @@ ghost use Rattle.engine.specs.Calls.{FoundBusy, HasItsPlace, HasLearned};
 use crate::call::{submit, try_submit};
 use crate::count::submit_count;
 use crate::deal::deal;
+use crate::gather::submit_values;
 use crate::get::submit_get;
 use crate::set::{Setting, submit_set};
 use crate::site::Site;
@@ -52,6 +54,7 @@ mod call;
 mod count;
 mod deal;
 mod enter;
+mod gather;
 mod get;
 mod pass;
 mod rounds;
@@ -60,6 +63,7 @@ mod site;
 mod steps;
 mod visit;
 
+pub use gather::Gathered;
 pub use pass::Pass;
 
 /// How many passes there are beside one for each client: those of the threads that work in the
@@ -280,6 +284,40 @@ impl<D: Device> Engine<D> {
             &mut pass.hands,
             key,
             by,
+        );
+        latch.at(number, Point::After);
+        answer
+    }
+
+    /// The same as [`submit_with`](Engine::submit_with) of an MGET, whose keys stay the caller's. Where all values lie near, each is
+    /// copied once, from its page into the text of the reply.
+    pub fn values<T: Wait, L: Latch>(
+        &self,
+        rt: &T,
+        pass: &mut Pass<D>,
+        keys: &[Word],
+        latch: &L,
+    ) -> Gathered
+        requires rests { Rests D.Receipt.is_steady self.now pass.old }
+        requires place { IsBounded (command.MGet keys.now) }
+        ensures rests { Rests D.Receipt.is_steady self.now pass.new }
+        ensures answered { WaitsAndComesTo D.Receipt.is_steady D.Receipt.lends D.failures self.now (values_call keys.now)
+            (values_answer result) pass.old pass.new }
+    {
+        let number = pass.gates.number();
+        latch.at(number, Point::Before);
+        let site = Site {
+            gates: &self.gates,
+            epochs: &self.epochs,
+            latch,
+        };
+        let answer = submit_values(
+            rt,
+            &site,
+            &mut pass.gates,
+            &mut pass.device,
+            &mut pass.hands,
+            keys,
         );
         latch.at(number, Point::After);
         answer

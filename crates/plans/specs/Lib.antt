@@ -8,3 +8,4 @@ pub mod Running
 pub mod Reserving
 pub mod Holding
 pub mod Counting
+pub mod Telling

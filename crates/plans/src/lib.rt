@@ -23,3 +23,4 @@ mod room;
 mod running;
 pub mod short;
 pub mod stop;
+pub mod telling;

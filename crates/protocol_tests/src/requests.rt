@@ -426,7 +426,7 @@ fn brief(rt: &impl Abort, alloc: Global, words: &[&[u8]]) -> Brief {
 /// Those that are asked most, in any case, and requests that are like them.
 #[test]
 fn briefs(rt: HostRuntime) {
-    let rows: [(&[&[u8]], Brief); 20] = [
+    let rows: [(&[&[u8]], Brief); 27] = [
         (&[b"GET", b"k"], Brief::Get),
         (&[b"get", b"k"], Brief::Get),
         (&[b"GET", &[b'k'; 512]], Brief::Get),
@@ -447,6 +447,13 @@ fn briefs(rt: HostRuntime) {
         (&[b"INCR", &[b'k'; 513]], Brief::Other),
         (&[b"INCR", b"k", b"1"], Brief::Other),
         (&[b"INCRBY", b"k"], Brief::Other),
+        (&[b"MGET", b"k"], Brief::Values),
+        (&[b"mget", b"k", b"l"], Brief::Values),
+        (&[b"MGET", b"k", b"k", b"l", b""], Brief::Values),
+        (&[b"MGET"], Brief::Other),
+        (&[b"MGET", &[b'k'; 513]], Brief::Other),
+        (&[b"MGET", b"k", &[b'k'; 513]], Brief::Other),
+        (&[b"MGET", b"k", b"l", &[b'k'; 513]], Brief::Other),
         (&[b"ping"], Brief::Ping),
         (&[b"PING", b"text"], Brief::Other),
         (&[b"EXEC"], Brief::Other),

@@ -2,15 +2,16 @@
 
 ghost use Rattle.std.specs.Prelude.{◌≡◌, ◌+◌, ◌≤◌, ◌^◌, ◌++◌, ◌↔◌, length, IsOk, IsTrue, IfSome, IfNone, OnOk, OnErr, vec_len, vec_capacity, not, is_ok};
 ghost use Rattle.words.specs.Encoding.{encoding};
-ghost use Rattle.words.specs.Session.{line_reply, value_reply};
+ghost use Rattle.words.specs.Session.{line_reply, value_reply, values_reply};
 ghost use Rattle.streams.specs.Streams.{IsSent, stream_of, told_of, told_when};
 ghost use Rattle.resp_write.specs.Lines.{IsLine};
 
 use crate::sink::Length;
-use crate::walk::{put_line, put_reply, put_value};
+use crate::walk::{put_line, put_reply, put_value, put_values};
 use std::alloc::AllocError;
 use std::io::Write;
 use streams::{Noted, WriteFault};
+use words::bulks::Bulks;
 use words::reply::{Line, Reply};
 use words::word::Word;
 
@@ -96,6 +97,28 @@ pub fn encode_value_within(value: &Option<Word>, out: &mut Vec<u8>) -> bool
     }
 }
 
+/// Appends the bytes of an array of these values, where there is room, as [`encode_within`] does.
+#[inline]
+pub fn encode_values_within(values: &Bulks, out: &mut Vec<u8>) -> bool
+    ensures fits { IsTrue result ↔ (vec_len out.old + length (encoding (values_reply values.now))
+        ≤ vec_capacity out.old) }
+    ensures done { IsTrue result → out.new.items ≡ out.old.items ++ encoding (values_reply values.now) }
+    ensures full { IsTrue (not result) → out.new.items ≡ out.old.items }
+    ensures room { IsTrue (not result) → vec_capacity out.new ≡ vec_capacity out.old }
+    ensures capacity { vec_capacity out.old ≤ vec_capacity out.new }
+{
+    let room = out.capacity() - out.len();
+    let mut length = Length { bytes: 0 };
+    match put_values(values, &mut length) {
+        Ok(()) if length.bytes <= room => {
+            // There is room, so it cannot fail.
+            let _ = put_values(values, out);
+            true
+        }
+        Ok(()) | Err(_) => false,
+    }
+}
+
 /// Writes the bytes of a reply, without taking memory. After an `Err` a beginning of them is written.
 pub fn send<W: Write>(reply: &Reply, writer: &mut Noted<W>) -> Result<(), WriteFault>
     ensures sent { IsSent (W.contents (stream_of writer.old)) (W.contents (stream_of writer.new))
@@ -106,6 +129,19 @@ pub fn send<W: Write>(reply: &Reply, writer: &mut Noted<W>) -> Result<(), WriteF
         Ok(()) => Ok(()),
         Err(_) => Err(WriteFault),
     }
+}
+
+/// Writes the bytes of an array of these values, without taking memory. After an `Err` a beginning of
+/// them is written.
+pub fn send_values<W: Write>(values: &Bulks, writer: &mut Noted<W>) -> Result<(), WriteFault>
+    ensures sent { IsSent (W.contents (stream_of writer.old)) (W.contents (stream_of writer.new))
+        result (encoding (values_reply values.now)) }
+    ensures told { told_of writer.new ≡ told_when (is_ok result) (told_of writer.old) }
+{
+    let Ok(()) = put_values(values, writer) else {
+        return Err(WriteFault);
+    };
+    Ok(())
 }
 
 /// How many bytes a reply takes, or `None` where they are 2^64 or more.

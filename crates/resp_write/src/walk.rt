@@ -3,12 +3,13 @@
 ghost use Rattle.std.specs.Prelude.{◌≡◌, ◌++◌};
 ghost use Rattle.std.specs.List.{flat_map};
 ghost use Rattle.words.specs.Encoding.{item_encoding, command_reply_encoding, encoding};
-ghost use Rattle.words.specs.Session.{value_reply};
+ghost use Rattle.words.specs.Session.{value_reply, values_reply};
 ghost use Rattle.words.specs.Spelling.{header, crlf, bulk_string};
 ghost use Rattle.resp_write.specs.Sinks.{IsGiven};
 
 use crate::sink::{Sink, Stopped};
 use itoa::Buffer;
+use words::bulks::Bulks;
 use words::reply::{CommandReply, Item, Reply};
 use words::word::Word;
 
@@ -98,6 +99,18 @@ pub(crate) fn put_value<S: Sink>(value: &Option<Word>, out: &mut S) -> Result<()
         Some(word) => put_bulk(word.as_slice(), out),
         None => out.give(b"$-1\r\n"),
     }
+}
+
+/// An array of values, which lie there as they are spelled.
+#[inline]
+#[tactic(auto, unfolding(words::specs::Encoding::encoding, words::specs::Encoding::command_reply_encoding))]
+pub(crate) fn put_values<S: Sink>(values: &Bulks, out: &mut S) -> Result<(), Stopped>
+    ensures { IsGiven S.takes S.stops out.old out.new result (encoding (values_reply values.now)) }
+{
+    if let Err(stopped) = put_header(b'*', values.len(), out) {
+        return Err(stopped);
+    }
+    out.give(values.text())
 }
 
 /// `:`, a number in decimal, and a line end.

@@ -24,4 +24,5 @@ mod StripeRows
 mod EncodingRows
 mod StreamRows
 pub mod Beginnings
+pub mod SpelledValues
 pub mod Decimals

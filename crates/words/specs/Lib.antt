@@ -10,6 +10,7 @@ pub mod Stream
 pub mod Encoding
 pub mod Numbers
 pub mod Answers
+pub mod Bulks
 pub mod History
 pub mod Watches
 pub mod Stripes

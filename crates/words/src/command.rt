@@ -1,19 +1,20 @@
 //! Commands, and which command the words of a request are.
 
-ghost use Rattle.std.specs.Prelude.{◌≡◌, ◌≤◌, ◌↔◌, List, IfOk, IsOk, IsTrue, codes, length};
+ghost use Rattle.std.specs.Prelude.{◌≡◌, ◌≤◌, ◌↔◌, ◌∷◌, List, IfOk, IsOk, IsTrue, codes, length};
 ghost use Rattle.words.specs.Spelling.{IsRequest};
 ghost use Rattle.words.specs.Commands.{command_of, command_in, AsksNoMemory, is_name, keys_set, readers, counters, session_commands};
 ghost use Rattle.words.specs.Bounds.{AreKeysBounded, AreValuesBounded, IsBounded, values_set};
 ghost use Rattle.words.specs.Store.{Bytes};
 ghost use Rattle.words.specs.Verbs.{shaped};
-ghost use Rattle.words.specs.Briefs.{brief_of, brief_of_key, brief_of_setting, IsCounting, IsGet, IsSet, IsPing};
+ghost use Rattle.words.specs.Briefs.{brief_of, brief_of_key, brief_of_many, brief_of_setting, IsCounting, IsGet, IsMGet, IsSet, IsPing};
 
 use crate::limits::{KEY_BYTES_MAX, VALUE_BYTES_MAX};
 use crate::number;
 use crate::reply::Refusal;
 use crate::sequence::Sequence;
 use crate::shapes::{
-    KeyVerb, KeysVerb, LoneVerb, NumberVerb, SettingsVerb, Shape, ValueVerb, is_long,
+    KeyVerb, KeysVerb, LoneVerb, NumberVerb, SettingsVerb, Shape, ValueVerb, any_long, copies,
+    is_long,
 };
 use crate::word::{OutOfMemory, Word, Words};
 use std::alloc::Global;
@@ -122,6 +123,8 @@ pub enum Brief {
     Set,
     /// An INCR, a DECR, an INCRBY or a DECRBY: the second word is its key.
     Count(Count),
+    /// An MGET: the words after the first are its keys.
+    Values,
     /// A PING without a text.
     Ping,
     /// Any other request.
@@ -135,6 +138,7 @@ impl Brief {
         ensures get { result ≡ Brief.Get → IsGet words.now }
         ensures set { result ≡ Brief.Set → IsSet words.now }
         ensures count { (by : Count) → result ≡ Brief.Count by → IsCounting by words.now }
+        ensures values { result ≡ Brief.Values → IsMGet words.now }
         ensures ping { result ≡ Brief.Ping → IsPing words.now }
     {
         of_words(words.as_slice())
@@ -146,10 +150,22 @@ impl Brief {
 fn of_words(words: &[Word]) -> Brief
     ensures { result ≡ brief_of words.now }
 {
-    match words {
-        [name, key] if !is_long(key) => of_key(name.as_slice()),
-        [name, key, value] if !is_long(key) => of_setting(name.as_slice(), value),
-        [name] if is_named(name.as_slice(), b"PING") => Brief::Ping,
+    match words.split_first() {
+        Some((name, arguments)) => of_named(name.as_slice(), arguments),
+        None => Brief::Other,
+    }
+}
+
+/// Which a request of this name and arguments is.
+#[inline]
+fn of_named(name: &[u8], arguments: &[Word]) -> Brief
+    ensures { result ≡ brief_of (name.now ∷ arguments.now) }
+{
+    match arguments {
+        [key] if !is_long(key) => of_key(name),
+        [key, value] if !is_long(key) => of_setting(name, value),
+        [_, _, _, ..] => of_many(name, arguments),
+        [] if is_named(name, b"PING") => Brief::Ping,
         _ => Brief::Other,
     }
 }
@@ -165,6 +181,19 @@ fn of_key(name: &[u8]) -> Brief
         Brief::Count(Count::Add(1))
     } else if is_named(name, b"DECR") {
         Brief::Count(Count::Subtract(1))
+    } else if is_named(name, b"MGET") {
+        Brief::Values
+    } else {
+        Brief::Other
+    }
+}
+
+/// Which a request of this name and three words or more is.
+fn of_many(name: &[u8], keys: &[Word]) -> Brief
+    ensures { result ≡ brief_of_many name.now keys.now }
+{
+    if is_named(name, b"MGET") && !any_long(keys) {
+        Brief::Values
     } else {
         Brief::Other
     }
@@ -187,9 +216,22 @@ fn of_setting(name: &[u8], value: &Word) -> Brief
             Some(number) => Brief::Count(Count::Subtract(number)),
             None => Brief::Other,
         }
+    } else if is_named(name, b"MGET") && !is_long(value) {
+        Brief::Values
     } else {
         Brief::Other
     }
+}
+
+/// Copies of these words, as keys.
+///
+/// # Errors
+///
+/// [`OutOfMemory`] where there is no memory for them.
+pub fn keys_of(alloc: Global, words: &[Word]) -> Result<Keys, OutOfMemory>
+    ensures { IfOk result (λ keys. keys ≡ words.now) }
+{
+    copies(alloc, words)
 }
 
 /// The command's name alone: its words may be long, and they are a user's.

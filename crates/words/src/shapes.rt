@@ -495,7 +495,7 @@ fn key_start_end(alloc: Global, arguments: &[Word]) -> Result<Result<Command, Re
 }
 
 /// Whether one of these keys has more bytes than a key may have.
-fn any_long(keys: &[Word]) -> bool
+pub(crate) fn any_long(keys: &[Word]) -> bool
     ensures { result ≡ commands.any_long keys.now }
 {
     match keys {
@@ -505,7 +505,7 @@ fn any_long(keys: &[Word]) -> bool
 }
 
 /// Copies of these words.
-fn copies(alloc: Global, words: &[Word]) -> Result<Keys, OutOfMemory>
+pub(crate) fn copies(alloc: Global, words: &[Word]) -> Result<Keys, OutOfMemory>
     ensures { IfOk result (λ copies. copies ≡ words.now) }
 {
     let mut copies = Vec::with_capacity(alloc, words.len())?;

@@ -202,7 +202,7 @@ impl<R: Shows> Stripe<R> {
     }
 
     // The newest record of a key with this hash, and its address, if it lies in the mutable part.
-    #[inline]
+    #[inline(always)]
     fn newest_mutable<'a>(&'a self, hash: u64, key: &[u8]) -> Option<(Address, Record<'a>)>
         requires { hash ≡ hash_of key.now }
         ensures found { IfSome result (λ x. newest (log_of self.now) key.now ≡ Some (x.0, shown x.1)) }

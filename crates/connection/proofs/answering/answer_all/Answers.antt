@@ -88,6 +88,31 @@ loop-talk-preserved-in_default-say_line g c =
       attends = c.answer_next.ensures.attends;
     }
 
+pub returns-in-Err-say_values-clause-paused : goal.returns-in-Err-say_values-clause-paused
+returns-in-Err-say_values-clause-paused g c = λ was fed before talk.
+    let so_far = c.loop-talk.invariant.talk was fed before talk in
+    let put = c.in-Err-say_values.ensures.put in
+    (so_far.0 ++ put.0, Appends-then _ _ _ so_far.0 put.0 so_far.1 put.3, (c.answer_next.new.client, _, put.1, conversing_next _ _ _ _ _ _ _ _ so_far.2 c.in-Values.ensures.due, regroup before so_far.0 _ _ put.0 put.1 put.2))
+
+pub loop-talk-smaller-in_default-say_values : goal.loop-talk-smaller-in_default-say_values
+loop-talk-smaller-in_default-say_values g c = fewer_unread _ _ _ c.in-Values.ensures.turned.1
+
+pub loop-talk-preserved-in_default-say_values : goal.loop-talk-preserved-in_default-say_values
+loop-talk-preserved-in_default-say_values g c =
+    let put = c.in_default-say_values.ensures.put in
+    record {
+      talk = λ was fed before talk.
+          let so_far = c.loop-talk.invariant.talk was fed before talk in (
+            so_far.0 ++ put.0,
+            Appends-then _ _ _ so_far.0 put.0 so_far.1 put.1,
+            conversing_says _ _ _ _ (conversing_next _ _ _ _ _ _ _ _ so_far.2 c.in-Values.ensures.due) (regroup before so_far.0 _ _ put.0 _ put.2),
+          );
+      room = c.loop-talk.invariant.room;
+      told = c.in_default-say_values.ensures.told ∙ c.loop-talk.invariant.told;
+      rests = c.answer_next.ensures.rests;
+      attends = c.answer_next.ensures.attends;
+    }
+
 pub returns-in-Err-say_value-clause-paused : goal.returns-in-Err-say_value-clause-paused
 returns-in-Err-say_value-clause-paused g c = λ was fed before talk.
     let so_far = c.loop-talk.invariant.talk was fed before talk in

@@ -1,13 +1,14 @@
-use Rattle.std.proofs.Common.{rules, ◌≡◌, Ok, Err, refl, sym, subst}
+use Rattle.std.proofs.Common.{rules, ◌≡◌, ◌∙◌, List, Ok, Err, refl, sym, subst}
 use Rattle.words.specs.declared.reply.Line.TheVariants.{Faulty}
 use Rattle.words.specs.Store.{Bytes}
 use Rattle.words.specs.Bounds.{IsBounded}
 use Rattle.words.specs.Briefs.{counting}
-use Rattle.words.specs.declared.command.Command.TheVariants.{Get}
-use Rattle.words.specs.Session.{line_reply, value_reply}
+use Rattle.words.specs.declared.command.Command.TheVariants.{Get, MGet}
+use Rattle.words.specs.Session.{line_reply, value_reply, values_reply}
+use Rattle.transact.specs.declared.call.Answer.TheVariants as answer
 use Rattle.transact.specs.Calls.{answer_of, answer_with}
 use Rattle.connection.proofs.Called.{attends_turned}
-use Rattle.connection.proofs.Briefs.{count_bounded, get_bounded, set_bounded, turned_count, turned_get, turned_set, turned_ping}
+use Rattle.connection.proofs.Briefs.{count_bounded, get_bounded, keys_same, set_bounded, turned_count, turned_get, turned_set, turned_ping, turned_values, values_bounded}
 use Rattle.connection.proofs.answering.answer_idle.Goals as goal
 
 pub returns-in-Ok-clause-due : goal.returns-in-Ok-clause-due
@@ -75,3 +76,33 @@ returns-in-Count-clause-due g c =
 
 pub returns-in-Count-clause-attends : goal.returns-in-Count-clause-attends
 returns-in-Count-clause-attends g c = attends_turned _ _ _ _ _ (returns-in-Count-clause-due g c)
+
+pub values-requires-clause-place : goal.values-requires-clause-place
+values-requires-clause-place g c =
+    let mget = c.in-Values.ensures.values refl in
+    let same : c.in-Some.keys.now ≡ mget.keys = keys_same c.args.words.now c.in-Some._name.now c.in-Some.keys.now (sym c.as_slice-in-Values.ensures.words ∙ c.in-Some.ensures.cases.0) mget in
+    subst (λ (keys : List Bytes). IsBounded (MGet keys)) (sym same) (values_bounded c.commands_are_bounded-in-Values.ensures c.args.words.now c.requires.request mget)
+
+pub returns-in-Found-clause-due : goal.returns-in-Found-clause-due
+returns-in-Found-clause-due g c =
+    let mget = c.in-Values.ensures.values refl in
+    let same : c.in-Some.keys.now ≡ mget.keys = keys_same c.args.words.now c.in-Some._name.now c.in-Some.keys.now (sym c.as_slice-in-Values.ensures.words ∙ c.in-Some.ensures.cases.0) mget in
+    turned_values _ _ _ c.args.words.now (answer.Reply (values_reply c.in-Found.values)) (values_reply c.in-Found.values) _ c.watches_follow_entries-in-Values.ensures.entry
+    c.watches_follow_entries-in-Values.ensures.fault
+    c.requires.attends c.requires.idle c.requires.request mget (values_bounded c.commands_are_bounded-in-Values.ensures c.args.words.now c.requires.request mget)
+    (rw same at c.in-Found.ensures.answered.done) tt refl
+
+pub returns-in-Found-clause-attends : goal.returns-in-Found-clause-attends
+returns-in-Found-clause-attends g c = attends_turned _ _ _ _ _ (returns-in-Found-clause-due g c)
+
+pub returns-in-Planned-clause-due : goal.returns-in-Planned-clause-due
+returns-in-Planned-clause-due g c =
+    let mget = c.in-Values.ensures.values refl in
+    let same : c.in-Some.keys.now ≡ mget.keys = keys_same c.args.words.now c.in-Some._name.now c.in-Some.keys.now (sym c.as_slice-in-Values.ensures.words ∙ c.in-Some.ensures.cases.0) mget in
+    turned_values _ _ _ c.args.words.now c.in-Planned.planned c.into_reply-in-Planned.result _ c.watches_follow_entries-in-Values.ensures.entry
+    c.watches_follow_entries-in-Values.ensures.fault
+    c.requires.attends c.requires.idle c.requires.request mget (values_bounded c.commands_are_bounded-in-Values.ensures c.args.words.now c.requires.request mget)
+    (rw same at c.in-Planned.ensures.answered.done) (rw same at c.in-Planned.ensures.answered.undone) c.into_reply-in-Planned.ensures
+
+pub returns-in-Planned-clause-attends : goal.returns-in-Planned-clause-attends
+returns-in-Planned-clause-attends g c = attends_turned _ _ _ _ _ (returns-in-Planned-clause-due g c)

@@ -1,4 +1,3 @@
-use Rattle.std.proofs.Common.{rules}
 use Rattle.words.specs.Spelling.{header}
 use Rattle.resp_write.proofs.Given.{given_then}
 use Rattle.resp_write.proofs.walk.put_header.Goals as goal

@@ -1,5 +1,5 @@
 use Rattle.std.proofs.Common.{ap, ◌∙◌, ◌%◌, ℕ}
-use Rattle.words.specs.Stripes.{stripe_of, hash_of}
+use Rattle.words.specs.Stripes.{stripe_of}
 use Rattle.words.proofs.hash.stripe_of.Goals as goal
 
 pub returns-clause-stripe : goal.returns-clause-stripe

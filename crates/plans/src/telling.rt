@@ -1,0 +1,77 @@
+//! What keys have, told as a reply spells it: each value is copied once, from where it lies.
+
+ghost use Rattle.std.specs.Prelude.{◌≡◌, ◌++◌, ◌∷◌, [], IfSome};
+ghost use Rattle.std.specs.Bool.{OnTrue};
+ghost use Rattle.words.specs.Answers.{item_of};
+ghost use Rattle.hybrid.specs.Staging.{AreRight};
+ghost use Rattle.transact.specs.Tables.{joined};
+ghost use Rattle.shards.specs.Shards.{shard_meaning, shard_store};
+ghost use Rattle.plans.specs.Planning.{IsStillHeld, MayLookUp};
+ghost use Rattle.plans.specs.Telling.{AreValuesIn};
+
+use crate::cells::stripe_at;
+use crate::running::value_at;
+use device::Shows;
+use gates::Parts;
+use hybrid::Staged;
+use shards::shard::Shard;
+use std::alloc::Global;
+use words::bulks::Bulks;
+use words::hash::Hashed;
+use words::word::Word;
+
+/// The bytes for which room is made for each value, before it is known how long they are.
+const ROOM_OF_VALUE: usize = 64;
+
+/// Tells what a key has, on the part of its stripe. False where a page is wanted, or memory.
+fn tell_at<R: Shows>(part: &Shard<R>, key: &Hashed, staged: &Staged<R>, told: &mut Bulks) -> bool
+    ensures { OnTrue result (R.is_honest × AreRight staged.now
+        → told.new ≡ told.old ++ item_of (shard_store part.now key.now) ∷ []) }
+{
+    match value_at(part, key, staged) {
+        Some(value) => told.push(value).is_ok(),
+        None => false,
+    }
+}
+
+/// Tells what a key has. False where a page is wanted, or memory.
+fn tell<R: Shows, P: Parts<Shard<R>>>(
+    parts: &mut P,
+    key: &Word,
+    staged: &Staged<R>,
+    told: &mut Bulks,
+) -> bool
+    requires may { MayLookUp (P.is_open parts.old) (P.stripes_of parts.old) (P.part_of parts.old) (key.now ∷ []) }
+    ensures told { OnTrue result (R.is_honest × AreRight staged.now → told.new ≡ told.old
+        ++ item_of (joined (shard_meaning R.is_steady) (P.stripes_of parts.old) (P.part_of parts.old) key.now) ∷ []) }
+    ensures same { P.part_of parts.new ≡ P.part_of parts.old }
+    ensures held { IsStillHeld P.is_open P.keeps parts.old parts.new }
+{
+    let key = Hashed::new(key);
+    let stripe = stripe_at(&*parts, &key);
+    tell_at(parts.part(stripe), &key, staged, told)
+}
+
+/// What these keys have, as an MGET of them is due to be answered. `None` where a page is wanted, or memory: such an MGET is
+/// planned as other commands are.
+pub fn tell_values<R: Shows, P: Parts<Shard<R>>>(
+    alloc: Global,
+    parts: &mut P,
+    keys: &[Word],
+    staged: &Staged<R>,
+) -> Option<Bulks>
+    requires may { MayLookUp (P.is_open parts.old) (P.stripes_of parts.old) (P.part_of parts.old) keys.now }
+    ensures values { IfSome result (AreValuesIn R.is_steady P.stripes_of P.part_of parts.old (R.is_honest × AreRight staged.now) keys.now) }
+    ensures same { P.part_of parts.new ≡ P.part_of parts.old }
+    ensures held { IsStillHeld P.is_open P.keeps parts.old parts.new }
+{
+    let mut told = Bulks::with_room(alloc, keys.len().saturating_mul(ROOM_OF_VALUE));
+    let mut left = keys;
+    while let Some((first, others)) = left.split_first() {
+        if !tell(parts, first, staged, &mut told) {
+            return None;
+        }
+        left = others;
+    }
+    Some(told)
+}
