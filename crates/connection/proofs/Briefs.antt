@@ -12,9 +12,10 @@ use Rattle.words.specs.Store.{Bytes}
 use Rattle.words.specs.Spelling.{IsRequest}
 use Rattle.words.specs.Commands.{command_of, touches_keys}
 use Rattle.words.specs.Bounds.{IsBounded}
-use Rattle.words.specs.Briefs.{counting, IsCounting, IsGet, IsMGet, IsSet, IsPing}
-use Rattle.words.specs.declared.command.Count.{Count}
+use Rattle.words.specs.Briefs.{commanded, pairs_of, last_of, IsGet, IsMGet, IsMSet, IsOne, IsSet, IsPing}
 use Rattle.words.specs.declared.command.Count.TheVariants as by
+use Rattle.words.specs.declared.command.Verb.{Verb}
+use Rattle.words.specs.declared.command.Verb.TheVariants as verb
 use Rattle.words.specs.Session.{Idle, Says, Calls, Run, turn, turn_idle, line_reply}
 use Rattle.transact.specs.declared.call.Call.TheVariants.{One}
 use Rattle.transact.specs.declared.call.Answer.{Answer}
@@ -117,18 +118,29 @@ turned_set was now stripes words a reply at entry law attends idle request set b
 tails : (a b : Bytes) (first second : List Bytes) → a ∷ first ≡ b ∷ second → first ≡ second
 tails a b first second e = cc e
 
-counts_touch : (change : Count) (key : Bytes) → IsTrue (touches_keys (counting change key))
-counts_touch (by.Add n) key = refl
-counts_touch (by.Subtract n) key = refl
+one_touches : (verb : Verb) (key value : Bytes) → IsTrue (touches_keys (commanded verb key value))
+one_touches (verb.Count (by.Add n)) key value = refl
+one_touches (verb.Count (by.Subtract n)) key value = refl
+one_touches verb.SetNx key value = refl
+one_touches verb.GetSet key value = refl
+one_touches verb.Append key value = refl
+one_touches verb.GetDel key value = refl
+one_touches verb.StrLen key value = refl
+one_touches verb.Exists key value = refl
+one_touches verb.Del key value = refl
 
--- of a command that counts
-pub turned_count : {promises : Promises} (was now : Known) (stripes : List ℕ) (words : List Bytes) (change : Count) (a : Answer) (reply : Reply) (at : Progress)
-    → WatchesPairsOfEntry → WatchesPairsOfFault → Attends was at → IsIdle at.stage → IsRequest words → (count : IsCounting change words) → IsBounded (counting change count.key)
-    → IfReply a (λ given. IsDone stripes (Some (Run (counting change count.key))) given was now)
-    → IfFault a (λ f. IsUndone promises stripes (Some (Run (counting change count.key))) f was now)
+-- the command that such words are
+abbrev pub made_of : (verb : Verb) (words : List Bytes) → IsOne verb words → Command
+made_of verb words one = commanded verb one.key (last_of one.key one.others)
+
+-- of another command of one key
+pub turned_one : {promises : Promises} (was now : Known) (stripes : List ℕ) (words : List Bytes) (verb : Verb) (a : Answer) (reply : Reply) (at : Progress)
+    → WatchesPairsOfEntry → WatchesPairsOfFault → Attends was at → IsIdle at.stage → IsRequest words → (one : IsOne verb words) → IsBounded (made_of verb words one)
+    → IfReply a (λ given. IsDone stripes (Some (Run (made_of verb words one))) given was now)
+    → IfFault a (λ f. IsUndone promises stripes (Some (Run (made_of verb words one))) f was now)
     → reply ≡ reply_to a → Turned promises was now (before words at) at reply
-turned_count was now stripes words change a reply at entry law attends idle request count bounded done undone says =
-    turned_command was now stripes words (counting change count.key) a reply at entry law attends idle request (sym count.command) (counts_touch change count.key) bounded done undone says
+turned_one was now stripes words verb a reply at entry law attends idle request one bounded done undone says =
+    turned_command was now stripes words (made_of verb words one) a reply at entry law attends idle request (sym one.command) (one_touches verb one.key (last_of one.key one.others)) bounded done undone says
 
 -- of an MGET
 pub turned_values : {promises : Promises} (was now : Known) (stripes : List ℕ) (words : List Bytes) (a : Answer) (reply : Reply) (at : Progress)
@@ -151,7 +163,7 @@ turned_ping was words at attends idle request ping =
     turned_said was (before words at) at (line_reply Pong) (attends_before was words at attends)
     (words, record { request = request; taken = refl }, (stands Idle idle.0, idle.1, rw (idle.1, says) (refl, refl)))
 
--- A GET, an MGET, a SET without an option and a command that counts, of a request within the limits, are within them.
+-- A GET, an MGET, a SET without an option and another command of one key, of a request within the limits, are within them.
 
 pub get_bounded : ((words : List Bytes) → IsRequest words → IfOk (command_of words) IsBounded) → (words : List Bytes) → IsRequest words → (get : IsGet words)
     → IsBounded (Get get.key)
@@ -161,10 +173,27 @@ pub set_bounded : ((words : List Bytes) → IsRequest words → IfOk (command_of
     → IsBounded (Set set.key set.value Always)
 set_bounded bounded words request set = subst (λ (made : Result Command Refusal). IfOk made IsBounded) set.command (bounded words request)
 
-pub count_bounded : ((words : List Bytes) → IsRequest words → IfOk (command_of words) IsBounded) → (words : List Bytes) (change : Count) → IsRequest words
-    → (count : IsCounting change words) → IsBounded (counting change count.key)
-count_bounded bounded words change request count = subst (λ (made : Result Command Refusal). IfOk made IsBounded) count.command (bounded words request)
+pub one_bounded : ((words : List Bytes) → IsRequest words → IfOk (command_of words) IsBounded) → (words : List Bytes) (verb : Verb) → IsRequest words
+    → (one : IsOne verb words) → IsBounded (made_of verb words one)
+one_bounded bounded words verb request one = subst (λ (made : Result Command Refusal). IfOk made IsBounded) one.command (bounded words request)
 
 pub values_bounded : ((words : List Bytes) → IsRequest words → IfOk (command_of words) IsBounded) → (words : List Bytes) → IsRequest words → (mget : IsMGet words)
     → IsBounded (MGet mget.keys)
 values_bounded bounded words request mget = subst (λ (made : Result Command Refusal). IfOk made IsBounded) mget.command (bounded words request)
+
+-- of an MSET
+pub turned_settings : {promises : Promises} (was now : Known) (stripes : List ℕ) (words : List Bytes) (a : Answer) (reply : Reply) (at : Progress)
+    → WatchesPairsOfEntry → WatchesPairsOfFault → Attends was at → IsIdle at.stage → IsRequest words → (mset : IsMSet words) → IsBounded (MSet (pairs_of mset.others))
+    → IfReply a (λ given. IsDone stripes (Some (Run (MSet (pairs_of mset.others)))) given was now)
+    → IfFault a (λ f. IsUndone promises stripes (Some (Run (MSet (pairs_of mset.others)))) f was now)
+    → reply ≡ reply_to a → Turned promises was now (before words at) at reply
+turned_settings was now stripes words a reply at entry law attends idle request mset bounded done undone says =
+    turned_command was now stripes words (MSet (pairs_of mset.others)) a reply at entry law attends idle request (sym mset.command) refl bounded done undone says
+
+-- the words of an MSET after its name
+pub others_same : (words : List Bytes) (name : Bytes) (others : List Bytes) → words ≡ name ∷ others → (mset : IsMSet words) → others ≡ mset.others
+others_same words name others are mset = tails name mset.name others mset.others (sym are ∙ mset.words_are)
+
+pub settings_bounded : ((words : List Bytes) → IsRequest words → IfOk (command_of words) IsBounded) → (words : List Bytes) → IsRequest words → (mset : IsMSet words)
+    → IsBounded (MSet (pairs_of mset.others))
+settings_bounded bounded words request mset = subst (λ (made : Result Command Refusal). IfOk made IsBounded) mset.command (bounded words request)

@@ -7,6 +7,7 @@ ghost use Rattle.streams.specs.declared.observed.Told.{Told as HasTold};
 ghost use Rattle.engine.specs.Passes.{Known, knows, Rests, stripe_count};
 ghost use Rattle.engine.specs.Calls.{promises_of};
 ghost use Rattle.words.specs.Bounds.{IsBounded};
+ghost use Rattle.words.specs.Briefs.{IsMGet, IsMSet, IsOne, last_of};
 ghost use Rattle.words.specs.Commands.{command_of, touches_keys};
 ghost use Rattle.words.specs.Session.{line_reply};
 ghost use Rattle.words.specs.Spelling.{IsRequest};
@@ -29,7 +30,7 @@ use streams::{Noted, ReadReady};
 use transact::call::Call;
 use words::bounds::commands_are_bounded;
 use words::bulks::Bulks;
-use words::command::{Brief, Command};
+use words::command::{Brief, Command, Verb};
 use words::reply::{Fault, Line, ProtocolFault, Refusal, Reply};
 use words::word::{Word, Words};
 
@@ -247,8 +248,8 @@ fn answer_next<T: Wait, L: Latch, D: Device>(
 }
 
 /// Answers the request of these words, which was taken off, of a client whose session is in no transaction.
-/// A GET, an MGET, a SET without an option and a command that counts go to the engine with their words as they lie: the session
-/// does no more to them than to hand them on. A PING without a text is answered at once.
+/// A GET, an MGET, a SET without an option, an MSET and other commands of one key go to the engine with their words as they lie: the
+/// session does no more to them than to hand them on. A PING without a text is answered at once.
 #[inline]
 fn answer_idle<T: Wait, L: Latch, D: Device>(
     store: &Store<T, L, D>,
@@ -282,26 +283,107 @@ fn answer_idle<T: Wait, L: Latch, D: Device>(
             let value = &words.as_slice()[2];
             Due::Line(line_of(store.engine.set(store.rt, pass, key, value, store.latch)))
         }
-        Brief::Count(by) => {
-            watches_follow_entries();
-            commands_are_bounded();
-            let key = &words.as_slice()[1];
-            let counted = store.engine.count(store.rt, pass, key, by, store.latch);
-            Due::Reply(counted.into_reply())
-        }
-        Brief::Values => {
-            watches_follow_entries();
-            commands_are_bounded();
-            let Some((_name, keys)) = words.as_slice().split_first() else {
-                unreachable!()
-            };
-            match store.engine.values(store.rt, pass, keys, store.latch) {
-                Gathered::Found(values) => Due::Values(values),
-                Gathered::Planned(planned) => Due::Reply(planned.into_reply()),
-            }
-        }
+        Brief::One(verb) => answer_one(store, words, pass, verb),
+        Brief::Values => answer_values(store, words, pass),
+        Brief::Settings => answer_settings(store, words, pass),
         Brief::Ping => Due::Line(Line::Pong),
         Brief::Other => answer_command(store, client, words, pass),
+    }
+}
+
+/// Answers the request of these words, which is an MGET, of a client whose session is in no transaction: its words go to the engine as
+/// they lie.
+#[inline(never)]
+fn answer_values<T: Wait, L: Latch, D: Device>(
+    store: &Store<T, L, D>,
+    words: &Words,
+    pass: &mut Pass<D>,
+) -> Due
+    requires rests { Rests D.Receipt.is_steady store.now.engine.now pass.old }
+    requires request { IsRequest words.now }
+    requires values { IsMGet words.now }
+    ensures turned { (at : Progress) → IsIdle at.stage → HasTurned (before words.now at) result at }
+    ensures due { (at : Progress) → Attends (knows D.failures pass.old) at → IsIdle at.stage
+        → IsDue (promises_of D.Receipt.is_steady D.Receipt.lends (stripe_count store.now.engine.now))
+        (knows D.failures pass.old) (knows D.failures pass.new) (before words.now at) result at }
+    ensures rests { Rests D.Receipt.is_steady store.now.engine.now pass.new }
+    ensures attends { (at : Progress) → Attends (knows D.failures pass.old) at → IsIdle at.stage → Attends (knows D.failures pass.new) at }
+{
+    watches_follow_entries();
+    commands_are_bounded();
+    let Some((_name, keys)) = words.as_slice().split_first() else {
+        unreachable!()
+    };
+    match store.engine.values(store.rt, pass, keys, store.latch) {
+        Gathered::Found(values) => Due::Values(values),
+        Gathered::Planned(planned) => Due::Reply(planned.into_reply()),
+    }
+}
+
+/// Answers the request of these words, which is an MSET, of a client whose session is in no transaction: its words go to the engine as
+/// they lie.
+#[inline(never)]
+fn answer_settings<T: Wait, L: Latch, D: Device>(
+    store: &Store<T, L, D>,
+    words: &Words,
+    pass: &mut Pass<D>,
+) -> Due
+    requires rests { Rests D.Receipt.is_steady store.now.engine.now pass.old }
+    requires request { IsRequest words.now }
+    requires settings { IsMSet words.now }
+    ensures turned { (at : Progress) → IsIdle at.stage → HasTurned (before words.now at) result at }
+    ensures due { (at : Progress) → Attends (knows D.failures pass.old) at → IsIdle at.stage
+        → IsDue (promises_of D.Receipt.is_steady D.Receipt.lends (stripe_count store.now.engine.now))
+        (knows D.failures pass.old) (knows D.failures pass.new) (before words.now at) result at }
+    ensures rests { Rests D.Receipt.is_steady store.now.engine.now pass.new }
+    ensures attends { (at : Progress) → Attends (knows D.failures pass.old) at → IsIdle at.stage → Attends (knows D.failures pass.new) at }
+{
+    watches_follow_entries();
+    commands_are_bounded();
+    let Some((_name, settings)) = words.as_slice().split_first() else {
+        unreachable!()
+    };
+    let answer = store.engine.set_all(store.rt, pass, settings, store.latch);
+    Due::Reply(answer.into_reply())
+}
+
+/// Answers the request of these words, which is such a command of one key, of a client whose session is in no transaction: its words go to
+/// the engine as they lie.
+#[inline(never)]
+fn answer_one<T: Wait, L: Latch, D: Device>(
+    store: &Store<T, L, D>,
+    words: &Words,
+    pass: &mut Pass<D>,
+    verb: Verb,
+) -> Due
+    requires rests { Rests D.Receipt.is_steady store.now.engine.now pass.old }
+    requires request { IsRequest words.now }
+    requires one { IsOne verb words.now }
+    ensures turned { (at : Progress) → IsIdle at.stage → HasTurned (before words.now at) result at }
+    ensures due { (at : Progress) → Attends (knows D.failures pass.old) at → IsIdle at.stage
+        → IsDue (promises_of D.Receipt.is_steady D.Receipt.lends (stripe_count store.now.engine.now))
+        (knows D.failures pass.old) (knows D.failures pass.new) (before words.now at) result at }
+    ensures rests { Rests D.Receipt.is_steady store.now.engine.now pass.new }
+    ensures attends { (at : Progress) → Attends (knows D.failures pass.old) at → IsIdle at.stage → Attends (knows D.failures pass.new) at }
+{
+    watches_follow_entries();
+    commands_are_bounded();
+    let (key, value) = key_and_value(words.as_slice(), verb);
+    let told = store
+        .engine
+        .one(store.rt, pass, key, verb, value, store.latch);
+    Due::Reply(told.into_reply())
+}
+
+/// The key of such a command of one key, and the word behind it, or the key once more where there is none.
+fn key_and_value<'a>(words: &'a [Word], verb: Verb) -> (&'a Word, &'a Word)
+    requires { IsOne verb words.now }
+    ensures { (one : IsOne verb words.entry.now) → (result.0.now ≡ one.key) × (result.1.now ≡ last_of one.key one.others) }
+{
+    match words {
+        [_, key] => (key, key),
+        [_, key, value] => (key, value),
+        _ => unreachable!(),
     }
 }
 

@@ -37,3 +37,5 @@ mod talks;
 mod transactions;
 #[cfg(test)]
 mod watching;
+#[cfg(test)]
+mod writers;

@@ -10,4 +10,5 @@ pub mod Memory
 pub mod Later
 pub mod MemoryRows
 pub mod SizeRows
-pub mod Counts
+pub mod Ones
+pub mod Settings

@@ -1,5 +1,5 @@
 -- Plans that were not made, and what they are answered.
-use Rattle.std.proofs.Common.{◌≡◌, ◌+◌, ◌<◌, ℕ, List, [], ◌∷◌, Some, true, false, cond, eq-eqb, refl, sym, ap, subst, arith}
+use Rattle.std.proofs.Common.{◌≡◌, ◌+◌, ◌<◌, ℕ, List, [], ◌∷◌, Option, Some, true, false, cond, eq-eqb, refl, sym, ap, subst, arith}
 use Rattle.words.specs.declared.command.Command.{Command}
 use Rattle.words.specs.declared.command.Command.TheVariants.{Set}
 use Rattle.words.specs.Commands.{touches_keys}
@@ -40,11 +40,11 @@ is_placed (Watch keys) watched place = tt
 is_placed (Exec commands watching) watched place = place
 is_placed (Forget watching) watched place = tt
 
--- a key that is given a value is written in its stripe
-written_there : (n : ℕ) (key value : Bytes) → 0 < share n (stripe_of n key) ((key, Some value) ∷ [])
+-- a key that is given a value or deleted is written in its stripe
+written_there : (n : ℕ) (key : Bytes) (value : Option Bytes) → 0 < share n (stripe_of n key) ((key, value) ∷ [])
 written_there n key value =
-    let here : share n (stripe_of n key) ((key, Some value) ∷ []) ≡ weigh (key, Some value) + 0 =
-    ap (λ b. cond b (weigh (key, Some value)) 0 + 0) (eq-eqb (stripe_of n key) (stripe_of n key) refl) in
+    let here : share n (stripe_of n key) ((key, value) ∷ []) ≡ weigh (key, value) + 0 =
+    ap (λ b. cond b (weigh (key, value)) 0 + 0) (eq-eqb (stripe_of n key) (stripe_of n key) refl) in
     omega (arith, here)
 
 module _ {R : Type 0} where
@@ -93,22 +93,31 @@ module _ {R : Type 0} where
   stopped_quietly promises call (stop.StoreFull stripe) start mid f0 f1 entry kept same cold full failures memory = absurd full
   stopped_quietly promises call (stop.Cold receipts) start mid f0 f1 entry kept same cold full failures memory = absurd cold
 
-  -- there was no room for what a command gives its key
-  pub put_stopped : (promises : Promises) (command : Command) (key value : Bytes) (said : Reply) (s : Stop R) (refused : Refused) (start mid : Knowledge) (f0 f1 : ℕ) → touches_keys command ≡ true → mid ≡ start → IfCold s (λ receipts. ⊥)
-      → IfNoMemory s ⊥ → f1 ≡ f0 + faults s → IfFull s (λ stripe. stripe ≡ stripe_of promises.stripes key) → (promises.steady → IsPlan start.seen (Run command) said ((key, Some value) ∷ []))
+  -- there was no room for what a command writes
+  pub writes_stopped : (promises : Promises) (command : Command) (writes : List Write) (said : Reply) (s : Stop R) (refused : Refused) (start mid : Knowledge) (f0 f1 : ℕ) → touches_keys command ≡ true → mid ≡ start
+      → IfCold s (λ receipts. ⊥) → IfNoMemory s ⊥ → f1 ≡ f0 + faults s → IfFull s (λ stripe. 0 < share promises.stripes stripe writes) → (promises.steady → IsPlan start.seen (Run command) said writes)
       → IsUndone promises [] (asked_of (One command)) (fault_of s) (know start f0) (know (given false (report_of s refused) mid) f1)
-  put_stopped promises command key value said stop.OutOfMemory refused start mid f0 f1 touches same cold memory failures own plan = absurd memory
-  put_stopped promises command key value said stop.DeviceFault refused start mid f0 f1 touches same cold memory failures own plan =
+  writes_stopped promises command writes said stop.OutOfMemory refused start mid f0 f1 touches same cold memory failures own plan = absurd memory
+  writes_stopped promises command writes said stop.DeviceFault refused start mid f0 f1 touches same cold memory failures own plan =
       stopped_by {R = R} promises (One command) stop.DeviceFault refused start mid mid f0 f1 touches refl same cold failures tt tt
-  put_stopped promises command key value said (stop.StoreFull stripe) refused start mid f0 f1 touches same cold memory failures own plan =
+  writes_stopped promises command writes said (stop.StoreFull stripe) refused start mid f0 f1 touches same cold memory failures own plan =
       stopped_by {R = R} promises (One command) (stop.StoreFull stripe) refused start mid (given false (report_of {R = R} (stop.StoreFull stripe) refused) mid) f0 f1 touches refl same cold failures tt
-      (λ t. subst (λ (i : ℕ). 0 < share promises.stripes i (made start.seen (Run command))) (sym own)
-      (subst (λ (l : List Write). 0 < share promises.stripes (stripe_of promises.stripes key) l) (plan t).writes_due (written_there promises.stripes key value)))
-  put_stopped promises command key value said (stop.Cold receipts) refused start mid f0 f1 touches same cold memory failures own plan = absurd cold
+      (λ t. subst (λ (l : List Write). 0 < share promises.stripes stripe l) (plan t).writes_due own)
+  writes_stopped promises command writes said (stop.Cold receipts) refused start mid f0 f1 touches same cold memory failures own plan = absurd cold
+
+  -- there was no room for what a command gives its key, or for its deletion
+  pub put_stopped : (promises : Promises) (command : Command) (key : Bytes) (value : Option Bytes) (said : Reply) (s : Stop R) (refused : Refused) (start mid : Knowledge) (f0 f1 : ℕ) → touches_keys command ≡ true → mid ≡ start → IfCold s (λ receipts. ⊥)
+      → IfNoMemory s ⊥ → f1 ≡ f0 + faults s → IfFull s (λ stripe. stripe ≡ stripe_of promises.stripes key) → (promises.steady → IsPlan start.seen (Run command) said ((key, value) ∷ []))
+      → IsUndone promises [] (asked_of (One command)) (fault_of s) (know start f0) (know (given false (report_of s refused) mid) f1)
+  put_stopped promises command key value said s refused start mid f0 f1 touches same cold memory failures own plan =
+      writes_stopped promises command ((key, value) ∷ []) said s refused start mid f0 f1 touches same cold memory failures
+      (full_then s (λ stripe. stripe ≡ stripe_of promises.stripes key) (λ stripe. 0 < share promises.stripes stripe ((key, value) ∷ []))
+      (λ stripe is. subst (λ (i : ℕ). 0 < share promises.stripes i ((key, value) ∷ [])) (sym is) (written_there promises.stripes key value)) own)
+      plan
 
   -- there was no room for what a SET without an option writes
   pub set_stopped : (promises : Promises) (key value : Bytes) (s : Stop R) (refused : Refused) (start mid : Knowledge) (f0 f1 : ℕ) → mid ≡ start → IfCold s (λ receipts. ⊥) → IfNoMemory s ⊥ → f1 ≡ f0 + faults s
       → IfFull s (λ stripe. stripe ≡ stripe_of promises.stripes key) → IsPlan start.seen (Run (Set key value Always)) (line_reply Done) ((key, Some value) ∷ [])
       → IsUndone promises [] (asked_of (set_call key value)) (fault_of s) (know start f0) (know (given false (report_of s refused) mid) f1)
   set_stopped promises key value s refused start mid f0 f1 same cold memory failures own plan =
-      put_stopped promises (Set key value Always) key value (line_reply Done) s refused start mid f0 f1 refl same cold memory failures own (λ t. plan)
+      put_stopped promises (Set key value Always) key (Some value) (line_reply Done) s refused start mid f0 f1 refl same cold memory failures own (λ t. plan)

@@ -1,10 +1,11 @@
 -- Calls that are entered over the stripes that a pass holds.
-use Rattle.std.specs.Prelude.{ℕ, ◌≡◌, Bool, false, List, []}
-use Rattle.words.specs.Briefs.{counting}
+use Rattle.std.specs.Prelude.{ℕ, ◌≡◌, Bool, false, List, [], Result, Ok, Err}
+use Rattle.words.specs.Briefs.{commanded, pairs_of}
 use Rattle.words.specs.Store.{Bytes}
 use Rattle.words.specs.declared.reply.Reply.{Reply}
 use Rattle.words.specs.Session.{Asked, Run, value_reply, values_reply, watched_at_fault}
-use Rattle.words.specs.declared.command.Command.TheVariants.{Get, MGet, Set}
+use Rattle.words.specs.declared.command.Command.{Command}
+use Rattle.words.specs.declared.command.Command.TheVariants.{Get, MGet, MSet, Set}
 use Rattle.words.specs.declared.command.When.TheVariants.{Always}
 use Rattle.gates.specs.declared.held.Held.{Held}
 use Rattle.gates.specs.declared.report.Report.{Report}
@@ -32,9 +33,11 @@ use Rattle.plans.specs.declared.hands.Hands.{Hands}
 use Rattle.engine.specs.declared.enter.Entered.{Entered}
 use Rattle.engine.specs.Answers.{IsAnswered}
 use Rattle.engine.specs.Calls.{HasItsPlace, Promises}
-use Rattle.engine.specs.Memory.{count_call, get_call, set_call, values_call}
+use Rattle.engine.specs.Memory.{get_call, one_call, set_call, settings_call, values_call}
 use Rattle.engine.specs.Passes.{know}
-use Rattle.engine.specs.declared.count.Counting.{Counting}
+use Rattle.engine.specs.declared.assign.Assigning.{Assigning}
+use Rattle.engine.specs.declared.enter.Stopped.{Stopped}
+use Rattle.engine.specs.declared.one.Commanding.{Commanding}
 use Rattle.engine.specs.declared.get.Found.{Found}
 use Rattle.engine.specs.declared.get.Getting.{Getting}
 use Rattle.engine.specs.declared.set.Setting.{Setting}
@@ -63,13 +66,22 @@ getting_asked getting = Run (Get getting.key.now)
 abbrev pub getting_call : Getting → Call
 getting_call getting = get_call getting.key.now
 
--- what a command that counts asks
-abbrev pub counting_asked : Counting → Asked
-counting_asked asks = Run (counting asks.by asks.key.now)
+-- the command that a command of one key is
+abbrev pub command_asked : Commanding → Command
+command_asked asks = commanded asks.verb asks.key.now asks.value.now
 
--- the call that a command that counts stands for
-abbrev pub counting_call : Counting → Call
-counting_call asks = count_call asks.by asks.key.now
+-- what it asks
+abbrev pub one_asked : Commanding → Asked
+one_asked asks = Run (command_asked asks)
+
+-- the call that it stands for
+abbrev pub one_call_of : Commanding → Call
+one_call_of asks = one_call asks.verb asks.key.now asks.value.now
+
+-- what a call came to that was answered so, or by a fault
+abbrev pub came_to : Reply → Result (Unit {0}) Stopped → Entered Answer
+came_to reply (Ok done) = record { answer = answer.Reply reply; ends = false; report = report.Nothing }
+came_to reply (Err stopped) = record { answer = answer.Fault stopped.fault; ends = false; report = stopped.report }
 
 -- what an MGET asks
 abbrev pub reading_asked : Reading → Asked
@@ -91,6 +103,14 @@ values_answer (gathered.Planned told) = told
 -- what a call came to that was planned, as what an MGET came to
 abbrev pub as_planned : Entered Answer → Entered Gathered
 as_planned entered = record { answer = gathered.Planned entered.answer; ends = entered.ends; report = entered.report }
+
+-- what an MSET asks
+abbrev pub assigning_asked : Assigning → Asked
+assigning_asked assigning = Run (MSet (pairs_of assigning.words.now))
+
+-- the call that an MSET stands for
+abbrev pub assigning_call : Assigning → Call
+assigning_call assigning = settings_call assigning.words.now
 
 -- what is said to a GET that found this
 abbrev pub found_reply : Found → Reply

@@ -2,14 +2,14 @@
 use Rattle.words.specs.declared.command.Command.{Command}
 use Rattle.words.specs.declared.command.Command.TheVariants.{Set}
 use Rattle.words.specs.declared.command.When.TheVariants.{Always}
-use Rattle.words.specs.declared.command.Count.{Count}
-use Rattle.words.specs.Briefs.{counting}
+use Rattle.words.specs.declared.command.Verb.{Verb}
+use Rattle.words.specs.Briefs.{commanded, pairs_of}
 use Rattle.words.specs.Store.{Bytes, Store}
 use Rattle.words.specs.Session.{Asked, Run, Watch, Exec}
 use Rattle.transact.specs.declared.call.Call.{Call}
 use Rattle.transact.specs.declared.call.Call.TheVariants.{One}
 use Rattle.plans.specs.Memory.{IsPlannedInPlace}
-use Rattle.words.specs.declared.command.Command.TheVariants.{Get, MGet}
+use Rattle.words.specs.declared.command.Command.TheVariants.{Get, MGet, MSet}
 use Rattle.std.specs.Prelude.{List}
 
 -- A command that needs no memory on a store: one that gives a key a value, without an option; and, where no page has to be read, one that is
@@ -32,10 +32,14 @@ set_call key value = One (Set key value Always)
 abbrev pub get_call : Bytes → Call
 get_call key = One (Get key)
 
--- a call that changes the number of a key by so much
-abbrev pub count_call : Count → Bytes → Call
-count_call by key = One (counting by key)
+-- a call of a command of one key, and of a value at most
+abbrev pub one_call : Verb → (key value : Bytes) → Call
+one_call verb key value = One (commanded verb key value)
 
 -- a call that reads these keys
 abbrev pub values_call : List Bytes → Call
 values_call keys = One (MGet keys)
+
+-- a call that gives keys values, by its words: each key with its value behind it
+abbrev pub settings_call : List Bytes → Call
+settings_call words = One (MSet (pairs_of words))

@@ -7,14 +7,14 @@
 //! nobody waits for its reads. After three such rounds it reads while it holds, so that it ends. The stay goes on until
 //! the call is answered, which keeps the places of these pages from being used anew.
 //!
-//! GET, MGET, a SET without an option and the commands that count have ways of their own ([`Engine::get`], [`Engine::values`],
-//! [`Engine::set`], [`Engine::count`]), with no plan made.
+//! GET, MGET, a SET without an option, MSET and other commands of one key have ways of their own ([`Engine::get`], [`Engine::values`],
+//! [`Engine::set`], [`Engine::set_all`], [`Engine::one`]), with no plan made.
 //! Background threads make their steps by a [`Pass`] too.
 #![tactic(auto)]
 
 ghost use Rattle.std.specs.Prelude.{◌≡◌, ◌+◌, ◌<◌, [], ℕ, All, IfOk, IfErr, vec_len};
 ghost use Rattle.words.specs.Bounds.{IsBounded};
-ghost use Rattle.words.specs.Briefs.{counting};
+ghost use Rattle.words.specs.Briefs.{commanded, pairs_of};
 ghost use Rattle.words.specs.declared.command.Command.TheVariants as command;
 ghost use Rattle.words.specs.declared.command.When.TheVariants.{Always};
 ghost use Rattle.gates.specs.Plays.{AreEmpty};
@@ -24,16 +24,17 @@ ghost use Rattle.transact.specs.Plans.{EndsAll};
 ghost use Rattle.transact.specs.Submits.{stripes_asked};
 ghost use Rattle.shards.specs.Shards.{shard_meaning};
 ghost use Rattle.engine.specs.Entering.{values_answer};
-ghost use Rattle.engine.specs.Memory.{count_call, get_call, set_call, values_call};
+ghost use Rattle.engine.specs.Memory.{get_call, one_call, set_call, settings_call, values_call};
 ghost use Rattle.engine.specs.Passes.{AreOf, knows, Rests, stripe_count};
 ghost use Rattle.engine.specs.Answers.{ComesTo, WaitsAndComesTo};
 ghost use Rattle.engine.specs.Calls.{FoundBusy, HasItsPlace, HasLearned};
 
+use crate::assign::submit_settings;
 use crate::call::{submit, try_submit};
-use crate::count::submit_count;
 use crate::deal::deal;
 use crate::gather::submit_values;
 use crate::get::submit_get;
+use crate::one::{Commanding, submit_one};
 use crate::set::{Setting, submit_set};
 use crate::site::Site;
 use device::{Device, Shows};
@@ -44,18 +45,19 @@ use std::alloc::Global;
 use std::marker::PhantomData;
 use std::sync::Wait;
 use transact::call::{Answer, Busy, Call};
-use words::command::Count;
+use words::command::Verb;
 use words::hash::Hashed;
 use words::limits::Limits;
 use words::reply::{Fault, Line};
 use words::word::{OutOfMemory, Word};
 
+mod assign;
 mod call;
-mod count;
 mod deal;
 mod enter;
 mod gather;
 mod get;
+mod one;
 mod pass;
 mod rounds;
 mod set;
@@ -252,21 +254,23 @@ impl<D: Device> Engine<D> {
         answer
     }
 
-    /// The same as [`submit_with`](Engine::submit_with) of a command that changes the number of a key by so much, and whose key stays
-    /// the caller's. Where the number lies near and its text fits over the old one, it is looked up once and takes no memory; a key of
-    /// more than `WORD_INLINE` bytes is copied where it does not lie near, or is no number.
-    pub fn count<T: Wait, L: Latch>(
+    /// The same as [`submit_with`](Engine::submit_with) of a command of one key, whose key and value stay the caller's; the value is looked
+    /// at only where the command takes one. Where the key's value lies near, nothing is copied but a value that is answered, one that the
+    /// command makes, and what goes into the page; and where a new value fits over the old one the key is looked up once. Else the key
+    /// and the value are copied.
+    pub fn one<T: Wait, L: Latch>(
         &self,
         rt: &T,
         pass: &mut Pass<D>,
         key: &Word,
-        by: Count,
+        verb: Verb,
+        value: &Word,
         latch: &L,
     ) -> Answer
         requires rests { Rests D.Receipt.is_steady self.now pass.old }
-        requires place { IsBounded (counting by key.now) }
+        requires place { IsBounded (commanded verb key.now value.now) }
         ensures rests { Rests D.Receipt.is_steady self.now pass.new }
-        ensures answered { WaitsAndComesTo D.Receipt.is_steady D.Receipt.lends D.failures self.now (count_call by key.now) result
+        ensures answered { WaitsAndComesTo D.Receipt.is_steady D.Receipt.lends D.failures self.now (one_call verb key.now value.now) result
             pass.old pass.new }
     {
         let number = pass.gates.number();
@@ -276,14 +280,17 @@ impl<D: Device> Engine<D> {
             epochs: &self.epochs,
             latch,
         };
-        let answer = submit_count(
+        let answer = submit_one(
             rt,
             &site,
             &mut pass.gates,
             &mut pass.device,
             &mut pass.hands,
-            key,
-            by,
+            &Commanding {
+                key: &Hashed::new(key),
+                verb,
+                value,
+            },
         );
         latch.at(number, Point::After);
         answer
@@ -318,6 +325,41 @@ impl<D: Device> Engine<D> {
             &mut pass.device,
             &mut pass.hands,
             keys,
+        );
+        latch.at(number, Point::After);
+        answer
+    }
+
+    /// The same as [`submit_with`](Engine::submit_with) of an MSET, whose words stay the caller's: its keys, each with its value behind
+    /// it. Each value is copied once, into its page, and it takes no memory. One that may be too heavy for a call, a key that it gives
+    /// two values counted with both, is planned, and its words are copied.
+    pub fn set_all<T: Wait, L: Latch>(
+        &self,
+        rt: &T,
+        pass: &mut Pass<D>,
+        words: &[Word],
+        latch: &L,
+    ) -> Answer
+        requires rests { Rests D.Receipt.is_steady self.now pass.old }
+        requires place { IsBounded (command.MSet (pairs_of words.now)) }
+        ensures rests { Rests D.Receipt.is_steady self.now pass.new }
+        ensures answered { WaitsAndComesTo D.Receipt.is_steady D.Receipt.lends D.failures self.now (settings_call words.now) result
+            pass.old pass.new }
+    {
+        let number = pass.gates.number();
+        latch.at(number, Point::Before);
+        let site = Site {
+            gates: &self.gates,
+            epochs: &self.epochs,
+            latch,
+        };
+        let answer = submit_settings(
+            rt,
+            &site,
+            &mut pass.gates,
+            &mut pass.device,
+            &mut pass.hands,
+            words,
         );
         latch.at(number, Point::After);
         answer

@@ -30,7 +30,7 @@ use gates::{Asks, CommitsWornOut, Held, Latch, Pass, Point, Report};
 use plans::freeing::reserve_freeing;
 use plans::hands::Hands;
 use plans::laws::{stripes_hold_keys, writes_install_a_command};
-use plans::short::install_set;
+use plans::short::install_put;
 use shards::retires::Retires;
 use shards::shard::Shard;
 use std::sync::Wait;
@@ -117,13 +117,13 @@ pub(crate) fn enter_set<L: Latch, R: Shows, D: Device<Receipt = R>, S: Retires>(
         return (refuse_set(site.latch, held, key, value), Report::Nothing);
     }
     let epochs = site.epochs;
-    if let Err(halt) = reserve_freeing(held, key, value, epochs, own, device) {
+    if let Err(halt) = reserve_freeing(held, key, Some(value), epochs, own, device) {
         let Stopped { fault, report } = told_of(halt.stop, halt.refused);
         return (Err(fault), report);
     }
     match commit_line(site.latch, held, key, value, Line::Done) {
         Ok(_) => {
-            install_set(held, key, value);
+            install_put(held, key, Some(value));
             (Ok(Line::Done), Report::Nothing)
         }
         Err(_) => (Err(Fault::CommitsWornOut), Report::Nothing),

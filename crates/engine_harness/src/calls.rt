@@ -1,21 +1,22 @@
 //! Calls by one pass.
 
-ghost use Rattle.std.specs.Prelude.{⊤};
+ghost use Rattle.std.specs.Prelude.{◌≡◌, ◌∷◌, [], ⊤, IfSome};
+ghost use Rattle.words.specs.Briefs.{commanded};
 ghost use Rattle.engine.specs.Passes.{Rests};
 
-use crate::exchanges::{Exchange, Outcome, compare, exchange_of, keyed};
+use crate::exchanges::{Exchange, Outcome, compare, exchange_of, keyed, words_of};
 use device::{Device, MemoryDevice};
 use engine::{Engine, Pass};
 use gates::{Latch, Open};
 use std::alloc::Global;
 use std::sync::Wait;
 use transact::call::{Answer, Call};
-use words::command::{Command, Count};
+use words::command::{Command, Count, Verb, settings_of};
 use words::limits::{KEY_BYTES_MAX, VALUE_BYTES_MAX};
 use words::word::Word;
 
-/// What a pass is answered. A command that counts goes by [`Engine::count`], as the server's do. `None` where there was no memory
-/// for the request's own words.
+/// What a pass is answered. A command of one key goes by [`Engine::one`] and an MSET by [`Engine::set_all`], as the server's do. `None`
+/// where there was no memory for the request's own words.
 pub fn answer_of<R: Wait, L: Latch, D: Device>(
     rt: &R,
     alloc: Global,
@@ -27,19 +28,93 @@ pub fn answer_of<R: Wait, L: Latch, D: Device>(
     requires { Rests D.Receipt.is_steady engine.now pass.old }
     ensures { Rests D.Receipt.is_steady engine.now pass.new }
 {
-    match keyed(alloc, request) {
-        Some(Command::Add(key, number)) => {
-            let answer = engine.count(rt, pass, &key, Count::Add(number), latch);
-            drop(key);
+    let command = keyed(alloc, request)?;
+    if let Command::MSet(_) = &command {
+        drop(command);
+        return set_by_request(rt, alloc, latch, engine, pass, request);
+    }
+    match one_of(&command) {
+        Some((verb, key, value)) => {
+            let answer = engine.one(rt, pass, key, verb, value, latch);
+            drop(command);
             Some(answer)
         }
-        Some(Command::Subtract(key, number)) => {
-            let answer = engine.count(rt, pass, &key, Count::Subtract(number), latch);
-            drop(key);
-            Some(answer)
-        }
-        Some(command) => Some(engine.submit_with(rt, pass, Call::One(command), latch)),
+        None => Some(engine.submit_with(rt, pass, Call::One(command), latch)),
+    }
+}
+
+/// What a pass is answered to this MSET. `None` where there was no memory for its own words.
+fn set_by_request<R: Wait, L: Latch, D: Device>(
+    rt: &R,
+    alloc: Global,
+    latch: &L,
+    engine: &Engine<D>,
+    pass: &mut Pass<D>,
+    request: &str,
+) -> Option<Answer>
+    requires { Rests D.Receipt.is_steady engine.now pass.old }
+    ensures { Rests D.Receipt.is_steady engine.now pass.new }
+{
+    let words = words_of(alloc, request)?;
+    let answer = match words.as_slice().split_first() {
+        Some((_name, settings)) => set_by_words(rt, alloc, latch, engine, pass, settings),
         None => None,
+    };
+    drop(words);
+    answer
+}
+
+/// What a pass is answered to an MSET of these keys, each of which has its value behind it. `None` where one is not within the limits,
+/// or where there was no memory to see that.
+fn set_by_words<R: Wait, L: Latch, D: Device>(
+    rt: &R,
+    alloc: Global,
+    latch: &L,
+    engine: &Engine<D>,
+    pass: &mut Pass<D>,
+    settings: &[Word],
+) -> Option<Answer>
+    requires { Rests D.Receipt.is_steady engine.now pass.old }
+    ensures { Rests D.Receipt.is_steady engine.now pass.new }
+{
+    let Ok(copied) = settings_of(alloc, settings) else {
+        return None;
+    };
+    let command = Command::MSet(copied);
+    let bounded = command.is_bounded();
+    drop(command);
+    if bounded {
+        Some(engine.set_all(rt, pass, settings, latch))
+    } else {
+        None
+    }
+}
+
+/// What a command of one key does, its key, and its value, or the key once more where it takes none.
+fn one_of(command: &Command) -> Option<(Verb, &Word, &Word)>
+    ensures { IfSome result (λ one. command.entry.now ≡ commanded one.0 one.1.now one.2.now) }
+{
+    match command {
+        Command::Add(key, number) => Some((Verb::Count(Count::Add(*number)), key, key)),
+        Command::Subtract(key, number) => Some((Verb::Count(Count::Subtract(*number)), key, key)),
+        Command::SetNx(key, value) => Some((Verb::SetNx, key, value)),
+        Command::GetSet(key, value) => Some((Verb::GetSet, key, value)),
+        Command::Append(key, value) => Some((Verb::Append, key, value)),
+        Command::GetDel(key) => Some((Verb::GetDel, key, key)),
+        Command::StrLen(key) => Some((Verb::StrLen, key, key)),
+        Command::Exists(keys) => lone(Verb::Exists, keys.as_slice()),
+        Command::Del(keys) => lone(Verb::Del, keys.as_slice()),
+        _ => None,
+    }
+}
+
+/// What a command of these keys does, if it is one key, and the key twice.
+fn lone(verb: Verb, keys: &[Word]) -> Option<(Verb, &Word, &Word)>
+    ensures { IfSome result (λ one. (one.0 ≡ verb) × (keys.entry.now ≡ one.1.now ∷ []) × (one.2.now ≡ one.1.now)) }
+{
+    match keys {
+        [key] => Some((verb, key, key)),
+        _ => None,
     }
 }
 

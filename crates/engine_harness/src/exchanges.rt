@@ -56,7 +56,7 @@ fn add_words(alloc: Global, words: &mut Words, texts: &str) -> Option<()> {
 }
 
 /// The words of a request. `None` where there was no memory.
-fn words_of(alloc: Global, request: &str) -> Option<Words> {
+pub(crate) fn words_of(alloc: Global, request: &str) -> Option<Words> {
     let (name, others) = request.split_once(' ')?;
     let name = Word::from_slice(alloc, name.as_bytes()).ok()?;
     let mut words = Words::one(alloc, name);

@@ -23,6 +23,7 @@ use words::limits::Limits;
 use words::word::Word;
 
 mod limits;
+mod one;
 mod releasing;
 mod steps;
 mod trying;
@@ -351,7 +352,19 @@ fn add_heavy(rt: &impl Abort, alloc: Global, text: &mut Vec<u8>, last: usize, du
     text.extend_from_slice(due).expect(rt, "memory for a text");
 }
 
-/// What weighs one byte more than what may just be written is refused and changes nothing, and that is written then.
+/// Adds a line to a text: MSET of one key to seven values of 32,768 bytes. It weighs 32,817, since the key counts with the last alone.
+/// Then comes what is due.
+fn add_again(rt: &impl Abort, alloc: Global, text: &mut Vec<u8>, due: &[u8]) {
+    text.extend_from_slice(b"\nMSET")
+        .expect(rt, "memory for a text");
+    for _ in 0..7 {
+        add(rt, alloc, text, b'a', 32_768);
+    }
+    text.extend_from_slice(due).expect(rt, "memory for a text");
+}
+
+/// What weighs one byte more than what may just be written is refused and changes nothing, and that is written then, as is what would
+/// weigh more if a key counted twice.
 #[test]
 fn a_call_that_weighs_too_much_changes_nothing(rt: HostRuntime) {
     let alloc = rt.alloc();
@@ -363,6 +376,7 @@ fn a_call_that_weighs_too_much_changes_nothing(rt: HostRuntime) {
         32_475,
         b" -> -ERR command writes too much -> :0",
     );
+    add_again(&rt, alloc, &mut text, b" -> +OK -> :1");
     add_heavy(&rt, alloc, &mut text, 32_474, b" -> +OK -> :2");
     let lines = str::from_utf8(text.as_slice()).expect(&rt, "a text");
     all_answered(&rt, alloc, '\n', lines);

@@ -8,6 +8,8 @@ pub mod Waits
 pub mod Rooms
 pub mod Grown
 pub mod Making
+pub mod Shares
+pub mod Assigned
 pub mod One
 pub mod Covered
 pub mod Found
@@ -22,4 +24,4 @@ pub mod Raised
 pub mod Freed
 pub mod Questions
 pub mod Reserved
-pub mod Counts
+pub mod Settled

@@ -128,3 +128,8 @@ share_below n i (w ∷ ws) some has = ⊎_elim
 -- the log that is there has the room
 pub room_of : (logs : ℕ → Option HybridLog) (stripe weight : ℕ) (log : HybridLog) → IsRoomyAt logs stripe weight → logs stripe ≡ Some log → HasRoom log weight
 room_of logs stripe weight log is there = subst (λ (p : HybridLog). HasRoom p weight) (some_is is.log log (logs stripe) is.there there) is.room
+
+-- what the writes weigh at each stripe is told
+pub shares_are : (n count : ℕ) (ws : List Write) (shares : List ℕ) → count ≡ n → ((i : ℕ) → i < 64 → slice_index shares i ≡ share count i ws)
+    → (i : ℕ) → i < 64 → slice_index shares i ≡ share n i ws
+shares_are n count ws shares same are i below = rw same at (are i below)

@@ -7,5 +7,5 @@ pub mod Finding
 pub mod Running
 pub mod Reserving
 pub mod Holding
-pub mod Counting
+pub mod Settling
 pub mod Telling

@@ -85,10 +85,10 @@ module _ {R : Type 0} where
     pub can_lend : Lent
     pub there : AreThere n parts keys
 
-  -- The same of a key that is given a value, which together weigh no more than may be written.
-  pub record MayPut (Lent : Type 0) (n : ℕ) (parts : ℕ → Option (Shard R)) (key value : Bytes) : Type 0 where
-    pub may : MayLookUp Lent n parts (key ∷ [])
-    pub light : weigh (key, Some value) ≤ WEIGHT_MAX
+  -- The same of a key that is given a value or deleted, which weighs no more than may be written.
+  pub record MayPut (Lent : Type 0) (n : ℕ) (parts : ℕ → Option (Shard R)) (write : Write) : Type 0 where
+    pub may : MayLookUp Lent n parts (write.0 ∷ [])
+    pub light : weigh write ≤ WEIGHT_MAX
 
   -- The same of a call that makes an entry, and whose writes have their place in a page.
   pub record MayPlan (Lent : Type 0) (n : ℕ) (parts : ℕ → Option (Shard R)) (call : Call) : Type 0 where

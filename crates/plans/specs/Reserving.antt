@@ -1,9 +1,10 @@
 -- What making room for writes leaves, at one stripe and at all that are written.
-use Rattle.std.specs.Prelude.{ℕ, ◌≡◌, ◌≢◌, ◌+◌, ◌-◌, ◌<◌, ◌≤◌, [], true, List, Option, Some, Result, IfErr, OnErr, OnOk}
+use Rattle.std.specs.Prelude.{ℕ, ◌≡◌, ◌≢◌, ◌+◌, ◌-◌, ◌<◌, ◌≤◌, ◌∷◌, [], true, List, Option, Result, IfErr, OnErr, OnOk, slice_index}
 use Rattle.epoch.specs.declared.view.View.{View}
 use Rattle.words.specs.History.{History}
 use Rattle.words.specs.declared.history.Operation.{Operation}
-use Rattle.words.specs.Store.{Bytes, Write}
+use Rattle.words.specs.declared.limits.TheConstants.{WEIGHT_MAX}
+use Rattle.words.specs.Store.{Write, weight}
 use Rattle.words.specs.Stripes.{stripe_of}
 use Rattle.gates.specs.Rule.{Meaning}
 use Rattle.gates.specs.declared.view.Refused.{Refused}
@@ -12,16 +13,15 @@ use Rattle.hybrid.specs.Reserving.{MatchFault}
 use Rattle.hybrid.specs.Staging.{AreRight, StagedPage}
 use Rattle.hybrid.specs.declared.stripe.room.Fault.{Fault}
 use Rattle.hybrid.specs.declared.stripe.room.Purpose.{Purpose}
-use Rattle.hybrid.specs.declared.stripe.room.Purpose.TheVariants as purpose
 use Rattle.transact.specs.Plans.{made}
 use Rattle.transact.specs.Tables.{Became, stays}
 use Rattle.shards.specs.declared.shard.Shard.{Shard}
 use Rattle.shards.specs.Freeing.{IsSpentAt}
 use Rattle.shards.specs.Heard.{HasHeard, HasHeardWorn}
-use Rattle.shards.specs.Rooms.{AreRoomy, GrowsAt, IsFullAt, IsRoomyAt, LacksRoomAt, LeaveFrames, LeavesFramesAt, MakesRoom, ShedsAt, ShedsFewAt, share}
+use Rattle.shards.specs.Rooms.{AreRoomy, GrowsAt, IsFullAt, IsRoomyAt, LacksRoomAt, LeaveFrames, LeavesFramesAt, MakesRoom, ShedFew, ShedsAt, ShedsFewAt, purpose_of, share}
 use Rattle.shards.specs.Shards.{logs_of, shard_meaning, weigh}
 use Rattle.plans.specs.declared.stop.Stop.{Stop}
-use Rattle.plans.specs.Planning.{MatchStop, Question, StillStands}
+use Rattle.plans.specs.Planning.{FoundFull, MatchStop, Question, StillStands}
 
 module _ {R : Type 0} where
   -- there is room for a write at the stripe of its key, of so many
@@ -54,13 +54,13 @@ module _ {R : Type 0} where
     pub lacks : OnErr result (LacksRoomAt stripe weight purpose (logs_of before) (logs_of later))
     pub no_fault : OnOk result (failed ≡ failed_before)
 
-  -- there is room for a key that is given a value
-  abbrev pub HasRoomToPut : (n : ℕ) (key value : Bytes) (before later : ℕ → Option (Shard R)) → Type 0
-  HasRoomToPut n key value before later = HasRoomAt (stripe_of n key) (weigh (key, Some value)) purpose.Write before later
+  -- there is room for a write at the stripe of its key
+  abbrev pub HasRoomToPut : (n : ℕ) → Write → (before later : ℕ → Option (Shard R)) → Type 0
+  HasRoomToPut n write before later = HasRoomAt (stripe_of n write.0) (weigh write) (purpose_of (write ∷ [])) before later
 
   -- no room was made for it
-  abbrev pub HasNoRoomToPut : (n : ℕ) (key value : Bytes) (before later : ℕ → Option (Shard R)) → Stop R → Type 0
-  HasNoRoomToPut n key value before later stop = HasNoRoomAt (stripe_of n key) (weigh (key, Some value)) purpose.Write before later stop
+  abbrev pub HasNoRoomToPut : (n : ℕ) → Write → (before later : ℕ → Option (Shard R)) → Stop R → Type 0
+  HasNoRoomToPut n write before later stop = HasNoRoomAt (stripe_of n write.0) (weigh write) (purpose_of (write ∷ [])) before later stop
 
   -- A stripe is full, and none of its places can be released, but for what the epochs refused. Parts and what the pass was told by the epochs are
   -- taken together, as they were and as they are.
@@ -92,10 +92,10 @@ module _ {R : Type 0} where
           HasReserved (shard_meaning steady) Serves (stripes_of before.0) stripe weight purpose
           (part_of before.0, before.1) (part_of later.0, later.1)
 
-      -- the same of the stripe of a key that is given a value
-      abbrev pub ReservesToPut : (key value : Bytes) (before later : P × D) → Type 0
-      ReservesToPut key value before later =
-          ReservesAt (stripe_of (stripes_of before.0) key) (weigh (key, Some value)) purpose.Write before later
+      -- the same of the stripe of the key of a write
+      abbrev pub ReservesToPut : Write → (before later : P × D) → Type 0
+      ReservesToPut write before later =
+          ReservesAt (stripe_of (stripes_of before.0) write.0) (weigh write) (purpose_of (write ∷ [])) before later
 
     -- `wrote` is the device's, and `kept` shows a receipt.
     module _ (wrote : D → List ℕ → R → D → Type 0) (kept : R → Kept) where
@@ -114,6 +114,18 @@ module _ {R : Type 0} where
         pub room : AreRoomy n (logs_of later.0) writes
         pub made : MakesRoom wrote kept n n writes (logs_of before.0) before.1 (logs_of later.0) later.1
         pub left : LeaveFrames n writes (logs_of before.0) (logs_of later.0)
+
+      -- What making room for writes leaves: there is room, or a stripe was met that lacked it; and no more pages left their frames than that wants.
+      pub record ReservesAll {A : Type 0} (n : ℕ) (writes : List Write) (result : Result A (Stop R)) (before later : (ℕ → Option (Shard R)) × D) : Type 0 where
+        pub room : OnOk result (HasRoom n writes before later)
+        pub stopped : IfErr result (λ stop. MatchStop stop (λ receipts. ⊥) ⊥ (Unit {0}) (FoundFull wrote kept (λ due. due ≡ writes) n before later))
+        pub few : ShedFew n writes (logs_of before.0) (logs_of later.0)
+
+-- What writes weigh at each stripe, and for what room is made for them.
+pub record AreSharesOf (n : ℕ) (writes : List Write) (shares : List ℕ) (purpose : Purpose) : Type 0 where
+  pub light : weight writes ≤ WEIGHT_MAX
+  pub are : (i : ℕ) → i < 64 → slice_index shares i ≡ share n i writes
+  pub for_what : purpose ≡ purpose_of writes
 
 -- Who retires is one of these epochs still, and was told what it was told before.
 pub record StillRetires (Is : Type 0) (before now : View) : Type 0 where

@@ -1,7 +1,7 @@
 //! One key, or one stripe, of the parts that are held.
 
 ghost use Rattle.std.specs.Prelude.{◌≡◌, ◌+◌, ◌-◌, ◌<◌, ◌≤◌, [], ◌∷◌, IsOk, IsSome, IfErr, IfOk, OnOk};
-ghost use Rattle.std.specs.Prelude.{OnErr, length, unwrap_or, false, is_none, Some};
+ghost use Rattle.std.specs.Prelude.{OnErr, length, unwrap_or, false, is_none, None, Some};
 ghost use Rattle.std.specs.Bool.{OnTrue};
 ghost use Rattle.words.specs.declared.limits.TheConstants.{WEIGHT_MAX};
 ghost use Rattle.words.specs.Answers as answering;
@@ -12,7 +12,7 @@ ghost use Rattle.transact.specs.Tables.{stays};
 ghost use Rattle.shards.specs.Devices.{StillServes};
 ghost use Rattle.shards.specs.Receipts.{kept_by};
 ghost use Rattle.shards.specs.Shards.{SameLogs, SameWaits, logs_of, shard_log, shard_store};
-ghost use Rattle.plans.specs.Counting.{IsSpotIn};
+ghost use Rattle.plans.specs.Settling.{IsSpotIn};
 ghost use Rattle.plans.specs.Finding.{FindsInPlaceAt, FindsInPlaceIn, JoinsWanted, LooksUpAt, LooksUpIn, WantsPage};
 ghost use Rattle.plans.specs.Planning.{IsStillHeld, MayLookUp, MissedAt};
 ghost use Rattle.plans.specs.Reserving.{FailsToReserveAt, GrowsBy, HasRoomAt, HasShedAt, IsRoomyFor, LeavesRoom, ReservesAt};
@@ -245,11 +245,25 @@ pub(crate) fn set<R: Shows, P: Parts<Shard<R>>>(parts: &mut P, key: &Hashed, val
     requires room { IsRoomyFor (P.stripes_of parts.old) (P.part_of parts.old) (key.now, Some value.now) }
     requires fits { Fits key.now (Some value.now) }
     ensures became { BecomesWritten R.is_steady P.stripes_of P.part_of parts.old parts.new ((key.now, Some value.now) ∷ []) }
+    ensures room { LeavesRoom (P.stripes_of parts.old) (key.now, Some value.now) (P.part_of parts.old) (P.part_of parts.new) }
     ensures grown { GrowsBy (P.stripes_of parts.old) (key.now, Some value.now) (P.part_of parts.old) (P.part_of parts.new) }
     ensures held { IsStillHeld P.is_open P.keeps parts.old parts.new }
 {
     let stripe = stripe_at(&*parts, key);
     parts.part(stripe).set(key, value);
+}
+
+/// Deletes a key, for which there is room.
+pub(crate) fn delete<R: Shows, P: Parts<Shard<R>>>(parts: &mut P, key: &Hashed)
+    requires open { P.is_open parts.old }
+    requires room { IsRoomyFor (P.stripes_of parts.old) (P.part_of parts.old) (key.now, None) }
+    requires fits { Fits key.now None }
+    ensures became { BecomesWritten R.is_steady P.stripes_of P.part_of parts.old parts.new ((key.now, None) ∷ []) }
+    ensures grown { GrowsBy (P.stripes_of parts.old) (key.now, None) (P.part_of parts.old) (P.part_of parts.new) }
+    ensures held { IsStillHeld P.is_open P.keeps parts.old parts.new }
+{
+    let stripe = stripe_at(&*parts, key);
+    parts.part(stripe).delete(key);
 }
 
 /// Gives a key a value in place.

@@ -1,13 +1,22 @@
 //! What a call releases itself, before it is answered that a stripe is full.
 
-ghost use Rattle.std.specs.Prelude.{◌≡◌, Some, IsSome, IfErr, IfOk, OnOk, [], ⊤};
+ghost use Rattle.std.specs.Prelude.{◌≡◌, ◌<◌, ◌≤◌, IsSome, IfErr, IfOk, OnOk, [], ⊤};
+ghost use Rattle.std.specs.Option.{option_copied};
+ghost use Rattle.words.specs.declared.limits.TheConstants.{WEIGHT_MAX};
+ghost use Rattle.words.specs.Answers.{writes_set};
+ghost use Rattle.words.specs.Briefs.{pairs_of};
+ghost use Rattle.words.specs.Commands.{keys_set};
+ghost use Rattle.words.specs.Store.{weight};
 ghost use Rattle.words.specs.Stripes as striping;
 ghost use Rattle.hybrid.specs.Staging.{AreRight};
 ghost use Rattle.transact.specs.Plans.{keys_begun};
 ghost use Rattle.transact.specs.Tables.{stays};
 ghost use Rattle.shards.specs.Freeing.{FreesAt, HasTriedAll};
+ghost use Rattle.shards.specs.Rooms.{AreRoomy, share};
+ghost use Rattle.shards.specs.Shards.{logs_of};
 ghost use Rattle.plans.specs.Holding.{AreMarkedFor, Becomes, NeedsMemory};
-ghost use Rattle.plans.specs.Planning.{AreDue, HaveFailedBy, IsReady, IsStillHeld, MatchStop, MayPlan, MayPut, asks_call};
+ghost use Rattle.plans.specs.Planning.{AreDue, HaveFailedBy, IsReady, IsStillHeld, MatchStop, MayLookUp, MayPlan, MayPut};
+ghost use Rattle.plans.specs.Planning.{asks_call};
 ghost use Rattle.plans.specs.Reserving.{IsRoomyFor, IsStuck, IsStuckFor, StillRetires, StillWorks};
 ghost use Rattle.plans.specs.Stops.{IfFull};
 ghost use Rattle.plans.specs.declared.reading.WhenCold.TheVariants.{Stops};
@@ -16,7 +25,8 @@ use crate::hands::Hands;
 use crate::hashed::HashedCall;
 use crate::planned::Planned;
 use crate::reading::{WhenCold, plan_staged};
-use crate::short::reserve_set;
+use crate::settings::reserve_settings;
+use crate::short::reserve_put;
 use crate::stop::Stop;
 use device::{Device, Shows};
 use epoch::Epochs;
@@ -89,8 +99,8 @@ pub fn plan_freeing<R: Shows, D: Device<Receipt = R>, P: Parts<Shard<R>>, S: Ret
     }
 }
 
-/// Makes room for a SET without an option, as [`reserve_set`] does. Where its stripe is full, it releases each place of it that
-/// can be released, and where that was one at least, it makes room again. It takes no memory.
+/// Makes room for a key that is given a value, or deleted where there is none, as [`reserve_put`] does. Where its stripe is full, it
+/// releases each place of it that can be released, and where that was one at least, it makes room again. It takes no memory.
 ///
 /// # Errors
 ///
@@ -98,16 +108,16 @@ pub fn plan_freeing<R: Shows, D: Device<Receipt = R>, P: Parts<Shard<R>>, S: Ret
 pub fn reserve_freeing<R: Shows, D: Device<Receipt = R>, P: Parts<Shard<R>>, S: Retires>(
     parts: &mut P,
     key: &Hashed,
-    value: &Word,
+    value: Option<&Word>,
     epochs: &Epochs,
     own: &mut S,
     device: &mut D,
 ) -> Result<(), Halt<R>>
-    requires may { MayPut (P.is_open parts.old) (P.stripes_of parts.old) (P.part_of parts.old) key.now value.now }
+    requires may { MayPut (P.is_open parts.old) (P.stripes_of parts.old) (P.part_of parts.old) (key.now, option_copied value) }
     requires is { S.is_of epochs.now own.old }
     ensures retires { StillRetires (S.is_of epochs.now own.new) (S.knows own.old) (S.knows own.new) }
     ensures became { Becomes R.is_steady P.stripes_of P.part_of parts.old parts.new [] stays }
-    ensures room { OnOk result (IsRoomyFor (P.stripes_of parts.old) (P.part_of parts.new) (key.now, Some value.now)) }
+    ensures room { OnOk result (IsRoomyFor (P.stripes_of parts.old) (P.part_of parts.new) (key.now, option_copied value.entry)) }
     ensures halted { IfErr result (λ halt. MatchStop halt.stop (λ receipts. ⊥) ⊥ ⊤
         (λ stripe. stripe ≡ striping.stripe_of (P.stripes_of parts.old) key.now)) }
     ensures full { IfErr result (λ halt. IfFull halt.stop (IsStuck halt.refused
@@ -116,7 +126,55 @@ pub fn reserve_freeing<R: Shows, D: Device<Receipt = R>, P: Parts<Shard<R>>, S: 
     ensures held { IsStillHeld P.is_open P.keeps parts.old parts.new }
 {
     'freed: loop {
-        match reserve_set(parts, key, value, device) {
+        match reserve_put(parts, key, value, device) {
+            Ok(()) => return Ok(()),
+            Err(Stop::StoreFull(stripe)) => {
+                let freed = free_at(parts, stripe, epochs, own, device);
+                if !freed.released {
+                    return Err(Halt {
+                        stop: Stop::StoreFull(stripe),
+                        refused: freed.refused,
+                    });
+                }
+            }
+            Err(stop) => {
+                return Err(Halt {
+                    stop,
+                    refused: Refused::NONE,
+                });
+            }
+        }
+    }
+}
+
+/// Makes room for these keys, each with its value behind it, as [`reserve_settings`] does. Where a stripe is full, it releases each
+/// place of it that can be released, and where that was one at least, it makes room again. It takes no memory.
+///
+/// # Errors
+///
+/// A [`Halt`]: with [`Stop::StoreFull`] only where no place of that stripe, which one of the keys goes to, can be released.
+pub fn settings_freeing<R: Shows, D: Device<Receipt = R>, P: Parts<Shard<R>>, S: Retires>(
+    parts: &mut P,
+    words: &[Word],
+    epochs: &Epochs,
+    own: &mut S,
+    device: &mut D,
+) -> Result<(), Halt<R>>
+    requires may { MayLookUp (P.is_open parts.old) (P.stripes_of parts.old) (P.part_of parts.old) (keys_set (pairs_of words.now)) }
+    requires light { weight (writes_set (pairs_of words.now)) ≤ WEIGHT_MAX }
+    requires is { S.is_of epochs.now own.old }
+    ensures retires { StillRetires (S.is_of epochs.now own.new) (S.knows own.old) (S.knows own.new) }
+    ensures became { Becomes R.is_steady P.stripes_of P.part_of parts.old parts.new [] stays }
+    ensures room { OnOk result (AreRoomy (P.stripes_of parts.old) (logs_of (P.part_of parts.new)) (writes_set (pairs_of words.now))) }
+    ensures halted { IfErr result (λ halt. MatchStop halt.stop (λ receipts. ⊥) ⊥ ⊤
+        (λ stripe. 0 < share (P.stripes_of parts.old) stripe (writes_set (pairs_of words.now)))) }
+    ensures full { IfErr result (λ halt. IfFull halt.stop (IsStuck halt.refused
+        (P.part_of parts.old, S.knows own.old) (P.part_of parts.new, S.knows own.new))) }
+    ensures failed { HaveFailedBy (λ halt. halt.stop) result (D.failures device.old) (D.failures device.new) }
+    ensures held { IsStillHeld P.is_open P.keeps parts.old parts.new }
+{
+    'freed: loop {
+        match reserve_settings(parts, words, device) {
             Ok(()) => return Ok(()),
             Err(Stop::StoreFull(stripe)) => {
                 let freed = free_at(parts, stripe, epochs, own, device);

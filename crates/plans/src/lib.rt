@@ -7,7 +7,6 @@
 #![tactic(auto)]
 
 mod cells;
-pub mod counting;
 mod find;
 pub mod freeing;
 pub mod hands;
@@ -21,6 +20,8 @@ pub mod planned;
 pub mod reading;
 mod room;
 mod running;
+pub mod settings;
+pub mod settling;
 pub mod short;
 pub mod stop;
 pub mod telling;

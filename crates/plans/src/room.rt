@@ -1,8 +1,8 @@
 //! Room for writes, stripe by stripe.
 
-ghost use Rattle.std.specs.Prelude.{◌≡◌, ◌+◌, ◌<◌, ◌≤◌, [], ℕ, IsSome, IfErr, OnOk, slice_index, ◌∷◌, ⊤};
+ghost use Rattle.std.specs.Prelude.{◌≡◌, ◌+◌, ◌<◌, ◌≤◌, [], List, ℕ, IsSome, IfErr, OnOk, slice_index, ◌∷◌, ⊤};
 ghost use Rattle.std.specs.Prelude.{if◌then◌else◌};
-ghost use Rattle.words.specs.Store.{weight, writes_key};
+ghost use Rattle.words.specs.Store.{Write, weight, writes_key};
 ghost use Rattle.words.specs.declared.limits.TheConstants.{WEIGHT_MAX};
 ghost use Rattle.transact.specs.Tables.{keys_written, stays};
 ghost use Rattle.shards.specs.Devices.{StillServes};
@@ -10,7 +10,7 @@ ghost use Rattle.shards.specs.Receipts.{kept_by};
 ghost use Rattle.shards.specs.Rooms.{ShedFew, purpose_of, share};
 ghost use Rattle.shards.specs.Shards.{logs_of, weigh};
 ghost use Rattle.plans.specs.Planning.{FoundFull, HaveFailed, IsStillHeld, MatchStop, MayLookUp, StillStands};
-ghost use Rattle.plans.specs.Reserving.{HasNoRoomAt, HasRoom, HasRoomAt, HasShedShare, ReservesAt};
+ghost use Rattle.plans.specs.Reserving.{AreSharesOf, HasNoRoomAt, HasRoom, HasRoomAt, HasShedShare, ReservesAll, ReservesAt};
 ghost use Rattle.plans.specs.Holding.{Becomes};
 
 use crate::cells::{reserve_at, stripe_in};
@@ -88,10 +88,30 @@ fn reserve_each<R: Shows, D: Device<Receipt = R>, P: Parts<Shard<R>>>(
     ensures failed { HaveFailed result (D.failures device.old) (D.failures device.new) }
     ensures held { IsStillHeld P.is_open P.keeps parts.old parts.new }
 {
-    let stripes = parts.stripes();
-    let shares = shares_of(writes, stripes);
-    let purpose = purpose_of(writes);
-    for stripe in 0..stripes {
+    let shares = shares_of(writes, parts.stripes());
+    reserve_shares(parts, &shares, purpose_of(writes), device)
+}
+
+/// Makes room for writes of which this is what they weigh at each stripe, and for what, in rising order. What keys have and all marks
+/// stay.
+pub(crate) fn reserve_shares<R: Shows, D: Device<Receipt = R>, P: Parts<Shard<R>>>(
+    parts: &mut P,
+    shares: &[usize; 64],
+    purpose: Purpose,
+    device: &mut D,
+) -> Result<(), Stop<R>>
+    requires open { P.is_open parts.old }
+    requires there { (i : ℕ) → i < 64 → 0 < slice_index shares.now i → IsSome (P.part_of parts.old i) }
+    requires light { (i : ℕ) → i < 64 → slice_index shares.now i ≤ WEIGHT_MAX }
+    ensures became { Becomes R.is_steady P.stripes_of P.part_of parts.old parts.new [] stays }
+    ensures reserved { (writes : List Write) → AreSharesOf (P.stripes_of parts.old) writes shares.now purpose
+        → ReservesAll D.wrote (kept_by R.identity R.shown) (P.stripes_of parts.old) writes result
+        (P.part_of parts.old, device.old) (P.part_of parts.new, device.new) }
+    ensures stands { StillStands (StillServes D.serves D.releases) (P.part_of parts.old, device.old) (P.part_of parts.new, device.new) }
+    ensures failed { HaveFailed result (D.failures device.old) (D.failures device.new) }
+    ensures held { IsStillHeld P.is_open P.keeps parts.old parts.new }
+{
+    for stripe in 0..parts.stripes() {
         if let Err(stop) = reserve_share(parts, stripe, shares[stripe], purpose, device) {
             return Err(stop);
         }

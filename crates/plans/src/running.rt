@@ -1,7 +1,7 @@
 //! What commands answer and write that run one after the other, each on what its keys have where it lies. What one wrote the
 //! next ones find.
 
-ghost use Rattle.std.specs.Prelude.{◌≡◌, [], ◌∷◌, None, Some, if◌then◌else◌, IfSome, OnSome};
+ghost use Rattle.std.specs.Prelude.{◌≡◌, [], ◌∷◌, None, Some, if◌then◌else◌, IfSome, IsSome, OnSome};
 ghost use Rattle.std.specs.Option.{option_copied};
 ghost use Rattle.words.specs.Store.{Store, empty, written};
 ghost use Rattle.words.specs.declared.command.Command.TheVariants.{MGet};
@@ -58,14 +58,15 @@ fn run_after(
     }
 }
 
-/// What a key has, where it lies. `None` where a page is wanted.
+/// What a key has, where it lies. `None` where a page is wanted, which receipts do not lend.
 pub(crate) fn value_at<'a, R: Shows>(
     part: &'a Shard<R>,
     key: &Hashed,
     staged: &'a Staged<R>,
 ) -> Option<Option<&'a [u8]>>
-    ensures { IfSome result (λ value. IsFound (R.is_honest × AreRight staged.entry.now)
+    ensures found { IfSome result (λ value. IsFound (R.is_honest × AreRight staged.entry.now)
         (shard_store part.entry.now) key.now (option_copied value)) }
+    ensures lent { R.lends → IsSome result }
 {
     match part.find(key, staged) {
         Lookup::Found(value) => Some(Some(value)),

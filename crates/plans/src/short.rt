@@ -1,20 +1,23 @@
-//! The short ways of a GET, of a SET without an option, and of a command that counts. The GET makes one copy of the value. For
-//! the SET nothing is looked up and nothing is copied but into the page, so that it never wants memory.
+//! The short ways of a GET, of a SET without an option, and of other commands of one key. The GET makes one copy of the value. To
+//! write a key nothing is looked up and nothing is copied but into the page, so that it never wants memory.
 
-ghost use Rattle.std.specs.Prelude.{◌≡◌, ◌+◌, [], ◌∷◌, Some, IfErr, IfOk, IsSome, OnOk};
+ghost use Rattle.std.specs.Prelude.{◌≡◌, ◌≤◌, [], ◌∷◌, Some, IfErr, IfOk, IsSome, OnOk};
 ghost use Rattle.words.specs.Stripes as striping;
-ghost use Rattle.hybrid.specs.declared.stripe.room.Purpose.TheVariants as purpose;
+ghost use Rattle.std.specs.Option.{option_copied};
+ghost use Rattle.words.specs.declared.limits.TheConstants.{WEIGHT_MAX};
 ghost use Rattle.hybrid.specs.Log.{Fits};
 ghost use Rattle.hybrid.specs.Staging.{AreRight};
 ghost use Rattle.transact.specs.Tables.{touches};
 ghost use Rattle.shards.specs.Devices.{StillServes};
 ghost use Rattle.shards.specs.Receipts.{kept_by};
-ghost use Rattle.plans.specs.Counting.{IsSpotIn};
+ghost use Rattle.shards.specs.Rooms.{purpose_of};
+ghost use Rattle.shards.specs.Shards.{weigh};
+ghost use Rattle.plans.specs.Settling.{IsSpotIn};
 ghost use Rattle.plans.specs.Planning.{HasMissedIn, HaveFailed, IsStillHeld, IsValueIn, MayLookUp, MayPut};
 ghost use Rattle.plans.specs.Reserving.{GrowsBy, HasNoRoomToPut, HasRoomToPut, HasShedAt, IsRoomyFor, ReservesToPut};
 ghost use Rattle.plans.specs.Holding.{BecomesWritten};
 
-use crate::cells::{copy_of, reserve_at, set, set_at, stripe_at};
+use crate::cells::{copy_of, delete, reserve_at, set, set_at, stripe_at};
 use crate::stop::Stop;
 use device::{Device, Shows};
 use gates::Parts;
@@ -49,48 +52,68 @@ pub fn value_of<R: Shows, P: Parts<Shard<R>>>(
     copy_of(alloc, parts.part(stripe), key, staged)
 }
 
-/// Makes room for a SET without an option. What keys have and all marks stay. It takes no memory.
+/// Makes room for a key that is given a value, or deleted where there is none. What keys have and all marks stay. It takes no memory.
 ///
 /// # Errors
 ///
 /// [`Stop::DeviceFault`] where a write of the device failed; [`Stop::StoreFull`] where the key's stripe has no place
 /// left on it.
-pub fn reserve_set<R: Shows, D: Device<Receipt = R>, P: Parts<Shard<R>>>(
+pub fn reserve_put<R: Shows, D: Device<Receipt = R>, P: Parts<Shard<R>>>(
     parts: &mut P,
     key: &Hashed,
-    value: &Word,
+    value: Option<&Word>,
     device: &mut D,
 ) -> Result<(), Stop<R>>
-    requires may { MayPut (P.is_open parts.old) (P.stripes_of parts.old) (P.part_of parts.old) key.now value.now }
-    ensures reserved { ReservesToPut R.is_steady P.stripes_of P.part_of (StillServes D.serves D.releases) key.now value.now
-        (parts.old, device.old) (parts.new, device.new) }
-    ensures room { OnOk result (HasRoomToPut (P.stripes_of parts.old) key.now value.now (P.part_of parts.old) (P.part_of parts.new)) }
+    requires may { MayPut (P.is_open parts.old) (P.stripes_of parts.old) (P.part_of parts.old) (key.now, option_copied value) }
+    ensures reserved { ReservesToPut R.is_steady P.stripes_of P.part_of (StillServes D.serves D.releases)
+        (key.now, option_copied value.entry) (parts.old, device.old) (parts.new, device.new) }
+    ensures room { OnOk result (HasRoomToPut (P.stripes_of parts.old) (key.now, option_copied value.entry)
+        (P.part_of parts.old) (P.part_of parts.new)) }
     ensures shed { D.failures device.new ≡ D.failures device.old
         → HasShedAt D.wrote (kept_by R.identity R.shown) (striping.stripe_of (P.stripes_of parts.old) key.now)
         (P.part_of parts.old, device.old) (P.part_of parts.new, device.new) }
-    ensures stopped { IfErr result (HasNoRoomToPut (P.stripes_of parts.old) key.now value.now (P.part_of parts.old) (P.part_of parts.new)) }
+    ensures stopped { IfErr result (HasNoRoomToPut (P.stripes_of parts.old) (key.now, option_copied value.entry)
+        (P.part_of parts.old) (P.part_of parts.new)) }
     ensures failed { HaveFailed result (D.failures device.old) (D.failures device.new) }
     ensures held { IsStillHeld P.is_open P.keeps parts.old parts.new }
 {
     let stripe = stripe_at(&*parts, key);
-    let weight = WEIGHT_OF_KEY + key.key().len() + value.len();
-    match reserve_at(parts, stripe, weight, Purpose::Write, device) {
+    let (weight, purpose) = weight_of(key, value);
+    match reserve_at(parts, stripe, weight, purpose, device) {
         Ok(()) => Ok(()),
         Err(Fault::DeviceFault) => Err(Stop::DeviceFault),
         Err(Fault::StoreFull) => Err(Stop::StoreFull(stripe)),
     }
 }
 
-/// Gives a key, for which there is room, its value, and touches its marks. It takes no memory.
-pub fn install_set<R: Shows, P: Parts<Shard<R>>>(parts: &mut P, key: &Hashed, value: &Word)
+/// What the write of a value to a key weighs, or the deletion of the key, and for what it wants room.
+fn weight_of(key: &Hashed, value: Option<&Word>) -> (usize, Purpose)
+    requires light { weigh (key.now, option_copied value) ≤ WEIGHT_MAX }
+    ensures weight { result.0 ≡ weigh (key.now, option_copied value.entry) }
+    ensures purpose { result.1 ≡ purpose_of ((key.now, option_copied value.entry) ∷ []) }
+{
+    match value {
+        Some(value) => (
+            WEIGHT_OF_KEY + key.key().len() + value.len(),
+            Purpose::Write,
+        ),
+        None => (WEIGHT_OF_KEY + key.key().len(), Purpose::Delete),
+    }
+}
+
+/// Gives a key, for which there is room, a value, or deletes it where there is none, and touches its marks. It takes no memory.
+pub fn install_put<R: Shows, P: Parts<Shard<R>>>(parts: &mut P, key: &Hashed, value: Option<&Word>)
     requires open { P.is_open parts.old }
-    requires room { IsRoomyFor (P.stripes_of parts.old) (P.part_of parts.old) (key.now, Some value.now) }
-    requires fits { Fits key.now (Some value.now) }
-    ensures became { BecomesWritten R.is_steady P.stripes_of P.part_of parts.old parts.new ((key.now, Some value.now) ∷ []) }
-    ensures grown { GrowsBy (P.stripes_of parts.old) (key.now, Some value.now) (P.part_of parts.old) (P.part_of parts.new) }
+    requires room { IsRoomyFor (P.stripes_of parts.old) (P.part_of parts.old) (key.now, option_copied value) }
+    requires fits { Fits key.now (option_copied value) }
+    ensures became { BecomesWritten R.is_steady P.stripes_of P.part_of parts.old parts.new ((key.now, option_copied value.entry) ∷ []) }
+    ensures grown { GrowsBy (P.stripes_of parts.old) (key.now, option_copied value.entry) (P.part_of parts.old) (P.part_of parts.new) }
     ensures held { IsStillHeld P.is_open P.keeps parts.old parts.new }
 {
-    set(parts, key, value);
+    match value {
+        Some(value) => set(parts, key, value),
+        None => delete(parts, key),
+    }
 }
 
 /// Gives a key a value in place, where its newest record stands and has room for it, and touches its marks. It takes no memory and

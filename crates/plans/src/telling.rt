@@ -61,7 +61,8 @@ pub fn tell_values<R: Shows, P: Parts<Shard<R>>>(
     staged: &Staged<R>,
 ) -> Option<Bulks>
     requires may { MayLookUp (P.is_open parts.old) (P.stripes_of parts.old) (P.part_of parts.old) keys.now }
-    ensures values { IfSome result (AreValuesIn R.is_steady P.stripes_of P.part_of parts.old (R.is_honest × AreRight staged.now) keys.now) }
+    ensures values { IfSome result (AreValuesIn R.is_steady P.stripes_of P.part_of parts.old
+        (R.is_honest × AreRight staged.now) keys.now) }
     ensures same { P.part_of parts.new ≡ P.part_of parts.old }
     ensures held { IsStillHeld P.is_open P.keeps parts.old parts.new }
 {

@@ -6,7 +6,7 @@ ghost use Rattle.std.specs.Prelude.{◌<◌, ◌≤◌};
 use std::alloc::Global;
 use std::cmp::Ordering;
 use std::process::Abort;
-use words::command::{Brief, Command, Count, SessionCommand, When};
+use words::command::{Brief, Command, Count, SessionCommand, Verb, When};
 use words::limits::{Limits, WORDS_MAX};
 use words::reply::Refusal;
 use words::word::{Word, Words};
@@ -426,7 +426,7 @@ fn brief(rt: &impl Abort, alloc: Global, words: &[&[u8]]) -> Brief {
 /// Those that are asked most, in any case, and requests that are like them.
 #[test]
 fn briefs(rt: HostRuntime) {
-    let rows: [(&[&[u8]], Brief); 27] = [
+    let rows: [(&[&[u8]], Brief); 45] = [
         (&[b"GET", b"k"], Brief::Get),
         (&[b"get", b"k"], Brief::Get),
         (&[b"GET", &[b'k'; 512]], Brief::Get),
@@ -435,12 +435,18 @@ fn briefs(rt: HostRuntime) {
         (&[b"sEt", b"k", b"v"], Brief::Set),
         (&[b"SET", &[b'k'; 513], b"v"], Brief::Other),
         (&[b"SET", b"k", b"v", b"NX"], Brief::Other),
-        (&[b"INCR", b"k"], Brief::Count(Count::Add(1))),
-        (&[b"decr", b"k"], Brief::Count(Count::Subtract(1))),
-        (&[b"INCRBY", b"k", b"-5"], Brief::Count(Count::Add(-5))),
+        (&[b"INCR", b"k"], Brief::One(Verb::Count(Count::Add(1)))),
+        (
+            &[b"decr", b"k"],
+            Brief::One(Verb::Count(Count::Subtract(1))),
+        ),
+        (
+            &[b"INCRBY", b"k", b"-5"],
+            Brief::One(Verb::Count(Count::Add(-5))),
+        ),
         (
             &[b"DecrBy", b"k", b"-9223372036854775808"],
-            Brief::Count(Count::Subtract(-9_223_372_036_854_775_808)),
+            Brief::One(Verb::Count(Count::Subtract(-9_223_372_036_854_775_808))),
         ),
         (&[b"INCRBY", b"k", b"01"], Brief::Other),
         (&[b"DECRBY", b"k", b"x"], Brief::Other),
@@ -454,6 +460,24 @@ fn briefs(rt: HostRuntime) {
         (&[b"MGET", &[b'k'; 513]], Brief::Other),
         (&[b"MGET", b"k", &[b'k'; 513]], Brief::Other),
         (&[b"MGET", b"k", b"l", &[b'k'; 513]], Brief::Other),
+        (&[b"SETNX", b"k", b"v"], Brief::One(Verb::SetNx)),
+        (&[b"getset", b"k", b"v"], Brief::One(Verb::GetSet)),
+        (&[b"APPEND", b"k", b""], Brief::One(Verb::Append)),
+        (&[b"APPEND", &[b'k'; 513], b"v"], Brief::Other),
+        (&[b"APPEND", b"k"], Brief::Other),
+        (&[b"GetDel", b"k"], Brief::One(Verb::GetDel)),
+        (&[b"STRLEN", b"k"], Brief::One(Verb::StrLen)),
+        (&[b"STRLEN", &[b'k'; 513]], Brief::Other),
+        (&[b"EXISTS", b"k"], Brief::One(Verb::Exists)),
+        (&[b"EXISTS", b"k", b"l"], Brief::Other),
+        (&[b"del", b"k"], Brief::One(Verb::Del)),
+        (&[b"DEL", b"k", b"l"], Brief::Other),
+        (&[b"MSET", b"k", b"v"], Brief::Settings),
+        (&[b"mset", b"k", b"v", b"k", &[b'v'; 600]], Brief::Settings),
+        (&[b"MSET", b"k"], Brief::Other),
+        (&[b"MSET", b"k", b"v", b"l"], Brief::Other),
+        (&[b"MSET", b"k", b"v", &[b'k'; 513], b"v"], Brief::Other),
+        (&[b"MSETNX", b"k", b"v"], Brief::Other),
         (&[b"ping"], Brief::Ping),
         (&[b"PING", b"text"], Brief::Other),
         (&[b"EXEC"], Brief::Other),

@@ -213,6 +213,7 @@ impl<R: Shows> Shard<R> {
         ensures waits { shard_waiting self.new ≡ shard_waiting self.old }
         ensures value { (k : List ℕ) → shard_store self.new k ≡ update bytes_eq (shard_store self.old) key.now (Some value.now) k }
         ensures marks { TouchesKey key.now self.old self.new }
+        ensures room { TakesRoom (weigh (key.now, Some value.now)) (shard_log self.old) (shard_log self.new) }
         ensures grown { IsGrown (shard_log self.old) (shard_log self.new) (weigh (key.now, Some value.now)) }
     {
         let put = Put {
@@ -221,6 +222,23 @@ impl<R: Shows> Shard<R> {
         };
         self.log.install_one(key.hash(), &put);
         self.marks.touch(put.key);
+    }
+
+    /// Deletes a key, for which there is room, and touches its marks. It takes no memory.
+    pub fn delete(&mut self, key: &Hashed)
+        requires room { HasRoom (shard_log self.old) (weigh (key.now, None)) }
+        requires fits { Fits key.now None }
+        ensures waits { shard_waiting self.new ≡ shard_waiting self.old }
+        ensures value { (k : List ℕ) → shard_store self.new k ≡ update bytes_eq (shard_store self.old) key.now None k }
+        ensures marks { TouchesKey key.now self.old self.new }
+        ensures grown { IsGrown (shard_log self.old) (shard_log self.new) (weigh (key.now, None)) }
+    {
+        let put = Put {
+            key: key.key(),
+            value: None,
+        };
+        self.log.install_one(key.hash(), &put);
+        self.marks.touch(key.key());
     }
 
     /// Gives a key a value in place, where its newest record has room for it, and touches its marks. It takes no memory

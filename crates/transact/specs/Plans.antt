@@ -1,5 +1,6 @@
 -- Plans: what a call comes to.
-use Rattle.std.specs.Prelude.{ℕ, ◌≡◌, ◌≢◌, ◌↔◌, List, [], ◌∷◌, if◌then◌else◌, true, Option, Some, IsSome}
+use Rattle.std.specs.Prelude.{ℕ, ◌≡◌, ◌≢◌, ◌+◌, ◌↔◌, List, [], ◌∷◌, length, if◌then◌else◌, true, Option, Some, IsSome}
+use Rattle.words.specs.declared.limits.TheConstants.{WEIGHT_OF_KEY}
 use Rattle.words.specs.declared.reply.Reply.{Reply}
 use Rattle.words.specs.declared.history.Operation.{Operation}
 use Rattle.words.specs.Store.{Bytes, Write, writes_key}
@@ -27,6 +28,11 @@ made seen operation = if was_not_done (due seen operation) then [] else (outcome
 pub record IsPlan (seen : History) (operation : Operation) (reply : Reply) (writes : List Write) : Type 0 where
   pub reply_due : reply ≡ due seen operation
   pub writes_due : writes ≡ made seen operation
+
+-- what settings weigh, where a key counts with each value that it is given
+abbrev pub weight_of_each : List (Bytes × Bytes) → ℕ
+weight_of_each [] = 0
+weight_of_each (setting ∷ settings) = WEIGHT_OF_KEY + length setting.0 + length setting.1 + weight_of_each settings
 
 -- the keys that a call begins to watch
 abbrev pub keys_begun : Call → List Bytes

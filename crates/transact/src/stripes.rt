@@ -1,6 +1,7 @@
 //! The stripes that a call needs.
 
 ghost use Rattle.std.specs.Prelude.{◌≡◌, ◌≤◌, ◌∷◌, []};
+ghost use Rattle.words.specs.Briefs.{pairs_of};
 ghost use Rattle.words.specs.Commands as table;
 ghost use Rattle.gates.specs.Sets.{AreBelow};
 ghost use Rattle.transact.specs.Calls.{call_keys};
@@ -43,6 +44,16 @@ pub fn stripes_of_keys(keys: &[Word], stripes: usize) -> Sorted
     with_keys(Sorted::none(), keys, stripes)
 }
 
+/// The stripes of these keys, each of which has its value behind it.
+pub fn stripes_of_settings(words: &[Word], stripes: usize) -> Sorted
+    requires some { 1 ≤ stripes }
+    requires most { stripes ≤ 64 }
+    ensures exact { result ≡ stripes_with stripes [] (table.keys_set (pairs_of words.now)) }
+    ensures below { AreBelow stripes result }
+{
+    with_settings(Sorted::none(), words, stripes)
+}
+
 /// The stripe of a key alone.
 pub fn stripe_of_key(key: &Hashed, stripes: usize) -> Sorted
     requires some { 1 ≤ stripes }
@@ -75,6 +86,21 @@ fn with_keys(set: Sorted, keys: &[Word], stripes: usize) -> Sorted
     match keys {
         [] => set,
         [key, others @ ..] => with_keys(with_key(set, key, stripes), others, stripes),
+    }
+}
+
+/// The set with the stripes of these keys, each of which has its value behind it.
+fn with_settings(set: Sorted, words: &[Word], stripes: usize) -> Sorted
+    requires some { 1 ≤ stripes }
+    requires most { stripes ≤ 64 }
+    requires below { AreBelow stripes set }
+    ensures exact { result ≡ stripes_with stripes set (table.keys_set (pairs_of words.now)) }
+    ensures below { AreBelow stripes result }
+{
+    match words {
+        [] => set,
+        [_] => set,
+        [key, _, others @ ..] => with_settings(with_key(set, key, stripes), others, stripes),
     }
 }
 

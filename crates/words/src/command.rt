@@ -1,20 +1,22 @@
 //! Commands, and which command the words of a request are.
 
-ghost use Rattle.std.specs.Prelude.{◌≡◌, ◌≤◌, ◌↔◌, ◌∷◌, List, IfOk, IsOk, IsTrue, codes, length};
+ghost use Rattle.std.specs.Prelude.{◌≡◌, ◌≤◌, ◌↔◌, [], ◌∷◌, List, IfOk, IsOk, IsTrue, codes, length};
 ghost use Rattle.words.specs.Spelling.{IsRequest};
 ghost use Rattle.words.specs.Commands.{command_of, command_in, AsksNoMemory, is_name, keys_set, readers, counters, session_commands};
 ghost use Rattle.words.specs.Bounds.{AreKeysBounded, AreValuesBounded, IsBounded, values_set};
 ghost use Rattle.words.specs.Store.{Bytes};
 ghost use Rattle.words.specs.Verbs.{shaped};
-ghost use Rattle.words.specs.Briefs.{brief_of, brief_of_key, brief_of_many, brief_of_setting, IsCounting, IsGet, IsMGet, IsSet, IsPing};
+ghost use Rattle.words.specs.Briefs.{IsGet, IsMGet, IsMSet, IsOne, IsPing, IsSet};
+ghost use Rattle.words.specs.Briefs.{are_settings, commanded, counting, pairs_of};
+ghost use Rattle.words.specs.Briefs.{brief_of, brief_of_key, brief_of_many, brief_of_setting, verb_of_key, verb_of_value};
 
 use crate::limits::{KEY_BYTES_MAX, VALUE_BYTES_MAX};
 use crate::number;
 use crate::reply::Refusal;
 use crate::sequence::Sequence;
 use crate::shapes::{
-    KeyVerb, KeysVerb, LoneVerb, NumberVerb, SettingsVerb, Shape, ValueVerb, any_long, copies,
-    is_long,
+    KeyVerb, KeysVerb, LoneVerb, NumberVerb, SettingsVerb, Shape, ValueVerb, add_settings,
+    any_long, copies, copy, is_long,
 };
 use crate::word::{OutOfMemory, Word, Words};
 use std::alloc::Global;
@@ -114,6 +116,27 @@ pub enum Count {
     Subtract(i64),
 }
 
+/// What a command does that names one key, and beside it a value at most.
+#[derive(Clone, Copy, Debug, PartialEq, Eq)]
+pub enum Verb {
+    /// `INCR`, `DECR`, `INCRBY` or `DECRBY`
+    Count(Count),
+    /// `SETNX`, of a value
+    SetNx,
+    /// `GETSET`, of a value
+    GetSet,
+    /// `APPEND`, of a value
+    Append,
+    /// `GETDEL`
+    GetDel,
+    /// `STRLEN`
+    StrLen,
+    /// `EXISTS`
+    Exists,
+    /// `DEL`
+    Del,
+}
+
 /// Which of the commands that are asked most a request is, whose words then are the command's as they lie.
 #[derive(Clone, Copy, Debug, PartialEq, Eq)]
 pub enum Brief {
@@ -121,10 +144,12 @@ pub enum Brief {
     Get,
     /// A SET without an option: the second word is its key, and the third the value.
     Set,
-    /// An INCR, a DECR, an INCRBY or a DECRBY: the second word is its key.
-    Count(Count),
+    /// Another command of one key: the second word is its key, and the last one the value, where it takes one.
+    One(Verb),
     /// An MGET: the words after the first are its keys.
     Values,
+    /// An MSET: the words after the first are its keys, each with its value behind it.
+    Settings,
     /// A PING without a text.
     Ping,
     /// Any other request.
@@ -137,8 +162,9 @@ impl Brief {
         ensures exact { result ≡ brief_of words.now }
         ensures get { result ≡ Brief.Get → IsGet words.now }
         ensures set { result ≡ Brief.Set → IsSet words.now }
-        ensures count { (by : Count) → result ≡ Brief.Count by → IsCounting by words.now }
+        ensures one { (verb : Verb) → result ≡ Brief.One verb → IsOne verb words.now }
         ensures values { result ≡ Brief.Values → IsMGet words.now }
+        ensures settings { result ≡ Brief.Settings → IsMSet words.now }
         ensures ping { result ≡ Brief.Ping → IsPing words.now }
     {
         of_words(words.as_slice())
@@ -177,10 +203,27 @@ fn of_key(name: &[u8]) -> Brief
 {
     if is_named(name, b"GET") {
         Brief::Get
-    } else if is_named(name, b"INCR") {
-        Brief::Count(Count::Add(1))
+    } else {
+        verb_of_key(name)
+    }
+}
+
+/// Which a request of this name and a key is that is no GET.
+fn verb_of_key(name: &[u8]) -> Brief
+    ensures { result ≡ verb_of_key name.now }
+{
+    if is_named(name, b"INCR") {
+        Brief::One(Verb::Count(Count::Add(1)))
     } else if is_named(name, b"DECR") {
-        Brief::Count(Count::Subtract(1))
+        Brief::One(Verb::Count(Count::Subtract(1)))
+    } else if is_named(name, b"DEL") {
+        Brief::One(Verb::Del)
+    } else if is_named(name, b"EXISTS") {
+        Brief::One(Verb::Exists)
+    } else if is_named(name, b"STRLEN") {
+        Brief::One(Verb::StrLen)
+    } else if is_named(name, b"GETDEL") {
+        Brief::One(Verb::GetDel)
     } else if is_named(name, b"MGET") {
         Brief::Values
     } else {
@@ -189,13 +232,26 @@ fn of_key(name: &[u8]) -> Brief
 }
 
 /// Which a request of this name and three words or more is.
-fn of_many(name: &[u8], keys: &[Word]) -> Brief
-    ensures { result ≡ brief_of_many name.now keys.now }
+fn of_many(name: &[u8], arguments: &[Word]) -> Brief
+    ensures { result ≡ brief_of_many name.now arguments.now }
 {
-    if is_named(name, b"MGET") && !any_long(keys) {
+    if is_named(name, b"MGET") && !any_long(arguments) {
         Brief::Values
+    } else if is_named(name, b"MSET") && are_settings(arguments) {
+        Brief::Settings
     } else {
         Brief::Other
+    }
+}
+
+/// Whether these words are keys that are not too long, each with its value behind it.
+fn are_settings(words: &[Word]) -> bool
+    ensures { result ≡ are_settings words.now }
+{
+    match words {
+        [] => true,
+        [_] => false,
+        [key, _, others @ ..] => !is_long(key) && are_settings(others),
     }
 }
 
@@ -206,21 +262,94 @@ fn of_setting(name: &[u8], value: &Word) -> Brief
 {
     if is_named(name, b"SET") {
         Brief::Set
-    } else if is_named(name, b"INCRBY") {
+    } else {
+        verb_of_value(name, value)
+    }
+}
+
+/// Which a request of this name, a key and another word is that is no SET.
+fn verb_of_value(name: &[u8], value: &Word) -> Brief
+    ensures { result ≡ verb_of_value name.now value.now }
+{
+    if is_named(name, b"INCRBY") {
         match number::parse(value.as_slice()) {
-            Some(number) => Brief::Count(Count::Add(number)),
+            Some(number) => Brief::One(Verb::Count(Count::Add(number))),
             None => Brief::Other,
         }
     } else if is_named(name, b"DECRBY") {
         match number::parse(value.as_slice()) {
-            Some(number) => Brief::Count(Count::Subtract(number)),
+            Some(number) => Brief::One(Verb::Count(Count::Subtract(number))),
             None => Brief::Other,
         }
+    } else if is_named(name, b"SETNX") {
+        Brief::One(Verb::SetNx)
+    } else if is_named(name, b"GETSET") {
+        Brief::One(Verb::GetSet)
+    } else if is_named(name, b"APPEND") {
+        Brief::One(Verb::Append)
+    } else if is_named(name, b"MSET") {
+        Brief::Settings
     } else if is_named(name, b"MGET") && !is_long(value) {
         Brief::Values
     } else {
         Brief::Other
     }
+}
+
+impl Verb {
+    /// The command that does so to this key, with copies of the words that it keeps. The value is looked at only where it takes one.
+    ///
+    /// # Errors
+    ///
+    /// [`OutOfMemory`] where there is no memory for a copy.
+    pub fn command(self, alloc: Global, key: &Word, value: &Word) -> Result<Command, OutOfMemory>
+        ensures { IfOk result (λ command. command ≡ commanded self key.now value.now) }
+    {
+        match self {
+            Verb::Count(by) => Ok(by.command(copy(alloc, key)?)),
+            Verb::SetNx => Ok(Command::SetNx(copy(alloc, key)?, copy(alloc, value)?)),
+            Verb::GetSet => Ok(Command::GetSet(copy(alloc, key)?, copy(alloc, value)?)),
+            Verb::Append => Ok(Command::Append(copy(alloc, key)?, copy(alloc, value)?)),
+            Verb::GetDel => Ok(Command::GetDel(copy(alloc, key)?)),
+            Verb::StrLen => Ok(Command::StrLen(copy(alloc, key)?)),
+            Verb::Exists => Ok(Command::Exists(lone(alloc, key)?)),
+            Verb::Del => Ok(Command::Del(lone(alloc, key)?)),
+        }
+    }
+}
+
+impl Count {
+    /// The command that changes the number of this key by so much.
+    fn command(self, key: Word) -> Command
+        ensures { result ≡ counting self key }
+    {
+        match self {
+            Count::Add(number) => Command::Add(key, number),
+            Count::Subtract(number) => Command::Subtract(key, number),
+        }
+    }
+}
+
+/// A copy of this word, as the one key of a list.
+fn lone(alloc: Global, key: &Word) -> Result<Keys, OutOfMemory>
+    ensures { IfOk result (λ keys. keys ≡ key.now ∷ []) }
+{
+    let mut keys = Vec::with_capacity(alloc, 1)?;
+    keys.push(copy(alloc, key)?)?;
+    Ok(Sequence::from_vec(keys))
+}
+
+/// Copies of these words, as keys, each with its value behind it. A last key that has none is left out.
+///
+/// # Errors
+///
+/// [`OutOfMemory`] where there is no memory for them.
+pub fn settings_of(alloc: Global, words: &[Word]) -> Result<Settings, OutOfMemory>
+    ensures { IfOk result (λ settings. settings ≡ pairs_of words.now) }
+{
+    let mut settings = Vec::with_capacity(alloc, words.len() / 2)?;
+    add_settings(alloc, &mut settings, words)?;
+    Ok(Sequence::from_vec(settings))
 }
 
 /// Copies of these words, as keys.

@@ -6,6 +6,7 @@
 //! read most have few: no `?`, and their refusals are functions of their own.
 
 ghost use Rattle.std.specs.Prelude.{◌≡◌, ◌++◌, List, ℕ, Some, Ok, Err, IfOk, IsOk, OnOk, length};
+ghost use Rattle.words.specs.Briefs.{pairs_of};
 ghost use Rattle.words.specs.Commands as commands;
 ghost use Rattle.words.specs.Commands.{AsksNoMemory, IsInline, in_pairs};
 ghost use Rattle.words.specs.Verbs.{any_long_set, Adds, shaped};
@@ -233,7 +234,7 @@ pub(crate) fn is_long(key: &Word) -> bool
 }
 
 /// A copy of a word. It takes memory only where the word has more than `WORD_INLINE` bytes.
-fn copy(alloc: Global, word: &Word) -> Result<Word, OutOfMemory>
+pub(crate) fn copy(alloc: Global, word: &Word) -> Result<Word, OutOfMemory>
     ensures same { IfOk result (λ copy. copy ≡ word.now) }
     ensures memory { IsInline word.now → IsOk result }
 {
@@ -572,13 +573,14 @@ fn any_key_long(words: &[Word]) -> Option<bool>
     }
 }
 
-/// Adds copies of these words, each with the one after it.
-fn add_settings(
+/// Adds copies of these words, each with the one after it. A last one that has none is left out.
+pub(crate) fn add_settings(
     alloc: Global,
     settings: &mut Vec<(Word, Word)>,
     words: &[Word],
 ) -> Result<(), OutOfMemory>
-    ensures { OnOk result (Adds settings.old.items (in_pairs words.now) settings.new.items) }
+    ensures settings { OnOk result (Adds settings.old.items (in_pairs words.now) settings.new.items) }
+    ensures pairs { OnOk result (settings.new.items ≡ settings.old.items ++ pairs_of words.now) }
 {
     if let [key, value, others @ ..] = words {
         settings.push((copy(alloc, key)?, copy(alloc, value)?))?;

@@ -86,8 +86,8 @@ commit_line-requires-clause-keys g c =
     named_held s (held_stripes c.args.held.now) c.args.held.now c.reserve_freeing.new.parts (set_call c.args.key.now c.args.value.now) c.reserve_freeing.ensures.held.kept refl refl tt
     (there_after (held_stripes c.args.held.now) (c.args.key.now ∷ []) (parts_of s c.args.held.now) (parts_of s c.reserve_freeing.new.parts) c.reserve_freeing.ensures.became.there c.requires.may.there)
 
-pub install_set-requires-clause-room : goal.install_set-requires-clause-room
-install_set-requires-clause-room g c =
+pub install_put-requires-clause-room : goal.install_put-requires-clause-room
+install_put-requires-clause-room g c =
     let s : Type 0 = g.R.Shows.is_steady in
     let start : Held (Shard _) = c.args.held.now in
     let done : Held (Shard _) = c.commit_line.new.held in
@@ -102,26 +102,26 @@ returns-in-Ok-clause-back g c =
     let start : Held (Shard _) = c.args.held.now in
     let mid : Held (Shard _) = c.reserve_freeing.new.parts in
     let done : Held (Shard _) = c.commit_line.new.held in
-    let last : Held (Shard _) = c.install_set.new.parts in
+    let last : Held (Shard _) = c.install_put.new.parts in
     let count = counted s start done (c.commit_line.ensures.gates ∙ ap (λ (g : Bor (Gates (Shard _))). g.now) c.reserve_freeing.ensures.held.kept.gates) in
     let w : Write = (c.args.key.now, Some c.args.value.now) in
-    let installed = subst (λ (m : ℕ). Became (shard_meaning s) m (w ∷ []) (touches (w ∷ [])) (parts_of s done) (parts_of s last)) count c.install_set.ensures.became in
+    let installed = subst (λ (m : ℕ). Became (shard_meaning s) m (w ∷ []) (touches (w ∷ [])) (parts_of s done) (parts_of s last)) count c.install_put.ensures.became in
     let reserved : Became (shard_meaning s) n [] stays (parts_of s start) (parts_of s done) =
     subst (λ (l : List (ℕ × Shard _)). Became (shard_meaning s) n [] stays (parts_of s start) (part_at l)) (sym c.commit_line.ensures.parts) c.reserve_freeing.ensures.became in
-    given_still s Nothing start last c.install_set.ensures.held.open_still tt
-    (ap (λ (g : Bor (Gates (Shard _))). g.now) c.install_set.ensures.held.kept.gates ∙ c.commit_line.ensures.gates ∙ ap (λ (g : Bor (Gates (Shard _))). g.now) c.reserve_freeing.ensures.held.kept.gates)
-    (c.install_set.ensures.held.kept.pass ∙ c.commit_line.ensures.pass ∙ c.reserve_freeing.ensures.held.kept.pass)
+    given_still s Nothing start last c.install_put.ensures.held.open_still tt
+    (ap (λ (g : Bor (Gates (Shard _))). g.now) c.install_put.ensures.held.kept.gates ∙ c.commit_line.ensures.gates ∙ ap (λ (g : Bor (Gates (Shard _))). g.now) c.reserve_freeing.ensures.held.kept.gates)
+    (c.install_put.ensures.held.kept.pass ∙ c.commit_line.ensures.pass ∙ c.reserve_freeing.ensures.held.kept.pass)
     (fit_installed s n (known_to start).number c.in-Ok.field-0 (asked.Run (Set c.args.key.now c.args.value.now Always)) (line_reply Done) start mid done last refl refl
     (λ t. c.writes_install_a_command.ensures n (known_to start).number (Set c.args.key.now c.args.value.now Always) (known_to start).seen (known_to start).watched (line_reply Done) ((c.args.key.now, Some c.args.value.now) ∷ [])
     (parts_of s start) (parts_of s done) (parts_of s last) ((rw c.key.ensures at c.weighs_too_much.ensures.light) c.if-weighs_too_much.false (known_to start).seen)
     (stands s n (known_to start).number start refl c.requires.may.fit t) reserved installed)
-    c.requires.may.fit c.reserve_freeing.ensures.held.kept c.reserve_freeing.ensures.became.there c.commit_line.ensures.taken c.in-Ok.ensures.ok c.install_set.ensures.held.kept)
+    c.requires.may.fit c.reserve_freeing.ensures.held.kept c.reserve_freeing.ensures.became.there c.commit_line.ensures.taken c.in-Ok.ensures.ok c.install_put.ensures.held.kept)
 
 pub returns-in-Ok-clause-answered : goal.returns-in-Ok-clause-answered
 returns-in-Ok-clause-answered g c = record {
   done =
-      done_by (set_call c.args.key.now c.args.value.now) (line_reply Done) _ c.in-Ok.field-0 _ (known_to c.args.held.now) (known_to c.reserve_freeing.new.parts) (known_to c.commit_line.new.held) (known_to c.install_set.new.parts)
-      (g.D.Device.failures c.args.device.now) (g.D.Device.failures c.reserve_freeing.new.device) refl c.reserve_freeing.ensures.held.kept.known c.install_set.ensures.held.kept.known c.in-Ok.ensures.ok c.in_default.ensures.failed;
+      done_by (set_call c.args.key.now c.args.value.now) (line_reply Done) _ c.in-Ok.field-0 _ (known_to c.args.held.now) (known_to c.reserve_freeing.new.parts) (known_to c.commit_line.new.held) (known_to c.install_put.new.parts)
+      (g.D.Device.failures c.args.device.now) (g.D.Device.failures c.reserve_freeing.new.device) refl c.reserve_freeing.ensures.held.kept.known c.install_put.ensures.held.kept.known c.in-Ok.ensures.ok c.in_default.ensures.failed;
   undone = tt;
 }
 

@@ -37,3 +37,17 @@ returns-clause-grown g c =
       grown = c.set.ensures.grown;
       others = λ j ne. logs_as before later j (c.part.ensures.others new j (λ e. ne (e ∙ sym at)));
     }
+
+pub returns-clause-room : goal.returns-clause-room
+returns-clause-room g c = λ weight light has.
+    let s : ℕ = stripe_of (g.P.Parts.stripes_of c.args.parts.now) c.args.key.now in
+    let i : ℕ = c.stripe_at-stripe.result in
+    let new = c.set.new.self in
+    let before = g.P.Parts.part_of c.args.parts.now in
+    let later = g.P.Parts.part_of (g.P.Parts.with_part c.args.parts.now i new) in
+    let at : s ≡ i = sym c.stripe_at-stripe.ensures in
+    record {
+      log = shard_log new;
+      there = ap (logs_of later) at ∙ log_at later i new (c.part.ensures.written new);
+      room = c.set.ensures.room weight light (room_of (logs_of before) s weight (shard_log c.part.result.now) has (ap (logs_of before) at ∙ log_at before i c.part.result.now c.part.ensures.value));
+    }

@@ -20,8 +20,8 @@ freed-init g c =
       same = refl;
     }
 
-pub reserve_set-requires : goal.reserve_set-requires
-reserve_set-requires g c = record {
+pub reserve_put-requires : goal.reserve_put-requires
+reserve_put-requires g c = record {
   may = record {
     may = record {
       can_lend = c.freed.invariant.is_open;
@@ -33,7 +33,7 @@ reserve_set-requires g c = record {
 
 pub free_at-freed-requires-clause-there : goal.free_at-freed-requires-clause-there
 free_at-freed-requires-clause-there g c =
-    full_there (g.P.Parts.part_of c.reserve_set.new.parts) c.in-Err-StoreFull.stripe (rw (c.in-Err-StoreFull.field-0-is, g.met.P.Parts.same_stripes c.args.parts.now c.freed.parts c.freed.invariant.keeps) at c.in-Err-StoreFull.ensures.stopped.why).2
+    full_there (g.P.Parts.part_of c.reserve_put.new.parts) c.in-Err-StoreFull.stripe (rw (c.in-Err-StoreFull.field-0-is, g.met.P.Parts.same_stripes c.args.parts.now c.freed.parts c.freed.invariant.keeps) at c.in-Err-StoreFull.ensures.stopped.why).2
 
 pub freed-preserved : goal.freed-preserved
 freed-preserved g c =
@@ -42,31 +42,31 @@ freed-preserved g c =
     let inv = c.freed.invariant in
     let start = g.P.Parts.part_of c.args.parts.now in
     let now = g.P.Parts.part_of c.freed.parts in
-    let mid = g.P.Parts.part_of c.reserve_set.new.parts in
+    let mid = g.P.Parts.part_of c.reserve_put.new.parts in
     let last = g.P.Parts.part_of c.free_at-freed.new.parts in
     let faulty = rw c.in-Err-StoreFull.field-0-is at c.in-Err-StoreFull.ensures.failed in
     record {
       is_open = c.free_at-freed.ensures.held.open_still;
-      keeps = g.met.P.Parts.keeps_both c.args.parts.now c.reserve_set.new.parts c.free_at-freed.new.parts
-          (g.met.P.Parts.keeps_both c.args.parts.now c.freed.parts c.reserve_set.new.parts inv.keeps c.reserve_set.ensures.held.kept) c.free_at-freed.ensures.held.kept;
+      keeps = g.met.P.Parts.keeps_both c.args.parts.now c.reserve_put.new.parts c.free_at-freed.new.parts
+          (g.met.P.Parts.keeps_both c.args.parts.now c.freed.parts c.reserve_put.new.parts inv.keeps c.reserve_put.ensures.held.kept) c.free_at-freed.ensures.held.kept;
       is = c.free_at-freed.ensures.is;
-      became = became_twice m n start mid last (became_twice m n start now mid inv.became (rw (g.met.P.Parts.same_stripes c.args.parts.now c.freed.parts c.freed.invariant.keeps) at c.reserve_set.ensures.reserved.became)) (rw (g.met.P.Parts.same_stripes c.args.parts.now c.reserve_set.new.parts (g.met.P.Parts.keeps_both c.args.parts.now c.freed.parts c.reserve_set.new.parts c.freed.invariant.keeps c.reserve_set.ensures.held.kept)) at c.free_at-freed.ensures.became);
-      lasts = lasts_freed start mid last c.in-Err-StoreFull.stripe c.free_at-freed.result (lasts_still start now mid inv.lasts c.reserve_set.ensures.reserved.stands.waits) c.free_at-freed.ensures.freed;
+      became = became_twice m n start mid last (became_twice m n start now mid inv.became (rw (g.met.P.Parts.same_stripes c.args.parts.now c.freed.parts c.freed.invariant.keeps) at c.reserve_put.ensures.reserved.became)) (rw (g.met.P.Parts.same_stripes c.args.parts.now c.reserve_put.new.parts (g.met.P.Parts.keeps_both c.args.parts.now c.freed.parts c.reserve_put.new.parts c.freed.invariant.keeps c.reserve_put.ensures.held.kept)) at c.free_at-freed.ensures.became);
+      lasts = lasts_freed start mid last c.in-Err-StoreFull.stripe c.free_at-freed.result (lasts_still start now mid inv.lasts c.reserve_put.ensures.reserved.stands.waits) c.free_at-freed.ensures.freed;
       heard = heard_more c.free_at-freed.result.refused.retire (g.S.Retires.knows c.args.own.now) (g.S.Retires.knows c.freed.own) (g.S.Retires.knows c.free_at-freed.new.own) inv.heard c.free_at-freed.ensures.told;
       same = omega (arith, c.free_at-freed.ensures.no_fault, faulty, inv.same);
     }
 
 pub freed-smaller : goal.freed-smaller
 freed-smaller g c =
-    waits_fewer (g.P.Parts.stripes_of c.args.parts.now) c.in-Err-StoreFull.stripe (g.P.Parts.part_of c.freed.parts) (g.P.Parts.part_of c.reserve_set.new.parts) (g.P.Parts.part_of c.free_at-freed.new.parts) c.free_at-freed.result
-    (below_all (g.P.Parts.stripes_of c.args.parts.now) c.in-Err-StoreFull.stripe c.args.key.now (g.met.P.Parts.are_few c.args.parts.now c.requires.may.may.can_lend).0 (rw (c.in-Err-StoreFull.field-0-is, g.met.P.Parts.same_stripes c.args.parts.now c.freed.parts c.freed.invariant.keeps) at c.in-Err-StoreFull.ensures.stopped.why).0) (not-false c.free_at-freed.result.released c.if-not-freed.false) c.reserve_set.ensures.reserved.stands.waits c.free_at-freed.ensures.freed
+    waits_fewer (g.P.Parts.stripes_of c.args.parts.now) c.in-Err-StoreFull.stripe (g.P.Parts.part_of c.freed.parts) (g.P.Parts.part_of c.reserve_put.new.parts) (g.P.Parts.part_of c.free_at-freed.new.parts) c.free_at-freed.result
+    (below_all (g.P.Parts.stripes_of c.args.parts.now) c.in-Err-StoreFull.stripe c.args.key.now (g.met.P.Parts.are_few c.args.parts.now c.requires.may.may.can_lend).0 (rw (c.in-Err-StoreFull.field-0-is, g.met.P.Parts.same_stripes c.args.parts.now c.freed.parts c.freed.invariant.keeps) at c.in-Err-StoreFull.ensures.stopped.why).0) (not-false c.free_at-freed.result.released c.if-not-freed.false) c.reserve_put.ensures.reserved.stands.waits c.free_at-freed.ensures.freed
 
 pub returns-in-Ok-clause-retires : goal.returns-in-Ok-clause-retires
 returns-in-Ok-clause-retires g c = record { is = c.freed.invariant.is; heard = c.freed.invariant.heard }
 
 pub returns-in-Ok-clause-became : goal.returns-in-Ok-clause-became
 returns-in-Ok-clause-became g c =
-    became_twice (shard_meaning g.R.Shows.is_steady) (g.P.Parts.stripes_of c.args.parts.now) (g.P.Parts.part_of c.args.parts.now) (g.P.Parts.part_of c.freed.parts) (g.P.Parts.part_of c.reserve_set.new.parts) c.freed.invariant.became (rw (g.met.P.Parts.same_stripes c.args.parts.now c.freed.parts c.freed.invariant.keeps) at c.reserve_set.ensures.reserved.became)
+    became_twice (shard_meaning g.R.Shows.is_steady) (g.P.Parts.stripes_of c.args.parts.now) (g.P.Parts.part_of c.args.parts.now) (g.P.Parts.part_of c.freed.parts) (g.P.Parts.part_of c.reserve_put.new.parts) c.freed.invariant.became (rw (g.met.P.Parts.same_stripes c.args.parts.now c.freed.parts c.freed.invariant.keeps) at c.reserve_put.ensures.reserved.became)
 
 pub returns-in-Ok-clause-room : goal.returns-in-Ok-clause-room
 returns-in-Ok-clause-room g c = rw (g.met.P.Parts.same_stripes c.args.parts.now c.freed.parts c.freed.invariant.keeps) at c.in-Ok.ensures.room.room
@@ -76,8 +76,8 @@ returns-in-Ok-clause-failed g c = c.in-Ok.ensures.failed ∙ c.freed.invariant.s
 
 pub returns-in-Ok-clause-held : goal.returns-in-Ok-clause-held
 returns-in-Ok-clause-held g c = record {
-  open_still = c.reserve_set.ensures.held.open_still;
-  kept = g.met.P.Parts.keeps_both c.args.parts.now c.freed.parts c.reserve_set.new.parts c.freed.invariant.keeps c.reserve_set.ensures.held.kept;
+  open_still = c.reserve_put.ensures.held.open_still;
+  kept = g.met.P.Parts.keeps_both c.args.parts.now c.freed.parts c.reserve_put.new.parts c.freed.invariant.keeps c.reserve_put.ensures.held.kept;
 }
 
 pub returns-then-not-freed-clause-retires : goal.returns-then-not-freed-clause-retires
@@ -91,8 +91,8 @@ returns-then-not-freed-clause-became g c =
     let m = shard_meaning g.R.Shows.is_steady in
     let n : ℕ = (g.P.Parts.stripes_of c.args.parts.now) in
     let start = g.P.Parts.part_of c.args.parts.now in
-    let mid = g.P.Parts.part_of c.reserve_set.new.parts in
-    became_twice m n start mid (g.P.Parts.part_of c.free_at-freed.new.parts) (became_twice m n start (g.P.Parts.part_of c.freed.parts) mid c.freed.invariant.became (rw (g.met.P.Parts.same_stripes c.args.parts.now c.freed.parts c.freed.invariant.keeps) at c.reserve_set.ensures.reserved.became)) (rw (g.met.P.Parts.same_stripes c.args.parts.now c.reserve_set.new.parts (g.met.P.Parts.keeps_both c.args.parts.now c.freed.parts c.reserve_set.new.parts c.freed.invariant.keeps c.reserve_set.ensures.held.kept)) at c.free_at-freed.ensures.became)
+    let mid = g.P.Parts.part_of c.reserve_put.new.parts in
+    became_twice m n start mid (g.P.Parts.part_of c.free_at-freed.new.parts) (became_twice m n start (g.P.Parts.part_of c.freed.parts) mid c.freed.invariant.became (rw (g.met.P.Parts.same_stripes c.args.parts.now c.freed.parts c.freed.invariant.keeps) at c.reserve_put.ensures.reserved.became)) (rw (g.met.P.Parts.same_stripes c.args.parts.now c.reserve_put.new.parts (g.met.P.Parts.keeps_both c.args.parts.now c.freed.parts c.reserve_put.new.parts c.freed.invariant.keeps c.reserve_put.ensures.held.kept)) at c.free_at-freed.ensures.became)
 
 pub returns-then-not-freed-clause-halted : goal.returns-then-not-freed-clause-halted
 returns-then-not-freed-clause-halted g c = (rw (c.in-Err-StoreFull.field-0-is, g.met.P.Parts.same_stripes c.args.parts.now c.freed.parts c.freed.invariant.keeps) at c.in-Err-StoreFull.ensures.stopped.why).0
@@ -100,11 +100,11 @@ returns-then-not-freed-clause-halted g c = (rw (c.in-Err-StoreFull.field-0-is, g
 pub returns-then-not-freed-clause-full : goal.returns-then-not-freed-clause-full
 returns-then-not-freed-clause-full g c =
     let start = g.P.Parts.part_of c.args.parts.now in
-    let mid = g.P.Parts.part_of c.reserve_set.new.parts in
+    let mid = g.P.Parts.part_of c.reserve_put.new.parts in
     let last = g.P.Parts.part_of c.free_at-freed.new.parts in
     record {
       full = full_still mid last c.in-Err-StoreFull.stripe c.free_at-freed.result (not-true c.free_at-freed.result.released c.if-not-freed.true) c.free_at-freed.ensures.freed (rw (c.in-Err-StoreFull.field-0-is, g.met.P.Parts.same_stripes c.args.parts.now c.freed.parts c.freed.invariant.keeps) at c.in-Err-StoreFull.ensures.stopped.why).2;
-      spent = spent_at start mid last c.in-Err-StoreFull.stripe c.free_at-freed.result (lasts_still start (g.P.Parts.part_of c.freed.parts) mid c.freed.invariant.lasts c.reserve_set.ensures.reserved.stands.waits) c.free_at-freed.ensures.freed;
+      spent = spent_at start mid last c.in-Err-StoreFull.stripe c.free_at-freed.result (lasts_still start (g.P.Parts.part_of c.freed.parts) mid c.freed.invariant.lasts c.reserve_put.ensures.reserved.stands.waits) c.free_at-freed.ensures.freed;
       worn = λ worn. heard_worn c.free_at-freed.result.refused.retire (g.S.Retires.knows c.args.own.now) (g.S.Retires.knows c.freed.own) (g.S.Retires.knows c.free_at-freed.new.own) c.freed.invariant.heard c.free_at-freed.ensures.told worn;
     }
 
@@ -116,8 +116,8 @@ returns-then-not-freed-clause-failed g c =
 pub returns-then-not-freed-clause-held : goal.returns-then-not-freed-clause-held
 returns-then-not-freed-clause-held g c = record {
   open_still = c.free_at-freed.ensures.held.open_still;
-  kept = g.met.P.Parts.keeps_both c.args.parts.now c.reserve_set.new.parts c.free_at-freed.new.parts
-      (g.met.P.Parts.keeps_both c.args.parts.now c.freed.parts c.reserve_set.new.parts c.freed.invariant.keeps c.reserve_set.ensures.held.kept) c.free_at-freed.ensures.held.kept;
+  kept = g.met.P.Parts.keeps_both c.args.parts.now c.reserve_put.new.parts c.free_at-freed.new.parts
+      (g.met.P.Parts.keeps_both c.args.parts.now c.freed.parts c.reserve_put.new.parts c.freed.invariant.keeps c.reserve_put.ensures.held.kept) c.free_at-freed.ensures.held.kept;
 }
 
 pub returns-in-Err-clause-retires : goal.returns-in-Err-clause-retires
@@ -125,7 +125,7 @@ returns-in-Err-clause-retires g c = record { is = c.freed.invariant.is; heard = 
 
 pub returns-in-Err-clause-became : goal.returns-in-Err-clause-became
 returns-in-Err-clause-became g c =
-    became_twice (shard_meaning g.R.Shows.is_steady) (g.P.Parts.stripes_of c.args.parts.now) (g.P.Parts.part_of c.args.parts.now) (g.P.Parts.part_of c.freed.parts) (g.P.Parts.part_of c.reserve_set.new.parts) c.freed.invariant.became (rw (g.met.P.Parts.same_stripes c.args.parts.now c.freed.parts c.freed.invariant.keeps) at c.reserve_set.ensures.reserved.became)
+    became_twice (shard_meaning g.R.Shows.is_steady) (g.P.Parts.stripes_of c.args.parts.now) (g.P.Parts.part_of c.args.parts.now) (g.P.Parts.part_of c.freed.parts) (g.P.Parts.part_of c.reserve_put.new.parts) c.freed.invariant.became (rw (g.met.P.Parts.same_stripes c.args.parts.now c.freed.parts c.freed.invariant.keeps) at c.reserve_put.ensures.reserved.became)
 
 pub returns-in-Err-clause-halted : goal.returns-in-Err-clause-halted
 returns-in-Err-clause-halted g c =
@@ -137,6 +137,6 @@ returns-in-Err-clause-failed g c = c.in-Err.ensures.failed ∙ ap (λ (k : ℕ).
 
 pub returns-in-Err-clause-held : goal.returns-in-Err-clause-held
 returns-in-Err-clause-held g c = record {
-  open_still = c.reserve_set.ensures.held.open_still;
-  kept = g.met.P.Parts.keeps_both c.args.parts.now c.freed.parts c.reserve_set.new.parts c.freed.invariant.keeps c.reserve_set.ensures.held.kept;
+  open_still = c.reserve_put.ensures.held.open_still;
+  kept = g.met.P.Parts.keeps_both c.args.parts.now c.freed.parts c.reserve_put.new.parts c.freed.invariant.keeps c.reserve_put.ensures.held.kept;
 }

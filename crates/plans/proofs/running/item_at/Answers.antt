@@ -17,5 +17,5 @@ returns-in-Ok-clause-item g c = λ store same.
     c.in-Ok.ensures.ok ∙ ap (λ l. l ++ (c.as_slice.result.now, value) ∷ []) c.new-found.ensures ∙ ap (λ k. (k, value) ∷ []) (c.as_slice.ensures ∙ c.key.ensures) in
     some_then (λ (item : Item). item ≡ item_of (written (written empty c.push.new.self) c.args.writes.now c.as_slice-in-Ok.result.now)) (λ item. right → item ≡ item_of (written store c.args.writes.now key)) c.item_after.result
     (λ item is. item_one right (shard_store c.args.part.now) store key c.args.writes.now item c.push.new.self
-    (record { value = value; are = found; has = c.in_ok-value.ensures }) same
+    (record { value = value; are = found; has = c.in_ok-value.ensures.found }) same
     (is ∙ ap (λ k. item_of (written (written empty c.push.new.self) c.args.writes.now k)) (c.as_slice-in-Ok.ensures ∙ c.key-in-Ok.ensures))) c.item_after.ensures.item

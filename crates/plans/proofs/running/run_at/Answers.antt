@@ -15,4 +15,4 @@ returns-in-Ok g c = λ store same.
     c.in-Ok.ensures.ok ∙ ap (λ l. l ++ (c.as_slice.result.now, value) ∷ []) c.new-found.ensures ∙ ap (λ k. (k, value) ∷ []) (c.as_slice.ensures ∙ c.key.ensures) in
     some_then (HasRun (written empty c.push.new.self) c.args.command.now c.args.writes.now c.run_after.new.writes) (HasRunOn right store c.args.command.now c.args.writes.now c.run_after.new.writes) c.run_after.result
     (λ reply ran. runs_one right (shard_store c.args.part.now) store c.args.key.now c.args.command.now c.args.writes.now c.run_after.new.writes reply c.push.new.self c.requires.reads
-    (record { value = value; are = found; has = c.in_ok-value.ensures }) same ran) c.run_after.ensures
+    (record { value = value; are = found; has = c.in_ok-value.ensures.found }) same ran) c.run_after.ensures

@@ -1,4 +1,4 @@
-use Rattle.std.proofs.Common.{◌≡◌, ◌∙◌, ◌++◌, ◌∷◌, [], ℕ, List, Some, refl, sym, ap, subst}
+use Rattle.std.proofs.Common.{◌≡◌, ◌∙◌, ◌++◌, ◌∷◌, [], ℕ, Some, sym, ap, subst}
 use Rattle.std.specs.Bool.{OnTrue}
 use Rattle.words.specs.declared.reply.Item.{Item}
 use Rattle.words.specs.Answers.{item_of}
