@@ -25,7 +25,7 @@ use Rattle.connection.specs.declared.answering.Paused.TheVariants as paused
 use Rattle.connection.specs.declared.reading.TheConstants.{PIECE_BYTES}
 use Rattle.connection.specs.declared.reading.Waiting.{Waiting}
 use Rattle.connection.specs.declared.reading.Waiting.TheVariants as waiting
-use Rattle.connection.specs.Clients.{Progress, beginning, IsReady, IsOpen, mode_of, watched_of, turn_at, TakesOff, WantsMemory}
+use Rattle.connection.specs.Clients.{Progress, beginning, before, IsIdle, IsReady, IsOpen, mode_of, watched_of, turn_at, TakesOff, WantsMemory}
 use Rattle.connection.specs.Conversations.{Went, Leads, Conversation, Answers}
 
 -- a client that was fed these bytes at once, and has answered none of them
@@ -290,3 +290,8 @@ HasTurned old due.NoMemory new = WantsMemory old.unread × IsOpen (mode_of old.s
 pub record Attends (knows : Known) (at : Progress) : Type 0 where
   pub ready : IsReady at.stage
   pub watches : watched_of at.stage ≡ keys_of_pairs knows.watched
+
+-- what became of a request of these words is due to each client that is in no transaction and attends to what its pass knew
+abbrev pub IsDueToIdle : Promises → (was now : Known) → (words : List Bytes) → Due → Type 0
+IsDueToIdle promises was now words came =
+    (at : Progress) → Attends was at → IsIdle at.stage → IsDue promises was now (before words at) came at

@@ -13,7 +13,7 @@ ghost use Rattle.words.specs.Session.{line_reply};
 ghost use Rattle.words.specs.Spelling.{IsRequest};
 ghost use Rattle.transact.specs.Calls.{answer_of, reply_to};
 ghost use Rattle.connection.specs.Clients.{Progress, before, mode_of, IsIdle, IsOpen};
-ghost use Rattle.connection.specs.Served.{HasTurned, IsDue, Attends, Conversing, HasPaused, IsFed, StandsAt, LeavesAt, paused_told, HasAnswered, GoesOn, EndsAnswering, answered_told};
+ghost use Rattle.connection.specs.Served.{HasTurned, IsDue, IsDueToIdle, Attends, Conversing, HasPaused, IsFed, StandsAt, LeavesAt, paused_told, HasAnswered, GoesOn, EndsAnswering, answered_told};
 ghost use Rattle.std.specs.Io.KnownBytes.{Appends, Consumes};
 
 use crate::client::{Client, Front, Next};
@@ -303,9 +303,8 @@ fn answer_values<T: Wait, L: Latch, D: Device>(
     requires request { IsRequest words.now }
     requires values { IsMGet words.now }
     ensures turned { (at : Progress) → IsIdle at.stage → HasTurned (before words.now at) result at }
-    ensures due { (at : Progress) → Attends (knows D.failures pass.old) at → IsIdle at.stage
-        → IsDue (promises_of D.Receipt.is_steady D.Receipt.lends (stripe_count store.now.engine.now))
-        (knows D.failures pass.old) (knows D.failures pass.new) (before words.now at) result at }
+    ensures due { IsDueToIdle (promises_of D.Receipt.is_steady D.Receipt.lends (stripe_count store.now.engine.now))
+        (knows D.failures pass.old) (knows D.failures pass.new) words.now result }
     ensures rests { Rests D.Receipt.is_steady store.now.engine.now pass.new }
     ensures attends { (at : Progress) → Attends (knows D.failures pass.old) at → IsIdle at.stage → Attends (knows D.failures pass.new) at }
 {
@@ -332,9 +331,8 @@ fn answer_settings<T: Wait, L: Latch, D: Device>(
     requires request { IsRequest words.now }
     requires settings { IsMSet words.now }
     ensures turned { (at : Progress) → IsIdle at.stage → HasTurned (before words.now at) result at }
-    ensures due { (at : Progress) → Attends (knows D.failures pass.old) at → IsIdle at.stage
-        → IsDue (promises_of D.Receipt.is_steady D.Receipt.lends (stripe_count store.now.engine.now))
-        (knows D.failures pass.old) (knows D.failures pass.new) (before words.now at) result at }
+    ensures due { IsDueToIdle (promises_of D.Receipt.is_steady D.Receipt.lends (stripe_count store.now.engine.now))
+        (knows D.failures pass.old) (knows D.failures pass.new) words.now result }
     ensures rests { Rests D.Receipt.is_steady store.now.engine.now pass.new }
     ensures attends { (at : Progress) → Attends (knows D.failures pass.old) at → IsIdle at.stage → Attends (knows D.failures pass.new) at }
 {
@@ -360,9 +358,8 @@ fn answer_one<T: Wait, L: Latch, D: Device>(
     requires request { IsRequest words.now }
     requires one { IsOne verb words.now }
     ensures turned { (at : Progress) → IsIdle at.stage → HasTurned (before words.now at) result at }
-    ensures due { (at : Progress) → Attends (knows D.failures pass.old) at → IsIdle at.stage
-        → IsDue (promises_of D.Receipt.is_steady D.Receipt.lends (stripe_count store.now.engine.now))
-        (knows D.failures pass.old) (knows D.failures pass.new) (before words.now at) result at }
+    ensures due { IsDueToIdle (promises_of D.Receipt.is_steady D.Receipt.lends (stripe_count store.now.engine.now))
+        (knows D.failures pass.old) (knows D.failures pass.new) words.now result }
     ensures rests { Rests D.Receipt.is_steady store.now.engine.now pass.new }
     ensures attends { (at : Progress) → Attends (knows D.failures pass.old) at → IsIdle at.stage → Attends (knows D.failures pass.new) at }
 {
