@@ -40,6 +40,7 @@ use Rattle.engine.specs.declared.enter.Stopped.{Stopped}
 use Rattle.engine.specs.declared.one.Commanding.{Commanding}
 use Rattle.engine.specs.declared.get.Found.{Found}
 use Rattle.engine.specs.declared.get.Getting.{Getting}
+use Rattle.engine.specs.declared.get.Saying.{Saying}
 use Rattle.engine.specs.declared.set.Setting.{Setting}
 use Rattle.engine.specs.declared.gather.Reading.{Reading}
 use Rattle.engine.specs.declared.gather.Told.{Told}
@@ -123,6 +124,10 @@ at_fault asked knows = record knows { watched = watched_at_fault knows.watched a
 -- what a pass of the gates knows once it has given its stripes back with a report, and with an end of all that it watches or without
 abbrev pub given : (ends : Bool) → Report → Knowledge → Knowledge
 given ends report knows = kept ends (notes_of report) knows
+
+-- what is said to a GET that has said this
+abbrev pub saying_reply : Saying → Reply
+saying_reply saying = value_reply saying.value.now
 
 -- A call that is planned: it makes an entry, and is no SET without an option.
 pub record IsPlanned (call : Call) : Type 0 where

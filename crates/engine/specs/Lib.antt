@@ -1,4 +1,5 @@
 pub mod Memory
+pub mod Got
 pub mod Entering
 pub mod Passes
 pub mod Calls

@@ -12,7 +12,7 @@
 //! Background threads make their steps by a [`Pass`] too.
 #![tactic(auto)]
 
-ghost use Rattle.std.specs.Prelude.{◌≡◌, ◌+◌, ◌<◌, [], ℕ, All, IfOk, IfErr, vec_len};
+ghost use Rattle.std.specs.Prelude.{◌≡◌, ◌+◌, ◌<◌, ◌≤◌, ◌++◌, [], ℕ, All, IfOk, IfErr, vec_len, vec_capacity};
 ghost use Rattle.words.specs.Bounds.{IsBounded};
 ghost use Rattle.words.specs.Briefs.{commanded, pairs_of};
 ghost use Rattle.words.specs.declared.command.Command.TheVariants as command;
@@ -24,6 +24,7 @@ ghost use Rattle.transact.specs.Plans.{EndsAll};
 ghost use Rattle.transact.specs.Submits.{stripes_asked};
 ghost use Rattle.shards.specs.Shards.{shard_meaning};
 ghost use Rattle.engine.specs.Entering.{values_answer};
+ghost use Rattle.engine.specs.Got.{got_answer, text_said};
 ghost use Rattle.engine.specs.Memory.{get_call, one_call, set_call, settings_call, values_call};
 ghost use Rattle.engine.specs.Passes.{AreOf, knows, Rests, stripe_count};
 ghost use Rattle.engine.specs.Answers.{ComesTo, WaitsAndComesTo};
@@ -33,7 +34,7 @@ use crate::assign::submit_settings;
 use crate::call::{submit, try_submit};
 use crate::deal::deal;
 use crate::gather::submit_values;
-use crate::get::submit_get;
+use crate::get::{submit_get, submit_say};
 use crate::one::{Commanding, submit_one};
 use crate::set::{Setting, submit_set};
 use crate::site::Site;
@@ -66,6 +67,7 @@ mod steps;
 mod visit;
 
 pub use gather::Gathered;
+pub use get::Got;
 pub use pass::Pass;
 
 /// How many passes there are beside one for each client: those of the threads that work in the
@@ -207,6 +209,49 @@ impl<D: Device> Engine<D> {
             &mut pass.device,
             &mut pass.hands,
             key,
+        );
+        latch.at(number, Point::After);
+        answer
+    }
+
+    /// The same as [`get`](Engine::get), which is answered in the buffer of its caller: where what the key has lies near and the
+    /// buffer has room for the reply, the reply is appended, and the value is copied once, from where it lies; else nothing is. It
+    /// takes no memory for the buffer.
+    ///
+    /// # Errors
+    ///
+    /// The fault that [`submit_with`](Engine::submit_with) answers. Nothing is appended then.
+    pub fn say<T: Wait, L: Latch>(
+        &self,
+        rt: &T,
+        pass: &mut Pass<D>,
+        key: &Word,
+        out: &mut Vec<u8>,
+        latch: &L,
+    ) -> Result<Got, Fault>
+        requires rests { Rests D.Receipt.is_steady self.now pass.old }
+        requires place { IsBounded (command.Get key.now) }
+        ensures rests { Rests D.Receipt.is_steady self.now pass.new }
+        ensures answered { WaitsAndComesTo D.Receipt.is_steady D.Receipt.lends D.failures self.now (get_call key.now) (got_answer result)
+            pass.old pass.new }
+        ensures said { out.new.items ≡ out.old.items ++ text_said result }
+        ensures within { vec_len out.new ≤ vec_capacity out.old }
+    {
+        let number = pass.gates.number();
+        latch.at(number, Point::Before);
+        let site = Site {
+            gates: &self.gates,
+            epochs: &self.epochs,
+            latch,
+        };
+        let answer = submit_say(
+            rt,
+            &site,
+            &mut pass.gates,
+            &mut pass.device,
+            &mut pass.hands,
+            key,
+            out,
         );
         latch.at(number, Point::After);
         answer

@@ -1,12 +1,14 @@
 //! What keys have, told as a reply spells it: each value is copied once, from where it lies.
 
-ghost use Rattle.std.specs.Prelude.{◌≡◌, ◌++◌, ◌∷◌, [], IfSome};
+ghost use Rattle.std.specs.Prelude.{◌≡◌, ◌+◌, ◌≤◌, ◌++◌, ◌∷◌, [], length, IfNone, IfSome, IsSome, vec_len, vec_capacity};
 ghost use Rattle.std.specs.Bool.{OnTrue};
 ghost use Rattle.words.specs.Answers.{item_of};
+ghost use Rattle.words.specs.Encoding.{encoding};
+ghost use Rattle.words.specs.Session.{value_reply};
 ghost use Rattle.hybrid.specs.Staging.{AreRight};
 ghost use Rattle.transact.specs.Tables.{joined};
 ghost use Rattle.shards.specs.Shards.{shard_meaning, shard_store};
-ghost use Rattle.plans.specs.Planning.{IsStillHeld, MayLookUp};
+ghost use Rattle.plans.specs.Planning.{IsStillHeld, IsValueIn, MayLookUp};
 ghost use Rattle.plans.specs.Telling.{AreValuesIn};
 
 use crate::cells::stripe_at;
@@ -14,6 +16,7 @@ use crate::running::value_at;
 use device::Shows;
 use gates::Parts;
 use hybrid::Staged;
+use resp_write::{Said, say_within};
 use shards::shard::Shard;
 use std::alloc::Global;
 use words::bulks::Bulks;
@@ -75,4 +78,48 @@ pub fn tell_values<R: Shows, P: Parts<Shard<R>>>(
         left = others;
     }
     Some(told)
+}
+
+/// Says what a key has, on the part of its stripe.
+fn say_at<R: Shows>(
+    part: &Shard<R>,
+    key: &Hashed,
+    staged: &Staged<R>,
+    out: &mut Vec<u8>,
+) -> Option<Said>
+    ensures value { IfSome result (λ value. R.is_honest × AreRight staged.now → value ≡ shard_store part.now key.now) }
+    ensures said { IfSome result (λ value. out.new.items ≡ out.old.items ++ encoding (value_reply value)) }
+    ensures within { IsSome result → vec_len out.new ≤ vec_capacity out.old }
+    ensures unsaid { IfNone result (out.new.items ≡ out.old.items) }
+    ensures room { R.lends → R.is_honest × AreRight staged.now
+        → vec_len out.old + length (encoding (value_reply (shard_store part.now key.now))) ≤ vec_capacity out.old → IsSome result }
+    ensures capacity { vec_capacity out.old ≤ vec_capacity out.new }
+{
+    match value_at(part, key, staged) {
+        Some(value) => say_within(value, out),
+        None => None,
+    }
+}
+
+/// Says what a key has, as a GET of it is due to be answered: it is copied once, from where it lies to the end of the buffer. `None`
+/// where a page is wanted, or the buffer has no room for it: it takes no memory.
+pub fn say_value<R: Shows, P: Parts<Shard<R>>>(
+    parts: &mut P,
+    key: &Hashed,
+    staged: &Staged<R>,
+    out: &mut Vec<u8>,
+) -> Option<Said>
+    requires may { MayLookUp (P.is_open parts.old) (P.stripes_of parts.old) (P.part_of parts.old) (key.now ∷ []) }
+    ensures value { IfSome result (IsValueIn R.is_steady P.stripes_of P.part_of parts.old (R.is_honest × AreRight staged.now) key.now) }
+    ensures said { IfSome result (λ value. out.new.items ≡ out.old.items ++ encoding (value_reply value)) }
+    ensures within { IsSome result → vec_len out.new ≤ vec_capacity out.old }
+    ensures unsaid { IfNone result (out.new.items ≡ out.old.items) }
+    ensures room { R.lends → R.is_honest × AreRight staged.now → vec_len out.old + length (encoding (value_reply
+        (joined (shard_meaning R.is_steady) (P.stripes_of parts.old) (P.part_of parts.old) key.now))) ≤ vec_capacity out.old → IsSome result }
+    ensures capacity { vec_capacity out.old ≤ vec_capacity out.new }
+    ensures same { P.part_of parts.new ≡ P.part_of parts.old }
+    ensures held { IsStillHeld P.is_open P.keeps parts.old parts.new }
+{
+    let stripe = stripe_at(&*parts, key);
+    say_at(parts.part(stripe), key, staged, out)
 }
