@@ -14,11 +14,19 @@ mod failing;
 #[cfg(test)]
 mod followed;
 #[cfg(test)]
+mod full;
+#[cfg(test)]
 mod hostile;
 #[cfg(test)]
 mod keys;
 #[cfg(test)]
+mod lengths;
+#[cfg(test)]
 mod many_keys;
+#[cfg(test)]
+mod msets;
+#[cfg(test)]
+mod one_cold;
 #[cfg(test)]
 mod pieces;
 #[cfg(test)]

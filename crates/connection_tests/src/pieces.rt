@@ -32,6 +32,8 @@ pub(crate) struct Source<'a> {
     interrupted: bool,
     /// Whether it tells what is there already. Then all bytes are.
     pub(crate) tells_ready: bool,
+    /// The number that the size of the next read is drawn from, if it is drawn: up to 127 bytes.
+    pub(crate) draws: Option<u64>,
 }
 
 impl Source<'_> {
@@ -45,6 +47,7 @@ impl Source<'_> {
             interrupts: false,
             interrupted: false,
             tells_ready: false,
+            draws: None,
         }
     }
 }
@@ -67,12 +70,23 @@ impl Read for Source<'_> {
             count = count.min(self.cut_after);
             self.cut_after -= count;
         }
+        if let Some(number) = self.draws {
+            count = count.min(((number % 127) as usize).saturating_add(1));
+            self.draws = Some(next_drawn(number));
+        }
         let bytes = self.bytes;
         let (front, back) = bytes.split_at(count);
         buffer[..count].copy_from_slice(front);
         self.bytes = back;
         Ok(count)
     }
+}
+
+/// The number that is drawn after this one, by a linear congruential generator.
+fn next_drawn(number: u64) -> u64 {
+    number
+        .wrapping_mul(6_364_136_223_846_793_005)
+        .wrapping_add(1_442_695_040_888_963_407)
 }
 
 impl ReadReady for Source<'_> {

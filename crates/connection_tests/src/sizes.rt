@@ -9,10 +9,10 @@ use std::process::Abort;
 use std::sync::Wait;
 
 /// A request, and its reply.
-type Row = (&'static str, &'static str);
+pub(crate) type Row = (&'static str, &'static str);
 
 /// The requests of these rows, where a value has so many bytes.
-fn requests(rt: &impl Abort, alloc: Global, rows: &[Row], size: usize) -> Vec<u8> {
+pub(crate) fn requests(rt: &impl Abort, alloc: Global, rows: &[Row], size: usize) -> Vec<u8> {
     let mut all = Vec::new(alloc);
     for (request, _) in rows {
         add_request(alloc, &mut all, request, size).expect(rt, "memory for a text");
@@ -21,7 +21,7 @@ fn requests(rt: &impl Abort, alloc: Global, rows: &[Row], size: usize) -> Vec<u8
 }
 
 /// The replies of these rows, where a value has so many bytes.
-fn replies(rt: &impl Abort, alloc: Global, rows: &[Row], size: usize) -> Vec<u8> {
+pub(crate) fn replies(rt: &impl Abort, alloc: Global, rows: &[Row], size: usize) -> Vec<u8> {
     let mut all = Vec::new(alloc);
     for (_, reply) in rows {
         add_reply(alloc, &mut all, reply, size).expect(rt, "memory for a text");
@@ -30,7 +30,7 @@ fn replies(rt: &impl Abort, alloc: Global, rows: &[Row], size: usize) -> Vec<u8>
 }
 
 /// Asserts that requests are answered so over a new engine.
-fn check<R: Abort + Wait>(rt: &R, alloc: Global, rows: &[Row], size: usize) {
+pub(crate) fn check<R: Abort + Wait>(rt: &R, alloc: Global, rows: &[Row], size: usize) {
     let input = requests(rt, alloc, rows, size);
     let outcome = run(rt, alloc, Source::new(&input));
     assert!(rt;

@@ -6,7 +6,7 @@ ghost use Rattle.words.specs.Commands.{touches_keys};
 ghost use Rattle.engine.specs.Passes.{Rests};
 
 use device::MemoryDevice;
-use engine::{Engine, Pass};
+use engine::{Engine, Gathered, Pass};
 use engine_harness::calls::{is_due, sets_to};
 use engine_harness::ends::{end_pass, end_passes, end_word};
 use engine_harness::engines::{engine_of, with_pass};
@@ -19,7 +19,7 @@ use std::sync::Wait;
 use std::sync::atomic::{AtomicU64, Ordering};
 use transact::call::Call;
 use words::command::Command;
-use words::limits::Limits;
+use words::limits::{KEY_BYTES_MAX, Limits};
 use words::word::Word;
 
 mod limits;
@@ -503,7 +503,37 @@ impl Latch for Trail {
     }
 }
 
-/// Whether a call, a GET and a SET are answered, each of which tells this latch where it is.
+/// Whether an MGET of one key within the limits finds that it is 2.
+fn gathers_two<R: Wait>(
+    rt: &R,
+    engine: &Engine<MemoryDevice>,
+    pass: &mut Pass<MemoryDevice>,
+    keys: &[Word],
+    trail: &Trail,
+) -> bool
+    requires { Rests ⊤ engine.now pass.old }
+    ensures { Rests ⊤ engine.now pass.new }
+{
+    let [key] = keys else {
+        return false;
+    };
+    if key.len() > KEY_BYTES_MAX {
+        return false;
+    }
+    match engine.values(rt, pass, keys, trail) {
+        Gathered::Found(values) => {
+            let is_two = values.text() == b"$1\r\n2\r\n".as_slice();
+            drop(values);
+            is_two
+        }
+        Gathered::Planned(answer) => {
+            drop(answer);
+            false
+        }
+    }
+}
+
+/// Whether a command of one key, an MSET, an MGET, a GET and a SET are answered, each of which tells this latch where it is.
 fn tells_of_each<R: Abort + Wait>(
     rt: &R,
     alloc: Global,
@@ -519,14 +549,20 @@ fn tells_of_each<R: Abort + Wait>(
     let request = "INCR n";
     let due = ":1";
     let called = is_due(rt, alloc, trail, engine, pass, Exchange { request, due });
+    let request = "MSET m 2 n 1";
+    let due = "+OK";
+    let assigned = is_due(rt, alloc, trail, engine, pass, Exchange { request, due });
     let got = gets(rt, engine, pass, &key, &[b"1"], trail);
     let set = sets_to(rt, engine, pass, &key, &value, trail);
-    end_word(key);
     end_word(value);
-    called && got && set
+    end_word(key);
+    let keys = [Word::from_slice(alloc, b"n").expect(rt, "memory for a key")];
+    let gathered = gathers_two(rt, engine, pass, &keys, trail);
+    drop(keys);
+    called && assigned && got && set && gathered
 }
 
-/// Whether a call, a GET and a SET at a new engine are answered, and what a latch is told of them.
+/// Whether such calls at a new engine are answered, and what a latch is told of them.
 fn told_of_each<R: Abort + Wait>(rt: &R, alloc: Global) -> (bool, u64) {
     let (engine, mut pass) = with_pass(alloc, &Limits::default()).expect(
         rt,
@@ -545,5 +581,5 @@ fn told_of_each<R: Abort + Wait>(rt: &R, alloc: Global) -> (bool, u64) {
 fn a_latch_is_told_where_each_call_is(rt: HostRuntime) {
     let told = told_of_each(&rt, rt.alloc());
     assert!(rt; told.0);
-    assert!(rt; told.1 == 123_123_123, "{}", told.1);
+    assert!(rt; told.1 == 123_123_123_123_123, "{}", told.1);
 }

@@ -15,6 +15,7 @@ use Rattle.hybrid.proofs.Logs.{here}
 use Rattle.hybrid.proofs.Chains.{joins_low, unique}
 use Rattle.hybrid.proofs.Walk.{IsWalk, IsHere, here-found, listed-live, walk-here, walk-start, here-visited, here-next}
 use Rattle.hybrid.proofs.Overwriting.{at-page}
+use Rattle.hybrid.proofs.Placing.{IsPlacing}
 use Rattle.hybrid.proofs.Replacing.{cold-size}
 use Rattle.hybrid.proofs.Parts.{shown-at}
 use Rattle.std.proofs.Common.{map, take}
@@ -26,6 +27,7 @@ use Rattle.std.proofs.lemmas.Bool.{le-ltb}
 pub record IsFinding (honest right : Type 0) (p : HybridLog) (key : List ℕ) (Near : ℕ × Stored → Type 0) (address : ℕ) : Type 0 where
   pub below : address < next_number p.resident * PAGE_SIZE
   pub walk : honest → right → IsWalk (bucket_of p) (begin_of p.oldest) (log_of p) key Near address
+  pub placing : IsPlacing p key address
 
 pub record IsStart (p : HybridLog) (key : List ℕ) (Near : ℕ × Stored → Type 0) (address : ℕ) : Type 0 where
   pub is : IsHybridLog p
@@ -126,6 +128,10 @@ cold-has p number k low e = sym (e ∙ receipt-there p number low)
 pub some-so : {X : Type 0} (o : Option X) (P Q : X → Type 0) → ((x : X) → P x → Q x) → IfSome o P → IfSome o Q
 some-so None P Q f h = tt
 some-so (Some x) P Q f h = f x h
+
+pub some-both : {X : Type 0} (o : Option X) (P Q S : X → Type 0) → ((x : X) → P x → Q x → S x) → IfSome o P → IfSome o Q → IfSome o S
+some-both None P Q S f h k = tt
+some-both (Some x) P Q S f h k = f x h k
 
 pub none-so : {X : Type 0} (o : Option X) (P Q : Type 0) → (P → Q) → IfNone o P → IfNone o Q
 none-so None P Q f h = f h

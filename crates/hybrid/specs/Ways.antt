@@ -6,6 +6,8 @@ use Rattle.records.specs.declared.pages.TheConstants.{PAGE_SIZE}
 use Rattle.frames.specs.Resident.{IsResident}
 use Rattle.hybrid.specs.Log.{Log, chain}
 use Rattle.hybrid.specs.HybridLog.{HybridLog, Kept, bucket_of, log_of, receipt_of}
+use Rattle.hybrid.specs.Lookups.{MatchLookup}
+use Rattle.hybrid.specs.declared.stripe.find.Lookup.{Lookup}
 use Rattle.hybrid.specs.Staging.{StagedPage, IsStaged, AreBytesRead}
 
 -- the records that a lookup of the key goes over
@@ -39,3 +41,8 @@ pub record IsFirstFar (lends : Type 0) (p : HybridLog) (staged : List StagedPage
   pub near : AreNear lends p staged passed
   pub there : entry.0 / PAGE_SIZE ≡ number
   pub far : IsNear lends p staged entry → ⊥
+
+-- a lookup that is not cold has gone over near records alone, and one that is cold has come to the first that is not near
+abbrev pub GoesNear : Lookup → (lends : Type 0) → HybridLog → List StagedPage → (key : List ℕ) → Type 0
+GoesNear lookup lends p staged key =
+    MatchLookup lookup (λ value. AreNear lends p staged (way_of p key)) (AreNear lends p staged (way_of p key)) (λ number. IsFirstFar lends p staged key number)

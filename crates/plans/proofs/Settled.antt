@@ -27,7 +27,7 @@ use Rattle.transact.specs.Tables.{AreThere, joined}
 use Rattle.shards.specs.declared.shard.Shard.{Shard}
 use Rattle.shards.specs.Shards.{logs_of, shard_log, weigh}
 use Rattle.plans.specs.Memory.{IsBriefOn}
-use Rattle.plans.specs.Settling.{IfGives, IsInlineOn, IsSettled, IsSpot, changes}
+use Rattle.plans.specs.Settling.{IfGives, IsInlineOn, IsSettled, IsSpot, SettlesAs, changes}
 use Rattle.plans.specs.declared.settling.Change.{Change}
 use Rattle.plans.specs.declared.settling.Change.TheVariants as change
 use Rattle.plans.specs.declared.settling.Settled.{Settled}
@@ -103,7 +103,7 @@ module _ {R : Type 0} (n : ℕ) (parts : ℕ → Option (Shard R)) (key : Bytes)
 
   module _ (law : Depends) (contents : Meaning (Shard R)) (verb : Verb) (value : Bytes) (Right : Type 0) where
     settled_by : (settled : Settled) → AreThere n parts (key ∷ []) → IsBounded (commanded verb key value)
-        → (Right → outcome (joined contents n parts) (Run (commanded verb key value)) ≡ (settled.reply, changes settled.change key value))
+        → SettlesAs Right (joined contents n parts key) verb key value settled
         → IfGives settled.change value (λ text. length text ≤ VALUE_BYTES_MAX)
         → IfSome settled.spot (λ spot. IfGives settled.change value (λ text. IsInPlace (shard_log part) key (length text) spot.address))
         → IsSettled Right contents n parts key value (commanded verb key value) settled
@@ -114,11 +114,11 @@ module _ {R : Type 0} (n : ℕ) (parts : ℕ → Option (Shard R)) (key : Bytes)
         let light : nat_lt WEIGHT_MAX (weight (changes settled.change key value)) ≡ false = light_change settled.change key value few short in
         record {
           due = λ right seen reads.
-              let writes : done.1 ≡ changes settled.change key value = ap (λ (o : Reply × List Write). o.1) (is right) in
+              let writes : done.1 ≡ changes settled.change key value = ap (λ (o : Reply × List Write). o.1) (is right (joined contents n parts) refl) in
               let heavy : nat_lt WEIGHT_MAX (weight done.1) ≡ false = ap (λ (ws : List Write). nat_lt WEIGHT_MAX (weight ws)) writes ∙ light in
               plan_of_answer contents n parts law seen command done settled.reply (changes settled.change key value) (one_touches verb key value) refl reads
               (subst (AreThere n parts) (sym (one_names verb key value)) held)
-              (sym (ap (λ (o : Reply × List Write). o.0) (is right)) ∙ sym (ap (λ b. cond b too_much (outcome (joined contents n parts) (Run command)).0) heavy))
+              (sym (ap (λ (o : Reply × List Write). o.0) (is right (joined contents n parts) refl)) ∙ sym (ap (λ b. cond b too_much (outcome (joined contents n parts) (Run command)).0) heavy))
               (sym writes ∙ sym (ap (λ b. cond b [] done.1) heavy));
           light = gives_then settled.change value (λ text. length text ≤ VALUE_BYTES_MAX) (λ text. weigh (key, Some text) ≤ WEIGHT_MAX) (λ text. light_text key text few) short;
           short = short;
@@ -127,7 +127,7 @@ module _ {R : Type 0} (n : ℕ) (parts : ℕ → Option (Shard R)) (key : Bytes)
 
     -- what was settled on the part of the key's stripe is settled on the parts
     pub some_settled : (settled : Option Settled) → AreThere n parts (key ∷ []) → IsBounded (commanded verb key value)
-        → IfSome settled (λ s. Right → outcome (joined contents n parts) (Run (commanded verb key value)) ≡ (s.reply, changes s.change key value))
+        → IfSome settled (SettlesAs Right (joined contents n parts key) verb key value)
         → IfSome settled (λ s. IfGives s.change value (λ text. length text ≤ VALUE_BYTES_MAX))
         → IfSome settled (λ s. IfSome s.spot (λ spot. IfGives s.change value (λ text. IsInPlace (shard_log part) key (length text) spot.address)))
         → IfSome settled (IsSettled Right contents n parts key value (commanded verb key value))

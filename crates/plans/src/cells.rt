@@ -247,6 +247,7 @@ pub(crate) fn set<R: Shows, P: Parts<Shard<R>>>(parts: &mut P, key: &Hashed, val
     ensures became { BecomesWritten R.is_steady P.stripes_of P.part_of parts.old parts.new ((key.now, Some value.now) ∷ []) }
     ensures room { LeavesRoom (P.stripes_of parts.old) (key.now, Some value.now) (P.part_of parts.old) (P.part_of parts.new) }
     ensures grown { GrowsBy (P.stripes_of parts.old) (key.now, Some value.now) (P.part_of parts.old) (P.part_of parts.new) }
+    ensures waits { SameWaits (P.part_of parts.old) (P.part_of parts.new) }
     ensures held { IsStillHeld P.is_open P.keeps parts.old parts.new }
 {
     let stripe = stripe_at(&*parts, key);
@@ -260,6 +261,7 @@ pub(crate) fn delete<R: Shows, P: Parts<Shard<R>>>(parts: &mut P, key: &Hashed)
     requires fits { Fits key.now None }
     ensures became { BecomesWritten R.is_steady P.stripes_of P.part_of parts.old parts.new ((key.now, None) ∷ []) }
     ensures grown { GrowsBy (P.stripes_of parts.old) (key.now, None) (P.part_of parts.old) (P.part_of parts.new) }
+    ensures waits { SameWaits (P.part_of parts.old) (P.part_of parts.new) }
     ensures held { IsStillHeld P.is_open P.keeps parts.old parts.new }
 {
     let stripe = stripe_at(&*parts, key);
@@ -279,6 +281,7 @@ pub(crate) fn set_at<R: Shows, P: Parts<Shard<R>>>(
     requires fits { Fits key.now (Some value.now) }
     ensures became { BecomesWritten R.is_steady P.stripes_of P.part_of parts.old parts.new ((key.now, Some value.now) ∷ []) }
     ensures grown { GrowsBy (P.stripes_of parts.old) (key.now, Some value.now) (P.part_of parts.old) (P.part_of parts.new) }
+    ensures waits { SameWaits (P.part_of parts.old) (P.part_of parts.new) }
     ensures held { IsStillHeld P.is_open P.keeps parts.old parts.new }
 {
     let stripe = stripe_at(&*parts, key);

@@ -14,7 +14,7 @@ ghost use Rattle.transact.specs.Tables.{stays};
 ghost use Rattle.shards.specs.Devices.{StillServes};
 ghost use Rattle.shards.specs.Receipts.{kept_by};
 ghost use Rattle.shards.specs.Rooms.{AreRoomy, HaveGrown, ShedFew, purpose_of, share};
-ghost use Rattle.shards.specs.Shards.{logs_of};
+ghost use Rattle.shards.specs.Shards.{SameWaits, logs_of};
 ghost use Rattle.plans.specs.Planning.{FoundFull, HaveFailed, IsStillHeld, MatchStop, MayLookUp, StillStands};
 ghost use Rattle.plans.specs.Reserving.{HasRoom};
 ghost use Rattle.plans.specs.Holding.{Becomes, BecomesFirst, BecomesWritten, GrowsFirst};
@@ -146,6 +146,7 @@ fn set_before<R: Shows, P: Parts<Shard<R>>>(
     ensures became { BecomesFirst R.is_steady P.stripes_of P.part_of parts.old parts.new (key.now, Some value.now)
         (writes_set (pairs_of others.now)) }
     ensures grown { GrowsFirst P.stripes_of P.part_of parts.old parts.new (key.now, Some value.now) (writes_set (pairs_of others.now)) }
+    ensures waits { SameWaits (P.part_of parts.old) (P.part_of parts.new) }
     ensures held { IsStillHeld P.is_open P.keeps parts.old parts.new }
 {
     growth_adds_up();
@@ -164,6 +165,7 @@ pub fn install_settings<R: Shows, P: Parts<Shard<R>>>(parts: &mut P, words: &[Wo
     ensures became { BecomesWritten R.is_steady P.stripes_of P.part_of parts.old parts.new (writes_set (pairs_of words.now)) }
     ensures grown { HaveGrown (P.stripes_of parts.old) (writes_set (pairs_of words.now)) (logs_of (P.part_of parts.old))
         (logs_of (P.part_of parts.new)) }
+    ensures waits { SameWaits (P.part_of parts.old) (P.part_of parts.new) }
     ensures held { IsStillHeld P.is_open P.keeps parts.old parts.new }
 {
     growth_adds_up();

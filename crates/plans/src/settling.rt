@@ -14,23 +14,19 @@ ghost use Rattle.words.specs.Answers.{answer, item_of, value_of};
 ghost use Rattle.words.specs.Bounds.{IsBounded};
 ghost use Rattle.words.specs.Briefs.{commanded, counting};
 ghost use Rattle.words.specs.Commands.{IsInline};
-ghost use Rattle.words.specs.History.{outcome};
 ghost use Rattle.words.specs.Store.{Bytes, Store};
-ghost use Rattle.words.specs.declared.history.Operation.TheVariants.{Run};
 ghost use Rattle.hybrid.specs.Lookups.{IsInPlace};
 ghost use Rattle.hybrid.specs.Staging.{AreRight};
 ghost use Rattle.transact.specs.Tables.{joined};
 ghost use Rattle.shards.specs.Shards.{shard_log, shard_meaning, shard_store, weigh};
 ghost use Rattle.plans.specs.Memory.{IsBriefOn};
-ghost use Rattle.plans.specs.Settling.{IfGives, IsInlineOn, IsSettledIn, changes};
+ghost use Rattle.plans.specs.Settling.{IfGives, IsInlineOn, IsSettledIn, SettlesAs, changes};
 ghost use Rattle.plans.specs.Planning.{IsStillHeld, MayLookUp};
-ghost use Rattle.plans.specs.Running.{IsFound};
 
 use crate::cells::stripe_at;
-use crate::running::value_at;
 use device::Shows;
 use gates::Parts;
-use hybrid::{Spot, Staged};
+use hybrid::{Lookup, Spot, Staged};
 use itoa::Buffer;
 use shards::shard::Shard;
 use smallvec::SmallVec;
@@ -67,9 +63,8 @@ pub enum Change {
     Deleted,
 }
 
-/// What a command of this key comes to, and of this value, where it takes one. The key is looked up once where its newest record may
-/// take another value in place. `None` where a page is wanted, or memory: such a command is planned as others are. Where receipts lend
-/// their pages, one that takes no memory is settled.
+/// What a command of this key comes to, and of this value, where it takes one. The key is looked up once. `None` where a page is
+/// wanted, or memory: such a command is planned as others are. Where receipts lend their pages, one that takes no memory is settled.
 pub fn settle<R: Shows, P: Parts<Shard<R>>>(
     alloc: Global,
     parts: &mut P,
@@ -84,6 +79,9 @@ pub fn settle<R: Shows, P: Parts<Shard<R>>>(
         (R.is_honest × AreRight staged.now) key.now value.now (commanded verb key.now value.now)) }
     ensures memory { R.lends → R.is_honest × AreRight staged.now
         → IsBriefOn (joined (shard_meaning R.is_steady) (P.stripes_of parts.old) (P.part_of parts.old)) (commanded verb key.now value.now)
+        → IsSome result }
+    ensures inline { R.lends → R.is_honest × AreRight staged.now
+        → IsInlineOn (joined (shard_meaning R.is_steady) (P.stripes_of parts.old) (P.part_of parts.old)) (commanded verb key.now value.now)
         → IsSome result }
     ensures same { P.part_of parts.new ≡ P.part_of parts.old }
     ensures held { IsStillHeld P.is_open P.keeps parts.old parts.new }
@@ -102,9 +100,7 @@ fn settle_at<R: Shows>(
     value: &Word,
     staged: &Staged<R>,
 ) -> Option<Settled>
-    ensures answer { (store : Store) → store key.now ≡ shard_store part.now key.now → IfSome result (λ settled.
-        R.is_honest × AreRight staged.now → outcome store (Run (commanded verb key.now value.now))
-        ≡ (settled.reply, changes settled.change key.now value.now)) }
+    ensures answer { IfSome result (SettlesAs (R.is_honest × AreRight staged.now) (shard_store part.now key.now) verb key.now value.now) }
     ensures memory { (store : Store) → store key.now ≡ shard_store part.now key.now → R.lends → R.is_honest × AreRight staged.now
         → IsInlineOn store (commanded verb key.now value.now) → IsSome result }
     ensures short { IsBounded (commanded verb key.now value.now)
@@ -112,48 +108,41 @@ fn settle_at<R: Shows>(
     ensures spot { IfSome result (λ settled. IfSome settled.spot (λ spot. IfGives settled.change value.now (λ text.
         IsInPlace (shard_log part.now) key.now (length text) spot.address))) }
 {
-    match spot_for(part, verb, key) {
-        Some((spot, found)) => {
-            let (reply, change) = settle_on(alloc, verb, value, found)?;
-            let spot = fitting(&change, value, spot);
-            Some(Settled {
-                reply: Reply::Single(reply),
-                change,
-                spot,
-            })
-        }
-        None => {
-            let found = value_at(part, key, staged)?;
-            let (reply, change) = settle_on(alloc, verb, value, found)?;
-            Some(Settled {
-                reply: Reply::Single(reply),
-                change,
-                spot: None,
-            })
-        }
-    }
+    let (found, spot) = look_at(part, key, staged)?;
+    let (reply, change) = settle_on(alloc, verb, value, found)?;
+    let spot = fitting(&change, value, spot);
+    Some(Settled {
+        reply: Reply::Single(reply),
+        change,
+        spot,
+    })
 }
 
-/// Where the newest record of a key stands, if it may be written in place, and what the key has, for a command that may give it a
-/// value.
-fn spot_for<'a, R: Shows>(
+/// What a key has, where it lies, and where its newest record stands, if it may be written in place. `None` where a page is wanted,
+/// which receipts do not lend.
+fn look_at<'a, R: Shows>(
     part: &'a Shard<R>,
-    verb: Verb,
     key: &Hashed,
-) -> Option<(Spot, Option<&'a [u8]>)>
-    ensures place { IfSome result (λ found. IsInPlace (shard_log part.entry.now) key.now found.0.capacity found.0.address) }
-    ensures value { IfSome result (λ found. shard_store part.entry.now key.now ≡ option_copied found.1) }
+    staged: &'a Staged<R>,
+) -> Option<(Option<&'a [u8]>, Option<Spot>)>
+    ensures found { IfSome result (λ has. R.is_honest × AreRight staged.entry.now
+        → shard_store part.entry.now key.now ≡ option_copied has.0) }
+    ensures place { IfSome result (λ has. IfSome has.1 (λ spot. IsInPlace (shard_log part.entry.now) key.now spot.capacity spot.address)) }
+    ensures lent { R.lends → IsSome result }
 {
-    match verb {
-        Verb::Count(_) | Verb::SetNx | Verb::GetSet | Verb::Append => part.spot(key),
-        Verb::GetDel | Verb::StrLen | Verb::Exists | Verb::Del => None,
+    let (lookup, spot) = part.look(key, staged);
+    match lookup {
+        Lookup::Found(value) => Some((Some(value), spot)),
+        Lookup::Absent => Some((None, spot)),
+        Lookup::Cold(_, _) => None,
     }
 }
 
-/// The spot, if it has room for the value that the key gets.
-fn fitting(change: &Change, value: &Word, spot: Spot) -> Option<Spot>
-    ensures { IfSome result (λ found. (found ≡ spot) × IfGives change.now value.now (λ text. length text ≤ spot.capacity)) }
+/// The spot, if there is one, and it has room for the value that the key gets.
+fn fitting(change: &Change, value: &Word, spot: Option<Spot>) -> Option<Spot>
+    ensures { IfSome result (λ found. (spot ≡ Some found) × IfGives change.now value.now (λ text. length text ≤ found.capacity)) }
 {
+    let spot = spot?;
     let size = match change {
         Change::Given => value.len(),
         Change::Made(text) => text.len(),

@@ -11,7 +11,7 @@ ghost use Rattle.transact.specs.Tables.{touches};
 ghost use Rattle.shards.specs.Devices.{StillServes};
 ghost use Rattle.shards.specs.Receipts.{kept_by};
 ghost use Rattle.shards.specs.Rooms.{purpose_of};
-ghost use Rattle.shards.specs.Shards.{weigh};
+ghost use Rattle.shards.specs.Shards.{SameWaits, weigh};
 ghost use Rattle.plans.specs.Settling.{IsSpotIn};
 ghost use Rattle.plans.specs.Planning.{HasMissedIn, HaveFailed, IsStillHeld, IsValueIn, MayLookUp, MayPut};
 ghost use Rattle.plans.specs.Reserving.{GrowsBy, HasNoRoomToPut, HasRoomToPut, HasShedAt, IsRoomyFor, ReservesToPut};
@@ -108,6 +108,7 @@ pub fn install_put<R: Shows, P: Parts<Shard<R>>>(parts: &mut P, key: &Hashed, va
     requires fits { Fits key.now (option_copied value) }
     ensures became { BecomesWritten R.is_steady P.stripes_of P.part_of parts.old parts.new ((key.now, option_copied value.entry) ∷ []) }
     ensures grown { GrowsBy (P.stripes_of parts.old) (key.now, option_copied value.entry) (P.part_of parts.old) (P.part_of parts.new) }
+    ensures waits { SameWaits (P.part_of parts.old) (P.part_of parts.new) }
     ensures held { IsStillHeld P.is_open P.keeps parts.old parts.new }
 {
     match value {
@@ -130,6 +131,7 @@ pub fn install_at<R: Shows, P: Parts<Shard<R>>>(
     requires fits { Fits key.now (Some value.now) }
     ensures became { BecomesWritten R.is_steady P.stripes_of P.part_of parts.old parts.new ((key.now, Some value.now) ∷ []) }
     ensures grown { GrowsBy (P.stripes_of parts.old) (key.now, Some value.now) (P.part_of parts.old) (P.part_of parts.new) }
+    ensures waits { SameWaits (P.part_of parts.old) (P.part_of parts.new) }
     ensures held { IsStillHeld P.is_open P.keeps parts.old parts.new }
 {
     set_at(parts, key, spot, value);

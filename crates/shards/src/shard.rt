@@ -5,7 +5,6 @@ ghost use Rattle.std.specs.Prelude.{◌↔◌, [], IfSome, IsTrue};
 ghost use Rattle.std.specs.Bool.{OnTrue, OnFalse};
 ghost use Rattle.std.specs.Borrow.{sem, Lends};
 ghost use Rattle.std.specs.Map.{update};
-ghost use Rattle.std.specs.Option.{option_copied};
 ghost use Rattle.shards.specs.contracts.counted.CountedLog.{the_row as log_row};
 ghost use Rattle.shards.specs.contracts.shard.Shard.{the_row};
 ghost use Rattle.std.specs.Str.{bytes_eq};
@@ -19,7 +18,7 @@ ghost use Rattle.gates.specs.declared.view.Work.TheVariants.{Clean, Evict, Flush
 ghost use Rattle.gates.specs.declared.view.Refused.{Refused};
 ghost use Rattle.watch.specs.Marked.{are_these, cleared};
 ghost use Rattle.hybrid.specs.HybridLog.{HasRoom, IsGrown, receipt_at, receipt_of};
-ghost use Rattle.hybrid.specs.Lookups.{IsInPlace, MatchLookup};
+ghost use Rattle.hybrid.specs.Lookups.{IsInPlace, MatchLookup, Tells};
 ghost use Rattle.hybrid.specs.Reserving.{IsFull};
 ghost use Rattle.hybrid.specs.Staging.{AreRight, IsMissing};
 ghost use Rattle.hybrid.specs.Log.{Fits};
@@ -130,13 +129,20 @@ impl<R: Shows> Shard<R> {
         }
     }
 
-    /// Where the newest record of a key stands, if it may be written in place, and what the key has.
-    pub fn spot<'a>(&'a self, key: &Hashed) -> Option<(Spot, Option<&'a [u8]>)>
-        ensures place { IfSome result (λ found. IsInPlace (shard_log self.now) key.now found.0.capacity found.0.address) }
-        ensures value { IfSome result (λ found. shard_store self.now key.now ≡ option_copied found.1) }
-        ensures none { IfNone result ((size address : ℕ) → IsInPlace (shard_log self.now) key.now size address → ⊥) }
+    /// What a key has, as [`Shard::find`], and where its newest record stands, if it may be written in place. With a spot both
+    /// are right over any device.
+    pub fn look<'a>(&'a self, key: &Hashed, staged: &'a Staged<R>) -> (Lookup<'a>, Option<Spot>)
+        ensures place { IfSome result.1 (λ spot. IsInPlace (shard_log self.now) key.now spot.capacity spot.address) }
+        ensures value { IfSome result.1 (λ _. Tells result.0 (shard_store self.now key.now)) }
+        ensures none { IfNone result.1 ((size address : ℕ) → IsInPlace (shard_log self.now) key.now size address → ⊥) }
+        ensures contents { R.is_honest → AreRight staged.now → Finds result.0 key.now self.now }
+        ensures short { MatchLookup result.0 (λ value. length value ≤ VALUE_BYTES_MAX) ⊤ (λ number. ⊤) }
+        ensures cold { MatchLookup result.0 (λ value. ⊤) ⊤ (λ number. IsMissing (shard_log self.now) staged.now number) }
+        ensures lent { R.lends → MatchLookup result.0 (λ value. ⊤) ⊤ (λ number. ⊥) }
     {
-        self.log.stripe().spot(key.hash(), key.key().as_slice())
+        self.log
+            .stripe()
+            .look(key.hash(), key.key().as_slice(), staged)
     }
 
     /// Its log, with what becomes of its places.

@@ -8,9 +8,9 @@ ghost use Rattle.frames.specs.Resident.{first_mutable, next_number};
 ghost use Rattle.hybrid.specs.Log.{AreValuesShort, begin_of, newest, contents};
 ghost use Rattle.hybrid.specs.HybridLog.{log_of};
 ghost use Rattle.words.specs.Stripes.{hash_of};
-ghost use Rattle.hybrid.specs.Lookups.{Leads, MatchLookup, IsInPlace, IsLaidAt, IsResidentAt};
+ghost use Rattle.hybrid.specs.Lookups.{Finds, Leads, MatchLookup, IsInPlace, IsLaidAt, IsNewestIfMutable, IsResidentAt, Tells};
 ghost use Rattle.hybrid.specs.Staging.{AreRight, IsMissing};
-ghost use Rattle.hybrid.specs.Ways.{AreNear, IsFirstFar, IsNear, way_of};
+ghost use Rattle.hybrid.specs.Ways.{AreNear, GoesNear, IsFirstFar, IsNear, way_of};
 
 use crate::address::Address;
 use crate::staged::{Staged, record_of};
@@ -48,10 +48,10 @@ impl<R: Shows> Stripe<R> {
     /// shows. Then `Cold` names the first page on the key's way that is not near, and else all are. Where
     /// receipts lend their pages, no lookup is cold.
     pub fn find<'a>(&'a self, key: &[u8], staged: &'a Staged<R>) -> Lookup<'a>
-        ensures contents { R.is_honest → AreRight staged.now → MatchLookup result (λ value. contents (log_of self.now) key.now ≡ Some value) (contents (log_of self.now) key.now ≡ None) (λ number. Leads self.now key.now number) }
+        ensures contents { R.is_honest → AreRight staged.now → Finds result self.now key.now }
         ensures cold { MatchLookup result (λ _. ⊤) ⊤ (λ number. IsMissing self.now staged.now number) }
         ensures lent { R.lends → MatchLookup result (λ _. ⊤) ⊤ (λ number. ⊥) }
-        ensures way { R.is_honest → AreRight staged.now → MatchLookup result (λ _. AreNear R.lends self.now staged.now (way_of self.now key.now)) (AreNear R.lends self.now staged.now (way_of self.now key.now)) (λ number. IsFirstFar R.lends self.now staged.now key.now number) }
+        ensures way { R.is_honest → AreRight staged.now → GoesNear result R.lends self.now staged.now key.now }
         ensures short { MatchLookup result (λ value. length value ≤ VALUE_BYTES_MAX) ⊤ (λ _. ⊤) }
         ensures values { AreValuesShort (log_of self.now) }
     {
@@ -61,10 +61,10 @@ impl<R: Shows> Stripe<R> {
     /// What a key has, by its hash, as [`Stripe::find`].
     pub fn find_hashed<'a>(&'a self, hash: u64, key: &[u8], staged: &'a Staged<R>) -> Lookup<'a>
         requires hash { hash ≡ hash_of key.now }
-        ensures contents { R.is_honest → AreRight staged.now → MatchLookup result (λ value. contents (log_of self.now) key.now ≡ Some value) (contents (log_of self.now) key.now ≡ None) (λ number. Leads self.now key.now number) }
+        ensures contents { R.is_honest → AreRight staged.now → Finds result self.now key.now }
         ensures cold { MatchLookup result (λ _. ⊤) ⊤ (λ number. IsMissing self.now staged.now number) }
         ensures lent { R.lends → MatchLookup result (λ _. ⊤) ⊤ (λ number. ⊥) }
-        ensures way { R.is_honest → AreRight staged.now → MatchLookup result (λ _. AreNear R.lends self.now staged.now (way_of self.now key.now)) (AreNear R.lends self.now staged.now (way_of self.now key.now)) (λ number. IsFirstFar R.lends self.now staged.now key.now number) }
+        ensures way { R.is_honest → AreRight staged.now → GoesNear result R.lends self.now staged.now key.now }
         ensures short { MatchLookup result (λ value. length value ≤ VALUE_BYTES_MAX) ⊤ (λ _. ⊤) }
         ensures values { AreValuesShort (log_of self.now) }
     {
@@ -78,6 +78,60 @@ impl<R: Shows> Stripe<R> {
                 Some(_) => Lookup::Absent,
                 None => Lookup::Absent,
             },
+        }
+    }
+
+    /// What a key has, by its hash, as [`Stripe::find_hashed`], and where its newest record stands, if it lies in the mutable
+    /// part. With a spot both are right over any device: a resident page is what was written to it.
+    #[inline]
+    pub fn look<'a>(
+        &'a self,
+        hash: u64,
+        key: &[u8],
+        staged: &'a Staged<R>,
+    ) -> (Lookup<'a>, Option<Spot>)
+        requires hash { hash ≡ hash_of key.now }
+        ensures place { IfSome result.1 (λ spot. IsInPlace self.now key.now spot.capacity spot.address) }
+        ensures value { IfSome result.1 (λ _. Tells result.0 (contents (log_of self.now) key.now)) }
+        ensures none { IfNone result.1 ((size address : ℕ) → IsInPlace self.now key.now size address → ⊥) }
+        ensures contents { R.is_honest → AreRight staged.now → Finds result.0 self.now key.now }
+        ensures cold { MatchLookup result.0 (λ _. ⊤) ⊤ (λ number. IsMissing self.now staged.now number) }
+        ensures lent { R.lends → MatchLookup result.0 (λ _. ⊤) ⊤ (λ number. ⊥) }
+        ensures way { R.is_honest → AreRight staged.now → GoesNear result.0 R.lends self.now staged.now key.now }
+        ensures short { MatchLookup result.0 (λ value. length value ≤ VALUE_BYTES_MAX) ⊤ (λ _. ⊤) }
+        ensures values { AreValuesShort (log_of self.now) }
+    {
+        let _ = &self.oldest;
+        match self.newest(hash, key, staged) {
+            Err(address) => (Lookup::Cold(address.page(), address.offset()), None),
+            Ok(None) => (Lookup::Absent, None),
+            Ok(Some((address, record))) => {
+                let spot = self.spot_at(address, record.capacity);
+                match record.value {
+                    // Over a device that is not honest an older page may have any value.
+                    Some(value) if value.len() <= VALUE_BYTES_MAX => (Lookup::Found(value), spot),
+                    Some(_) => (Lookup::Absent, spot),
+                    None => (Lookup::Absent, spot),
+                }
+            }
+        }
+    }
+
+    // The spot of a record at this address that has room for so long a value, if it lies in the mutable part.
+    #[inline]
+    fn spot_at(&self, address: Address, capacity: usize) -> Option<Spot>
+        ensures spot { IfSome result (λ spot. spot ≡ record { address = address; capacity = capacity }) }
+        ensures mutable { IfSome result (λ _. begin_of (first_mutable self.now.resident) ≤ address) }
+        ensures none { IfNone result (address < begin_of (first_mutable self.now.resident)) }
+    {
+        let mutable = Address::of(self.frames.first_mutable(), HEADER_SIZE);
+        if mutable <= address {
+            Some(Spot {
+                address: address.number(),
+                capacity,
+            })
+        } else {
+            None
         }
     }
 
@@ -96,6 +150,8 @@ impl<R: Shows> Stripe<R> {
         ensures lent { R.lends → IsOk result }
         ensures way { R.is_honest → AreRight staged.now → IfOk result (λ _. AreNear R.lends self.now staged.now (way_of self.now key.now)) }
         ensures far { R.is_honest → AreRight staged.now → IfErr result (λ address. IsFirstFar R.lends self.now staged.now key.now (address / PAGE_SIZE)) }
+        ensures mutable { IfOk result (λ o. IfSome o (λ x. IsNewestIfMutable self.now key.now x.0 (shown x.1))) }
+        ensures placed { (size address : ℕ) → IsInPlace self.now key.now size address → IsOkAnd result (λ o. IsSomeAnd o (λ x. x.0 ≡ address)) }
     {
         let begin = Address::of(self.oldest, HEADER_SIZE);
         let mut address = Address::from_number(self.index.head(self.index_hash(hash)));
@@ -153,6 +209,7 @@ impl<R: Shows> Stripe<R> {
             → IfNone result (IsNear R.lends self.now staged.now (address, r) → ⊥) }
         ensures missing { IfNone result (IsMissing self.now staged.now (address / PAGE_SIZE)) }
         ensures lent { R.lends → IsSome result }
+        ensures resident { (r : Stored) → IsResidentAt self.now address r → IsSomeAnd result (λ found. IsOkAnd found (λ x. shown x ≡ r)) }
     {
         let number = address.page();
         if self.frames.oldest() <= number {
@@ -164,26 +221,6 @@ impl<R: Shows> Stripe<R> {
         match self.receipt(number) {
             Some(receipt) => staged.record(receipt, address.offset()),
             None => unreachable!(),
-        }
-    }
-
-    /// Where the newest record of a key with this hash stands, if it lies in the mutable part, and what the
-    /// key has. It is the right answer over any device: a resident page is what was written to it.
-    pub fn spot<'a>(&'a self, hash: u64, key: &[u8]) -> Option<(Spot, Option<&'a [u8]>)>
-        requires hash { hash ≡ hash_of key.now }
-        ensures place { IfSome result (λ found. IsInPlace self.now key.now found.0.capacity found.0.address) }
-        ensures value { IfSome result (λ found. contents (log_of self.now) key.now ≡ option_copied found.1) }
-        ensures none { IfNone result ((size address : ℕ) → IsInPlace self.now key.now size address → ⊥) }
-    {
-        match self.newest_mutable(hash, key) {
-            Some((address, record)) => {
-                let spot = Spot {
-                    address: address.number(),
-                    capacity: record.capacity,
-                };
-                Some((spot, record.value))
-            }
-            None => None,
         }
     }
 

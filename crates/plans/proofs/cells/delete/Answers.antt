@@ -5,6 +5,7 @@ use Rattle.shards.specs.Shards.{logs_of, shard_log, shard_meaning, weigh}
 use Rattle.plans.proofs.Become.{wrote_one}
 use Rattle.plans.proofs.Logs.{log_at, logs_as}
 use Rattle.plans.proofs.Rooms.{room_of}
+use Rattle.plans.proofs.Waits.{waits_one}
 use Rattle.plans.proofs.cells.delete.Goals as goal
 
 pub delete-requires-clause-room : goal.delete-requires-clause-room
@@ -37,3 +38,10 @@ returns-clause-grown g c =
       grown = c.delete.ensures.grown;
       others = λ j ne. logs_as before later j (c.part.ensures.others new j (λ e. ne (e ∙ sym at)));
     }
+
+pub returns-clause-waits : goal.returns-clause-waits
+returns-clause-waits g c =
+    let i : ℕ = c.stripe_at-stripe.result in
+    let new = c.delete.new.self in
+    waits_one (g.P.Parts.part_of c.args.parts.now) (g.P.Parts.part_of (g.P.Parts.with_part c.args.parts.now i new)) i c.part.result.now new
+    c.part.ensures.value (c.part.ensures.written new) (c.part.ensures.others new) c.delete.ensures.waits

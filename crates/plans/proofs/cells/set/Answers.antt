@@ -5,6 +5,7 @@ use Rattle.shards.specs.Shards.{logs_of, shard_log, shard_meaning, weigh}
 use Rattle.plans.proofs.Become.{wrote_one}
 use Rattle.plans.proofs.Logs.{log_at, logs_as}
 use Rattle.plans.proofs.Rooms.{room_of}
+use Rattle.plans.proofs.Waits.{waits_one}
 use Rattle.plans.proofs.cells.set.Goals as goal
 
 pub set-requires-clause-room : goal.set-requires-clause-room
@@ -51,3 +52,10 @@ returns-clause-room g c = λ weight light has.
       there = ap (logs_of later) at ∙ log_at later i new (c.part.ensures.written new);
       room = c.set.ensures.room weight light (room_of (logs_of before) s weight (shard_log c.part.result.now) has (ap (logs_of before) at ∙ log_at before i c.part.result.now c.part.ensures.value));
     }
+
+pub returns-clause-waits : goal.returns-clause-waits
+returns-clause-waits g c =
+    let i : ℕ = c.stripe_at-stripe.result in
+    let new = c.set.new.self in
+    waits_one (g.P.Parts.part_of c.args.parts.now) (g.P.Parts.part_of (g.P.Parts.with_part c.args.parts.now i new)) i c.part.result.now new
+    c.part.ensures.value (c.part.ensures.written new) (c.part.ensures.others new) c.set.ensures.waits

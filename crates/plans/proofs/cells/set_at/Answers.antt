@@ -4,6 +4,7 @@ use Rattle.words.specs.Stripes.{stripe_of}
 use Rattle.shards.specs.Shards.{logs_of, shard_log, shard_meaning}
 use Rattle.plans.proofs.Become.{wrote_one}
 use Rattle.plans.proofs.Logs.{log_at, logs_as}
+use Rattle.plans.proofs.Waits.{waits_one}
 use Rattle.plans.proofs.cells.set_at.Goals as goal
 
 pub set_at-requires-clause-place : goal.set_at-requires-clause-place
@@ -35,3 +36,10 @@ returns-clause-grown g c =
       grown = c.set_at.ensures.grown;
       others = λ j ne. logs_as before later j (c.part.ensures.others new j (λ e. ne (e ∙ sym at)));
     }
+
+pub returns-clause-waits : goal.returns-clause-waits
+returns-clause-waits g c =
+    let i : ℕ = c.stripe_at-stripe.result in
+    let new = c.set_at.new.self in
+    waits_one (g.P.Parts.part_of c.args.parts.now) (g.P.Parts.part_of (g.P.Parts.with_part c.args.parts.now i new)) i c.part.result.now new
+    c.part.ensures.value (c.part.ensures.written new) (c.part.ensures.others new) c.set_at.ensures.waits

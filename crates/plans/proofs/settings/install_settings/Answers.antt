@@ -8,12 +8,14 @@ use Rattle.shards.specs.Rooms.{AreRoomy, HaveGrown}
 use Rattle.shards.specs.Shards.{logs_of, shard_meaning}
 use Rattle.plans.proofs.Become.{became_unwritten}
 use Rattle.plans.proofs.Grown.{grown_none}
+use Rattle.plans.proofs.Waits.{waits_both}
 use Rattle.plans.proofs.settings.install_settings.Goals as goal
 
 pub loop-first-init : goal.loop-first-init
 loop-first-init g c = record {
   is_open = c.requires.open;
   keeps = g.met.P.Parts.keeps_same c.args.parts.now;
+  waits = λ j. refl;
   room = c.requires.room;
   fits = c.requires.fits;
   became = λ later became. became;
@@ -52,6 +54,7 @@ loop-first-preserved g c =
     record {
       is_open = c.set_before.ensures.held.open_still;
       keeps = g.met.P.Parts.keeps_both c.args.parts.now c.loop-first.parts c.set_before.new.parts inv.keeps c.set_before.ensures.held.kept;
+      waits = waits_both (g.P.Parts.part_of c.args.parts.now) before (g.P.Parts.part_of c.set_before.new.parts) inv.waits c.set_before.ensures.waits;
       room = room;
       fits = all.1;
       became = λ later became. inv.became later
@@ -73,3 +76,6 @@ returns-clause-grown g c =
     let logs = logs_of (g.P.Parts.part_of c.loop-first.parts) in
     let none : writes_set (pairs_of c.loop-first.left.now) ≡ [] = ap writes_set c.in_default.ensures.none in
     c.loop-first.invariant.grown logs (subst (λ (l : List Write). HaveGrown n l logs logs) (sym none) (grown_none c.growth_adds_up.ensures n logs))
+
+pub returns-clause-waits : goal.returns-clause-waits
+returns-clause-waits g c = c.loop-first.invariant.waits

@@ -1,10 +1,12 @@
 use Rattle.std.proofs.Common.{◌≡◌, ◌/◌, ◌%◌, ◌<◌, ◌≤◌, ◌∙◌, Some, ap, sym, subst, arith, inl, inr}
 use Rattle.std.specs.List.{Contains}
 use Rattle.records.specs.declared.pages.TheConstants.{PAGE_SIZE}
+use Rattle.frames.specs.Resident.{page_of}
 use Rattle.records.specs.Records.{IsLaidOut, records_of, size_of}
 use Rattle.hybrid.specs.HybridLog.{HybridLog, Kept, page_at, receipt_of}
 use Rattle.hybrid.specs.Ways.{AreInReach}
 use Rattle.hybrid.proofs.Logs.{some_is}
+use Rattle.hybrid.proofs.Placing.{resident-there}
 use Rattle.hybrid.proofs.Finding.{cold-has, page-cold, now-is, some-so, none-so}
 use Rattle.hybrid.proofs.stripe.Stripe.live_record.Goals as goal
 
@@ -62,3 +64,15 @@ returns-clause-missing g c =
     let has = cold-has p n k live c.in-Some-receipt.ensures in
     let has_there : receipt_of p (c.args.address / PAGE_SIZE) ≡ Some k = subst (λ m. receipt_of p m ≡ Some k) at has in
     none-so c.record.result _ _ (λ unread. record { kept = k; live = c.requires.live; has = has_there; away = λ there. omega (arith, there.0, high, at); unread = unread }) c.record.ensures.missing
+
+pub returns-then-oldest-number-clause-resident : goal.returns-then-oldest-number-clause-resident
+returns-then-oldest-number-clause-resident g c = λ r at.
+    let t = resident-there c.args.self.now c.args.address r (now-is _ _ c.self.view_is c.self.invariant.0) at in
+    let page = c.in-Some.ensures.bytes ∙ ap (page_of c.self.inside.frames) c.page-number.ensures ∙ ap (λ (q : HybridLog). page_of q.resident (c.args.address / PAGE_SIZE)) c.self.view_is in
+    c.record_of.ensures.found (rw page t.laid) r (rw (page, c.offset.ensures) t.listed)
+
+pub returns-clause-resident : goal.returns-clause-resident
+returns-clause-resident g c = λ r at.
+    let p = c.args.self.now in
+    let first = ap (λ (q : HybridLog). q.resident.oldest) c.self.view_is in
+    absurd (omega (arith, at.resident, c.page-number.ensures, c.if-oldest-number.false, c.oldest.ensures.oldest, first))
