@@ -1,5 +1,5 @@
 -- Texts of which a part is sent and a part is held.
-use Rattle.std.proofs.Common.{◌≡◌, ◌≤◌, ◌+◌, ℕ, List, [], ◌++◌, length, vec_len, vec_capacity, sym, ap, ◌∙◌, append_assoc, length-append, arith}
+use Rattle.std.proofs.Common.{◌≡◌, ◌≤◌, ◌+◌, ℕ, List, [], ◌++◌, length, vec_len, vec_capacity, sym, ap, ◌∙◌, append_assoc, append-nil, length-append, arith}
 use Rattle.std.specs.Prelude.{Vec}
 
 -- texts, grouped another way
@@ -9,6 +9,14 @@ regroup a b held text sent holds is =
     ∙ ap (λ (t : List ℕ). (a ++ b) ++ t) is
     ∙ sym (append_assoc (a ++ b) sent holds)
     ∙ ap (λ (t : List ℕ). t ++ holds) (append_assoc a b sent)
+
+-- a text that is held still, where nothing was added
+pub holds_still : (a b held new : List ℕ) → new ≡ held ++ [] → (a ++ b) ++ held ≡ (a ++ b) ++ new
+holds_still a b held new is = ap (λ (t : List ℕ). (a ++ b) ++ t) (sym (is ∙ append-nil held))
+
+-- what was sent of a held text to which one was added
+pub sent_of : (held text new all : List ℕ) → new ≡ held ++ text → new ++ [] ≡ all → held ++ text ≡ all
+sent_of held text new all added is = sym added ∙ sym (append-nil new) ∙ is
 
 -- a held text of which a beginning is sent
 pub regroup_cut : (a b held sent more : List ℕ) → held ≡ sent ++ more → (a ++ b) ++ held ≡ (a ++ (b ++ sent)) ++ more

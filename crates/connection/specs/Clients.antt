@@ -1,5 +1,6 @@
 -- What a client does: the core of a connection, between the bytes that it is fed and the calls and replies that it gives.
 use Rattle.std.specs.Prelude.{◌≡◌, ◌⊎◌, List, [], ◌++◌}
+use Rattle.words.specs.declared.command.Command.{Command}
 use Rattle.words.specs.declared.reply.Reply.{Reply}
 use Rattle.words.specs.Store.{Bytes}
 use Rattle.words.specs.Spelling.{IsRequest, spelling}
@@ -71,6 +72,20 @@ IsOpen Idle = Unit {0}
 IsOpen (Queueing queue words bytes) = Unit {0}
 IsOpen Spoiled = Unit {0}
 IsOpen Closed = ⊥
+
+-- the session is in a transaction whose commands are queued
+abbrev pub IsQueueing : Mode → Type 0
+IsQueueing Idle = ⊥
+IsQueueing (Queueing queue words bytes) = Unit {0}
+IsQueueing Spoiled = ⊥
+IsQueueing Closed = ⊥
+
+-- the commands that are queued
+abbrev pub queue_of : Mode → List Command
+queue_of Idle = []
+queue_of (Queueing queue words bytes) = queue
+queue_of Spoiled = []
+queue_of Closed = []
 
 -- a request is taken off the front of the bytes
 pub record TakesOff (old : Bytes) (words : List Bytes) (new : Bytes) : Type 0 where

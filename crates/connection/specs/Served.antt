@@ -168,7 +168,13 @@ module _ (promises : Promises) where
   IsDue was now old (due.Line said) new = Turned was now old new (line_reply said)
   IsDue was now old (due.Values found) new = Turned was now old new (values_reply found)
   IsDue was now old (due.Value found) new = Turned was now old new (value_reply found)
+  IsDue was now old (due.Said found) new = Turned was now old new (value_reply found)
   IsDue was now old _ new = now ≡ was
+
+-- what the output buffer was given in a turn already
+abbrev pub due_text : Due → Bytes
+due_text (due.Said found) = encoding (value_reply found)
+due_text _ = []
 
 -- what the reader has told when a connection ended so
 abbrev pub reader_told : Ended → Told → Told
@@ -281,6 +287,7 @@ HasTurned old (due.Reply reply) new = (words : List Bytes) × TakesOff old.unrea
 HasTurned old (due.Line said) new = (words : List Bytes) × TakesOff old.unread words new.unread
 HasTurned old (due.Values found) new = (words : List Bytes) × TakesOff old.unread words new.unread
 HasTurned old (due.Value found) new = (words : List Bytes) × TakesOff old.unread words new.unread
+HasTurned old (due.Said found) new = (words : List Bytes) × TakesOff old.unread words new.unread
 HasTurned old due.Input new = (stream.front old.unread ≡ stream.Part) × IsOpen (mode_of old.stage) × (new ≡ old)
 HasTurned old (due.Malformed fault) new = (stream.front old.unread ≡ stream.Faulty fault) × IsOpen (mode_of old.stage) × (new ≡ old)
 HasTurned old due.Closed new = (mode_of old.stage ≡ Closed) × (new ≡ old)

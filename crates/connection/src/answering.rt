@@ -13,16 +13,17 @@ ghost use Rattle.words.specs.Session.{line_reply};
 ghost use Rattle.words.specs.Spelling.{IsRequest};
 ghost use Rattle.transact.specs.Calls.{answer_of, reply_to};
 ghost use Rattle.connection.specs.Clients.{Progress, before, mode_of, IsIdle, IsOpen};
-ghost use Rattle.connection.specs.Served.{HasTurned, IsDue, IsDueToIdle, Attends, Conversing, HasPaused, IsFed, StandsAt, LeavesAt, paused_told, HasAnswered, GoesOn, EndsAnswering, answered_told};
+ghost use Rattle.connection.specs.Served.{HasTurned, IsDue, IsDueToIdle, due_text, Attends, Conversing, HasPaused, IsFed, StandsAt, LeavesAt, paused_told, HasAnswered, GoesOn, EndsAnswering, answered_told};
 ghost use Rattle.std.specs.Io.KnownBytes.{Appends, Consumes};
 
 use crate::client::{Client, Front, Next};
-use crate::output::{flush, say_line, say_spent, say_value, say_values};
+use crate::output::{flush, make_room, say_line, say_spent, say_value, say_values};
 use crate::reading::{MORE_PIECES, Waiting, take_waiting};
 use crate::serving::{Ended, Store, Talk};
 use device::Device;
-use engine::{Gathered, Pass};
+use engine::{Gathered, Got, Pass};
 use gates::Latch;
+use resp_write::Said;
 use session::watches_follow_entries;
 use std::io::Write;
 use std::sync::Wait;
@@ -45,6 +46,8 @@ pub(crate) enum Due {
     Values(Bulks),
     /// A GET is answered with what it found.
     Value(Option<Word>),
+    /// A GET was answered with this: the output buffer has its reply.
+    Said(Said),
     /// No whole request is left.
     Input,
     /// The bytes that are left begin with a fault.
@@ -98,7 +101,13 @@ pub(crate) fn answer_all<T: Wait, L: Latch, W: Write, D: Device>(
         if talk.client.wants_input() {
             return Paused::Input;
         }
-        match answer_next(store, &mut talk.client, &mut talk.words, pass) {
+        match answer_next(
+            store,
+            &mut talk.client,
+            &mut talk.words,
+            &mut talk.out,
+            pass,
+        ) {
             Due::Reply(reply) => {
                 if let Err(_) = say_spent(reply, &mut talk.out, writer) {
                     return Paused::WriteFailed;
@@ -116,6 +125,11 @@ pub(crate) fn answer_all<T: Wait, L: Latch, W: Write, D: Device>(
             }
             Due::Value(value) => {
                 if let Err(_) = say_value(value, &mut talk.out, writer) {
+                    return Paused::WriteFailed;
+                }
+            }
+            Due::Said(_said) => {
+                if let Err(_) = make_room(&mut talk.out, writer) {
                     return Paused::WriteFailed;
                 }
             }
@@ -217,12 +231,14 @@ pub(crate) fn answer_piece<T: Wait, L: Latch, R: ReadReady, W: Write, D: Device>
     conclude::<W, D>(paused, &mut talk.out, writer)
 }
 
-/// Answers the client's next request, if there is a whole one. It is taken up into these words.
+/// Answers the client's next request, if there is a whole one. It is taken up into these words. What a GET found may be said at
+/// once, into the output buffer.
 #[inline]
 fn answer_next<T: Wait, L: Latch, D: Device>(
     store: &Store<T, L, D>,
     client: &mut Client,
     words: &mut Words,
+    out: &mut Vec<u8>,
     pass: &mut Pass<D>,
 ) -> Due
     requires rests { Rests D.Receipt.is_steady store.now.engine.now pass.old }
@@ -231,11 +247,12 @@ fn answer_next<T: Wait, L: Latch, D: Device>(
     ensures due { IsDue (promises_of D.Receipt.is_steady D.Receipt.lends (stripe_count store.now.engine.now)) (knows D.failures pass.old) (knows D.failures pass.new) client.old result client.new }
     ensures rests { Rests D.Receipt.is_steady store.now.engine.now pass.new }
     ensures attends { Attends (knows D.failures pass.new) client.new }
+    ensures said { out.new.items ≡ out.old.items ++ due_text result }
 {
     match client.take_up(words) {
         Front::Request => {
             if client.is_idle() {
-                answer_idle(store, client, words, pass)
+                answer_idle(store, client, words, out, pass)
             } else {
                 answer_obeyed(store, client, words, pass)
             }
@@ -255,6 +272,7 @@ fn answer_idle<T: Wait, L: Latch, D: Device>(
     store: &Store<T, L, D>,
     client: &mut Client,
     words: &Words,
+    out: &mut Vec<u8>,
     pass: &mut Pass<D>,
 ) -> Due
     requires rests { Rests D.Receipt.is_steady store.now.engine.now pass.old }
@@ -265,14 +283,16 @@ fn answer_idle<T: Wait, L: Latch, D: Device>(
     ensures due { IsDue (promises_of D.Receipt.is_steady D.Receipt.lends (stripe_count store.now.engine.now)) (knows D.failures pass.old) (knows D.failures pass.new) (before words.now client.old) result client.new }
     ensures rests { Rests D.Receipt.is_steady store.now.engine.now pass.new }
     ensures attends { Attends (knows D.failures pass.new) client.new }
+    ensures said { out.new.items ≡ out.old.items ++ due_text result }
 {
     match Brief::of(words) {
         Brief::Get => {
             watches_follow_entries();
             commands_are_bounded();
             let key = &words.as_slice()[1];
-            match store.engine.get(store.rt, pass, key, store.latch) {
-                Ok(value) => Due::Value(value),
+            match store.engine.say(store.rt, pass, key, out, store.latch) {
+                Ok(Got::Said(said)) => Due::Said(said),
+                Ok(Got::Found(value)) => Due::Value(value),
                 Err(fault) => Due::Line(Line::Faulty(fault)),
             }
         }
@@ -307,6 +327,7 @@ fn answer_values<T: Wait, L: Latch, D: Device>(
         (knows D.failures pass.old) (knows D.failures pass.new) words.now result }
     ensures rests { Rests D.Receipt.is_steady store.now.engine.now pass.new }
     ensures attends { (at : Progress) → Attends (knows D.failures pass.old) at → IsIdle at.stage → Attends (knows D.failures pass.new) at }
+    ensures unsaid { due_text result ≡ [] }
 {
     watches_follow_entries();
     commands_are_bounded();
@@ -335,6 +356,7 @@ fn answer_settings<T: Wait, L: Latch, D: Device>(
         (knows D.failures pass.old) (knows D.failures pass.new) words.now result }
     ensures rests { Rests D.Receipt.is_steady store.now.engine.now pass.new }
     ensures attends { (at : Progress) → Attends (knows D.failures pass.old) at → IsIdle at.stage → Attends (knows D.failures pass.new) at }
+    ensures unsaid { due_text result ≡ [] }
 {
     watches_follow_entries();
     commands_are_bounded();
@@ -362,6 +384,7 @@ fn answer_one<T: Wait, L: Latch, D: Device>(
         (knows D.failures pass.old) (knows D.failures pass.new) words.now result }
     ensures rests { Rests D.Receipt.is_steady store.now.engine.now pass.new }
     ensures attends { (at : Progress) → Attends (knows D.failures pass.old) at → IsIdle at.stage → Attends (knows D.failures pass.new) at }
+    ensures unsaid { due_text result ≡ [] }
 {
     watches_follow_entries();
     commands_are_bounded();
@@ -404,6 +427,7 @@ fn answer_command<T: Wait, L: Latch, D: Device>(
 
     ensures rests { Rests D.Receipt.is_steady store.now.engine.now pass.new }
     ensures attends { Attends (knows D.failures pass.new) client.new }
+    ensures unsaid { due_text result ≡ [] }
 {
     match client.command_of(words) {
         Ok(Ok(command)) if names_key(&command) => {
@@ -453,6 +477,7 @@ fn answer_obeyed<T: Wait, L: Latch, D: Device>(
     ensures due { IsDue (promises_of D.Receipt.is_steady D.Receipt.lends (stripe_count store.now.engine.now)) (knows D.failures pass.old) (knows D.failures pass.new) (before words.now client.old) result client.new }
     ensures rests { Rests D.Receipt.is_steady store.now.engine.now pass.new }
     ensures attends { Attends (knows D.failures pass.new) client.new }
+    ensures unsaid { due_text result ≡ [] }
 {
     match client.command_of(words) {
         Ok(command) => answer_step(store, client, words, command, pass),
@@ -481,6 +506,7 @@ fn answer_step<T: Wait, L: Latch, D: Device>(
 
     ensures rests { Rests D.Receipt.is_steady store.now.engine.now pass.new }
     ensures attends { Attends (knows D.failures pass.new) client.new }
+    ensures unsaid { due_text result ≡ [] }
 {
     match client.step(words, command) {
         Next::Input => Due::Input,

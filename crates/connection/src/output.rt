@@ -33,6 +33,26 @@ pub(crate) fn flush<W: Write>(out: &mut Vec<u8>, writer: &mut Noted<W>) -> Resul
     Ok(())
 }
 
+/// The most bytes that the output buffer holds where a request is answered.
+pub(crate) const HELD_BYTES: usize = 65_536;
+
+/// Writes what the output buffer holds, if that is more than [`HELD_BYTES`]: so there is room for the longest reply to a GET behind it.
+#[inline]
+pub(crate) fn make_room<W: Write>(
+    out: &mut Vec<u8>,
+    writer: &mut Noted<W>,
+) -> Result<(), WriteFault>
+    ensures put { IsPut (W.contents (stream_of writer.old)) (W.contents (stream_of writer.new))
+        out.old.items out.new.items result [] }
+    ensures told { told_of writer.new ≡ told_when (is_ok result) (told_of writer.old) }
+    ensures within { vec_len out.new ≤ vec_capacity out.old }
+{
+    if out.len() <= HELD_BYTES {
+        return Ok(());
+    }
+    flush(out, writer)
+}
+
 /// Says a reply: it goes into the output buffer where there is room, else to the writer, after what
 /// the buffer holds. It takes no memory: what the buffer holds then fits into the room that it had.
 pub(crate) fn say<W: Write>(

@@ -12,6 +12,7 @@ ghost use Rattle.std.specs.Io.KnownBytes.{Appends, Consumes, IsAtEnd};
 
 use crate::answering::answer_piece;
 use crate::client::Client;
+use crate::output::HELD_BYTES;
 use crate::reading::{Room, take_piece};
 use device::Device;
 use engine::{Engine, Pass};
@@ -20,12 +21,14 @@ use std::alloc::Global;
 use std::io::Write;
 use std::sync::Wait;
 use streams::{Noted, ReadReady};
+use words::limits::VALUE_BYTES_MAX;
 use words::word::Words;
 
 /// The room that the output buffer has at least, in bytes: every line fits.
 const LINE_ROOM: usize = 128;
-/// The room that the output buffer has where memory serves, in bytes.
-const OUTPUT_BYTES: usize = 65_536;
+/// The room that the output buffer has where memory serves, in bytes: for what it holds where a request is answered, and for a value
+/// behind that with its first line, of at most 8 bytes, and its line end.
+const OUTPUT_BYTES: usize = HELD_BYTES + VALUE_BYTES_MAX + 10;
 
 /// How a connection ended.
 #[derive(Clone, Copy, Debug, PartialEq, Eq)]
@@ -198,7 +201,7 @@ pub(crate) fn forget<T: Wait, L: Latch, D: Device>(
 /// one byte a piece costs 41 bytes a byte, or 81 just after the list has doubled. Only where memory was
 /// refused for a word do whole words stay in the pieces: then the request's 132,358 bytes stand in at most ten
 /// blocks. The words of a request, 131,072 bytes at most, stay until the reply is written. The output buffer has
-/// 65,536 bytes. A transaction keeps at most 128 commands with 131,072 bytes of words, and a session at most 128
+/// 98,314 bytes. A transaction keeps at most 128 commands with 131,072 bytes of words, and a session at most 128
 /// watched keys.
 pub fn serve<T: Wait, L: Latch, R: ReadReady, W: Write, D: Device>(
     rt: &T,

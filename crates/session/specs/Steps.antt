@@ -1,16 +1,24 @@
 -- What a request gives, by what it does to the session.
 use Rattle.std.specs.Prelude.{◌≡◌, List, [], Option, Some, None}
 use Rattle.words.specs.declared.reply.Reply.{Reply}
-use Rattle.words.specs.declared.reply.Line.TheVariants.{Queued}
+use Rattle.words.specs.declared.reply.Line.TheVariants.{Done, Queued}
+use Rattle.words.specs.declared.command.Command.{Command}
 use Rattle.words.specs.Store.{Bytes}
 use Rattle.words.specs.History.{Pair, HasPlace}
-use Rattle.words.specs.Session.{Turn, Says, Forgets, Tries, Calls, Never, Asked, Run, Watch, Exec, operation_of, line_reply, turn}
+use Rattle.words.specs.Session.{Mode, Turn, Says, Forgets, Tries, Calls, Never, Asked, Run, Watch, Exec, operation_of, line_reply, says, turn}
+use Rattle.words.specs.Session as mode
 use Rattle.transact.specs.declared.call.Call.{Call}
 use Rattle.transact.specs.declared.call.Call.TheVariants.{Forget}
 use Rattle.transact.specs.Calls.{asked_of, call_of, watched_with}
 use Rattle.session.specs.declared.modes.Step.{Step}
 use Rattle.session.specs.declared.modes.Step.TheVariants as step
-use Rattle.session.specs.Standings.{Standing, stands, standing_of, closed_of, Wait, ForAnswer, ForEnd, wait_of, watched_done, watched_faulty}
+use Rattle.session.specs.declared.modes.Session.{Session}
+use Rattle.session.specs.declared.modes.Queueing.{Queueing}
+use Rattle.session.specs.declared.modes.Taken.{Taken}
+use Rattle.session.specs.declared.modes.Taken.TheVariants as taken
+use Rattle.session.specs.declared.modes.Leaving.{Leaving}
+use Rattle.session.specs.declared.modes.Leaving.TheVariants as leaving
+use Rattle.session.specs.Standings.{Standing, stands, standing_of, queueing_of, closed_of, Wait, ForAnswer, ForEnd, wait_of, watched_done, watched_faulty}
 
 -- a request that does this, of a session that watches these keys, is answered with this reply, and leaves the session so
 abbrev pub IsSaid : Turn → List Bytes → Reply → Standing → Type 0
@@ -59,3 +67,17 @@ Gives turned watched (step.Calls call called) = IsAsked turned watched call (wai
 -- what a request of these words gives, of a session that stands so
 abbrev pub IsStep : Standing → (words : List Bytes) → Step → Type 0
 IsStep old words result = Gives (turn old.mode old.watched words) old.watched result
+
+-- a request that does this leaves a transaction of these commands so
+abbrev pub IsLeft : Turn → List Command → Leaving → Type 0
+IsLeft turned queue (leaving.Spoils line) = turned ≡ says line mode.Spoiled
+IsLeft turned queue leaving.OutOfMemory = (done : Mode) × (turned ≡ Tries (line_reply Queued) done mode.Spoiled)
+IsLeft turned queue leaving.Runs = turned ≡ Calls (Exec queue) mode.Idle mode.Idle
+IsLeft turned queue leaving.Discards = turned ≡ Forgets (line_reply Done) mode.Idle
+IsLeft turned queue leaving.Quits = turned ≡ says Done mode.Closed
+
+-- What a request comes to that does this, of a session that is in a transaction, and how the session is then. One that leaves the
+-- transaction is as it was.
+abbrev pub IsTaken : Turn → (old : Session Queueing) → Taken → (new : Session Queueing) → Type 0
+IsTaken turned old (taken.Stays line) new = IsSaid turned old.watching (line_reply line) (queueing_of new)
+IsTaken turned old (taken.Leaves left) new = IsLeft turned old.mode.queue left × (new ≡ old)

@@ -14,7 +14,7 @@ impl Session<Idle> {
     ghost use Rattle.words.specs.Commands.{command_of};
     ghost use Rattle.words.specs.Session as mode;
     ghost use Rattle.words.specs.Session.{turn_idle, watch_turn, says};
-    ghost use Rattle.session.specs.Standings.{start, idle_of};
+    ghost use Rattle.session.specs.Standings.{start, stands, idle_of, queueing_of};
     ghost use Rattle.session.specs.Steps.{Gives, IsStep};
 
     /// A session at the beginning: it watches nothing. It takes no memory.
@@ -74,7 +74,7 @@ impl Session<Idle> {
         ensures { Gives (turn_idle self.watching (Ok (Command.Session command))) self.watching result }
     {
         match command {
-            SessionCommand::Multi => self.begin(),
+            SessionCommand::Multi => self.multi(),
             SessionCommand::Exec => {
                 self.say(Line::Misplaced(TransactionError::ExecWithoutMulti))
             }
@@ -102,18 +102,22 @@ impl Session<Idle> {
         Step::Says(reply, AnySession::Idle(self))
     }
 
-    /// It opens a transaction.
-    fn begin(self) -> Step
-        ensures { Gives (says Line.Done (mode.Queueing [] 0 0)) self.watching result }
+    /// The session in a transaction that it opens. It takes no memory.
+    pub fn begin(self) -> Session<Queueing>
+        ensures { queueing_of result ≡ stands (mode.Queueing [] 0 0) self.watching }
     {
         let queueing = Queueing {
             queue: Vec::new(self.alloc),
             size: Size { words: 0, bytes: 0 },
         };
-        Step::Says(
-            Reply::line(Line::Done),
-            AnySession::Queueing(self.into_mode(queueing)),
-        )
+        self.into_mode(queueing)
+    }
+
+    /// What MULTI gives.
+    fn multi(self) -> Step
+        ensures { Gives (says Line.Done (mode.Queueing [] 0 0)) self.watching result }
+    {
+        Step::Says(Reply::line(Line::Done), AnySession::Queueing(self.begin()))
     }
 
     /// It watches keys: those that are new are copied before it calls.

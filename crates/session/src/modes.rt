@@ -100,6 +100,30 @@ pub enum Step {
     Calls(Call, Called),
 }
 
+/// What a request comes to where a transaction is open.
+#[derive(Clone, Copy, Debug, PartialEq, Eq)]
+pub enum Taken {
+    /// It is answered with this line, and the transaction goes on.
+    Stays(Line),
+    /// The transaction goes on no more: it is left so, by [`leave`](Session::leave).
+    Leaves(Leaving),
+}
+
+/// How a transaction is left.
+#[derive(Clone, Copy, Debug, PartialEq, Eq)]
+pub enum Leaving {
+    /// It is spoiled, and the session says this line.
+    Spoils(Line),
+    /// It is spoiled: there was no memory for a command to be queued.
+    OutOfMemory,
+    /// It is run.
+    Runs,
+    /// It is discarded.
+    Discards,
+    /// The session ends.
+    Quits,
+}
+
 impl<M> Session<M> {
     ghost use Rattle.words.specs.Session as mode;
     ghost use Rattle.words.specs.Session.{says, Forgets, line_reply};

@@ -4,26 +4,38 @@ use Rattle.words.specs.Store.{Bytes}
 use Rattle.words.specs.Bounds.{IsBounded}
 use Rattle.words.specs.declared.command.Command.TheVariants.{Get}
 use Rattle.words.specs.Session.{line_reply, value_reply}
-use Rattle.transact.specs.Calls.{answer_of, answer_with}
+use Rattle.transact.specs.Calls.{answer_of}
+use Rattle.engine.specs.declared.get.Got.TheVariants as got
+use Rattle.engine.specs.Got.{got_answer}
 use Rattle.connection.proofs.Called.{attends_turned}
 use Rattle.connection.proofs.Briefs.{get_bounded, set_bounded, turned_get, turned_set, turned_ping}
 use Rattle.connection.proofs.answering.answer_idle.Goals as goal
 
-pub returns-in-Ok-clause-due : goal.returns-in-Ok-clause-due
-returns-in-Ok-clause-due g c =
+pub returns-in-Ok-Said-clause-due : goal.returns-in-Ok-Said-clause-due
+returns-in-Ok-Said-clause-due g c =
     let get = c.in-Get.ensures.get refl in
     let same : c.index-as_slice-1.result ≡ get.key = search (rules, get.words_are) in
-    turned_get _ _ _ c.args.words.now (answer_with (Ok c.in-Ok.value)) (value_reply c.in-Ok.value) _ c.watches_follow_entries.ensures.entry c.watches_follow_entries.ensures.fault
-    c.requires.attends c.requires.idle c.requires.request get (get_bounded c.commands_are_bounded.ensures c.args.words.now c.requires.request get) (rw same at c.in-Ok.ensures.answered.done) tt refl
+    turned_get _ _ _ c.args.words.now (got_answer (Ok (got.Said c.in-Ok-Said.said))) (value_reply c.in-Ok-Said.said) _ c.watches_follow_entries.ensures.entry c.watches_follow_entries.ensures.fault
+    c.requires.attends c.requires.idle c.requires.request get (get_bounded c.commands_are_bounded.ensures c.args.words.now c.requires.request get) (rw (same, c.in-Ok-Said.field-0-is) at c.in-Ok-Said.ensures.answered.done) tt refl
 
-pub returns-in-Ok-clause-attends : goal.returns-in-Ok-clause-attends
-returns-in-Ok-clause-attends g c = attends_turned _ _ _ _ _ (returns-in-Ok-clause-due g c)
+pub returns-in-Ok-Said-clause-attends : goal.returns-in-Ok-Said-clause-attends
+returns-in-Ok-Said-clause-attends g c = attends_turned _ _ _ _ _ (returns-in-Ok-Said-clause-due g c)
+
+pub returns-in-Ok-Found-clause-due : goal.returns-in-Ok-Found-clause-due
+returns-in-Ok-Found-clause-due g c =
+    let get = c.in-Get.ensures.get refl in
+    let same : c.index-as_slice-1.result ≡ get.key = search (rules, get.words_are) in
+    turned_get _ _ _ c.args.words.now (got_answer (Ok (got.Found c.in-Ok-Found.value))) (value_reply c.in-Ok-Found.value) _ c.watches_follow_entries.ensures.entry c.watches_follow_entries.ensures.fault
+    c.requires.attends c.requires.idle c.requires.request get (get_bounded c.commands_are_bounded.ensures c.args.words.now c.requires.request get) (rw (same, c.in-Ok-Found.field-0-is) at c.in-Ok-Found.ensures.answered.done) tt refl
+
+pub returns-in-Ok-Found-clause-attends : goal.returns-in-Ok-Found-clause-attends
+returns-in-Ok-Found-clause-attends g c = attends_turned _ _ _ _ _ (returns-in-Ok-Found-clause-due g c)
 
 pub returns-in-Err-clause-due : goal.returns-in-Err-clause-due
 returns-in-Err-clause-due g c =
     let get = c.in-Get.ensures.get refl in
     let same : c.index-as_slice-1.result ≡ get.key = search (rules, get.words_are) in
-    turned_get _ _ _ c.args.words.now (answer_with (Err c.in-Err.fault)) (line_reply (Faulty c.in-Err.fault)) _ c.watches_follow_entries.ensures.entry c.watches_follow_entries.ensures.fault
+    turned_get _ _ _ c.args.words.now (got_answer (Err c.in-Err.fault)) (line_reply (Faulty c.in-Err.fault)) _ c.watches_follow_entries.ensures.entry c.watches_follow_entries.ensures.fault
     c.requires.attends c.requires.idle c.requires.request get (get_bounded c.commands_are_bounded.ensures c.args.words.now c.requires.request get) tt (rw same at c.in-Err.ensures.answered.undone) refl
 
 pub returns-in-Err-clause-attends : goal.returns-in-Err-clause-attends
@@ -43,8 +55,8 @@ returns-in-Set-clause-attends g c = attends_turned _ _ _ _ _ (returns-in-Set-cla
 pub returns-in-Ping-clause-due : goal.returns-in-Ping-clause-due
 returns-in-Ping-clause-due g c = turned_ping _ c.args.words.now _ c.requires.attends c.requires.idle c.requires.request (c.in-Ping.ensures.ping refl)
 
-pub get-requires-clause-place : goal.get-requires-clause-place
-get-requires-clause-place g c =
+pub say-requires-clause-place : goal.say-requires-clause-place
+say-requires-clause-place g c =
     let get = c.in-Get.ensures.get refl in
     let same : c.index-as_slice-1.result ≡ get.key = search (rules, get.words_are) in
     subst (λ (key : Bytes). IsBounded (Get key)) (sym same) (get_bounded c.commands_are_bounded.ensures c.args.words.now c.requires.request get)

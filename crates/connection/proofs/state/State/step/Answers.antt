@@ -1,18 +1,21 @@
-use Rattle.std.proofs.Common.{ap}
-use Rattle.session.specs.Standings.{standing_of, closed_of, wait_of}
-use Rattle.connection.specs.Clients.{stage_of}
+use Rattle.std.proofs.Common.{rules, ◌≡◌, sym, ap, ◌∙◌, subst}
+use Rattle.session.specs.declared.modes.Session.{Session}
+use Rattle.session.specs.declared.modes.Queueing.{Queueing}
+use Rattle.session.specs.Standings.{queueing_of}
+use Rattle.session.specs.Steps.{IsLeft}
+use Rattle.connection.specs.Clients.{Stage, Ready, stage_of, turn_at, Steps}
 use Rattle.connection.proofs.state.State.step.Goals as goal
 
-pub returns-in-Says : goal.returns-in-Says
-returns-in-Says c = (standing_of c.in-Says.session, ap stage_of c.put.ensures, rw c.take_ready-session.ensures.session c.in-Says.ensures)
+-- the stage at which a session in a transaction is
+abbrev at : Session Queueing → Stage
+at session = Ready (queueing_of session)
 
-pub returns-in-Closes : goal.returns-in-Closes
-returns-in-Closes c = (closed_of c.in-Closes.session, ap stage_of c.put-in-Closes.ensures, rw c.take_ready-session.ensures.session c.in-Closes.ensures)
-
-pub returns-in-OutOfMemory : goal.returns-in-OutOfMemory
-returns-in-OutOfMemory c =
-    (standing_of c.in-OutOfMemory.session, ap stage_of c.put-in-OutOfMemory.ensures, rw c.take_ready-session.ensures.session c.in-OutOfMemory.ensures)
-
-pub returns-in-Calls : goal.returns-in-Calls
-returns-in-Calls c =
-    (wait_of c.in-Calls.called, ap stage_of c.put-in-Calls.ensures, rw c.take_ready-session.ensures.session c.in-Calls.ensures.0, c.in-Calls.ensures.1)
+pub returns-in-Leaves : goal.returns-in-Leaves
+returns-in-Leaves c =
+    let was : stage_of c.args.self.now ≡ at c.in-Ready-Queueing.session =
+    Prim.search (rules, c.in-Ready-Queueing.is, c.in-Ready-Queueing.field-0-is) in
+    let leaves : IsLeft (turn_at (at c.take.new.self) c.args.words.now) c.take.new.self.mode.queue c.in-Leaves.leaving =
+    subst (λ (s : Session Queueing). IsLeft (turn_at (at s) c.args.words.now) s.mode.queue c.in-Leaves.leaving)
+    (sym c.in-Leaves.ensures.1) c.in-Leaves.ensures.0 in
+    subst (λ stage. Steps stage c.args.words.now c.leave.result (stage_of c.leave.new.self)) (ap at c.in-Leaves.ensures.1 ∙ sym was)
+    (c.leave.ensures c.args.words.now leaves)

@@ -1,4 +1,4 @@
-use Rattle.std.proofs.Common.{rules, ◌≡◌, ◌∷◌, [], ◌++◌, ◌+◌, length, sym, ap, ◌∙◌, subst}
+use Rattle.std.proofs.Common.{◌≡◌, ◌∷◌, [], ◌++◌, ◌+◌, length, sym, ap, ◌∙◌, subst}
 use Rattle.std.proofs.lemmas.List.{length-append}
 use Rattle.words.specs.Bounds.{AreBounded}
 use Rattle.words.specs.History.{MayAllBeQueued}
@@ -7,9 +7,9 @@ use Rattle.session.specs.Transactions.{Transaction}
 use Rattle.session.proofs.Queued.{one_more, one_more_bounded}
 use Rattle.session.proofs.queueing.Session+Queueing.queue_within.Goals as goal
 
-pub invariant_of-result : goal.invariant_of-result
-invariant_of-result c =
-    let items : c.in-Some.queue.items ≡ c.mode.inside.queue.items ++ c.args.command ∷ [] = c.in-Some.ensures in
+pub invariant_of-mode : goal.invariant_of-mode
+invariant_of-mode c =
+    let items : c.push.new.self.items ≡ c.mode.inside.queue.items ++ c.args.command ∷ [] = c.in-Ok.ensures.items in
     record {
       fits = ap (λ n. is_too_large n c.args.size.words c.args.size.bytes)
           (ap length items ∙ length-append c.mode.inside.queue.items (c.args.command ∷ []) ∙ ap (λ (t : Transaction). length t.queue + 1) c.mode.view_is)
@@ -17,6 +17,3 @@ invariant_of-result c =
       bounded = subst AreBounded (sym items) (one_more_bounded _ _ c.mode.invariant.bounded c.requires.bounded);
       may_run = subst MayAllBeQueued (sym items) (one_more _ _ c.mode.invariant.may_run c.requires.may_run);
     }
-
-pub returns-in-None : goal.returns-in-None
-returns-in-None c = search rules
