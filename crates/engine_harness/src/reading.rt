@@ -17,7 +17,7 @@ use words::word::Word;
 /// A way in which a GET is asked. The first two have rounds of their own.
 #[derive(Clone, Copy)]
 pub enum Way {
-    /// As the server asks a plain GET.
+    /// As the server asks a plain GET that it could not say at once.
     Get,
     /// As any call.
     Submit,

@@ -25,6 +25,7 @@ use words::word::Word;
 mod limits;
 mod one;
 mod releasing;
+mod saying;
 mod steps;
 mod trying;
 
