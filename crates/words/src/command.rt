@@ -301,9 +301,13 @@ impl Verb {
     ///
     /// # Errors
     ///
-    /// [`OutOfMemory`] where there is no memory for a copy.
+    /// [`OutOfMemory`] where there is no memory for a copy. Words of at most [`WORD_INLINE`] bytes take none, but for an `EXISTS` or a `DEL`,
+    /// which keep a list of keys.
+    ///
+    /// [`WORD_INLINE`]: crate::word::WORD_INLINE
     pub fn command(self, alloc: Global, key: &Word, value: &Word) -> Result<Command, OutOfMemory>
-        ensures { IfOk result (λ command. command ≡ commanded self key.now value.now) }
+        ensures exact { IfOk result (λ command. command ≡ commanded self key.now value.now) }
+        ensures memory { AsksNoMemory (Ok (commanded self key.now value.now)) → IsOk result }
     {
         match self {
             Verb::Count(by) => Ok(by.command(copy(alloc, key)?)),
