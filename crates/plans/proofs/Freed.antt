@@ -13,7 +13,7 @@ use Rattle.shards.specs.declared.shard.Shard.{Shard}
 use Rattle.shards.specs.Freeing.{FreesAt, HasFreed, HasTriedAll, HasWaited, IsSpentAt, all_waiting, waiting_at}
 use Rattle.shards.specs.Heard.{HasHeard, HasHeardWorn}
 use Rattle.shards.specs.Rooms.{IsFullAt}
-use Rattle.shards.specs.Shards.{SameWaits, logs_of, shard_counted, shard_log, shard_waiting, waits_of}
+use Rattle.shards.specs.Shards.{SameLogs, SameWaits, logs_of, shard_counted, shard_log, shard_waiting, waits_of}
 use Rattle.words.specs.declared.word.TheConstants.{WORD_INLINE}
 use Rattle.words.specs.declared.command.Command.{Command}
 use Rattle.words.specs.declared.command.Command.TheVariants.{Get}
@@ -29,6 +29,7 @@ use Rattle.plans.specs.Memory.{IsBrief, IsPlannedInPlace, NeedsNoMemoryOn}
 use Rattle.plans.specs.Planning.{AsksOn}
 use Rattle.plans.specs.Sizes.{AllShort, IsShort}
 use Rattle.plans.proofs.Become.{became_both, became_read}
+use Rattle.plans.proofs.Logs.{logs_one}
 use Rattle.plans.proofs.Rooms.{stripe_below}
 use Rattle.plans.proofs.Raised.{each_since, waited_freed, waited_none}
 
@@ -105,6 +106,11 @@ module _ {R : Type 0} where
     full = subst IsFull (sym (same_log (shard_counted frees.old) (shard_counted frees.new) freed none frees.how
         ∙ log_some frees.old full.log (sym (ap (option_map shard_log) frees.was) ∙ full.there))) full.full;
   }
+
+  -- where none was released, each log is as it was
+  pub logs_still : (b c : ℕ → Option (Shard R)) (stripe : ℕ) (freed : Freed) → freed.released ≡ false → FreesAt stripe freed b c → SameLogs b c
+  logs_still b c stripe freed none frees =
+      logs_one b c stripe frees.old frees.new frees.was frees.is frees.others (same_log (shard_counted frees.old) (shard_counted frees.new) freed none frees.how)
 
 -- HOW MANY WAIT
 

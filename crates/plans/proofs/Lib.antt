@@ -6,6 +6,7 @@ pub mod Plans
 pub mod Logs
 pub mod Waits
 pub mod Rooms
+pub mod Spared
 pub mod Grown
 pub mod Making
 pub mod Shares

@@ -5,12 +5,19 @@ use Rattle.words.specs.declared.limits.TheConstants.{WEIGHT_MAX}
 use Rattle.words.specs.Store.{Write, weight}
 use Rattle.hybrid.specs.declared.stripe.room.Purpose.{Purpose}
 use Rattle.hybrid.specs.HybridLog.{HybridLog, Kept}
+use Rattle.plans.specs.Lacking.{FoundLacking, LacksShareAt}
 use Rattle.plans.specs.Planning.{MatchStop}
 use Rattle.plans.specs.declared.stop.Stop.{Stop}
 use Rattle.plans.specs.declared.stop.Stop.TheVariants as stop
 use Rattle.shards.specs.Rooms.{AreRoomy, IsFullAt, LacksRoom, LacksRoomAt, MakesRoom, MeetsFull, RoomAt, ShedFew, ShedsAt, purpose_of, share}
 use Rattle.plans.specs.Stops.{IfCold, IfFull, faults}
 use Rattle.plans.proofs.Few.{few_from}
+
+-- the room that a stripe lacked for its share of writes, which was told
+lacks_of_share : (n i share_is : ℕ) (purpose : Purpose) (ws : List Write) (a b c : ℕ → Option HybridLog) → share_is ≡ share n i ws → purpose ≡ purpose_of ws → b i ≡ a i → LacksRoomAt i share_is purpose b c
+    → LacksRoomAt i (share n i ws) (purpose_of ws) a c
+lacks_of_share n i share_is purpose ws a b c is left same lacks was now at there =
+    subst (λ (k : Purpose). LacksRoom (share n i ws) k was now) left (subst (λ (k : ℕ). LacksRoom k purpose was now) is (lacks was now (same ∙ at) there))
 
 module _ {D R : Type 0} (wrote : D → List ℕ → R → D → Type 0) (view : R → Kept) (n : ℕ) where
   -- where nothing is written, no room is made
@@ -46,15 +53,16 @@ module _ {D R : Type 0} (wrote : D → List ℕ → R → D → Type 0) (view : 
   -- the same of a stop at that stripe
   pub met_stop : (s : Stop R) (failures : D → ℕ) (i share_is : ℕ) (purpose : Purpose) (ws : List Write) (a b c : ℕ → Option HybridLog) (d e f : D) → share_is ≡ share n i ws → purpose ≡ purpose_of ws → weight ws ≤ WEIGHT_MAX → i < n
       → MakesRoom wrote view n i ws a d b e → b i ≡ a i → ShedFew n ws a c → LacksRoomAt i share_is purpose b c → failures f ≡ failures e + faults s
-      → (0 < share_is → failures f ≡ failures e → ShedsAt wrote view i b e c f) → MatchStop s (λ receipts. ⊥) ⊥ (Unit {0}) (λ full. (full ≡ i) × (0 < share_is) × IsFullAt c full)
-      → MatchStop s (λ receipts. ⊥) ⊥ (Unit {0}) (λ stripe. MeetsFull wrote view n stripe (λ due. due ≡ ws) a d c f)
+      → (0 < share_is → failures f ≡ failures e → ShedsAt wrote view i b e c f) → MatchStop s (λ receipts. ⊥) ⊥ (0 < share_is) (λ full. (full ≡ i) × (0 < share_is) × IsFullAt c full)
+      → MatchStop s (λ receipts. ⊥) ⊥ (FoundLacking (λ due. due ≡ ws) n a c) (λ stripe. MeetsFull wrote view n stripe (λ due. due ≡ ws) a d c f)
   met_stop stop.OutOfMemory failures i share_is purpose ws a b c d e f is left light below made same few lacks counted shed full = full
-  met_stop stop.DeviceFault failures i share_is purpose ws a b c d e f is left light below made same few lacks counted shed full = tt
+  met_stop stop.DeviceFault failures i share_is purpose ws a b c d e f is left light below made same few lacks counted shed some =
+      (i, record { writes = ws; made = refl; light = light; below = below; written = omega (arith, some, is); lacks = lacks_of_share n i share_is purpose ws a b c is left same lacks })
   met_stop (stop.Cold receipts) failures i share_is purpose ws a b c d e f is left light below made same few lacks counted shed full = full
   met_stop (stop.StoreFull j) failures i share_is purpose ws a b c d e f is left light below made same few lacks counted shed full =
       subst (λ (k : ℕ). MeetsFull wrote view n k (λ due. due ≡ ws) a d c f) (sym full.0)
       (met_full i ws a b c d e f light (omega (arith, full.1, is)) below made (shed full.1 (omega (arith, counted))) (subst (IsFullAt c) full.0 full.2) few
-      (λ was now at there. subst (λ (k : Purpose). LacksRoom (share n i ws) k was now) left (subst (λ (k : ℕ). LacksRoom k purpose was now) is (lacks was now (same ∙ at) there))))
+      (lacks_of_share n i share_is purpose ws a b c is left same lacks))
 
   -- what is due, said otherwise
   pub met_as : (i : ℕ) (One Other : List Write → Type 0) (a c : ℕ → Option HybridLog) (d f : D) → ((ws : List Write) → weight ws ≤ WEIGHT_MAX → One ws → Other ws) → MeetsFull wrote view n i One a d c f
@@ -83,6 +91,19 @@ module _ {D R : Type 0} (wrote : D → List ℕ → R → D → Type 0) (view : 
   full_read stop.DeviceFault Still One Other a b c d f still same turn met = tt
   full_read (stop.Cold receipts) Still One Other a b c d f still same turn met = tt
   full_read (stop.StoreFull i) Still One Other a b c d f still same turn met = (d, still, met_from i Other a b c d f same (met_as i One Other b c d f turn met))
+
+-- what is due, said otherwise, where a stripe was met that lacked room
+pub lacking_at : (n i : ℕ) (One Other : List Write → Type 0) (a c : ℕ → Option HybridLog) → ((ws : List Write) → weight ws ≤ WEIGHT_MAX → One ws → Other ws) → LacksShareAt One n a c i → LacksShareAt Other n a c i
+lacking_at n i One Other a c turn met =
+    record { writes = met.writes; made = turn met.writes met.light met.made; light = met.light; below = met.below; written = met.written; lacks = met.lacks }
+
+pub lacking_as : (n : ℕ) (One Other : List Write → Type 0) (a c : ℕ → Option HybridLog) → ((ws : List Write) → weight ws ≤ WEIGHT_MAX → One ws → Other ws) → FoundLacking One n a c → FoundLacking Other n a c
+lacking_as n One Other a c turn met = (met.0, lacking_at n met.0 One Other a c turn met.1)
+
+-- a full stripe that was met lacked room
+pub lacking_full : {D R : Type 0} (wrote : D → List ℕ → R → D → Type 0) (view : R → Kept) (n i : ℕ) (Due : List Write → Type 0) (a c : ℕ → Option HybridLog) (d f : D) → MeetsFull wrote view n i Due a d c f → LacksShareAt Due n a c i
+lacking_full wrote view n i Due a c d f met =
+    record { writes = met.writes; made = met.due; light = met.light; below = met.below; written = met.written; lacks = met.lacks }
 
 -- no stripe is met that is full
 pub never_met : {A R : Type 0} (r : Result A (Stop R)) (P : ℕ → Type 0) → IfErr r (λ s. IfFull s (λ i. ⊥)) → IfErr r (λ s. IfFull s P)

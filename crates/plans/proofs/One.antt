@@ -9,8 +9,8 @@ use Rattle.hybrid.specs.HybridLog.{HybridLog, Kept}
 use Rattle.shards.specs.declared.shard.Shard.{Shard}
 use Rattle.shards.specs.Rooms.{AreRoomy, IsRoomyAt, LeaveFrames, LeavesFramesAt, MakesRoom, RoomAt, ShedFew, purpose_of, share}
 use Rattle.shards.specs.Shards.{logs_of, weigh}
-use Rattle.plans.specs.Planning.{FoundFull, HaveFailed, MatchStop}
-use Rattle.plans.specs.Reserving.{HasNoRoomAt, HasRoom, HasRoomAt, HasShedShare}
+use Rattle.plans.specs.Planning.{HaveFailed}
+use Rattle.plans.specs.Reserving.{HasNoRoomAt, HasRoom, HasRoomAt, HasShedShare, StopsMaking}
 use Rattle.plans.specs.declared.stop.Stop.{Stop}
 use Rattle.plans.proofs.Few.{left_as}
 use Rattle.plans.proofs.Making.{met_stop, room_at}
@@ -81,7 +81,7 @@ module _ {D R : Type 0} (wrote : D → List ℕ → R → D → Type 0) (view : 
 
     pub stopped_one : {A : Type 0} (r : Result A (Stop R)) → weight (w ∷ []) ≤ WEIGHT_MAX → ShedFew n (w ∷ []) (logs_of before.0) (logs_of later.0)
         → IfErr r (HasNoRoomAt (stripe_of n w.0) (weigh w) (purpose_of (w ∷ [])) before.0 later.0) → HaveFailed r (failures before.1) (failures later.1)
-        → IfErr r (λ s. MatchStop s (λ receipts. ⊥) ⊥ (Unit {0}) (FoundFull wrote view (λ due. due ≡ w ∷ []) n before later))
+        → IfErr r (StopsMaking wrote view n (w ∷ []) before later)
     stopped_one (Ok x) light few none failed = tt
     stopped_one (Err s) light few none failed =
         met_stop wrote view n s failures (stripe_of n w.0) (weigh w) (purpose_of (w ∷ [])) (w ∷ []) (logs_of before.0) (logs_of before.0) (logs_of later.0) before.1 before.1 later.1

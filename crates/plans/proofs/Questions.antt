@@ -22,8 +22,12 @@ use Rattle.shards.specs.Devices.{StillServes}
 use Rattle.shards.specs.Rooms.{share}
 use Rattle.shards.specs.Shards.{SameLogs, logs_of}
 use Rattle.plans.specs.declared.planned.Planned.{Planned}
+use Rattle.plans.specs.declared.reading.WhenCold.{WhenCold}
+use Rattle.plans.specs.declared.reading.WhenCold.TheVariants.{Reads}
+use Rattle.plans.specs.Reserving.{LacksRoomToPlan, StopsMaking}
 use Rattle.plans.specs.declared.stop.Stop.{Stop}
 use Rattle.plans.specs.declared.stop.Stop.TheVariants as stop
+use Rattle.plans.specs.Lacking.{FoundLacking}
 use Rattle.plans.specs.Memory.{AreAtHand}
 use Rattle.plans.specs.Planning.{AreMade, AreMarks, AreSettled, AreWanted, AsksOn, ExecsWatching, FoundFull, HasPlanned, HasStopped, HaveFailed, IsFullFor, IsReady, IsUnmarked, LacksMemory, MatchStop, Question, RunsOn, StillStands, TakesMemory}
 use Rattle.plans.specs.Stops.{AreCold, Each, HasFound, IfCold, IfFull, IfNoMemory, IsNeeded, IsNotEmpty, faults}
@@ -32,7 +36,8 @@ use Rattle.plans.proofs.Begun.{begins_none, has_begun_of}
 use Rattle.plans.proofs.Few.{few_none, left_none, still_same}
 use Rattle.plans.proofs.Found.{all_wanted, cold_needed, some_wanted}
 use Rattle.plans.proofs.Logs.{logs_same}
-use Rattle.plans.proofs.Making.{made_nothing, met_as, no_room}
+use Rattle.plans.proofs.Making.{lacking_as, lacking_at, lacking_full, made_nothing, met_as, no_room}
+use Rattle.plans.proofs.Spared.{spare_same}
 use Rattle.plans.proofs.Stores.{some_is}
 use Rattle.plans.proofs.Waits.{waits_same}
 
@@ -131,7 +136,7 @@ module _ {D R : Type 0} (wrote : D → List ℕ → R → D → Type 0) (kept : 
       → IfErr r (HasStopped wrote kept lends Right question n staged before later)
   stop_of_read (Ok x) lends Right question n staged before later same device has = tt
   stop_of_read (Err stop.OutOfMemory) lends Right question n staged before later same device has = record { takes = has; logs = logs_same before.0 later.0 same; device = device }
-  stop_of_read (Err stop.DeviceFault) lends Right question n staged before later same device has = tt
+  stop_of_read (Err stop.DeviceFault) lends Right question n staged before later same device has = absurd has
   stop_of_read (Err (stop.Cold receipts)) lends Right question n staged before later same device has = record { wanted = has; untouched = same; device = device }
   stop_of_read (Err (stop.StoreFull stripe)) lends Right question n staged before later same device has = absurd has
 
@@ -153,7 +158,9 @@ module _ {D R : Type 0} (wrote : D → List ℕ → R → D → Type 0) (kept : 
       → IfErr r (HasStopped wrote kept lends Right (record { Asks = Other; keys = keys; Brief = Brief }) n staged before later)
   stopped_as (Ok x) lends Right One Other keys Brief n staged before later turn has = tt
   stopped_as (Err stop.OutOfMemory) lends Right One Other keys Brief n staged before later turn has = record { takes = has.takes; logs = has.logs; device = has.device }
-  stopped_as (Err stop.DeviceFault) lends Right One Other keys Brief n staged before later turn has = tt
+  stopped_as (Err stop.DeviceFault) lends Right One Other keys Brief n staged before later turn has =
+      lacking_as n (λ writes. Right → (seen : History) (operation : Operation) → One seen operation → writes ≡ made seen operation) (λ writes. Right → (seen : History) (operation : Operation) → Other seen operation → writes ≡ made seen operation)
+      (logs_of before.0) (logs_of later.0) (λ writes light due right seen operation asks. due right seen operation (turn seen operation asks)) has
   stopped_as (Err (stop.Cold receipts)) lends Right One Other keys Brief n staged before later turn has = has
   stopped_as (Err (stop.StoreFull stripe)) lends Right One Other keys Brief n staged before later turn has =
       full_is (λ writes. Right → (seen : History) (operation : Operation) → One seen operation → writes ≡ made seen operation) (λ writes. Right → (seen : History) (operation : Operation) → Other seen operation → writes ≡ made seen operation)
@@ -171,11 +178,13 @@ module _ {D R : Type 0} (wrote : D → List ℕ → R → D → Type 0) (kept : 
   -- room alone was lacking
   pub stopped_full : {A : Type 0} (r : Result A (Stop R)) (lends Right : Type 0) (question : Question) (writes : List Write) (n : ℕ) (staged : List StagedPage) (parts mid : ℕ → Option (Shard R)) (device : D)
       (later : (ℕ → Option (Shard R)) × D) → mid ≡ parts → ((ws : List Write) → weight ws ≤ WEIGHT_MAX → ws ≡ writes → AreMade Right question ws)
-      → IfErr r (λ s. MatchStop s (λ receipts. ⊥) ⊥ (Unit {0}) (FoundFull wrote kept (λ due. due ≡ writes) n (mid, device) later))
+      → IfErr r (StopsMaking wrote kept n writes (mid, device) later)
       → IfErr r (HasStopped wrote kept lends Right question n staged (parts, device) later)
   stopped_full (Ok x) lends Right question writes n staged parts mid device later same turn has = tt
   stopped_full (Err stop.OutOfMemory) lends Right question writes n staged parts mid device later same turn has = absurd has
-  stopped_full (Err stop.DeviceFault) lends Right question writes n staged parts mid device later same turn has = tt
+  stopped_full (Err stop.DeviceFault) lends Right question writes n staged parts mid device later same turn has =
+      lacking_as n (λ due. due ≡ writes) (AreMade Right question) (logs_of parts) (logs_of later.0) turn
+      (subst (λ (p : ℕ → Option (Shard R)). FoundLacking (λ due. due ≡ writes) n (logs_of p) (logs_of later.0)) same has)
   stopped_full (Err (stop.Cold receipts)) lends Right question writes n staged parts mid device later same turn has = absurd has
   stopped_full (Err (stop.StoreFull stripe)) lends Right question writes n staged parts mid device later same turn has =
       full_is (λ due. due ≡ writes) (AreMade Right question) n (parts, device) later stripe turn
@@ -232,12 +241,43 @@ module _ {D R : Type 0} (wrote : D → List ℕ → R → D → Type 0) (kept : 
   reading_stop (Err (stop.Cold receipts)) Right Steady question One Memory Cold Read n parts later right memory never has = absurd never
   reading_stop (Err (stop.StoreFull stripe)) Right Steady question One Memory Cold Read n parts later right memory never has = full_for Right Steady question n (parts, has.0) later stripe right has.2
 
+  -- a plan over pages that are at hand was not made for want of room
+  pub staged_lacks : {A : Type 0} (r : Result A (Stop R)) (cold : WhenCold) (lends Right Steady : Type 0) (question : Question) (n : ℕ) (staged : List StagedPage) (before later : (ℕ → Option (Shard R)) × D) → (Steady → Right)
+      → IfErr r (HasStopped wrote kept lends Right question n staged before later) → IfErr r (LacksRoomToPlan cold (AreMade Steady question) n before.0 later.0)
+  staged_lacks (Ok x) cold lends Right Steady question n staged before later right has = tt
+  staged_lacks (Err stop.OutOfMemory) cold lends Right Steady question n staged before later right has = tt
+  staged_lacks (Err stop.DeviceFault) cold lends Right Steady question n staged before later right has = λ stops.
+      lacking_as n (AreMade Right question) (AreMade Steady question) (logs_of before.0) (logs_of later.0) (λ writes light due is. due (right is)) has
+  staged_lacks (Err (stop.Cold receipts)) cold lends Right Steady question n staged before later right has = tt
+  staged_lacks (Err (stop.StoreFull stripe)) cold lends Right Steady question n staged before later right has =
+      lacking_at n stripe (AreMade Right question) (AreMade Steady question) (logs_of before.0) (logs_of later.0) (λ writes light due is. due (right is))
+      (lacking_full wrote kept n stripe (AreMade Right question) (logs_of before.0) (logs_of later.0) before.1 later.1 has)
+
+  -- the same where pages were read meanwhile
+  pub reading_lacks : {A : Type 0} (r : Result A (Stop R)) (cold : WhenCold) (Right Steady : Type 0) (question : Question) (One : Type 0) (Read : D → Type 0) (n : ℕ) (parts : ℕ → Option (Shard R)) (later : (ℕ → Option (Shard R)) × D) → cold ≡ Reads → (Steady → Right)
+      → IfErr r (λ s. MatchStop s (λ receipts. Unit {0}) One (Unit {0}) (λ stripe. (read : D) × Read read × FoundFull wrote kept (AreMade Right question) n (parts, read) later stripe))
+      → IfErr r (LacksRoomToPlan cold (AreMade Steady question) n parts later.0)
+  reading_lacks (Ok x) cold Right Steady question One Read n parts later reads right has = tt
+  reading_lacks (Err stop.OutOfMemory) cold Right Steady question One Read n parts later reads right has = tt
+  reading_lacks (Err stop.DeviceFault) cold Right Steady question One Read n parts later reads right has = λ stops. absurd (cc (sym reads ∙ stops))
+  reading_lacks (Err (stop.Cold receipts)) cold Right Steady question One Read n parts later reads right has = tt
+  reading_lacks (Err (stop.StoreFull stripe)) cold Right Steady question One Read n parts later reads right has =
+      lacking_at n stripe (AreMade Right question) (AreMade Steady question) (logs_of parts) (logs_of later.0) (λ writes light due is. due (right is))
+      (lacking_full wrote kept n stripe (AreMade Right question) (logs_of parts) (logs_of later.0) has.0 later.1 has.2)
+
 -- a page could not be read
 pub unread : {R : Type 0} (s : Stop R) (Memory : Type 0) (Full : ℕ → Type 0) → IfCold s (λ receipts. ⊥) → IfFull s (λ stripe. ⊥) → Memory → MatchStop s (λ receipts. ⊥) Memory (Unit {0}) Full
 unread stop.OutOfMemory Memory Full cold full memory = memory
 unread stop.DeviceFault Memory Full cold full memory = tt
 unread (stop.Cold receipts) Memory Full cold full memory = absurd cold
 unread (stop.StoreFull stripe) Memory Full cold full memory = absurd full
+
+-- the same of a plan
+pub reads_stopped : {R : Type 0} (s : Stop R) (Memory : Type 0) (Full : ℕ → Type 0) → IfCold s (λ receipts. ⊥) → IfFull s (λ stripe. ⊥) → Memory → MatchStop s (λ receipts. Unit {0}) Memory (Unit {0}) Full
+reads_stopped stop.OutOfMemory Memory Full cold full memory = memory
+reads_stopped stop.DeviceFault Memory Full cold full memory = tt
+reads_stopped (stop.Cold receipts) Memory Full cold full memory = tt
+reads_stopped (stop.StoreFull stripe) Memory Full cold full memory = absurd full
 
 -- by why a plan was not made, said otherwise
 pub stop_then : {R : Type 0} (s : Stop R) (C D : List Kept → Type 0) (M N F G : Type 0) (U V : ℕ → Type 0) → ((receipts : List Kept) → C receipts → D receipts) → (M → N) → (F → G) → ((i : ℕ) → U i → V i)
@@ -305,7 +345,7 @@ failed_memory {R = R} (Err s) count is = subst (λ (x : Stop R). count ≡ count
 
 -- nothing changed
 pub stands_same : {D R : Type 0} (serves : D → R → Type 0) (releases : D → ℕ) (parts later : ℕ → Option (Shard R)) (device : D) → later ≡ parts → StillStands (StillServes serves releases) (parts, device) (later, device)
-stands_same serves releases parts later device same = record { serves = still_same serves releases (λ d. 0) device; waits = waits_same parts later same }
+stands_same serves releases parts later device same = record { serves = still_same serves releases (λ d. 0) device; waits = waits_same parts later same; rooms = spare_same (logs_of parts) (logs_of later) (logs_same parts later same) }
 
 -- after parts that are the same
 pub stands_from : {D R : Type 0} (serves : D → R → Type 0) (releases : D → ℕ) (parts mid : ℕ → Option (Shard R)) (device : D) (later : (ℕ → Option (Shard R)) × D) → mid ≡ parts

@@ -2,6 +2,7 @@ pub mod Stops
 pub mod Sizes
 pub mod Reading
 pub mod Memory
+pub mod Lacking
 pub mod Planning
 pub mod Finding
 pub mod Running

@@ -28,6 +28,7 @@ use Rattle.shards.specs.Shards.{SameLogs, SameWaits, logs_of, shard_log, shard_m
 use Rattle.plans.specs.declared.planned.Planned.{Planned}
 use Rattle.plans.specs.declared.stop.Stop.{Stop}
 use Rattle.plans.specs.declared.stop.Stop.TheVariants as stop
+use Rattle.plans.specs.Lacking.{FoundLacking, KeepRoom}
 use Rattle.plans.specs.Memory.{AreAtHand, IsAtHand, IsBriefOn, IsPlannedInPlace, NeedsNoMemoryOn}
 use Rattle.plans.specs.Sizes.{AllShort, IsPlaced}
 use Rattle.plans.specs.Stops.{AreCold, Each, IsNeeded, IsNotEmpty, IsWantedFor, faults, keys_looked_up}
@@ -282,13 +283,14 @@ module _ {R : Type 0} where
     -- A plan that was not made, by why.
     abbrev pub HasStopped : (lends Right : Type 0) → Question → (n : ℕ) → List StagedPage → (before later : (ℕ → Option (Shard R)) × D) → Stop R → Type 0
     HasStopped lends Right question n staged before later stop =
-        MatchStop stop (WantsPages lends Right n question.keys staged before later) (LacksMemory lends Right n question staged before later) (Unit {0})
-        (FoundFull (AreMade Right question) n before later)
+        MatchStop stop (WantsPages lends Right n question.keys staged before later) (LacksMemory lends Right n question staged before later)
+        (FoundLacking (AreMade Right question) n (logs_of before.0) (logs_of later.0)) (FoundFull (AreMade Right question) n before later)
 
-  -- What a plan leaves in any case: the device serves what it served, and parts have beside their logs what they had.
+  -- What a plan leaves in any case: the device serves what it served, parts have beside their logs what they had, and no log has less room.
   pub record StillStands {D : Type 0} (Serves : D → D → Type 0) (before later : (ℕ → Option (Shard R)) × D) : Type 0 where
     pub serves : Serves before.1 later.1
     pub waits : SameWaits before.0 later.0
+    pub rooms : KeepRoom (logs_of before.0) (logs_of later.0)
 
 -- What is held is held still: parts can be lent, and nothing differs but parts.
 pub record IsStillHeld {P : Type 0} (is_open : P → Type 0) (keeps : P → P → Type 0) (before later : P) : Type 0 where
@@ -304,7 +306,7 @@ pub record CameOfPlan {P D R : Type 0} (wrote : D → List ℕ → R → D → T
   pub unmarked : IsUnmarked (shard_meaning steady) (stripes_of before.0) (part_of before.0) (part_of later.0) result
   -- one that was not made says why
   pub stopped : IfErr result (HasStopped wrote (kept_by identity shown) lends (honest × AreRight staged) question (stripes_of before.0) staged (part_of before.0, before.1) (part_of later.0, later.1))
-  -- the device serves what it served, and parts have beside their logs what they had
+  -- the device serves what it served, parts have beside their logs what they had, and no log has less room
   pub stands : StillStands (StillServes serves releases) (part_of before.0, before.1) (part_of later.0, later.1)
   -- as many calls of the device failed as the result says
   pub failed : HaveFailed result (failures before.1) (failures later.1)

@@ -20,7 +20,10 @@ use Rattle.shards.specs.Freeing.{IsSpentAt}
 use Rattle.shards.specs.Heard.{HasHeard, HasHeardWorn}
 use Rattle.shards.specs.Rooms.{AreRoomy, GrowsAt, IsFullAt, IsRoomyAt, LacksRoomAt, LeaveFrames, LeavesFramesAt, MakesRoom, ShedFew, ShedsAt, ShedsFewAt, purpose_of, share}
 use Rattle.shards.specs.Shards.{logs_of, shard_meaning, weigh}
+use Rattle.plans.specs.declared.reading.WhenCold.{WhenCold}
+use Rattle.plans.specs.declared.reading.WhenCold.TheVariants.{Stops}
 use Rattle.plans.specs.declared.stop.Stop.{Stop}
+use Rattle.plans.specs.Lacking.{FoundLacking, LacksShareAt}
 use Rattle.plans.specs.Planning.{FoundFull, MatchStop, Question, StillStands}
 
 module _ {R : Type 0} where
@@ -46,7 +49,7 @@ module _ {R : Type 0} where
   -- No room was made at a stripe, which lacked it: a call of the device failed, or the stripe is full.
   pub record HasNoRoomAt (stripe weight : ℕ) (purpose : Purpose) (before later : ℕ → Option (Shard R)) (stop : Stop R) : Type 0 where
     pub lacks : LacksRoomAt stripe weight purpose (logs_of before) (logs_of later)
-    pub why : MatchStop stop (λ receipts. ⊥) ⊥ (Unit {0}) (λ full. (full ≡ stripe) × (0 < weight) × IsFullAt (logs_of later) full)
+    pub why : MatchStop stop (λ receipts. ⊥) ⊥ (0 < weight) (λ full. (full ≡ stripe) × (0 < weight) × IsFullAt (logs_of later) full)
 
   -- Where no room was made at a stripe, it lacked it: a call of the device failed, which is counted, or the stripe is full.
   pub record FailsToReserveAt {A : Type 0} (result : Result A Fault) (stripe weight : ℕ) (purpose : Purpose) (before later : ℕ → Option (Shard R)) (failed_before failed : ℕ) : Type 0 where
@@ -62,6 +65,28 @@ module _ {R : Type 0} where
   abbrev pub HasNoRoomToPut : (n : ℕ) → Write → (before later : ℕ → Option (Shard R)) → Stop R → Type 0
   HasNoRoomToPut n write before later stop = HasNoRoomAt (stripe_of n write.0) (weigh write) (purpose_of (write ∷ [])) before later stop
 
+  -- the frames stay that are left for others, where there is room for a write
+  abbrev pub LeavesFramesToPut : (n : ℕ) → Write → (before later : ℕ → Option (Shard R)) → Type 0
+  LeavesFramesToPut n write before later =
+      LeavesFramesAt (stripe_of n write.0) (weigh write) (purpose_of (write ∷ [])) (logs_of before) (logs_of later)
+
+  -- there may be no room for it
+  abbrev pub LacksRoomToPut : (n : ℕ) → Write → (before later : ℕ → Option (Shard R)) → Type 0
+  LacksRoomToPut n write before later = LacksRoomAt (stripe_of n write.0) (weigh write) (purpose_of (write ∷ [])) (logs_of before) (logs_of later)
+
+  -- No room was made for writes, for which a stripe lacked it: a call of the device failed there, or that stripe is full.
+  abbrev pub LacksRoomToSet : (n : ℕ) → List Write → (before later : ℕ → Option (Shard R)) → Stop R → Type 0
+  LacksRoomToSet n writes before later stop =
+      MatchStop stop (λ receipts. ⊥) ⊥ (FoundLacking (λ due. due ≡ writes) n (logs_of before) (logs_of later))
+      (LacksShareAt (λ due. due ≡ writes) n (logs_of before) (logs_of later))
+
+  -- No plan was made: a stripe is full that lacked room for what is written, or a call of the device failed, which was at such a stripe where no
+  -- page was read.
+  abbrev pub LacksRoomToPlan : WhenCold → (Made : List Write → Type 0) (n : ℕ) (before later : ℕ → Option (Shard R)) → Stop R → Type 0
+  LacksRoomToPlan cold Made n before later stop =
+      MatchStop stop (λ receipts. Unit {0}) (Unit {0}) (cold ≡ Stops → FoundLacking Made n (logs_of before) (logs_of later))
+      (LacksShareAt Made n (logs_of before) (logs_of later))
+
   -- A stripe is full, and none of its places can be released, but for what the epochs refused. Parts and what the pass was told by the epochs are
   -- taken together, as they were and as they are.
   pub record IsStuck (refused : Refused) (before later : (ℕ → Option (Shard R)) × View) (stripe : ℕ) : Type 0 where
@@ -76,8 +101,9 @@ module _ {R : Type 0} where
 
   -- Parts and their device are taken together, as they were and as they are.
   module _ {D : Type 0} where
-    -- What making room at a stripe leaves in any case: what keys have and all marks stay, and so do the logs of other stripes; pages leave their frames
-    -- only where the stripe lacks room; the device serves what it served, and parts have beside their logs what they had.
+    -- What making room at a stripe leaves in any case: what keys have and all marks stay, and so do the logs of other stripes; pages leave their
+    -- frames only where the stripe lacks room; the device serves what it served, parts have beside their logs what they had, and no log has less
+    -- room.
     pub record HasReserved (contents : Meaning (Shard R)) (Serves : D → D → Type 0) (n stripe weight : ℕ) (purpose : Purpose) (before later : (ℕ → Option (Shard R)) × D) : Type 0 where
       pub became : Became contents n [] stays before.0 later.0
       pub others : (other : ℕ) → other ≢ stripe → logs_of later.0 other ≡ logs_of before.0 other
@@ -115,10 +141,16 @@ module _ {R : Type 0} where
         pub made : MakesRoom wrote kept n n writes (logs_of before.0) before.1 (logs_of later.0) later.1
         pub left : LeaveFrames n writes (logs_of before.0) (logs_of later.0)
 
+      -- Room was not made for writes: a call of the device failed at a stripe that lacked it, or a stripe is full that lacked it.
+      abbrev pub StopsMaking : (n : ℕ) → List Write → (before later : (ℕ → Option (Shard R)) × D) → Stop R → Type 0
+      StopsMaking n writes before later stop =
+          MatchStop stop (λ receipts. ⊥) ⊥ (FoundLacking (λ due. due ≡ writes) n (logs_of before.0) (logs_of later.0))
+          (FoundFull wrote kept (λ due. due ≡ writes) n before later)
+
       -- What making room for writes leaves: there is room, or a stripe was met that lacked it; and no more pages left their frames than that wants.
       pub record ReservesAll {A : Type 0} (n : ℕ) (writes : List Write) (result : Result A (Stop R)) (before later : (ℕ → Option (Shard R)) × D) : Type 0 where
         pub room : OnOk result (HasRoom n writes before later)
-        pub stopped : IfErr result (λ stop. MatchStop stop (λ receipts. ⊥) ⊥ (Unit {0}) (FoundFull wrote kept (λ due. due ≡ writes) n before later))
+        pub stopped : IfErr result (StopsMaking n writes before later)
         pub few : ShedFew n writes (logs_of before.0) (logs_of later.0)
 
 -- What writes weigh at each stripe, and for what room is made for them.

@@ -7,6 +7,7 @@ ghost use Rattle.words.specs.declared.limits.TheConstants.{WEIGHT_MAX};
 ghost use Rattle.words.specs.Answers as answering;
 ghost use Rattle.words.specs.Stripes as striping;
 ghost use Rattle.hybrid.specs.Staging.{AreRight, IsMissing};
+ghost use Rattle.hybrid.specs.HybridLog.{IsHybridLog};
 ghost use Rattle.hybrid.specs.Log.{Fits};
 ghost use Rattle.transact.specs.Tables.{stays};
 ghost use Rattle.shards.specs.Devices.{StillServes};
@@ -192,7 +193,17 @@ pub(crate) fn reserve_at<R: Shows, D: Device<Receipt = R>, P: Parts<Shard<R>>>(
         (D.failures device.old) (D.failures device.new) }
     ensures held { IsStillHeld P.is_open P.keeps parts.old parts.new }
 {
-    parts.part(stripe).reserve(weight, purpose, device)
+    let part = parts.part(stripe);
+    is_laid_out(&*part);
+    part.reserve(weight, purpose, device)
+}
+
+/// The log of a part is laid out as a hybrid log is. It does nothing.
+#[inline]
+fn is_laid_out<R: Shows>(part: &Shard<R>)
+    ensures { IsHybridLog (shard_log part.now) }
+{
+    let _oldest = part.counted().stripe().oldest();
 }
 
 /// Writes a key for which there is room. Where its hash is known, it is not hashed.

@@ -1,6 +1,6 @@
 //! What a call releases itself, before it is answered that a stripe is full.
 
-ghost use Rattle.std.specs.Prelude.{◌≡◌, ◌<◌, ◌≤◌, IsSome, IfErr, IfOk, OnOk, [], ⊤};
+ghost use Rattle.std.specs.Prelude.{◌≡◌, ◌<◌, ◌≤◌, IsSome, IfErr, IfOk, OnErr, OnOk, [], ⊤};
 ghost use Rattle.std.specs.Option.{option_copied};
 ghost use Rattle.words.specs.declared.limits.TheConstants.{WEIGHT_MAX};
 ghost use Rattle.words.specs.Answers.{writes_set};
@@ -12,12 +12,13 @@ ghost use Rattle.hybrid.specs.Staging.{AreRight};
 ghost use Rattle.transact.specs.Plans.{keys_begun};
 ghost use Rattle.transact.specs.Tables.{stays};
 ghost use Rattle.shards.specs.Freeing.{FreesAt, HasTriedAll};
-ghost use Rattle.shards.specs.Rooms.{AreRoomy, share};
+ghost use Rattle.shards.specs.Rooms.{AreRoomy, LeaveFrames, share};
 ghost use Rattle.shards.specs.Shards.{logs_of};
 ghost use Rattle.plans.specs.Holding.{AreMarkedFor, Becomes, NeedsMemory};
 ghost use Rattle.plans.specs.Planning.{AreDue, HaveFailedBy, IsReady, IsStillHeld, MatchStop, MayLookUp, MayPlan, MayPut};
-ghost use Rattle.plans.specs.Planning.{asks_call};
-ghost use Rattle.plans.specs.Reserving.{IsRoomyFor, IsStuck, IsStuckFor, StillRetires, StillWorks};
+ghost use Rattle.plans.specs.Planning.{AreMade, asks_call};
+ghost use Rattle.plans.specs.Reserving.{IsRoomyFor, IsStuck, IsStuckFor, LacksRoomToPlan, LacksRoomToPut, LacksRoomToSet};
+ghost use Rattle.plans.specs.Reserving.{LeavesFramesToPut, StillRetires, StillWorks};
 ghost use Rattle.plans.specs.Stops.{IfFull};
 ghost use Rattle.plans.specs.declared.reading.WhenCold.TheVariants.{Stops};
 
@@ -51,7 +52,7 @@ pub struct Halt<R: Shows> {
 ///
 /// # Errors
 ///
-/// A [`Halt`]: with [`Stop::StoreFull`] only where no place of that stripe can be released.
+/// A [`Halt`]: with [`Stop::StoreFull`] only where that stripe lacked room, and no place of it can be released.
 pub fn plan_freeing<R: Shows, D: Device<Receipt = R>, P: Parts<Shard<R>>, S: Retires>(
     parts: &mut P,
     call: &HashedCall,
@@ -66,6 +67,11 @@ pub fn plan_freeing<R: Shows, D: Device<Receipt = R>, P: Parts<Shard<R>>, S: Ret
         (S.knows hands.old.own, hands.old.staged) (S.knows hands.new.own, hands.new.staged) }
     ensures ready { IfOk result (IsReady (AreDue (R.is_steady × AreRight hands.old.staged)
         (asks_call R.is_steady P.stripes_of P.holder_of P.part_of parts.old call.now)) (P.stripes_of parts.old) (P.part_of parts.new)) }
+    ensures left { IfOk result (λ planned. LeaveFrames (P.stripes_of parts.old) planned.writes
+        (logs_of (P.part_of parts.old)) (logs_of (P.part_of parts.new))) }
+    ensures lacks { IfErr result (λ halt. LacksRoomToPlan cold (AreMade (R.is_steady × AreRight hands.old.staged)
+        (asks_call R.is_steady P.stripes_of P.holder_of P.part_of parts.old call.now)) (P.stripes_of parts.old)
+        (P.part_of parts.old) (P.part_of parts.new) halt.stop) }
     ensures marks { AreMarkedFor R.is_steady P.stripes_of P.holder_of P.part_of parts.old parts.new (keys_begun call.now) result }
     ensures halted { IfErr result (λ halt. MatchStop halt.stop (λ receipts. (cold ≡ Stops) × (R.lends → ⊥))
         (NeedsMemory R.is_steady P.stripes_of P.part_of parts.old (R.is_steady × AreRight hands.old.staged) R.lends call.now)
@@ -104,7 +110,7 @@ pub fn plan_freeing<R: Shows, D: Device<Receipt = R>, P: Parts<Shard<R>>, S: Ret
 ///
 /// # Errors
 ///
-/// A [`Halt`]: with [`Stop::StoreFull`] only where no place of the stripe can be released.
+/// A [`Halt`], where the stripe lacked room: with [`Stop::StoreFull`] only where no place of it can be released.
 pub fn reserve_freeing<R: Shows, D: Device<Receipt = R>, P: Parts<Shard<R>>, S: Retires>(
     parts: &mut P,
     key: &Hashed,
@@ -118,6 +124,10 @@ pub fn reserve_freeing<R: Shows, D: Device<Receipt = R>, P: Parts<Shard<R>>, S: 
     ensures retires { StillRetires (S.is_of epochs.now own.new) (S.knows own.old) (S.knows own.new) }
     ensures became { Becomes R.is_steady P.stripes_of P.part_of parts.old parts.new [] stays }
     ensures room { OnOk result (IsRoomyFor (P.stripes_of parts.old) (P.part_of parts.new) (key.now, option_copied value.entry)) }
+    ensures left { OnOk result (LeavesFramesToPut (P.stripes_of parts.old) (key.now, option_copied value.entry)
+        (P.part_of parts.old) (P.part_of parts.new)) }
+    ensures lacks { OnErr result (LacksRoomToPut (P.stripes_of parts.old) (key.now, option_copied value.entry)
+        (P.part_of parts.old) (P.part_of parts.new)) }
     ensures halted { IfErr result (λ halt. MatchStop halt.stop (λ receipts. ⊥) ⊥ ⊤
         (λ stripe. stripe ≡ striping.stripe_of (P.stripes_of parts.old) key.now)) }
     ensures full { IfErr result (λ halt. IfFull halt.stop (IsStuck halt.refused
@@ -152,7 +162,8 @@ pub fn reserve_freeing<R: Shows, D: Device<Receipt = R>, P: Parts<Shard<R>>, S: 
 ///
 /// # Errors
 ///
-/// A [`Halt`]: with [`Stop::StoreFull`] only where no place of that stripe, which one of the keys goes to, can be released.
+/// A [`Halt`], where a stripe lacked room: with [`Stop::StoreFull`] only where no place of that stripe, which one of the keys goes to,
+/// can be released.
 pub fn settings_freeing<R: Shows, D: Device<Receipt = R>, P: Parts<Shard<R>>, S: Retires>(
     parts: &mut P,
     words: &[Word],
@@ -166,6 +177,10 @@ pub fn settings_freeing<R: Shows, D: Device<Receipt = R>, P: Parts<Shard<R>>, S:
     ensures retires { StillRetires (S.is_of epochs.now own.new) (S.knows own.old) (S.knows own.new) }
     ensures became { Becomes R.is_steady P.stripes_of P.part_of parts.old parts.new [] stays }
     ensures room { OnOk result (AreRoomy (P.stripes_of parts.old) (logs_of (P.part_of parts.new)) (writes_set (pairs_of words.now))) }
+    ensures left { OnOk result (LeaveFrames (P.stripes_of parts.old) (writes_set (pairs_of words.now))
+        (logs_of (P.part_of parts.old)) (logs_of (P.part_of parts.new))) }
+    ensures lacks { IfErr result (λ halt. LacksRoomToSet (P.stripes_of parts.old) (writes_set (pairs_of words.now))
+        (P.part_of parts.old) (P.part_of parts.new) halt.stop) }
     ensures halted { IfErr result (λ halt. MatchStop halt.stop (λ receipts. ⊥) ⊥ ⊤
         (λ stripe. 0 < share (P.stripes_of parts.old) stripe (writes_set (pairs_of words.now)))) }
     ensures full { IfErr result (λ halt. IfFull halt.stop (IsStuck halt.refused

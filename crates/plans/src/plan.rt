@@ -1,6 +1,6 @@
 //! What a call comes to, before its commit.
 
-ghost use Rattle.std.specs.Prelude.{◌≡◌, ⊤, [], ◌∷◌, true, IfOk, IfErr, IfSome};
+ghost use Rattle.std.specs.Prelude.{◌≡◌, [], ◌∷◌, true, IfOk, IfErr, IfSome};
 ghost use Rattle.words.specs.declared.command.Command.TheVariants as asked;
 ghost use Rattle.words.specs.declared.history.Operation.TheVariants.{Watch};
 ghost use Rattle.words.specs.Commands.{keys_of, keys_of_all, touches_keys};
@@ -13,8 +13,9 @@ ghost use Rattle.plans.specs.declared.stop.Stop.TheVariants.{OutOfMemory};
 ghost use Rattle.shards.specs.Devices.{StillServes};
 ghost use Rattle.shards.specs.Receipts.{kept_by};
 ghost use Rattle.shards.specs.Shards.{SameLogs, SameWaits, shard_meaning};
-ghost use Rattle.plans.specs.Planning.{AreDue, AreSettled, CameOfPlan, FoundFull, HasAnswered, HasMissedIn, HasPlanned, HasStopped};
-ghost use Rattle.plans.specs.Planning.{HaveFailed, IsPlanOfWatch, IsStillHeld, IsUnmarked, MatchStop, MayLookUp, MayPlan, StillStands};
+ghost use Rattle.plans.specs.Planning.{AreDue, AreSettled, CameOfPlan, HasAnswered, HasMissedIn, HasPlanned, HasStopped};
+ghost use Rattle.plans.specs.Planning.{HaveFailed, IsPlanOfWatch, IsStillHeld, IsUnmarked, MayLookUp, MayPlan, StillStands};
+ghost use Rattle.plans.specs.Reserving.{StopsMaking};
 ghost use Rattle.plans.specs.Planning.{asks_call, asks_command, asks_commands, asks_copied, asks_exec, asks_get};
 ghost use Rattle.plans.specs.Finding.{ReadsNothing};
 ghost use Rattle.plans.specs.Sizes.{AreSized, IsSized};
@@ -379,9 +380,8 @@ fn settle<R: Shows, D: Device<Receipt = R>, P: Parts<Shard<R>>>(
     ensures planned { IfOk result (HasPlanned D.wrote (kept_by R.identity R.shown) (AreSettled reply writes)
         (P.stripes_of parts.old) (P.part_of parts.old, device.old) (P.part_of parts.new, device.new)) }
     ensures unmarked { IsUnmarked (shard_meaning R.is_steady) (P.stripes_of parts.old) (P.part_of parts.old) (P.part_of parts.new) result }
-    ensures stopped { IfErr result (λ stop. MatchStop stop (λ receipts. ⊥) ⊥ ⊤
-        (FoundFull D.wrote (kept_by R.identity R.shown) (λ due. due ≡ writes) (P.stripes_of parts.old) (P.part_of parts.old, device.old)
-        (P.part_of parts.new, device.new))) }
+    ensures stopped { IfErr result (StopsMaking D.wrote (kept_by R.identity R.shown) (P.stripes_of parts.old) writes
+        (P.part_of parts.old, device.old) (P.part_of parts.new, device.new)) }
     ensures stands { StillStands (StillServes D.serves D.releases) (P.part_of parts.old, device.old) (P.part_of parts.new, device.new) }
     ensures failed { HaveFailed result (D.failures device.old) (D.failures device.new) }
     ensures held { IsStillHeld P.is_open P.keeps parts.old parts.new }

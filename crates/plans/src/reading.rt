@@ -9,9 +9,12 @@ ghost use Rattle.transact.specs.Plans.{keys_begun};
 ghost use Rattle.shards.specs.Devices.{IsReadAlone, StillServes};
 ghost use Rattle.plans.specs.Planning.{AreDue, AreMade, FoundFull, HasPlanned, HaveFailed, IsFullFor, IsReady, IsStillHeld, IsValueIn};
 ghost use Rattle.plans.specs.Planning.{MatchStop, MayLookUp, MayPlan, StillStands, TakesMemory, asks_call, asks_get};
+ghost use Rattle.plans.specs.Lacking.{KeepRoom};
+ghost use Rattle.plans.specs.Reserving.{LacksRoomToPlan};
 ghost use Rattle.plans.specs.Reading.{AfterReads, AreRead, CameOfReads, HasMore, MissesUnread};
 ghost use Rattle.plans.specs.Reading.{ReadsRight, ServesEach, StaysRight, StopsUnread};
 ghost use Rattle.shards.specs.Receipts.{kept_by};
+ghost use Rattle.shards.specs.Rooms.{LeaveFrames};
 ghost use Rattle.shards.specs.Shards.{SameLogs, SameWaits, logs_of};
 ghost use Rattle.plans.specs.Stops.{IfCold};
 ghost use Rattle.plans.specs.Holding.{AreMarkedFor, NeedsMemory};
@@ -198,6 +201,11 @@ pub fn plan_staged<R: Shows, D: Device<Receipt = R>, P: Parts<Shard<R>>>(
     ensures right { R.is_steady → AreRight staged.old → AreRight staged.new }
     ensures ready { IfOk result (IsReady (AreDue (R.is_steady × AreRight staged.old)
         (asks_call R.is_steady P.stripes_of P.holder_of P.part_of parts.old call.now)) (P.stripes_of parts.old) (P.part_of parts.new)) }
+    ensures left { IfOk result (λ planned. LeaveFrames (P.stripes_of parts.old) planned.writes
+        (logs_of (P.part_of parts.old)) (logs_of (P.part_of parts.new))) }
+    ensures lacks { IfErr result (LacksRoomToPlan cold (AreMade (R.is_steady × AreRight staged.old)
+        (asks_call R.is_steady P.stripes_of P.holder_of P.part_of parts.old call.now)) (P.stripes_of parts.old)
+        (P.part_of parts.old) (P.part_of parts.new)) }
     ensures marks { AreMarkedFor R.is_steady P.stripes_of P.holder_of P.part_of parts.old parts.new (keys_begun call.now) result }
     ensures stopped { IfErr result (λ stop. MatchStop stop
         (λ receipts. StopsUnread cold R.lends (P.part_of parts.old, device.old) (P.part_of parts.new, device.new))
@@ -206,6 +214,7 @@ pub fn plan_staged<R: Shows, D: Device<Receipt = R>, P: Parts<Shard<R>>>(
         (IsFullFor (R.is_steady × AreRight staged.old) (asks_call R.is_steady P.stripes_of P.holder_of P.part_of parts.old call.now)
         (P.stripes_of parts.old) (P.part_of parts.new))) }
     ensures waits { SameWaits (P.part_of parts.old) (P.part_of parts.new) }
+    ensures rooms { KeepRoom (logs_of (P.part_of parts.old)) (logs_of (P.part_of parts.new)) }
     ensures failed { HaveFailed result (D.failures device.old) (D.failures device.new) }
     ensures held { IsStillHeld P.is_open P.keeps parts.old parts.new }
 {

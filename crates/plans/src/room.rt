@@ -1,6 +1,6 @@
 //! Room for writes, stripe by stripe.
 
-ghost use Rattle.std.specs.Prelude.{◌≡◌, ◌+◌, ◌<◌, ◌≤◌, [], List, ℕ, IsSome, IfErr, OnOk, slice_index, ◌∷◌, ⊤};
+ghost use Rattle.std.specs.Prelude.{◌≡◌, ◌+◌, ◌<◌, ◌≤◌, [], List, ℕ, IsSome, IfErr, OnOk, slice_index, ◌∷◌};
 ghost use Rattle.std.specs.Prelude.{if◌then◌else◌};
 ghost use Rattle.words.specs.Store.{Write, weight, writes_key};
 ghost use Rattle.words.specs.declared.limits.TheConstants.{WEIGHT_MAX};
@@ -9,8 +9,8 @@ ghost use Rattle.shards.specs.Devices.{StillServes};
 ghost use Rattle.shards.specs.Receipts.{kept_by};
 ghost use Rattle.shards.specs.Rooms.{ShedFew, purpose_of, share};
 ghost use Rattle.shards.specs.Shards.{logs_of, weigh};
-ghost use Rattle.plans.specs.Planning.{FoundFull, HaveFailed, IsStillHeld, MatchStop, MayLookUp, StillStands};
-ghost use Rattle.plans.specs.Reserving.{AreSharesOf, HasNoRoomAt, HasRoom, HasRoomAt, HasShedShare, ReservesAll, ReservesAt};
+ghost use Rattle.plans.specs.Planning.{HaveFailed, IsStillHeld, MayLookUp, StillStands};
+ghost use Rattle.plans.specs.Reserving.{AreSharesOf, HasNoRoomAt, HasRoom, HasRoomAt, HasShedShare, ReservesAll, ReservesAt, StopsMaking};
 ghost use Rattle.plans.specs.Holding.{Becomes};
 
 use crate::cells::{reserve_at, stripe_in};
@@ -34,8 +34,8 @@ pub(crate) fn reserve_all<R: Shows, D: Device<Receipt = R>, P: Parts<Shard<R>>>(
     ensures became { Becomes R.is_steady P.stripes_of P.part_of parts.old parts.new [] stays }
     ensures room { OnOk result (HasRoom D.wrote (kept_by R.identity R.shown) (P.stripes_of parts.old) writes.now
         (P.part_of parts.old, device.old) (P.part_of parts.new, device.new)) }
-    ensures stopped { IfErr result (λ stop. MatchStop stop (λ receipts. ⊥) ⊥ ⊤ (FoundFull D.wrote (kept_by R.identity R.shown)
-        (λ due. due ≡ writes.now) (P.stripes_of parts.old) (P.part_of parts.old, device.old) (P.part_of parts.new, device.new))) }
+    ensures stopped { IfErr result (StopsMaking D.wrote (kept_by R.identity R.shown) (P.stripes_of parts.old) writes.now
+        (P.part_of parts.old, device.old) (P.part_of parts.new, device.new)) }
     ensures few { ShedFew (P.stripes_of parts.old) writes.now (logs_of (P.part_of parts.old)) (logs_of (P.part_of parts.new)) }
     ensures stands { StillStands (StillServes D.serves D.releases) (P.part_of parts.old, device.old) (P.part_of parts.new, device.new) }
     ensures failed { HaveFailed result (D.failures device.old) (D.failures device.new) }
@@ -59,8 +59,8 @@ fn reserve_one<R: Shows, D: Device<Receipt = R>, P: Parts<Shard<R>>>(
     ensures became { Becomes R.is_steady P.stripes_of P.part_of parts.old parts.new [] stays }
     ensures room { OnOk result (HasRoom D.wrote (kept_by R.identity R.shown) (P.stripes_of parts.old) (write.now ∷ [])
         (P.part_of parts.old, device.old) (P.part_of parts.new, device.new)) }
-    ensures stopped { IfErr result (λ stop. MatchStop stop (λ receipts. ⊥) ⊥ ⊤ (FoundFull D.wrote (kept_by R.identity R.shown)
-        (λ due. due ≡ write.now ∷ []) (P.stripes_of parts.old) (P.part_of parts.old, device.old) (P.part_of parts.new, device.new))) }
+    ensures stopped { IfErr result (StopsMaking D.wrote (kept_by R.identity R.shown) (P.stripes_of parts.old) (write.now ∷ [])
+        (P.part_of parts.old, device.old) (P.part_of parts.new, device.new)) }
     ensures few { ShedFew (P.stripes_of parts.old) (write.now ∷ []) (logs_of (P.part_of parts.old)) (logs_of (P.part_of parts.new)) }
     ensures stands { StillStands (StillServes D.serves D.releases) (P.part_of parts.old, device.old) (P.part_of parts.new, device.new) }
     ensures failed { HaveFailed result (D.failures device.old) (D.failures device.new) }
@@ -81,8 +81,8 @@ fn reserve_each<R: Shows, D: Device<Receipt = R>, P: Parts<Shard<R>>>(
     ensures became { Becomes R.is_steady P.stripes_of P.part_of parts.old parts.new [] stays }
     ensures room { OnOk result (HasRoom D.wrote (kept_by R.identity R.shown) (P.stripes_of parts.old) writes.now
         (P.part_of parts.old, device.old) (P.part_of parts.new, device.new)) }
-    ensures stopped { IfErr result (λ stop. MatchStop stop (λ receipts. ⊥) ⊥ ⊤ (FoundFull D.wrote (kept_by R.identity R.shown)
-        (λ due. due ≡ writes.now) (P.stripes_of parts.old) (P.part_of parts.old, device.old) (P.part_of parts.new, device.new))) }
+    ensures stopped { IfErr result (StopsMaking D.wrote (kept_by R.identity R.shown) (P.stripes_of parts.old) writes.now
+        (P.part_of parts.old, device.old) (P.part_of parts.new, device.new)) }
     ensures few { ShedFew (P.stripes_of parts.old) writes.now (logs_of (P.part_of parts.old)) (logs_of (P.part_of parts.new)) }
     ensures stands { StillStands (StillServes D.serves D.releases) (P.part_of parts.old, device.old) (P.part_of parts.new, device.new) }
     ensures failed { HaveFailed result (D.failures device.old) (D.failures device.new) }

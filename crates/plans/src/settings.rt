@@ -1,7 +1,7 @@
 //! The short way of an MSET, whose keys and values stay the caller's: nothing is looked up, and nothing is copied but into the pages,
 //! so that it never wants memory.
 
-ghost use Rattle.std.specs.Prelude.{◌≡◌, ◌+◌, ◌<◌, ◌≤◌, [], ◌∷◌, ℕ, Some, IfErr, IfNone, IfSome, OnOk, length, slice_index, ⊤};
+ghost use Rattle.std.specs.Prelude.{◌≡◌, ◌+◌, ◌<◌, ◌≤◌, [], ◌∷◌, ℕ, Some, IfErr, IfNone, IfSome, OnOk, length, slice_index};
 ghost use Rattle.std.specs.Prelude.{if◌then◌else◌};
 ghost use Rattle.words.specs.declared.limits.TheConstants.{WEIGHT_MAX, WEIGHT_OF_KEY};
 ghost use Rattle.words.specs.Answers.{writes_set};
@@ -15,8 +15,8 @@ ghost use Rattle.shards.specs.Devices.{StillServes};
 ghost use Rattle.shards.specs.Receipts.{kept_by};
 ghost use Rattle.shards.specs.Rooms.{AreRoomy, HaveGrown, ShedFew, purpose_of, share};
 ghost use Rattle.shards.specs.Shards.{SameWaits, logs_of};
-ghost use Rattle.plans.specs.Planning.{FoundFull, HaveFailed, IsStillHeld, MatchStop, MayLookUp, StillStands};
-ghost use Rattle.plans.specs.Reserving.{HasRoom};
+ghost use Rattle.plans.specs.Planning.{HaveFailed, IsStillHeld, MayLookUp, StillStands};
+ghost use Rattle.plans.specs.Reserving.{HasRoom, StopsMaking};
 ghost use Rattle.plans.specs.Holding.{Becomes, BecomesFirst, BecomesWritten, GrowsFirst};
 
 use crate::cells::set;
@@ -107,7 +107,8 @@ fn purpose_for(words: &[Word]) -> Purpose
 ///
 /// # Errors
 ///
-/// [`Stop::DeviceFault`] where a write of the device failed; [`Stop::StoreFull`] where a key's stripe has no place left on it.
+/// [`Stop::DeviceFault`] where a write of the device failed, of a stripe that lacked room; [`Stop::StoreFull`] where a key's stripe
+/// has no place left on it.
 pub fn reserve_settings<R: Shows, D: Device<Receipt = R>, P: Parts<Shard<R>>>(
     parts: &mut P,
     words: &[Word],
@@ -118,9 +119,8 @@ pub fn reserve_settings<R: Shows, D: Device<Receipt = R>, P: Parts<Shard<R>>>(
     ensures became { Becomes R.is_steady P.stripes_of P.part_of parts.old parts.new [] stays }
     ensures room { OnOk result (HasRoom D.wrote (kept_by R.identity R.shown) (P.stripes_of parts.old) (writes_set (pairs_of words.now))
         (P.part_of parts.old, device.old) (P.part_of parts.new, device.new)) }
-    ensures stopped { IfErr result (λ stop. MatchStop stop (λ receipts. ⊥) ⊥ ⊤ (FoundFull D.wrote (kept_by R.identity R.shown)
-        (λ due. due ≡ writes_set (pairs_of words.now)) (P.stripes_of parts.old) (P.part_of parts.old, device.old)
-        (P.part_of parts.new, device.new))) }
+    ensures stopped { IfErr result (StopsMaking D.wrote (kept_by R.identity R.shown) (P.stripes_of parts.old)
+        (writes_set (pairs_of words.now)) (P.part_of parts.old, device.old) (P.part_of parts.new, device.new)) }
     ensures few { ShedFew (P.stripes_of parts.old) (writes_set (pairs_of words.now)) (logs_of (P.part_of parts.old))
         (logs_of (P.part_of parts.new)) }
     ensures stands { StillStands (StillServes D.serves D.releases) (P.part_of parts.old, device.old) (P.part_of parts.new, device.new) }

@@ -1,10 +1,11 @@
 use Rattle.std.proofs.Common.{◌∙◌, ◌+◌, ◌∷◌, [], ℕ, refl, ap, arith}
 use Rattle.std.proofs.lemmas.Bool.{not-false, not-true}
-use Rattle.shards.specs.Shards.{shard_meaning}
+use Rattle.shards.specs.Shards.{logs_of, shard_meaning}
 use Rattle.plans.specs.Stops.{faults}
 use Rattle.plans.proofs.Become.{became_same, became_twice, there_after}
-use Rattle.plans.proofs.Freed.{below_all, full_still, full_there, heard_more, heard_none, heard_worn, lasts_freed, lasts_none, lasts_still, spent_at, waits_fewer}
+use Rattle.plans.proofs.Freed.{below_all, full_still, full_there, heard_more, heard_none, heard_worn, lasts_freed, lasts_none, lasts_still, logs_still, spent_at, waits_fewer}
 use Rattle.plans.proofs.Questions.{stop_then}
+use Rattle.plans.proofs.Spared.{lacks_since, lacks_until, left_since, spare_both, spare_freed, spare_same}
 use Rattle.plans.proofs.freeing.reserve_freeing.Goals as goal
 
 pub freed-init : goal.freed-init
@@ -15,6 +16,7 @@ freed-init g c =
       keeps = g.met.P.Parts.keeps_same c.args.parts.now;
       is = c.requires.is;
       became = became_same (shard_meaning g.R.Shows.is_steady) (g.P.Parts.stripes_of c.args.parts.now) parts parts refl;
+      rooms = spare_same (logs_of parts) (logs_of parts) (λ i. refl);
       lasts = lasts_none parts;
       heard = heard_none (g.S.Retires.knows c.args.own.now);
       same = refl;
@@ -51,6 +53,8 @@ freed-preserved g c =
           (g.met.P.Parts.keeps_both c.args.parts.now c.freed.parts c.reserve_put.new.parts inv.keeps c.reserve_put.ensures.held.kept) c.free_at-freed.ensures.held.kept;
       is = c.free_at-freed.ensures.is;
       became = became_twice m n start mid last (became_twice m n start now mid inv.became (rw (g.met.P.Parts.same_stripes c.args.parts.now c.freed.parts c.freed.invariant.keeps) at c.reserve_put.ensures.reserved.became)) (rw (g.met.P.Parts.same_stripes c.args.parts.now c.reserve_put.new.parts (g.met.P.Parts.keeps_both c.args.parts.now c.freed.parts c.reserve_put.new.parts c.freed.invariant.keeps c.reserve_put.ensures.held.kept)) at c.free_at-freed.ensures.became);
+      rooms = spare_both (logs_of start) (logs_of mid) (logs_of last) (spare_both (logs_of start) (logs_of now) (logs_of mid) inv.rooms c.reserve_put.ensures.reserved.stands.rooms)
+          (spare_freed mid last c.in-Err-StoreFull.stripe c.free_at-freed.result c.free_at-freed.ensures.freed);
       lasts = lasts_freed start mid last c.in-Err-StoreFull.stripe c.free_at-freed.result (lasts_still start now mid inv.lasts c.reserve_put.ensures.reserved.stands.waits) c.free_at-freed.ensures.freed;
       heard = heard_more c.free_at-freed.result.refused.retire (g.S.Retires.knows c.args.own.now) (g.S.Retires.knows c.freed.own) (g.S.Retires.knows c.free_at-freed.new.own) inv.heard c.free_at-freed.ensures.told;
       same = omega (arith, c.free_at-freed.ensures.no_fault, faulty, inv.same);
@@ -140,3 +144,22 @@ returns-in-Err-clause-held g c = record {
   open_still = c.reserve_put.ensures.held.open_still;
   kept = g.met.P.Parts.keeps_both c.args.parts.now c.freed.parts c.reserve_put.new.parts c.freed.invariant.keeps c.reserve_put.ensures.held.kept;
 }
+
+pub returns-in-Ok-clause-left : goal.returns-in-Ok-clause-left
+returns-in-Ok-clause-left g c =
+    let room = rw (g.met.P.Parts.same_stripes c.args.parts.now c.freed.parts c.freed.invariant.keeps) at c.in-Ok.ensures.room in
+    left_since (logs_of (g.P.Parts.part_of c.args.parts.now)) (logs_of (g.P.Parts.part_of c.freed.parts)) (logs_of (g.P.Parts.part_of c.reserve_put.new.parts)) _ _ _ c.freed.invariant.rooms c.reserve_put.ensures.reserved.stands.rooms room.left
+
+pub returns-in-Err-clause-lacks : goal.returns-in-Err-clause-lacks
+returns-in-Err-clause-lacks g c =
+    let stopped = rw (g.met.P.Parts.same_stripes c.args.parts.now c.freed.parts c.freed.invariant.keeps) at c.in-Err.ensures.stopped in
+    lacks_since (logs_of (g.P.Parts.part_of c.args.parts.now)) (logs_of (g.P.Parts.part_of c.freed.parts)) (logs_of (g.P.Parts.part_of c.reserve_put.new.parts)) _ _ _ c.freed.invariant.rooms c.reserve_put.ensures.reserved.stands.rooms stopped.lacks
+
+pub returns-then-not-freed-clause-lacks : goal.returns-then-not-freed-clause-lacks
+returns-then-not-freed-clause-lacks g c =
+    let start = logs_of (g.P.Parts.part_of c.args.parts.now) in
+    let mid = g.P.Parts.part_of c.reserve_put.new.parts in
+    let last = g.P.Parts.part_of c.free_at-freed.new.parts in
+    let stopped = rw (g.met.P.Parts.same_stripes c.args.parts.now c.freed.parts c.freed.invariant.keeps) at c.in-Err-StoreFull.ensures.stopped in
+    lacks_until start (logs_of mid) (logs_of last) _ _ _ (logs_still mid last c.in-Err-StoreFull.stripe c.free_at-freed.result (not-true c.free_at-freed.result.released c.if-not-freed.true) c.free_at-freed.ensures.freed _)
+    (lacks_since start (logs_of (g.P.Parts.part_of c.freed.parts)) (logs_of mid) _ _ _ c.freed.invariant.rooms c.reserve_put.ensures.reserved.stands.rooms stopped.lacks)

@@ -1,14 +1,18 @@
-use Rattle.std.proofs.Common.{◌∙◌, ◌+◌, ◌<◌, List, ℕ, refl, subst, ap, arith}
+use Rattle.std.proofs.Common.{◌≡◌, ◌∙◌, ◌+◌, ◌<◌, List, ℕ, refl, subst, ap, arith}
 use Rattle.std.proofs.lemmas.Bool.{not-false, not-true}
+use Rattle.words.specs.Answers.{writes_set}
 use Rattle.words.specs.Briefs.{pairs_of}
 use Rattle.words.specs.Commands.{keys_set}
 use Rattle.words.specs.Store.{Write}
+use Rattle.shards.specs.Receipts.{kept_by}
 use Rattle.shards.specs.Rooms.{share}
-use Rattle.shards.specs.Shards.{shard_meaning}
+use Rattle.shards.specs.Shards.{logs_of, shard_meaning}
 use Rattle.plans.specs.Stops.{faults}
 use Rattle.plans.proofs.Become.{became_same, became_twice, there_after}
-use Rattle.plans.proofs.Freed.{full_still, full_there, heard_more, heard_none, heard_worn, lasts_freed, lasts_none, lasts_still, spent_at, waits_fewer}
+use Rattle.plans.proofs.Freed.{full_still, full_there, heard_more, heard_none, heard_worn, lasts_freed, lasts_none, lasts_still, logs_still, spent_at, waits_fewer}
 use Rattle.plans.proofs.Questions.{stop_then}
+use Rattle.plans.proofs.Making.{lacking_full}
+use Rattle.plans.proofs.Spared.{left_since, share_since, share_until, spare_both, spare_freed, spare_same}
 use Rattle.plans.proofs.freeing.settings_freeing.Goals as goal
 
 pub freed-init : goal.freed-init
@@ -19,6 +23,7 @@ freed-init g c =
       keeps = g.met.P.Parts.keeps_same c.args.parts.now;
       is = c.requires.is;
       became = became_same (shard_meaning g.R.Shows.is_steady) (g.P.Parts.stripes_of c.args.parts.now) parts parts refl;
+      rooms = spare_same (logs_of parts) (logs_of parts) (λ i. refl);
       lasts = lasts_none parts;
       heard = heard_none (g.S.Retires.knows c.args.own.now);
       same = refl;
@@ -50,6 +55,8 @@ freed-preserved g c =
           (g.met.P.Parts.keeps_both c.args.parts.now c.freed.parts c.reserve_settings.new.parts inv.keeps c.reserve_settings.ensures.held.kept) c.free_at-freed.ensures.held.kept;
       is = c.free_at-freed.ensures.is;
       became = became_twice m n start mid last (became_twice m n start now mid inv.became (rw (g.met.P.Parts.same_stripes c.args.parts.now c.freed.parts c.freed.invariant.keeps) at c.reserve_settings.ensures.became)) (rw (g.met.P.Parts.same_stripes c.args.parts.now c.reserve_settings.new.parts (g.met.P.Parts.keeps_both c.args.parts.now c.freed.parts c.reserve_settings.new.parts c.freed.invariant.keeps c.reserve_settings.ensures.held.kept)) at c.free_at-freed.ensures.became);
+      rooms = spare_both (logs_of start) (logs_of mid) (logs_of last) (spare_both (logs_of start) (logs_of now) (logs_of mid) inv.rooms c.reserve_settings.ensures.stands.rooms)
+          (spare_freed mid last c.in-Err-StoreFull.stripe c.free_at-freed.result c.free_at-freed.ensures.freed);
       lasts = lasts_freed start mid last c.in-Err-StoreFull.stripe c.free_at-freed.result (lasts_still start now mid inv.lasts c.reserve_settings.ensures.stands.waits) c.free_at-freed.ensures.freed;
       heard = heard_more c.free_at-freed.result.refused.retire (g.S.Retires.knows c.args.own.now) (g.S.Retires.knows c.freed.own) (g.S.Retires.knows c.free_at-freed.new.own) inv.heard c.free_at-freed.ensures.told;
       same = omega (arith, c.free_at-freed.ensures.no_fault, faulty, inv.same);
@@ -142,3 +149,35 @@ returns-in-Err-clause-held g c = record {
   open_still = c.reserve_settings.ensures.held.open_still;
   kept = g.met.P.Parts.keeps_both c.args.parts.now c.freed.parts c.reserve_settings.new.parts c.freed.invariant.keeps c.reserve_settings.ensures.held.kept;
 }
+
+pub returns-in-Ok-clause-left : goal.returns-in-Ok-clause-left
+returns-in-Ok-clause-left g c = λ i some.
+    let room = rw (g.met.P.Parts.same_stripes c.args.parts.now c.freed.parts c.freed.invariant.keeps) at c.in-Ok.ensures.room in
+    left_since (logs_of (g.P.Parts.part_of c.args.parts.now)) (logs_of (g.P.Parts.part_of c.freed.parts)) (logs_of (g.P.Parts.part_of c.reserve_settings.new.parts)) i _ _ c.freed.invariant.rooms c.reserve_settings.ensures.stands.rooms (room.left i some)
+
+pub returns-in-Err-clause-lacks : goal.returns-in-Err-clause-lacks
+returns-in-Err-clause-lacks g c =
+    let n : ℕ = g.P.Parts.stripes_of c.args.parts.now in
+    let start = logs_of (g.P.Parts.part_of c.args.parts.now) in
+    let now = logs_of (g.P.Parts.part_of c.freed.parts) in
+    let later = logs_of (g.P.Parts.part_of c.reserve_settings.new.parts) in
+    let due : List Write → Type 0 = λ ws. ws ≡ writes_set (pairs_of c.args.words.now) in
+    let why = rw (g.met.P.Parts.same_stripes c.args.parts.now c.freed.parts c.freed.invariant.keeps) at c.in-Err.ensures.stopped in
+    stop_then c.in-Err.stop _ _ _ _ _ _ _ _ (λ receipts never. never) (λ never. never)
+    (λ lacking. (lacking.0, share_since n lacking.0 due start now later c.freed.invariant.rooms c.reserve_settings.ensures.stands.rooms lacking.1))
+    (λ stripe full. share_since n stripe due start now later c.freed.invariant.rooms c.reserve_settings.ensures.stands.rooms
+    (lacking_full g.D.Device.wrote (kept_by g.R.Shows.identity g.R.Shows.shown) n stripe due now later c.freed.device c.reserve_settings.new.device full)) why
+
+pub returns-then-not-freed-clause-lacks : goal.returns-then-not-freed-clause-lacks
+returns-then-not-freed-clause-lacks g c =
+    let n : ℕ = g.P.Parts.stripes_of c.args.parts.now in
+    let start = logs_of (g.P.Parts.part_of c.args.parts.now) in
+    let now = logs_of (g.P.Parts.part_of c.freed.parts) in
+    let mid = g.P.Parts.part_of c.reserve_settings.new.parts in
+    let last = g.P.Parts.part_of c.free_at-freed.new.parts in
+    let stripe : ℕ = c.in-Err-StoreFull.stripe in
+    let due : List Write → Type 0 = λ ws. ws ≡ writes_set (pairs_of c.args.words.now) in
+    let stop = rw (c.in-Err-StoreFull.field-0-is, g.met.P.Parts.same_stripes c.args.parts.now c.freed.parts c.freed.invariant.keeps) at c.in-Err-StoreFull.ensures.stopped in
+    share_until n stripe due start (logs_of mid) (logs_of last) (logs_still mid last stripe c.free_at-freed.result (not-true c.free_at-freed.result.released c.if-not-freed.true) c.free_at-freed.ensures.freed stripe)
+    (share_since n stripe due start now (logs_of mid) c.freed.invariant.rooms c.reserve_settings.ensures.stands.rooms
+    (lacking_full g.D.Device.wrote (kept_by g.R.Shows.identity g.R.Shows.shown) n stripe due now (logs_of mid) c.freed.device c.reserve_settings.new.device stop))

@@ -2,7 +2,8 @@ use Rattle.std.proofs.Common.{◌≡◌, []}
 use Rattle.transact.specs.Tables.{Became, stays}
 use Rattle.shards.specs.Freeing.{all_waiting}
 use Rattle.shards.specs.Heard.{HasHeard}
-use Rattle.shards.specs.Shards.{shard_meaning, waits_of}
+use Rattle.shards.specs.Shards.{logs_of, shard_meaning, waits_of}
+use Rattle.plans.specs.Lacking.{KeepRoom}
 use Rattle.plans.proofs.Freed.{Lasts}
 use Rattle.plans.proofs.freeing.settings_freeing.Given as goal
 
@@ -12,6 +13,7 @@ invariant-freed g l = record {
   keeps : g.P.Parts.keeps l.fn.parts l.parts;
   is : g.S.Retires.is_of l.epochs l.own;
   became : Became (shard_meaning g.R.Shows.is_steady) (g.P.Parts.stripes_of l.fn.parts) [] stays (g.P.Parts.part_of l.fn.parts) (g.P.Parts.part_of l.parts);
+  rooms : KeepRoom (logs_of (g.P.Parts.part_of l.fn.parts)) (logs_of (g.P.Parts.part_of l.parts));
   lasts : Lasts (g.P.Parts.part_of l.fn.parts) (g.P.Parts.part_of l.parts);
   heard : HasHeard (g.S.Retires.knows l.fn.own) (g.S.Retires.knows l.own);
   same : g.D.Device.failures l.device ≡ g.D.Device.failures l.fn.device;

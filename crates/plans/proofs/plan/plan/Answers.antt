@@ -5,7 +5,7 @@ use Rattle.words.specs.declared.command.Command.{Command}
 use Rattle.words.specs.declared.history.Operation.{Operation}
 use Rattle.hybrid.specs.Staging.{AreRight}
 use Rattle.shards.specs.Receipts.{kept_by}
-use Rattle.shards.specs.Shards.{shard_meaning}
+use Rattle.shards.specs.Shards.{logs_of, shard_meaning}
 use Rattle.transact.specs.declared.call.Call.{Call}
 use Rattle.transact.specs.declared.call.Call.TheVariants as call
 use Rattle.transact.specs.Calls.{call_keys}
@@ -18,6 +18,7 @@ use Rattle.plans.proofs.Few.{still_same}
 use Rattle.plans.proofs.Keys.{there_append}
 use Rattle.plans.proofs.Questions.{all_planned_as, execs_of, failed_memory, marks_none, planned_nothing, runs_of, stopped_as, stopped_memory, watches_of}
 use Rattle.plans.proofs.Sized.{sized_all, sized_one}
+use Rattle.plans.proofs.Spared.{spare_same}
 use Rattle.plans.proofs.Stores.{ok_then_all}
 use Rattle.plans.proofs.plan.plan.Goals as goal
 
@@ -125,6 +126,7 @@ pub returns-in-Watch-clause-stands : goal.returns-in-Watch-clause-stands
 returns-in-Watch-clause-stands g c = record {
   serves = still_same g.D.Device.serves g.D.Device.releases g.D.Device.writes c.args.device.now;
   waits = c.plan_watch.ensures.same.1;
+  rooms = spare_same (logs_of (g.P.Parts.part_of c.args.parts.now)) (logs_of (g.P.Parts.part_of c.plan_watch.new.parts)) c.plan_watch.ensures.same.0;
 }
 
 pub returns-in-Watch-clause-failed : goal.returns-in-Watch-clause-failed

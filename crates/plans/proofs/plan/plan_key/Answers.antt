@@ -14,7 +14,7 @@ use Rattle.plans.specs.Planning.{AreDue, AreSettled, of_copied}
 use Rattle.plans.proofs.Become.{became_same, became_twice}
 use Rattle.plans.proofs.Found.{short_one}
 use Rattle.plans.proofs.Plans.{answer_there, light_writes, plan_of_one}
-use Rattle.plans.proofs.Questions.{planned_from, stopped_full}
+use Rattle.plans.proofs.Questions.{planned_from, stands_same, stopped_full}
 use Rattle.plans.proofs.plan.plan_key.Goals as goal
 
 pub settle-requires-clause-may : goal.settle-requires-clause-may
@@ -86,7 +86,7 @@ returns-in-Err g c = record {
         became_same (shard_meaning g.R.Shows.is_steady) (g.P.Parts.stripes_of c.args.parts.now) (g.P.Parts.part_of c.args.parts.now) (g.P.Parts.part_of c.answer_key.new.parts) c.answer_key.ensures.same;
   });
   stopped = search rules;
-  stands = search rules;
+  stands = stands_same g.D.Device.serves g.D.Device.releases (g.P.Parts.part_of c.args.parts.now) (g.P.Parts.part_of c.answer_key.new.parts) c.args.device.now c.answer_key.ensures.same;
   failed = search rules;
   held = search rules;
 }

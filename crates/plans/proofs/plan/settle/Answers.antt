@@ -1,9 +1,10 @@
-use Rattle.std.proofs.Common.{◌≡◌, ◌∙◌, ℕ, List, ap, refl, sym, subst, not}
+use Rattle.std.proofs.Common.{◌∙◌, ℕ, List, ap, refl, sym, subst, not}
 use Rattle.words.specs.Store.{Write, weight}
 use Rattle.shards.specs.Receipts.{kept_by}
 use Rattle.shards.specs.Rooms.{AreRoomy, LeaveFrames, MakesRoom, ShedFew}
 use Rattle.shards.specs.Shards.{logs_of}
-use Rattle.plans.specs.Planning.{AreSettled, FoundFull, MatchStop}
+use Rattle.plans.specs.Planning.{AreSettled}
+use Rattle.plans.specs.Reserving.{StopsMaking}
 use Rattle.plans.proofs.Questions.{heavy_settled, light_of, light_settled, planned_nothing}
 use Rattle.plans.proofs.plan.settle.Goals as goal
 
@@ -34,5 +35,5 @@ returns-in-Err-clause-stopped g c =
     let d = c.args.device.now in
     let e = c.reserve_all.new.device in
     let kept = kept_by g.R.Shows.identity g.R.Shows.shown in
-    subst (λ s. MatchStop s (λ receipts. ⊥) ⊥ (Unit {0}) (FoundFull g.D.Device.wrote kept (λ due. due ≡ c.args.writes) (g.P.Parts.stripes_of c.args.parts.now) (a, d) (b, e))) (sym c.let_go.ensures)
-    (subst (λ (l : List Write). MatchStop c.in-Err.stop (λ receipts. ⊥) ⊥ (Unit {0}) (FoundFull g.D.Device.wrote kept (λ due. due ≡ l) (g.P.Parts.stripes_of c.args.parts.now) (a, d) (b, e))) c.as_slice.ensures c.in-Err.ensures.stopped)
+    subst (StopsMaking g.D.Device.wrote kept (g.P.Parts.stripes_of c.args.parts.now) c.args.writes (a, d) (b, e)) (sym c.let_go.ensures)
+    (subst (λ (l : List Write). StopsMaking g.D.Device.wrote kept (g.P.Parts.stripes_of c.args.parts.now) l (a, d) (b, e) c.in-Err.stop) c.as_slice.ensures c.in-Err.ensures.stopped)

@@ -11,10 +11,11 @@ use Rattle.plans.specs.Reading.{AreServed, unread}
 use Rattle.shards.specs.Shards.{SameLogs, logs_of, shard_meaning}
 use Rattle.plans.specs.Stops.{faults, keys_looked_up}
 use Rattle.plans.proofs.Hand.{none_cold}
-use Rattle.shards.specs.Devices.{IsReadAlone}
+use Rattle.shards.specs.Devices.{IsReadAlone, StillServes}
 use Rattle.plans.proofs.Few.{more_both, more_none, read_both, read_same, still_both}
 use Rattle.plans.proofs.Logs.{logs_both, logs_same}
-use Rattle.plans.proofs.Questions.{planned_at, stopped_reading}
+use Rattle.plans.proofs.Questions.{planned_at, reads_stopped, stopped_reading}
+use Rattle.plans.proofs.Spared.{spare_both, spare_same}
 use Rattle.plans.proofs.Unread.{are_cold_served, reads_fewer}
 use Rattle.plans.proofs.Waits.{waits_both, waits_same}
 use Rattle.plans.proofs.reading.plan_reading.Goals as goal
@@ -141,6 +142,8 @@ returns-in-Ok-clause-stands g c = record {
   serves = still_both g.D.Device.serves g.D.Device.releases g.D.Device.writes c.args.device.now c.loop-planned.device c.plan.new.device c.loop-planned.invariant.alone.serves_still c.plan.ensures.stands.serves;
   waits = waits_both (g.P.Parts.part_of c.args.parts.now) (g.P.Parts.part_of c.loop-planned.parts) (g.P.Parts.part_of c.plan.new.parts)
       (waits_same (g.P.Parts.part_of c.args.parts.now) (g.P.Parts.part_of c.loop-planned.parts) c.loop-planned.invariant.same) c.plan.ensures.stands.waits;
+  rooms = spare_both (logs_of (g.P.Parts.part_of c.args.parts.now)) (logs_of (g.P.Parts.part_of c.loop-planned.parts)) (logs_of (g.P.Parts.part_of c.plan.new.parts))
+      (spare_same (logs_of (g.P.Parts.part_of c.args.parts.now)) (logs_of (g.P.Parts.part_of c.loop-planned.parts)) (logs_same (g.P.Parts.part_of c.args.parts.now) (g.P.Parts.part_of c.loop-planned.parts) c.loop-planned.invariant.same)) c.plan.ensures.stands.rooms;
 }
 
 pub returns-in-Ok-clause-held : goal.returns-in-Ok-clause-held
@@ -154,6 +157,8 @@ returns-in-Err-clause-stands g c = record {
   serves = still_both g.D.Device.serves g.D.Device.releases g.D.Device.writes c.args.device.now c.loop-planned.device c.plan.new.device c.loop-planned.invariant.alone.serves_still c.plan.ensures.stands.serves;
   waits = waits_both (g.P.Parts.part_of c.args.parts.now) (g.P.Parts.part_of c.loop-planned.parts) (g.P.Parts.part_of c.plan.new.parts)
       (waits_same (g.P.Parts.part_of c.args.parts.now) (g.P.Parts.part_of c.loop-planned.parts) c.loop-planned.invariant.same) c.plan.ensures.stands.waits;
+  rooms = spare_both (logs_of (g.P.Parts.part_of c.args.parts.now)) (logs_of (g.P.Parts.part_of c.loop-planned.parts)) (logs_of (g.P.Parts.part_of c.plan.new.parts))
+      (spare_same (logs_of (g.P.Parts.part_of c.args.parts.now)) (logs_of (g.P.Parts.part_of c.loop-planned.parts)) (logs_same (g.P.Parts.part_of c.args.parts.now) (g.P.Parts.part_of c.loop-planned.parts) c.loop-planned.invariant.same)) c.plan.ensures.stands.rooms;
 }
 
 pub returns-in-Err-clause-held : goal.returns-in-Err-clause-held
@@ -180,3 +185,30 @@ returns-in-Err-read_all-clause-pages g c = (
       c.args.device.now c.loop-planned.device c.plan.new.device (logs_same (g.P.Parts.part_of c.args.parts.now) before inv.same) inv.still stop.device served stop.wanted.cold)
       (inv.right right served),
 )
+
+pub returns-in-Err-read_all-clause-stands : goal.returns-in-Err-read_all-clause-stands
+returns-in-Err-read_all-clause-stands g c =
+    let start = g.P.Parts.part_of c.args.parts.now in
+    let later = g.P.Parts.part_of c.plan.new.parts in
+    let stop = rw c.in-Err-Cold.field-0-is at c.in-Err-Cold.ensures.stopped in
+    let same = stop.untouched ∙ c.loop-planned.invariant.same in
+    record {
+      serves = still_both g.D.Device.serves g.D.Device.releases g.D.Device.writes c.args.device.now c.loop-planned.device c.read_all.new.device c.loop-planned.invariant.alone.serves_still
+          (subst (λ d. StillServes g.D.Device.serves g.D.Device.releases d c.read_all.new.device) stop.device c.read_all.ensures.device.serves_still);
+      waits = waits_same start later same;
+      rooms = spare_same (logs_of start) (logs_of later) (logs_same start later same);
+    }
+
+pub returns-in-Err-read_all-clause-stopped : goal.returns-in-Err-read_all-clause-stopped
+returns-in-Err-read_all-clause-stopped g c =
+    let inv = c.loop-planned.invariant in
+    let n : ℕ = (g.P.Parts.stripes_of c.args.parts.now) in
+    let start = g.P.Parts.part_of c.args.parts.now in
+    let before = g.P.Parts.part_of c.loop-planned.parts in
+    let later = g.P.Parts.part_of c.plan.new.parts in
+    let keys : List Bytes = keys_looked_up c.args.call.now in
+    let stop = rw (c.in-Err-Cold.field-0-is, g.met.P.Parts.same_stripes c.args.parts.now c.loop-planned.parts c.loop-planned.invariant.keeps) at c.in-Err-Cold.ensures.stopped in
+    let takes : TakesMemory g.R.Shows.lends (g.R.Shows.is_honest × AreRight c.args.staged.now) n (of_call (shard_meaning g.R.Shows.is_steady) n start (g.P.Parts.holder_of c.args.parts.now) c.args.call.now) c.args.staged.now (logs_of start) =
+    λ is hand brief. none_cold g.R.Shows.lends n (logs_of before) keys c.loop-planned.staged c.in-Err-Cold.receipts stop.wanted.unlent
+    (subst (λ (staged : List StagedPage). AreAtHand g.R.Shows.lends n (logs_of before) keys staged) (sym (inv.first hand)) (subst (λ p. AreAtHand g.R.Shows.lends n (logs_of p) keys c.args.staged.now) (sym inv.same) hand)) stop.wanted.cold in
+    reads_stopped c.in-Err-read_all.stop _ _ c.in-Err-read_all.ensures.came.never_cold c.in-Err-read_all.ensures.came.never_full (takes, logs_same start later (stop.untouched ∙ inv.same))

@@ -3,7 +3,7 @@ use Rattle.std.specs.Prelude.{IfErr}
 use Rattle.words.specs.Store.{Write}
 use Rattle.shards.specs.Receipts.{kept_by}
 use Rattle.shards.specs.Shards.{logs_of}
-use Rattle.plans.specs.Planning.{FoundFull, MatchStop}
+use Rattle.plans.specs.Reserving.{StopsMaking}
 use Rattle.plans.proofs.Few.{left_none}
 use Rattle.plans.proofs.Making.{made_nothing, no_room}
 use Rattle.plans.proofs.One.{one_item}
@@ -24,7 +24,6 @@ returns-in-empty-clause-room g c =
 pub returns-in-len1-clause-stopped : goal.returns-in-len1-clause-stopped
 returns-in-len1-clause-stopped g c =
     let kept = kept_by g.R.Shows.identity g.R.Shows.shown in
-    subst (λ (ws : List Write). IfErr c.reserve_one.result (λ stop. MatchStop stop (λ receipts. ⊥) ⊥ (Unit {0})
-    (FoundFull g.D.Device.wrote kept (λ due. due ≡ ws) (g.P.Parts.stripes_of c.args.parts.now) (g.P.Parts.part_of c.args.parts.now, c.args.device.now)
-    (g.P.Parts.part_of c.reserve_one.new.parts, c.reserve_one.new.device))))
+    subst (λ (ws : List Write). IfErr c.reserve_one.result (StopsMaking g.D.Device.wrote kept (g.P.Parts.stripes_of c.args.parts.now) ws (g.P.Parts.part_of c.args.parts.now, c.args.device.now)
+    (g.P.Parts.part_of c.reserve_one.new.parts, c.reserve_one.new.device)))
     (sym (one_item c.args.writes.now c.write-item.result c.in-len1.len_at_least c.in-len1.len_below c.write-item.is)) c.reserve_one.ensures.stopped

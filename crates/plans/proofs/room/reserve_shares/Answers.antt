@@ -7,6 +7,7 @@ use Rattle.plans.proofs.Few.{few_more, still_both, still_same}
 use Rattle.plans.proofs.Making.{met_stop, room_at}
 use Rattle.plans.proofs.Rooms.{share_below}
 use Rattle.plans.proofs.Shares.{below_more, below_none}
+use Rattle.plans.proofs.Spared.{spare_both, spare_same}
 use Rattle.plans.proofs.Waits.{waits_both}
 use Rattle.plans.proofs.room.reserve_shares.Goals as goal
 
@@ -18,6 +19,7 @@ loop-stripe-init g c =
       keeps = g.met.P.Parts.keeps_same c.args.parts.now;
       became = became_same (shard_meaning g.R.Shows.is_steady) (g.P.Parts.stripes_of c.args.parts.now) parts parts refl;
       waits = λ j. refl;
+      rooms = spare_same (logs_of parts) (logs_of parts) (λ j. refl);
       below = omega arith;
       same = refl;
       device = still_same g.D.Device.serves g.D.Device.releases g.D.Device.writes c.args.device.now;
@@ -53,6 +55,7 @@ loop-stripe-preserved g c =
       keeps = g.met.P.Parts.keeps_both c.args.parts.now c.loop-stripe.parts c.reserve_share.new.parts inv.keeps e.held.kept;
       became = became_twice (shard_meaning g.R.Shows.is_steady) n start before later inv.became (rw (g.met.P.Parts.same_stripes c.args.parts.now c.loop-stripe.parts c.loop-stripe.invariant.keeps) at e.reserved.became);
       waits = waits_both start before later inv.waits e.reserved.stands.waits;
+      rooms = spare_both (logs_of start) (logs_of before) (logs_of later) inv.rooms e.reserved.stands.rooms;
       below = omega (arith, c.loop-stripe-test.true, c.stripes-stripe-end.ensures.count);
       same = c.in_default.ensures.failed ∙ inv.same;
       device = still_both g.D.Device.serves g.D.Device.releases g.D.Device.writes c.args.device.now c.loop-stripe.device c.reserve_share.new.device inv.device e.reserved.stands.serves;
@@ -83,7 +86,7 @@ returns-clause-reserved g c = λ ws are.
     }
 
 pub returns-clause-stands : goal.returns-clause-stands
-returns-clause-stands g c = record { serves = c.loop-stripe.invariant.device; waits = c.loop-stripe.invariant.waits }
+returns-clause-stands g c = record { serves = c.loop-stripe.invariant.device; waits = c.loop-stripe.invariant.waits; rooms = c.loop-stripe.invariant.rooms }
 
 pub returns-in-Err-clause-became : goal.returns-in-Err-clause-became
 returns-in-Err-clause-became g c =
@@ -121,6 +124,7 @@ returns-in-Err-clause-stands g c =
     record {
       serves = still_both g.D.Device.serves g.D.Device.releases g.D.Device.writes c.args.device.now c.loop-stripe.device c.reserve_share.new.device inv.device e.reserved.stands.serves;
       waits = waits_both (g.P.Parts.part_of c.args.parts.now) (g.P.Parts.part_of c.loop-stripe.parts) (g.P.Parts.part_of c.reserve_share.new.parts) inv.waits e.reserved.stands.waits;
+      rooms = spare_both (logs_of (g.P.Parts.part_of c.args.parts.now)) (logs_of (g.P.Parts.part_of c.loop-stripe.parts)) (logs_of (g.P.Parts.part_of c.reserve_share.new.parts)) inv.rooms e.reserved.stands.rooms;
     }
 
 pub returns-in-Err-clause-failed : goal.returns-in-Err-clause-failed

@@ -4,6 +4,7 @@ use Rattle.transact.specs.Tables.{Became, stays}
 use Rattle.shards.specs.Receipts.{kept_by}
 use Rattle.shards.specs.Devices.{StillServes}
 use Rattle.shards.specs.Shards.{SameWaits, logs_of, shard_meaning}
+use Rattle.plans.specs.Lacking.{KeepRoom}
 use Rattle.plans.specs.Reserving.{AreSharesOf}
 use Rattle.plans.proofs.Shares.{IsMadeBelow}
 use Rattle.plans.proofs.room.reserve_shares.Given as goal
@@ -14,6 +15,7 @@ invariant-loop-stripe g l = record {
   keeps : g.P.Parts.keeps l.fn.parts l.parts;
   became : Became (shard_meaning g.R.Shows.is_steady) (g.P.Parts.stripes_of l.fn.parts) [] stays (g.P.Parts.part_of l.fn.parts) (g.P.Parts.part_of l.parts);
   waits : SameWaits (g.P.Parts.part_of l.fn.parts) (g.P.Parts.part_of l.parts);
+  rooms : KeepRoom (logs_of (g.P.Parts.part_of l.fn.parts)) (logs_of (g.P.Parts.part_of l.parts));
   below : l.stripe ≤ g.P.Parts.stripes_of l.fn.parts;
   same : g.D.Device.failures l.device ≡ g.D.Device.failures l.fn.device;
   device : StillServes g.D.Device.serves g.D.Device.releases l.fn.device l.device;

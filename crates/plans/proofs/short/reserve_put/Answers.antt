@@ -15,7 +15,7 @@ pub returns-in-Ok-clause-room : goal.returns-in-Ok-clause-room
 returns-in-Ok-clause-room g c = room_as _ _ _ _ _ _ c.stripe_at-stripe.ensures c.weight_of-weight.ensures.weight c.weight_of-weight.ensures.purpose _ _ c.in-Ok.ensures.room
 
 pub returns-in-Err-DeviceFault-clause-stopped : goal.returns-in-Err-DeviceFault-clause-stopped
-returns-in-Err-DeviceFault-clause-stopped g c = no_room_as _ _ _ _ _ _ c.stripe_at-stripe.ensures c.weight_of-weight.ensures.weight c.weight_of-weight.ensures.purpose _ _ _ (record { lacks = c.in-Err-DeviceFault.ensures.failed.lacks; why = tt })
+returns-in-Err-DeviceFault-clause-stopped g c = no_room_as _ _ _ _ _ _ c.stripe_at-stripe.ensures c.weight_of-weight.ensures.weight c.weight_of-weight.ensures.purpose _ _ _ (record { lacks = c.in-Err-DeviceFault.ensures.failed.lacks; why = omega (arith, c.weight_of-weight.ensures.weight) })
 
 pub returns-in-Err-StoreFull-clause-stopped : goal.returns-in-Err-StoreFull-clause-stopped
 returns-in-Err-StoreFull-clause-stopped g c =
