@@ -16,6 +16,7 @@ use Rattle.streams.specs.declared.observed.Told.{Told}
 use Rattle.streams.specs.declared.observed.Told.TheVariants as told
 use Rattle.engine.specs.Passes.{Known}
 use Rattle.engine.specs.Calls.{Promises, IsCause}
+use Rattle.engine.specs.Got.{spoken_reply}
 use Rattle.connection.specs.declared.answering.Due.{Due}
 use Rattle.connection.specs.declared.answering.Due.TheVariants as due
 use Rattle.connection.specs.declared.serving.Ended.{Ended}
@@ -168,12 +169,12 @@ module _ (promises : Promises) where
   IsDue was now old (due.Line said) new = Turned was now old new (line_reply said)
   IsDue was now old (due.Values found) new = Turned was now old new (values_reply found)
   IsDue was now old (due.Value found) new = Turned was now old new (value_reply found)
-  IsDue was now old (due.Said found) new = Turned was now old new (value_reply found)
+  IsDue was now old (due.Said said) new = Turned was now old new (spoken_reply said)
   IsDue was now old _ new = now ≡ was
 
 -- what the output buffer was given in a turn already
 abbrev pub due_text : Due → Bytes
-due_text (due.Said found) = encoding (value_reply found)
+due_text (due.Said said) = encoding (spoken_reply said)
 due_text _ = []
 
 -- what the reader has told when a connection ended so

@@ -7,7 +7,7 @@ ghost use Rattle.streams.specs.declared.observed.Told.{Told as HasTold};
 ghost use Rattle.engine.specs.Passes.{Known, knows, Rests, stripe_count};
 ghost use Rattle.engine.specs.Calls.{promises_of};
 ghost use Rattle.words.specs.Bounds.{IsBounded};
-ghost use Rattle.words.specs.Briefs.{IsMGet, IsMSet, IsOne, last_of};
+ghost use Rattle.words.specs.Briefs.{IsGet, IsMGet, IsMSet, IsOne, last_of};
 ghost use Rattle.words.specs.Commands.{command_of, touches_keys};
 ghost use Rattle.words.specs.Session.{line_reply};
 ghost use Rattle.words.specs.Spelling.{IsRequest};
@@ -17,13 +17,12 @@ ghost use Rattle.connection.specs.Served.{HasTurned, IsDue, IsDueToIdle, due_tex
 ghost use Rattle.std.specs.Io.KnownBytes.{Appends, Consumes};
 
 use crate::client::{Client, Front, Next};
-use crate::output::{flush, make_room, say_line, say_spent, say_value, say_values};
+use crate::output::{flush, go_on_behind, say_line, say_spent, say_value, say_values};
 use crate::reading::{MORE_PIECES, Waiting, take_waiting};
 use crate::serving::{Ended, Store, Talk};
 use device::Device;
-use engine::{Gathered, Got, Pass};
+use engine::{Gathered, Got, GotAll, Pass, Spoken};
 use gates::Latch;
-use resp_write::Said;
 use session::watches_follow_entries;
 use std::io::Write;
 use std::sync::Wait;
@@ -46,8 +45,8 @@ pub(crate) enum Due {
     Values(Bulks),
     /// A GET is answered with what it found.
     Value(Option<Word>),
-    /// A GET was answered with this: the output buffer has its reply.
-    Said(Said),
+    /// A GET or an MGET was answered with this: the output buffer has its reply.
+    Said(Spoken),
     /// No whole request is left.
     Input,
     /// The bytes that are left begin with a fault.
@@ -128,8 +127,8 @@ pub(crate) fn answer_all<T: Wait, L: Latch, W: Write, D: Device>(
                     return Paused::WriteFailed;
                 }
             }
-            Due::Said(_said) => {
-                if let Err(_) = make_room(&mut talk.out, writer) {
+            Due::Said(said) => {
+                if let Err(_) = go_on_behind(said, &mut talk.out, writer) {
                     return Paused::WriteFailed;
                 }
             }
@@ -231,8 +230,8 @@ pub(crate) fn answer_piece<T: Wait, L: Latch, R: ReadReady, W: Write, D: Device>
     conclude::<W, D>(paused, &mut talk.out, writer)
 }
 
-/// Answers the client's next request, if there is a whole one. It is taken up into these words. What a GET found may be said at
-/// once, into the output buffer.
+/// Answers the client's next request, if there is a whole one. It is taken up into these words. What a GET or an MGET
+/// found may be said at once, into the output buffer.
 #[inline]
 fn answer_next<T: Wait, L: Latch, D: Device>(
     store: &Store<T, L, D>,
@@ -286,16 +285,7 @@ fn answer_idle<T: Wait, L: Latch, D: Device>(
     ensures said { out.new.items ≡ out.old.items ++ due_text result }
 {
     match Brief::of(words) {
-        Brief::Get => {
-            watches_follow_entries();
-            commands_are_bounded();
-            let key = &words.as_slice()[1];
-            match store.engine.say(store.rt, pass, key, out, store.latch) {
-                Ok(Got::Said(said)) => Due::Said(said),
-                Ok(Got::Found(value)) => Due::Value(value),
-                Err(fault) => Due::Line(Line::Faulty(fault)),
-            }
-        }
+        Brief::Get => answer_get(store, words, out, pass),
         Brief::Set => {
             watches_follow_entries();
             commands_are_bounded();
@@ -304,19 +294,49 @@ fn answer_idle<T: Wait, L: Latch, D: Device>(
             Due::Line(line_of(store.engine.set(store.rt, pass, key, value, store.latch)))
         }
         Brief::One(verb) => answer_one(store, words, pass, verb),
-        Brief::Values => answer_values(store, words, pass),
+        Brief::Values => answer_values(store, words, out, pass),
         Brief::Settings => answer_settings(store, words, pass),
         Brief::Ping => Due::Line(Line::Pong),
         Brief::Other => answer_command(store, client, words, pass),
     }
 }
 
+/// Answers the request of these words, which is a GET, of a client whose session is in no transaction: its words go to the engine as
+/// they lie, and what the key has may be said at once.
+#[inline]
+fn answer_get<T: Wait, L: Latch, D: Device>(
+    store: &Store<T, L, D>,
+    words: &Words,
+    out: &mut Vec<u8>,
+    pass: &mut Pass<D>,
+) -> Due
+    requires rests { Rests D.Receipt.is_steady store.now.engine.now pass.old }
+    requires request { IsRequest words.now }
+    requires get { IsGet words.now }
+    ensures turned { (at : Progress) → IsIdle at.stage → HasTurned (before words.now at) result at }
+    ensures due { IsDueToIdle (promises_of D.Receipt.is_steady D.Receipt.lends (stripe_count store.now.engine.now))
+        (knows D.failures pass.old) (knows D.failures pass.new) words.now result }
+    ensures rests { Rests D.Receipt.is_steady store.now.engine.now pass.new }
+    ensures attends { (at : Progress) → Attends (knows D.failures pass.old) at → IsIdle at.stage → Attends (knows D.failures pass.new) at }
+    ensures said { out.new.items ≡ out.old.items ++ due_text result }
+{
+    watches_follow_entries();
+    commands_are_bounded();
+    let key = &words.as_slice()[1];
+    match store.engine.say(store.rt, pass, key, out, store.latch) {
+        Ok(Got::Said(said)) => Due::Said(said),
+        Ok(Got::Found(value)) => Due::Value(value),
+        Err(fault) => Due::Line(Line::Faulty(fault)),
+    }
+}
+
 /// Answers the request of these words, which is an MGET, of a client whose session is in no transaction: its words go to the engine as
-/// they lie.
+/// they lie, and what the keys have may be said at once.
 #[inline(never)]
 fn answer_values<T: Wait, L: Latch, D: Device>(
     store: &Store<T, L, D>,
     words: &Words,
+    out: &mut Vec<u8>,
     pass: &mut Pass<D>,
 ) -> Due
     requires rests { Rests D.Receipt.is_steady store.now.engine.now pass.old }
@@ -327,16 +347,20 @@ fn answer_values<T: Wait, L: Latch, D: Device>(
         (knows D.failures pass.old) (knows D.failures pass.new) words.now result }
     ensures rests { Rests D.Receipt.is_steady store.now.engine.now pass.new }
     ensures attends { (at : Progress) → Attends (knows D.failures pass.old) at → IsIdle at.stage → Attends (knows D.failures pass.new) at }
-    ensures unsaid { due_text result ≡ [] }
+    ensures said { out.new.items ≡ out.old.items ++ due_text result }
 {
     watches_follow_entries();
     commands_are_bounded();
     let Some((_name, keys)) = words.as_slice().split_first() else {
         unreachable!()
     };
-    match store.engine.values(store.rt, pass, keys, store.latch) {
-        Gathered::Found(values) => Due::Values(values),
-        Gathered::Planned(planned) => Due::Reply(planned.into_reply()),
+    match store
+        .engine
+        .say_values(store.rt, pass, keys, out, store.latch)
+    {
+        GotAll::Said(said) => Due::Said(said),
+        GotAll::Gathered(Gathered::Found(values)) => Due::Values(values),
+        GotAll::Gathered(Gathered::Planned(planned)) => Due::Reply(planned.into_reply()),
     }
 }
 

@@ -6,6 +6,7 @@ ghost use Rattle.words.specs.Encoding.{encoding};
 ghost use Rattle.words.specs.Session.{line_reply, value_reply, values_reply};
 ghost use Rattle.streams.specs.Streams.{IsSent, IsPut, stream_of, told_of, told_when};
 
+use engine::Spoken;
 use resp_write::{
     encode_line_within, encode_value_within, encode_values_within, encode_within, send, send_values,
 };
@@ -38,10 +39,7 @@ pub(crate) const HELD_BYTES: usize = 65_536;
 
 /// Writes what the output buffer holds, if that is more than [`HELD_BYTES`]: so there is room for the longest reply to a GET behind it.
 #[inline]
-pub(crate) fn make_room<W: Write>(
-    out: &mut Vec<u8>,
-    writer: &mut Noted<W>,
-) -> Result<(), WriteFault>
+fn make_room<W: Write>(out: &mut Vec<u8>, writer: &mut Noted<W>) -> Result<(), WriteFault>
     ensures put { IsPut (W.contents (stream_of writer.old)) (W.contents (stream_of writer.new))
         out.old.items out.new.items result [] }
     ensures told { told_of writer.new ≡ told_when (is_ok result) (told_of writer.old) }
@@ -51,6 +49,22 @@ pub(crate) fn make_room<W: Write>(
         return Ok(());
     }
     flush(out, writer)
+}
+
+/// Makes room behind a reply that the output buffer has already, as [`make_room`] does, and lets go what was said.
+#[inline]
+pub(crate) fn go_on_behind<W: Write>(
+    said: Spoken,
+    out: &mut Vec<u8>,
+    writer: &mut Noted<W>,
+) -> Result<(), WriteFault>
+    ensures put { IsPut (W.contents (stream_of writer.old)) (W.contents (stream_of writer.new))
+        out.old.items out.new.items result [] }
+    ensures told { told_of writer.new ≡ told_when (is_ok result) (told_of writer.old) }
+    ensures within { vec_len out.new ≤ vec_capacity out.old }
+{
+    drop(said);
+    make_room(out, writer)
 }
 
 /// Says a reply: it goes into the output buffer where there is room, else to the writer, after what

@@ -1,5 +1,5 @@
 -- What is held before, between and after the steps of a call.
-use Rattle.std.proofs.Common.{◌≡◌, ◌+◌, ◌<◌, ◌∙◌, ⊎_elim, inl, inr, arith, option_map, map, ◌-◌, None, ℕ, List, [], ◌∷◌, ◌++◌, length, Bool, true, false, Option, Some, IsSome, refl, sym, ap, subst}
+use Rattle.std.proofs.Common.{◌≡◌, ◌+◌, ◌<◌, ◌∙◌, ⊎_elim, inl, inr, arith, option_map, map, ◌-◌, None, ℕ, List, [], ◌∷◌, ◌++◌, length, Bool, true, false, Option, Some, IsSome, Result, Ok, Err, IfErr, refl, sym, ap, subst}
 use Rattle.std.specs.Borrow.{Bor, MutBor}
 use Rattle.words.specs.declared.reply.Reply.{Reply}
 use Rattle.words.specs.declared.reply.Fault.{Fault}
@@ -48,10 +48,13 @@ use Rattle.transact.specs.Tables.{AreThere, Became, HasBegun, Stand, clears, sta
 use Rattle.engine.specs.Calls.{Forgot, HasItsPlace, IsCause, IsDone, IsUndone, Promises, promises_of}
 use Rattle.engine.specs.Answers.{IsAnswered}
 use Rattle.engine.specs.declared.enter.Entered.{Entered}
-use Rattle.engine.specs.Entering.{HasEntered, MayBeGiven, MayBegin, MayEnter, MaySubmit, WasCold, at_fault, given, own_answer}
+use Rattle.engine.specs.Entering.{HasEntered, MayBeGiven, MayBegin, MayEnter, MaySubmit, WasCold, at_fault, came_to, given, own_answer}
+use Rattle.engine.specs.declared.enter.Stopped.{Stopped}
+use Rattle.epoch.specs.declared.view.View.{View}
+use Rattle.shards.specs.Heard.{HasHeard}
 use Rattle.engine.specs.Memory.{AsksNoMemory}
 use Rattle.engine.specs.Passes.{Known, know}
-use Rattle.engine.specs.Stops.{IfSpent, IsOfCall, fault_of, report_of}
+use Rattle.engine.specs.Stops.{HasHeardFor, IfSpent, IsOfCall, IsWornBy, TellsFull, fault_of, report_of, worn_out}
 use Rattle.engine.proofs.Parts.{became_same, there_after}
 use Rattle.engine.proofs.Fit.{forgot_all, installed_all, kept_all, keys_held, stand_of}
 
@@ -389,6 +392,41 @@ spent_of P stop.OutOfMemory refused full = tt
 spent_of P stop.DeviceFault refused full = tt
 spent_of P (stop.StoreFull stripe) refused full = full
 spent_of P (stop.Cold receipts) refused full = tt
+
+-- a plan that was not made is answered that the store is full where a stripe is told to be full
+tells_full : {R : Type 0} (s : Stop R) (refused : Refused) → TellsFull (answer.Fault (fault_of s)) (report_of s refused)
+tells_full stop.OutOfMemory refused = tt
+tells_full stop.DeviceFault refused = tt
+tells_full (stop.StoreFull stripe) refused = tt
+tells_full (stop.Cold receipts) refused = tt
+
+-- a call that is answered by this fault and tells this
+stopped_as : (a : Answer) (f : Fault) (told r : Report) (before later : View) → a ≡ answer.Fault f → told ≡ r → HasHeard before later → IfSpent r (IsWornBy before later)
+    → TellsFull (answer.Fault f) r → (ends : Bool) → HasHeardFor own_answer (record { answer = a; ends = ends; report = told }) before later
+stopped_as a f told r before later is says heard worn full ends = record {
+  heard = heard;
+  worn = subst (λ (x : Report). IfSpent x (IsWornBy before later)) (sym says) worn;
+  full = subst (λ (x : Answer). TellsFull x told) (sym is) (subst (λ (x : Report). TellsFull (answer.Fault f) x) (sym says) full);
+}
+
+-- the same of a call whose plan was not made
+pub heard_stop : {R : Type 0} (s : Stop R) (refused : Refused) (entered : Entered Answer) (before later : View) → entered.answer ≡ answer.Fault (fault_of s) → entered.report ≡ report_of s refused → HasHeard before later
+    → IfFull s (λ stripe. IsWornBy before later refused) → HasHeardFor own_answer entered before later
+heard_stop s refused entered before later is says heard full =
+    stopped_as entered.answer (fault_of s) entered.report (report_of s refused) before later is says heard (spent_of (IsWornBy before later) s refused full) (tells_full s refused) entered.ends
+
+-- the same of a call that could not be committed
+pub heard_worn : (entered : Entered Answer) (before later : View) → entered.answer ≡ answer.Fault fault.CommitsWornOut → entered.report ≡ report.Nothing → HasHeard before later → HasHeardFor own_answer entered before later
+heard_worn entered before later is says heard = stopped_as entered.answer fault.CommitsWornOut entered.report report.Nothing before later is says heard tt tt entered.ends
+
+-- a seat that was told nothing
+pub heard_nothing : (view : View) → HasHeard view view
+heard_nothing view = record { more = []; notes = refl }
+
+-- the same of a command of one key that makes no room
+pub heard_quietly : (reply : Reply) (done : Result (Unit {0}) Stopped) (view : View) → IfErr done (λ stopped. stopped ≡ worn_out) → HasHeardFor own_answer (came_to reply done) view view
+heard_quietly reply (Ok done) view worn = record { heard = heard_nothing view; worn = tt; full = tt }
+heard_quietly reply (Err stopped) view worn = heard_worn (came_to reply (Err stopped)) view view (ap (λ (s : Stopped). answer.Fault s.fault) worn) (ap (λ (s : Stopped). s.report) worn) (heard_nothing view)
 
 -- all that was watched is forgotten
 pub forgot_by : (start last : Knowledge) (f0 f1 : ℕ) → last ≡ start → f1 ≡ f0 → Forgot [] (know start f0) (know (kept true [] last) f1)

@@ -4,6 +4,8 @@ pub mod Parts
 pub mod Fit
 pub mod Behind
 pub mod Entering
+pub mod Speaking
+pub mod Hearing
 pub mod Values
 pub mod Stopped
 pub mod Memory

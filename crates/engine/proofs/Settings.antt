@@ -1,5 +1,5 @@
 -- Settings, as writes and as calls.
-use Rattle.std.proofs.Common.{◌≡◌, ◌≤◌, ◌<◌, List, [], ◌∷◌, length, ap, arith}
+use Rattle.std.proofs.Common.{◌≡◌, ◌<◌, List, [], ◌∷◌, length, ap, arith}
 use Rattle.words.specs.declared.limits.TheConstants.{WEIGHT_MAX}
 use Rattle.words.specs.declared.command.Command.TheVariants.{MSet}
 use Rattle.words.specs.Session.{Run}

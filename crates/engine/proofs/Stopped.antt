@@ -15,7 +15,7 @@ use Rattle.gates.specs.declared.view.Knowledge.{Knowledge}
 use Rattle.transact.specs.declared.call.Call.{Call}
 use Rattle.transact.specs.declared.call.Call.TheVariants.{One, Watch, Exec, Forget}
 use Rattle.transact.specs.Calls.{asked_of}
-use Rattle.transact.specs.Plans.{IsEntry, IsPlan, made}
+use Rattle.transact.specs.Plans.{IsEntry, IsPlan}
 use Rattle.transact.specs.Submits.{asked_for}
 use Rattle.shards.specs.Rooms.{share}
 use Rattle.shards.specs.Shards.{weigh}

@@ -2,6 +2,8 @@
 use Rattle.std.specs.Prelude.{ℕ, ◌≡◌, Bool, false, List, [], Result, Ok, Err}
 use Rattle.words.specs.Briefs.{commanded, pairs_of}
 use Rattle.words.specs.Store.{Bytes}
+use Rattle.words.specs.declared.reply.Fault.{Fault}
+use Rattle.words.specs.declared.reply.Line.{Line}
 use Rattle.words.specs.declared.reply.Reply.{Reply}
 use Rattle.words.specs.Session.{Asked, Run, value_reply, values_reply, watched_at_fault}
 use Rattle.words.specs.declared.command.Command.{Command}
@@ -23,7 +25,7 @@ use Rattle.hybrid.specs.Staging.{AreRight}
 use Rattle.transact.specs.declared.call.Answer.{Answer}
 use Rattle.transact.specs.declared.call.Answer.TheVariants as answer
 use Rattle.transact.specs.declared.call.Call.{Call}
-use Rattle.transact.specs.Calls.{asked_of, call_keys}
+use Rattle.transact.specs.Calls.{answer_of, asked_of, call_keys}
 use Rattle.transact.specs.Plans.{EndsAll, IsEntry}
 use Rattle.transact.specs.Submits.{asked_for, stripes_asked}
 use Rattle.transact.specs.Tables.{AreThere}
@@ -40,7 +42,6 @@ use Rattle.engine.specs.declared.enter.Stopped.{Stopped}
 use Rattle.engine.specs.declared.one.Commanding.{Commanding}
 use Rattle.engine.specs.declared.get.Found.{Found}
 use Rattle.engine.specs.declared.get.Getting.{Getting}
-use Rattle.engine.specs.declared.get.Saying.{Saying}
 use Rattle.engine.specs.declared.set.Setting.{Setting}
 use Rattle.engine.specs.declared.gather.Reading.{Reading}
 use Rattle.engine.specs.declared.gather.Told.{Told}
@@ -84,6 +85,10 @@ abbrev pub came_to : Reply → Result (Unit {0}) Stopped → Entered Answer
 came_to reply (Ok done) = record { answer = answer.Reply reply; ends = false; report = report.Nothing }
 came_to reply (Err stopped) = record { answer = answer.Fault stopped.fault; ends = false; report = stopped.report }
 
+-- what a call came to that is answered by a line or by a fault, and tells this
+abbrev pub line_came_to : Result Line Fault → Report → Entered Answer
+line_came_to told says = record { answer = answer_of told; ends = false; report = says }
+
 -- what an MGET asks
 abbrev pub reading_asked : Reading → Asked
 reading_asked reading = Run (MGet reading.keys.now)
@@ -124,10 +129,6 @@ at_fault asked knows = record knows { watched = watched_at_fault knows.watched a
 -- what a pass of the gates knows once it has given its stripes back with a report, and with an end of all that it watches or without
 abbrev pub given : (ends : Bool) → Report → Knowledge → Knowledge
 given ends report knows = kept ends (notes_of report) knows
-
--- what is said to a GET that has said this
-abbrev pub saying_reply : Saying → Reply
-saying_reply saying = value_reply saying.value.now
 
 -- A call that is planned: it makes an entry, and is no SET without an option.
 pub record IsPlanned (call : Call) : Type 0 where

@@ -1,6 +1,8 @@
 -- The passes of an engine, and what they know.
 use Rattle.std.specs.Prelude.{ℕ, ◌≡◌, ◌+◌, List, [], ◌∷◌, Option, Some}
+use Rattle.epoch.specs.Seats as seats
 use Rattle.epoch.specs.Seats.{IsOutside}
+use Rattle.epoch.specs.declared.view.View.{View}
 use Rattle.epoch.specs.declared.epochs.Epochs.{Epochs}
 use Rattle.epoch.specs.declared.epochs.EpochSeat.{EpochSeat}
 use Rattle.words.specs.History.{History, Pair, Placed}
@@ -37,6 +39,15 @@ pub record AreFree {R : Type 0} (epochs : Epochs) (hands : Hands R EpochSeat) : 
 -- there are hands of a seat of these epochs, which has no stay, and no page is staged
 abbrev pub HasHands : {R : Type 0} → Epochs → Option (Hands R EpochSeat) → Type 0
 HasHands {R} epochs hands = (own : Hands R EpochSeat) × (hands ≡ Some own) × AreFree epochs own
+
+-- of the seat of hands, by what it knows
+abbrev pub OfSeat : {R : Type 0} → (View → Type 0) → Option (Hands R EpochSeat) → Type 0
+OfSeat {R} P was = (before : Hands R EpochSeat) → was ≡ Some before → P (seats.known before.own)
+
+-- of the seats of hands, by what they knew and what they know
+abbrev pub OfSeats : {R : Type 0} → (View → View → Type 0) → (was now : Option (Hands R EpochSeat)) → Type 0
+OfSeats {R} P was now =
+    (before later : Hands R EpochSeat) → was ≡ Some before → now ≡ Some later → P (seats.known before.own) (seats.known later.own)
 
 module _ {D R : Type 0} where
   -- what a pass knows; `failures` counts the failed calls of an opening

@@ -1,14 +1,21 @@
--- Plans that were not made, as calls are answered then.
-use Rattle.std.specs.Prelude.{◌≡◌, true}
+-- Plans that were not made, as calls are answered then, and what the epochs told of it.
+use Rattle.std.specs.Prelude.{◌≡◌, ℕ, List, ◌∷◌, ◌++◌, true, Result, Ok, Err}
 use Rattle.epoch.specs.declared.view.View.{View}
 use Rattle.words.specs.declared.reply.Fault.{Fault}
 use Rattle.words.specs.declared.reply.Fault.TheVariants as fault
+use Rattle.gates.specs.declared.view.Knowledge.{Knowledge}
+use Rattle.gates.specs.declared.view.Note.{Note}
+use Rattle.gates.specs.declared.view.Note.TheVariants.{Full}
 use Rattle.gates.specs.declared.view.Refused.{Refused}
 use Rattle.gates.specs.declared.report.Report.{Report}
 use Rattle.gates.specs.declared.report.Report.TheVariants as report
-use Rattle.shards.specs.Heard.{HasHeardWorn}
+use Rattle.shards.specs.Heard.{HasHeard, HasHeardWorn}
 use Rattle.plans.specs.declared.stop.Stop.{Stop}
 use Rattle.plans.specs.declared.stop.Stop.TheVariants as stop
+use Rattle.transact.specs.declared.call.Answer.{Answer}
+use Rattle.transact.specs.declared.call.Answer.TheVariants as answer
+use Rattle.engine.specs.declared.enter.Entered.{Entered}
+use Rattle.engine.specs.declared.enter.Stopped.{Stopped}
 
 module _ {R : Type 0} where
   -- the fault by which a call is answered whose plan was not made. (No call is answered where pages are wanted: they are read.)
@@ -44,3 +51,44 @@ IsOfCall (report.Seen stripe look) = ⊥
 -- where the epochs refused to retire, their seat was told last that their word is worn out
 abbrev pub IsWornBy : (before later : View) → Refused → Type 0
 IsWornBy before later refused = refused.retire ≡ true → HasHeardWorn before later
+
+-- it is a report of a full stripe
+abbrev pub IsOfFull : Report → Type 0
+IsOfFull report.Nothing = ⊥
+IsOfFull (report.Full stripe refused) = Unit {0}
+IsOfFull (report.Idle stripe work) = ⊥
+IsOfFull (report.Done stripe work) = ⊥
+IsOfFull (report.Seen stripe look) = ⊥
+
+-- where a call is answered that the store is full, its report is of a full stripe
+abbrev pub TellsFull : Answer → Report → Type 0
+TellsFull (answer.Reply reply) told = Unit {0}
+TellsFull (answer.Fault fault.OutOfMemory) told = Unit {0}
+TellsFull (answer.Fault fault.DeviceFault) told = Unit {0}
+TellsFull (answer.Fault fault.StoreFull) told = IsOfFull told
+TellsFull (answer.Fault fault.CommitsWornOut) told = Unit {0}
+
+-- how a command of one key is answered that could not be committed
+abbrev pub worn_out : Stopped
+worn_out = record { fault = fault.CommitsWornOut; report = report.Nothing }
+
+-- A call was entered: what a seat of the epochs was told before stands. Where its report says that a stripe is full, and that the epochs
+-- refused to retire, the seat was told last that their word is worn out; and where it is answered that the store is full, its report says
+-- which stripe is. `says` tells an answer.
+pub record HasHeardFor {A : Type 0} (says : A → Answer) (entered : Entered A) (before later : View) : Type 0 where
+  pub heard : HasHeard before later
+  pub worn : IfSpent entered.report (IsWornBy before later)
+  pub full : TellsFull (says entered.answer) entered.report
+
+-- the same of a call that may want pages: then what the seat was told before stands
+abbrev pub HasHeardIn : {A E : Type 0} (says : A → Answer) → Result (Entered A) E → (before later : View) → Type 0
+HasHeardIn says (Ok entered) before later = HasHeardFor says entered before later
+HasHeardIn says (Err receipts) before later = HasHeard before later
+
+-- A pass and a seat of the epochs: what each was told before stands. Where the pass was told last, and since, that a stripe is full, and
+-- that the epochs refused to retire, the seat was told last, and since, that their word is worn out.
+pub record HasHeardWith (was now : Knowledge) (before later : View) : Type 0 where
+  pub told : (more : List Note) × (now.notes ≡ more ++ was.notes)
+  pub heard : HasHeard before later
+  pub worn : (stripe : ℕ) (refused : Refused) (more : List Note) → now.notes ≡ Full stripe refused ∷ (more ++ was.notes)
+      → IsWornBy before later refused

@@ -1,6 +1,7 @@
 -- The visits of calls that read outside their stripes.
 use Rattle.std.specs.Prelude.{◌≡◌, ◌≤◌, []}
-use Rattle.epoch.specs.Seats.{IsInside}
+use Rattle.epoch.specs.Seats.{IsInside, known, seat_in}
+use Rattle.epoch.specs.declared.view.View.{View}
 use Rattle.epoch.specs.declared.epochs.Epochs.{Epochs}
 use Rattle.hybrid.specs.Staging.{AreRight}
 use Rattle.engine.specs.declared.visit.TheConstants.{ROUNDS}
@@ -12,6 +13,10 @@ module _ {R : Type 0} where
     pub stay : IsInside epochs visit.hands.own
     pub right : steady → AreRight visit.hands.staged
     pub few : visit.rounds ≤ ROUNDS
+
+  -- what the seat of a visit knows
+  abbrev pub view_of : Visit R → View
+  view_of visit = known (seat_in visit.hands.own)
 
   -- One that has just begun.
   pub record IsNewVisit (epochs : Epochs) (visit : Visit R) : Type 0 where

@@ -13,15 +13,15 @@ ghost use Rattle.words.specs.declared.reply.Line.TheVariants.{Done};
 ghost use Rattle.words.specs.Session.{line_reply};
 ghost use Rattle.gates.specs.Passes.{IsResting, known, stripes_of};
 ghost use Rattle.gates.specs.Helds.{held_stripes, known_to};
-ghost use Rattle.transact.specs.Calls.{answer_of};
 ghost use Rattle.transact.specs.Plans.{IsPlan, weight_of_each};
 ghost use Rattle.transact.specs.Submits.{stripes_asked};
 ghost use Rattle.plans.specs.declared.reading.WhenCold.TheVariants.{Stops};
 ghost use Rattle.engine.specs.Answers.{IsAnswered};
 ghost use Rattle.engine.specs.Calls.{promises_of};
-ghost use Rattle.engine.specs.Entering.{AreReady, HasEntered, MayBegin, WasCold, assigning_call, own_answer};
+ghost use Rattle.engine.specs.Entering.{AreReady, HasEntered, MayBegin, WasCold, assigning_call, line_came_to, own_answer};
 ghost use Rattle.engine.specs.Memory.{settings_call};
-ghost use Rattle.engine.specs.Passes.{HasHands, know};
+ghost use Rattle.engine.specs.Passes.{HasHands, OfSeats, know};
+ghost use Rattle.engine.specs.Stops.{HasHeardFor, HasHeardIn, HasHeardWith};
 
 use crate::enter::{Entered, Stopped, enter, told_of};
 use crate::rounds::{Asking, Enters, run};
@@ -103,6 +103,7 @@ pub(crate) fn submit_settings<T: Wait, L: Latch, R: Shows, D: Device<Receipt = R
     requires place { IsBounded (command.MSet (pairs_of words.now)) }
     ensures rests { IsResting R.is_steady site.now.gates.now pass.new }
     ensures hands { HasHands site.now.epochs.now hands.new }
+    ensures heard { OfSeats (HasHeardWith (known pass.old) (known pass.new)) hands.old hands.new }
     ensures answered { IsAnswered (promises_of R.is_steady R.lends (stripes_of site.now.gates.now))
         (stripes_asked (stripes_of site.now.gates.now) (settings_call words.now)) (settings_call words.now) result
         (know (known pass.old) (D.failures device.old)) (know (known pass.new) (D.failures device.new)) }
@@ -131,6 +132,7 @@ fn enter_assigning<L: Latch, R: Shows, D: Device<Receipt = R>, S: Retires>(
     requires begin { MayBegin R.is_steady (assigning_call assigning.now) held.old }
     requires hands { AreReady (S.is_of site.now.epochs.now) R.is_steady hands.old }
     ensures hands { AreReady (S.is_of site.now.epochs.now) R.is_steady hands.new }
+    ensures heard { HasHeardIn own_answer result (S.knows hands.old.own) (S.knows hands.new.own) }
     ensures entered { IfOk result (HasEntered (promises_of R.is_steady R.lends (held_stripes held.old)) (assigning_call assigning.now)
         own_answer (held.old, D.failures device.old) (held.new, D.failures device.new)) }
     ensures cold { OnErr result (WasCold R.is_steady R.lends (assigning_call assigning.now)
@@ -159,6 +161,7 @@ fn enter_light<L: Latch, R: Shows, D: Device<Receipt = R>, S: Retires>(
     requires light { weight (writes_set (pairs_of assigning.now.words.now)) ≤ WEIGHT_MAX }
     requires is { S.is_of site.now.epochs.now own.old }
     ensures is { S.is_of site.now.epochs.now own.new }
+    ensures heard { HasHeardFor own_answer result (S.knows own.old) (S.knows own.new) }
     ensures entered { HasEntered (promises_of R.is_steady R.lends (held_stripes held.old)) (assigning_call assigning.now) own_answer
         (held.old, D.failures device.old) (held.new, D.failures device.new) result }
 {
@@ -196,6 +199,7 @@ fn enter_planned<L: Latch, R: Shows, D: Device<Receipt = R>, S: Retires>(
     requires hands { AreReady (S.is_of site.now.epochs.now) R.is_steady hands.old }
     requires heavy { WEIGHT_MAX < weight_of_each (pairs_of assigning.now.words.now) }
     ensures hands { AreReady (S.is_of site.now.epochs.now) R.is_steady hands.new }
+    ensures heard { HasHeardIn own_answer result (S.knows hands.old.own) (S.knows hands.new.own) }
     ensures entered { IfOk result (HasEntered (promises_of R.is_steady R.lends (held_stripes held.old)) (assigning_call assigning.now)
         own_answer (held.old, D.failures device.old) (held.new, D.failures device.new)) }
     ensures cold { OnErr result (WasCold R.is_steady R.lends (assigning_call assigning.now)
@@ -217,7 +221,7 @@ fn enter_planned<L: Latch, R: Shows, D: Device<Receipt = R>, S: Retires>(
 
 /// What an MSET came to that is answered by a line or by a fault.
 fn answered(told: Result<Line, Fault>, report: Report) -> Entered<Answer>
-    ensures { result ≡ record { answer = answer_of told; ends = false; report = report } }
+    ensures { result ≡ line_came_to told report }
 {
     Entered {
         answer: Answer::of_line(told),

@@ -1,6 +1,6 @@
 //! Any call of a pass over the gates.
 
-ghost use Rattle.std.specs.Prelude.{◌≡◌, ◌<◌, [], IfErr, IfOk};
+ghost use Rattle.std.specs.Prelude.{◌≡◌, ◌<◌, [], IfErr, IfOk, OnOk};
 ghost use Rattle.gates.specs.Sets.{times};
 ghost use Rattle.gates.specs.Passes.{IsResting, WasBusy, known, stripes_of};
 ghost use Rattle.transact.specs.Plans.{EndsAll, IsEntry};
@@ -8,7 +8,8 @@ ghost use Rattle.transact.specs.Submits.{asked_for, stripes_asked};
 ghost use Rattle.engine.specs.Answers.{IsAnswered};
 ghost use Rattle.engine.specs.Calls.{promises_of};
 ghost use Rattle.engine.specs.Entering.{AreStripesOf, MaySubmit, WasAbandoned};
-ghost use Rattle.engine.specs.Passes.{HasHands, know};
+ghost use Rattle.engine.specs.Passes.{HasHands, OfSeats, know};
+ghost use Rattle.engine.specs.Stops.{HasHeardWith};
 
 use crate::enter::{Entered, enter_at_once, enter_call, give_back, refuse};
 use crate::rounds::{Asking, Enters, run};
@@ -74,6 +75,7 @@ pub(crate) fn submit<T: Wait, L: Latch, R: Shows, D: Device<Receipt = R>>(
     requires hands { HasHands site.now.epochs.now hands.old }
     ensures rests { IsResting R.is_steady site.now.gates.now pass.new }
     ensures hands { HasHands site.now.epochs.now hands.new }
+    ensures heard { OfSeats (HasHeardWith (known pass.old) (known pass.new)) hands.old hands.new }
     ensures answered { IsAnswered (promises_of R.is_steady R.lends (stripes_of site.now.gates.now))
         (stripes_asked (stripes_of site.now.gates.now) call) call result
         (know (known pass.old) (D.failures device.old)) (know (known pass.new) (D.failures device.new)) }
@@ -110,6 +112,7 @@ pub(crate) fn try_submit<L: Latch, R: Shows, D: Device<Receipt = R>>(
     requires hands { HasHands site.now.epochs.now hands.old }
     ensures rests { IsResting R.is_steady site.now.gates.now pass.new }
     ensures hands { HasHands site.now.epochs.now hands.new }
+    ensures heard { OnOk result (OfSeats (HasHeardWith (known pass.old) (known pass.new)) hands.old hands.new) }
     ensures answered { IfOk result (λ answer. IsAnswered (promises_of R.is_steady R.lends (stripes_of site.now.gates.now)) [] call answer
         (know (known pass.old) (D.failures device.old)) (know (known pass.new) (D.failures device.new))) }
     ensures stripe { IfErr result (λ refusal. 0 < times refusal.0.stripe (stripes_asked (stripes_of site.now.gates.now) call)) }

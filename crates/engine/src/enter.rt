@@ -10,8 +10,7 @@ ghost use Rattle.transact.specs.Submits.{asked_for};
 ghost use Rattle.engine.specs.Calls.{promises_of};
 ghost use Rattle.engine.specs.Entering.{AreReady, HasEntered, IsPlanned, MayBeGiven, MayBegin, MayEnter, WasCold};
 ghost use Rattle.engine.specs.Entering.{at_fault, given, own_answer};
-ghost use Rattle.engine.specs.Stops.{IfSpent, IsOfCall, IsWornBy, fault_of, report_of};
-ghost use Rattle.shards.specs.Heard.{HasHeard};
+ghost use Rattle.engine.specs.Stops.{HasHeardFor, HasHeardIn, IsOfCall, fault_of, report_of};
 ghost use Rattle.shards.specs.Shards.{shard_meaning};
 ghost use Rattle.plans.specs.Stops.{IfCold};
 ghost use Rattle.plans.specs.declared.reading.WhenCold.TheVariants.{Stops};
@@ -63,8 +62,7 @@ pub(crate) fn enter_call<L: Latch, R: Shows, D: Device<Receipt = R>, S: Retires>
     requires begin { MayBegin R.is_steady call.now held.old }
     requires hands { AreReady (S.is_of site.now.epochs.now) R.is_steady hands.old }
     ensures hands { AreReady (S.is_of site.now.epochs.now) R.is_steady hands.new }
-    ensures heard { HasHeard (S.knows hands.old.own) (S.knows hands.new.own) }
-    ensures worn { IfOk result (λ entered. IfSpent entered.report (IsWornBy (S.knows hands.old.own) (S.knows hands.new.own))) }
+    ensures heard { HasHeardIn own_answer result (S.knows hands.old.own) (S.knows hands.new.own) }
     ensures entered { IfOk result (HasEntered (promises_of R.is_steady R.lends (held_stripes held.old)) call.now own_answer
         (held.old, D.failures device.old) (held.new, D.failures device.new)) }
     ensures cold { OnErr result (WasCold R.is_steady R.lends call.now
@@ -110,8 +108,7 @@ pub(crate) fn enter_at_once<L: Latch, R: Shows, D: Device<Receipt = R>, S: Retir
     requires begin { MayBegin R.is_steady call.now held.old }
     requires hands { AreReady (S.is_of site.now.epochs.now) R.is_steady hands.old }
     ensures hands { AreReady (S.is_of site.now.epochs.now) R.is_steady hands.new }
-    ensures heard { HasHeard (S.knows hands.old.own) (S.knows hands.new.own) }
-    ensures worn { IfSpent result.report (IsWornBy (S.knows hands.old.own) (S.knows hands.new.own)) }
+    ensures heard { HasHeardFor own_answer result (S.knows hands.old.own) (S.knows hands.new.own) }
     ensures entered { HasEntered (promises_of R.is_steady R.lends (held_stripes held.old)) call.now own_answer
         (held.old, D.failures device.old) (held.new, D.failures device.new) result }
 {
@@ -148,8 +145,7 @@ pub(crate) fn enter<L: Latch, R: Shows, D: Device<Receipt = R>, S: Retires>(
     requires hands { AreReady (S.is_of site.now.epochs.now) R.is_steady hands.old }
     requires planned { IsPlanned call.now }
     ensures hands { AreReady (S.is_of site.now.epochs.now) R.is_steady hands.new }
-    ensures heard { HasHeard (S.knows hands.old.own) (S.knows hands.new.own) }
-    ensures worn { IfOk result (λ entered. IfSpent entered.report (IsWornBy (S.knows hands.old.own) (S.knows hands.new.own))) }
+    ensures heard { HasHeardIn own_answer result (S.knows hands.old.own) (S.knows hands.new.own) }
     ensures entered { IfOk result (HasEntered (promises_of R.is_steady R.lends (held_stripes held.old)) call.now own_answer
         (held.old, D.failures device.old) (held.new, D.failures device.new)) }
     ensures cold { OnErr result (WasCold R.is_steady R.lends call.now

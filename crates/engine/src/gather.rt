@@ -1,6 +1,7 @@
-//! The short way of an MGET, whose keys stay the caller's: where all values lie near, each is copied once, as the reply spells it.
+//! The short way of an MGET, whose keys stay the caller's: where all values lie near, each is copied once, as the reply spells it, and
+//! where the buffer has room for that, to where the reply goes.
 
-ghost use Rattle.std.specs.Prelude.{◌≡◌, ℕ, [], IfOk, OnErr};
+ghost use Rattle.std.specs.Prelude.{◌≡◌, ◌≤◌, ◌++◌, ℕ, [], IfOk, OnErr, vec_len, vec_capacity};
 ghost use Rattle.words.specs.Bounds.{IsBounded};
 ghost use Rattle.words.specs.declared.command.Command.TheVariants as command;
 ghost use Rattle.words.specs.declared.history.Operation.TheVariants.{Run};
@@ -13,11 +14,15 @@ ghost use Rattle.plans.specs.declared.reading.WhenCold.TheVariants.{Stops};
 ghost use Rattle.engine.specs.Answers.{IsAnswered};
 ghost use Rattle.engine.specs.Calls.{promises_of};
 ghost use Rattle.engine.specs.Entering.{AreReady, HasEntered, MayBegin, WasCold, as_planned, reading_call, values_answer};
+ghost use Rattle.engine.specs.Got.{got_all_answer, got_all_text, spoken_answer, spoken_text};
 ghost use Rattle.engine.specs.Memory.{values_call};
 ghost use Rattle.engine.specs.Passes.{HasHands, know};
+ghost use Rattle.engine.specs.Stops.{HasHeardFor, HasHeardIn};
+ghost use Rattle.epoch.specs.declared.view.View.{View};
 
 use crate::enter::{Entered, enter};
 use crate::rounds::{Asking, Enters, run};
+use crate::say::{Speaking, Spoken, say_at_once};
 use crate::site::Site;
 use device::{Device, Shows};
 use epoch::EpochSeat;
@@ -39,6 +44,15 @@ use words::reply::Fault;
 use words::word::Word;
 
 /// What an MGET is answered.
+#[derive(Drop)]
+pub enum GotAll {
+    /// The reply was appended to the buffer.
+    Said(Spoken),
+    /// Nothing was appended.
+    Gathered(Gathered),
+}
+
+/// What an MGET is answered that has said nothing.
 #[derive(Drop)]
 pub enum Gathered {
     /// The values of its keys, which lay near.
@@ -101,8 +115,8 @@ impl Enters<Gathered> for Reading<'_> {
     }
 }
 
-/// Runs an MGET of a pass over the gates. Where it wants a page, it gives its stripes back, reads outside and looks anew, at most
-/// three times; then it reads while it holds them.
+/// Runs an MGET of a pass over the gates. Where all values lie near and the buffer has room for the reply, the reply is appended to it.
+/// Where it wants a page, it gives its stripes back, reads outside and looks anew, at most three times; then it reads while it holds them.
 #[inline(never)]
 pub(crate) fn submit_values<T: Wait, L: Latch, R: Shows, D: Device<Receipt = R>>(
     rt: &T,
@@ -111,22 +125,40 @@ pub(crate) fn submit_values<T: Wait, L: Latch, R: Shows, D: Device<Receipt = R>>
     device: &mut D,
     hands: &mut Option<Hands<R, EpochSeat>>,
     keys: &[Word],
-) -> Gathered
+    out: &mut Vec<u8>,
+) -> GotAll
     requires rests { IsResting R.is_steady site.now.gates.now pass.old }
     requires hands { HasHands site.now.epochs.now hands.old }
     requires place { IsBounded (command.MGet keys.now) }
     ensures rests { IsResting R.is_steady site.now.gates.now pass.new }
     ensures hands { HasHands site.now.epochs.now hands.new }
     ensures answered { IsAnswered (promises_of R.is_steady R.lends (stripes_of site.now.gates.now))
-        (stripes_asked (stripes_of site.now.gates.now) (values_call keys.now)) (values_call keys.now) (values_answer result)
+        (stripes_asked (stripes_of site.now.gates.now) (values_call keys.now)) (values_call keys.now) (got_all_answer result)
         (know (known pass.old) (D.failures device.old)) (know (known pass.new) (D.failures device.new)) }
+    ensures said { out.new.items ≡ out.old.items ++ got_all_text result }
+    ensures within { vec_len out.new ≤ vec_capacity out.old }
 {
     let wanted = stripes_of_keys(keys, site.gates.stripes());
+    let speaking = Speaking::Keys(keys);
+    if let Some(spoken) = say_at_once(rt, site, pass, hands, &speaking, &wanted, out) {
+        return got_all_of(spoken);
+    }
     let asking = Asking {
         call: &Reading { keys },
         wanted: &wanted,
     };
-    run(rt, site, pass, device, hands, &asking)
+    GotAll::Gathered(run(rt, site, pass, device, hands, &asking))
+}
+
+/// What an MGET came to that has said its reply, or was refused.
+fn got_all_of(spoken: Result<Spoken, Fault>) -> GotAll
+    ensures answer { got_all_answer result ≡ spoken_answer spoken }
+    ensures text { got_all_text result ≡ spoken_text spoken }
+{
+    match spoken {
+        Ok(spoken) => GotAll::Said(spoken),
+        Err(fault) => GotAll::Gathered(Gathered::Planned(Answer::Fault(fault))),
+    }
 }
 
 /// Runs an MGET over the parts that are held. Where a value does not lie near, it is planned.
@@ -145,6 +177,7 @@ fn enter_values<L: Latch, R: Shows, D: Device<Receipt = R>, S: Retires>(
     requires begin { MayBegin R.is_steady (reading_call reading.now) held.old }
     requires hands { AreReady (S.is_of site.now.epochs.now) R.is_steady hands.old }
     ensures hands { AreReady (S.is_of site.now.epochs.now) R.is_steady hands.new }
+    ensures heard { HasHeardIn values_answer result (S.knows hands.old.own) (S.knows hands.new.own) }
     ensures entered { IfOk result (HasEntered (promises_of R.is_steady R.lends (held_stripes held.old)) (reading_call reading.now)
         values_answer (held.old, D.failures device.old) (held.new, D.failures device.new)) }
     ensures cold { OnErr result (WasCold R.is_steady R.lends (reading_call reading.now)
@@ -168,6 +201,7 @@ fn enter_told<L: Latch, R: Shows>(
     requires due { R.is_steady → IsPlan (known_to held.old).seen (Run (command.MGet reading.now.keys.now)) (values_reply values) [] }
     ensures entered { (failures : ℕ) → HasEntered (promises_of R.is_steady R.lends (held_stripes held.old)) (reading_call reading.now)
         values_answer (held.old, failures) (held.new, failures) result }
+    ensures heard { (view : View) → HasHeardFor values_answer result view view }
 {
     writes_install_a_command::<R>();
     site.latch.at(held.number(), Point::Holding);
@@ -205,6 +239,7 @@ fn enter_planned<L: Latch, R: Shows, D: Device<Receipt = R>, S: Retires>(
     requires begin { MayBegin R.is_steady (reading_call reading.now) held.old }
     requires hands { AreReady (S.is_of site.now.epochs.now) R.is_steady hands.old }
     ensures hands { AreReady (S.is_of site.now.epochs.now) R.is_steady hands.new }
+    ensures heard { HasHeardIn values_answer result (S.knows hands.old.own) (S.knows hands.new.own) }
     ensures entered { IfOk result (HasEntered (promises_of R.is_steady R.lends (held_stripes held.old)) (reading_call reading.now)
         values_answer (held.old, D.failures device.old) (held.new, D.failures device.new)) }
     ensures cold { OnErr result (WasCold R.is_steady R.lends (reading_call reading.now)

@@ -1,6 +1,6 @@
 //! The short way of a GET, whose key stays the caller's: where its value lies near, it is copied once, to where its reply goes.
 
-ghost use Rattle.std.specs.Prelude.{◌≡◌, ◌≤◌, ◌++◌, ℕ, [], false, IfNone, IfOk, IfSome, IsSome, OnErr, vec_len, vec_capacity};
+ghost use Rattle.std.specs.Prelude.{◌≡◌, ◌≤◌, ◌++◌, [], false, IfOk, OnErr, vec_len, vec_capacity};
 ghost use Rattle.words.specs.Bounds.{IsBounded};
 ghost use Rattle.words.specs.declared.command.Command.TheVariants as command;
 ghost use Rattle.gates.specs.Passes.{IsResting, known, stripes_of};
@@ -11,25 +11,24 @@ ghost use Rattle.transact.specs.Calls.{answer_with};
 ghost use Rattle.transact.specs.Submits.{stripes_asked};
 ghost use Rattle.engine.specs.Answers.{IsAnswered};
 ghost use Rattle.engine.specs.Calls.{promises_of};
-ghost use Rattle.engine.specs.Entering.{HasWaited, MayBeGiven, MayEnter, WasCold};
-ghost use Rattle.engine.specs.Got.{got_answer, text_said};
+ghost use Rattle.engine.specs.Entering.{MayBeGiven, MayEnter, WasCold};
+ghost use Rattle.engine.specs.Got.{got_answer, got_text, spoken_answer, spoken_text};
 ghost use Rattle.engine.specs.Memory.{get_call};
 ghost use Rattle.engine.specs.Passes.{HasHands, know};
+ghost use Rattle.engine.specs.Stops.{TellsFull};
 ghost use Rattle.plans.specs.declared.reading.WhenCold.TheVariants.{Stops};
 
-use crate::enter::{Entered, give_back, told_of};
+use crate::enter::{Entered, told_of};
 use crate::rounds::{Asking, Enters, run};
+use crate::say::{Speaking, Spoken, say_at_once};
 use crate::site::Site;
 use device::{Device, Shows};
 use epoch::EpochSeat;
 use gates::{Asks, Held, Latch, Pass, Point, Refused, Report, Says, Sorted};
-use hybrid::Staged;
 use plans::hands::Hands;
-use plans::laws::{stripes_hold_keys, writes_install_a_command};
+use plans::laws::writes_install_a_command;
 use plans::reading::{WhenCold, value_staged};
 use plans::stop::{Receipts, Stop};
-use plans::telling::say_value;
-use resp_write::Said;
 use shards::retires::Retires;
 use shards::shard::Shard;
 use std::sync::Wait;
@@ -42,7 +41,7 @@ use words::word::Word;
 #[derive(Drop)]
 pub enum Got {
     /// The reply was appended to the buffer.
-    Said(Said),
+    Said(Spoken),
     /// Nothing was appended.
     Found(Option<Word>),
 }
@@ -109,18 +108,6 @@ impl Says for Found<'_> {
     ghost said = { found_reply };
 }
 
-/// What a GET has said.
-#[derive(Drop)]
-struct Saying<'a> {
-    value: &'a Said,
-}
-
-impl Says for Saying<'_> {
-    ghost use Rattle.engine.specs.Entering.{saying_reply};
-
-    ghost said = { saying_reply };
-}
-
 /// Runs a GET of a pass over the gates. It is answered by what the key has. Where it wants a page, it gives its stripe back,
 /// reads outside and looks anew, at most three times; then it reads while it holds the stripe.
 ///
@@ -176,84 +163,33 @@ pub(crate) fn submit_say<T: Wait, L: Latch, R: Shows, D: Device<Receipt = R>>(
     ensures answered { IsAnswered (promises_of R.is_steady R.lends (stripes_of site.now.gates.now))
         (stripes_asked (stripes_of site.now.gates.now) (get_call key.now)) (get_call key.now) (got_answer result)
         (know (known pass.old) (D.failures device.old)) (know (known pass.new) (D.failures device.new)) }
-    ensures said { out.new.items ≡ out.old.items ++ text_said result }
+    ensures said { out.new.items ≡ out.old.items ++ got_text result }
     ensures within { vec_len out.new ≤ vec_capacity out.old }
 {
     let hashed = Hashed::new(key);
-    if let Some(got) = say_at_once(rt, site, pass, hands, &hashed, out) {
-        return got;
+    let wanted = stripe_of_key(&hashed, site.gates.stripes());
+    let speaking = Speaking::Key(&hashed);
+    if let Some(spoken) = say_at_once(rt, site, pass, hands, &speaking, &wanted, out) {
+        return got_of(spoken);
     }
-    match submit_get(rt, site, pass, device, hands, key) {
+    let asking = Asking {
+        call: &Getting { key: &hashed },
+        wanted: &wanted,
+    };
+    match run(rt, site, pass, device, hands, &asking) {
         Ok(value) => Ok(Got::Found(value)),
         Err(fault) => Err(fault),
     }
 }
 
-/// Runs a GET in one hold of its stripe, if what its key has lies near and the buffer has room for the reply. `None` otherwise: it was
-/// not answered then.
-fn say_at_once<T: Wait, L: Latch, R: Shows>(
-    rt: &T,
-    site: &Site<L, R>,
-    pass: &mut Pass<Shard<R>>,
-    hands: &Option<Hands<R, EpochSeat>>,
-    key: &Hashed,
-    out: &mut Vec<u8>,
-) -> Option<Result<Got, Fault>>
-    requires rests { IsResting R.is_steady site.now.gates.now pass.old }
-    requires hands { HasHands site.now.epochs.now hands.now }
-    requires place { IsBounded (command.Get key.now) }
-    ensures rests { IsResting R.is_steady site.now.gates.now pass.new }
-    ensures answered { (failures : ℕ) → IfSome result (λ got. IsAnswered (promises_of R.is_steady R.lends (stripes_of site.now.gates.now))
-        (stripes_asked (stripes_of site.now.gates.now) (get_call key.now)) (get_call key.now) (got_answer got)
-        (know (known pass.old) failures) (know (known pass.new) failures)) }
-    ensures waited { (failures : ℕ) → IfNone result (HasWaited (stripes_asked (stripes_of site.now.gates.now) (get_call key.now))
-        (known pass.old, failures) (known pass.new, failures)) }
-    ensures said { IfSome result (λ got. out.new.items ≡ out.old.items ++ text_said got) }
-    ensures unsaid { IfNone result (out.new.items ≡ out.old.items) }
-    ensures within { vec_len out.new ≤ vec_capacity out.old }
+/// What a GET came to that has said its reply, or was refused.
+fn got_of(spoken: Result<Spoken, Fault>) -> Result<Got, Fault>
+    ensures answer { got_answer result ≡ spoken_answer spoken }
+    ensures text { got_text result ≡ spoken_text spoken }
 {
-    stripes_hold_keys::<R>();
-    let Some(own) = hands else { unreachable!() };
-    let gates = site.gates;
-    let wanted = stripe_of_key(key, gates.stripes());
-    let mut held = (&*gates).take(rt, &mut *pass, &wanted);
-    let told = enter_said(site, &mut held, key, &own.staged, out);
-    give_back(held, false, &Report::Nothing);
-    told
-}
-
-/// Runs a GET over the parts that are held, if what its key has lies near and the buffer has room for the reply: appends it, and
-/// commits the one entry. `None` otherwise: nothing has changed then.
-fn enter_said<L: Latch, R: Shows>(
-    site: &Site<L, R>,
-    held: &mut Held<'_, Shard<R>>,
-    key: &Hashed,
-    staged: &Staged<R>,
-    out: &mut Vec<u8>,
-) -> Option<Result<Got, Fault>>
-    requires may { MayEnter R.is_steady (get_call key.now) held.old }
-    requires place { IsBounded (command.Get key.now) }
-    requires right { R.is_steady → AreRight staged.now }
-    ensures back { MayBeGiven R.is_steady false Nothing held.old held.new }
-    ensures answered { (failures : ℕ) → IfSome result (λ got. IsAnswered (promises_of R.is_steady R.lends (held_stripes held.old)) []
-        (get_call key.now) (got_answer got) (know (known_to held.old) failures) (know (known_to held.new) failures)) }
-    ensures untold { IfNone result (known_to held.new ≡ known_to held.old) }
-    ensures said { IfSome result (λ got. out.new.items ≡ out.old.items ++ text_said got) }
-    ensures unsaid { IfNone result (out.new.items ≡ out.old.items) }
-    ensures within { vec_len out.new ≤ vec_capacity out.old }
-{
-    writes_install_a_command::<R>();
-    let before = out.len();
-    let Some(said) = say_value(held, key, staged, out) else {
-        return None;
-    };
-    site.latch.at(held.number(), Point::Holding);
-    match held.commit(&Getting { key }, &Saying { value: &said }) {
-        Ok(_) => Some(Ok(Got::Said(said))),
-        Err(_) => {
-            out.truncate(before);
-            Some(Err(Fault::CommitsWornOut))
-        }
+    match spoken {
+        Ok(spoken) => Ok(Got::Said(spoken)),
+        Err(fault) => Err(fault),
     }
 }
 
@@ -279,6 +215,7 @@ fn enter_get<L: Latch, R: Shows, D: Device<Receipt = R>, S>(
     ensures back { MayBeGiven R.is_steady false Nothing held.old held.new }
     ensures answered { IfOk result (λ answer. IsAnswered (promises_of R.is_steady R.lends (held_stripes held.old)) [] (get_call key.now)
         (answer_with answer) (know (known_to held.old) (D.failures device.old)) (know (known_to held.new) (D.failures device.new))) }
+    ensures full { IfOk result (λ answer. TellsFull (answer_with answer) Nothing) }
     ensures cold { OnErr result (WasCold R.is_steady R.lends (get_call key.now)
         (held.old, D.failures device.old) (held.new, D.failures device.new)) }
     ensures outside { OnErr result (cold ≡ Stops) }

@@ -7,7 +7,7 @@
 //! nobody waits for its reads. After three such rounds it reads while it holds, so that it ends. The stay goes on until
 //! the call is answered, which keeps the places of these pages from being used anew.
 //!
-//! GET, MGET, a SET without an option, MSET and other commands of one key have ways of their own ([`Engine::get`], [`Engine::values`],
+//! GET, MGET, a SET without an option, MSET and other commands of one key have ways of their own ([`Engine::say`], [`Engine::say_values`],
 //! [`Engine::set`], [`Engine::set_all`], [`Engine::one`]), with no plan made.
 //! Background threads make their steps by a [`Pass`] too.
 #![tactic(auto)]
@@ -23,8 +23,7 @@ ghost use Rattle.transact.specs.Calls.{answer_of, answer_with, asked_of};
 ghost use Rattle.transact.specs.Plans.{EndsAll};
 ghost use Rattle.transact.specs.Submits.{stripes_asked};
 ghost use Rattle.shards.specs.Shards.{shard_meaning};
-ghost use Rattle.engine.specs.Entering.{values_answer};
-ghost use Rattle.engine.specs.Got.{got_answer, text_said};
+ghost use Rattle.engine.specs.Got.{got_all_answer, got_all_text, got_answer, got_text};
 ghost use Rattle.engine.specs.Memory.{get_call, one_call, set_call, settings_call, values_call};
 ghost use Rattle.engine.specs.Passes.{AreOf, knows, Rests, stripe_count};
 ghost use Rattle.engine.specs.Answers.{ComesTo, WaitsAndComesTo};
@@ -61,14 +60,16 @@ mod get;
 mod one;
 mod pass;
 mod rounds;
+mod say;
 mod set;
 mod site;
 mod steps;
 mod visit;
 
-pub use gather::Gathered;
+pub use gather::{Gathered, GotAll};
 pub use get::Got;
 pub use pass::Pass;
+pub use say::Spoken;
 
 /// How many passes there are beside one for each client: those of the threads that work in the
 /// background.
@@ -234,7 +235,7 @@ impl<D: Device> Engine<D> {
         ensures rests { Rests D.Receipt.is_steady self.now pass.new }
         ensures answered { WaitsAndComesTo D.Receipt.is_steady D.Receipt.lends D.failures self.now (get_call key.now) (got_answer result)
             pass.old pass.new }
-        ensures said { out.new.items ≡ out.old.items ++ text_said result }
+        ensures said { out.new.items ≡ out.old.items ++ got_text result }
         ensures within { vec_len out.new ≤ vec_capacity out.old }
     {
         let number = pass.gates.number();
@@ -341,20 +342,24 @@ impl<D: Device> Engine<D> {
         answer
     }
 
-    /// The same as [`submit_with`](Engine::submit_with) of an MGET, whose keys stay the caller's. Where all values lie near, each is
-    /// copied once, from its page into the text of the reply.
-    pub fn values<T: Wait, L: Latch>(
+    /// The same as [`submit_with`](Engine::submit_with) of an MGET, whose keys stay the caller's. Where all values lie near and the buffer
+    /// has room for the reply, the reply is appended, and each value is copied once, from where it lies; else nothing is appended. It takes
+    /// no memory for the buffer.
+    pub fn say_values<T: Wait, L: Latch>(
         &self,
         rt: &T,
         pass: &mut Pass<D>,
         keys: &[Word],
+        out: &mut Vec<u8>,
         latch: &L,
-    ) -> Gathered
+    ) -> GotAll
         requires rests { Rests D.Receipt.is_steady self.now pass.old }
         requires place { IsBounded (command.MGet keys.now) }
         ensures rests { Rests D.Receipt.is_steady self.now pass.new }
         ensures answered { WaitsAndComesTo D.Receipt.is_steady D.Receipt.lends D.failures self.now (values_call keys.now)
-            (values_answer result) pass.old pass.new }
+            (got_all_answer result) pass.old pass.new }
+        ensures said { out.new.items ≡ out.old.items ++ got_all_text result }
+        ensures within { vec_len out.new ≤ vec_capacity out.old }
     {
         let number = pass.gates.number();
         latch.at(number, Point::Before);
@@ -370,6 +375,7 @@ impl<D: Device> Engine<D> {
             &mut pass.device,
             &mut pass.hands,
             keys,
+            out,
         );
         latch.at(number, Point::After);
         answer

@@ -1,7 +1,7 @@
 //! The short way of a command of one key, whose key and value stay the caller's: where its key's value lies near, no writes are gathered
 //! and no plan is made, and where the new value fits over the old one the key is looked up once.
 
-ghost use Rattle.std.specs.Prelude.{◌≡◌, ◌≤◌, ◌∷◌, ℕ, [], Option, IfOk, OnErr, Some};
+ghost use Rattle.std.specs.Prelude.{◌≡◌, ◌≤◌, ◌∷◌, ℕ, [], Option, IfErr, IfOk, OnErr, Some};
 ghost use Rattle.std.specs.Option.{option_copied};
 ghost use Rattle.words.specs.Bounds.{IsBounded};
 ghost use Rattle.words.specs.History.{after};
@@ -20,7 +20,8 @@ ghost use Rattle.engine.specs.Answers.{IsAnswered};
 ghost use Rattle.engine.specs.Calls.{promises_of};
 ghost use Rattle.engine.specs.Entering.{AreReady, HasEntered, MayBegin, WasCold, came_to, command_asked, one_call_of, own_answer};
 ghost use Rattle.engine.specs.Memory.{AsksNoMemory, one_call};
-ghost use Rattle.engine.specs.Passes.{HasHands, know};
+ghost use Rattle.engine.specs.Passes.{HasHands, OfSeats, know};
+ghost use Rattle.engine.specs.Stops.{HasHeardFor, HasHeardIn, HasHeardWith, worn_out};
 
 use crate::enter::{Entered, Stopped, enter, told_of};
 use crate::rounds::{Asking, Enters, run};
@@ -107,6 +108,7 @@ pub(crate) fn submit_one<T: Wait, L: Latch, R: Shows, D: Device<Receipt = R>>(
     requires place { IsBounded (command_asked asks.now) }
     ensures rests { IsResting R.is_steady site.now.gates.now pass.new }
     ensures hands { HasHands site.now.epochs.now hands.new }
+    ensures heard { OfSeats (HasHeardWith (known pass.old) (known pass.new)) hands.old hands.new }
     ensures answered { IsAnswered (promises_of R.is_steady R.lends (stripes_of site.now.gates.now))
         (stripes_asked (stripes_of site.now.gates.now) (one_call_of asks.now)) (one_call_of asks.now) result
         (know (known pass.old) (D.failures device.old)) (know (known pass.new) (D.failures device.new)) }
@@ -136,6 +138,7 @@ fn enter_one<L: Latch, R: Shows, D: Device<Receipt = R>, S: Retires>(
     requires begin { MayBegin R.is_steady (one_call_of asks.now) held.old }
     requires hands { AreReady (S.is_of site.now.epochs.now) R.is_steady hands.old }
     ensures hands { AreReady (S.is_of site.now.epochs.now) R.is_steady hands.new }
+    ensures heard { HasHeardIn own_answer result (S.knows hands.old.own) (S.knows hands.new.own) }
     ensures entered { IfOk result (HasEntered (promises_of R.is_steady R.lends (held_stripes held.old)) (one_call_of asks.now)
         own_answer (held.old, D.failures device.old) (held.new, D.failures device.new)) }
     ensures cold { OnErr result (WasCold R.is_steady R.lends (one_call_of asks.now)
@@ -176,6 +179,7 @@ fn enter_planned<L: Latch, R: Shows, D: Device<Receipt = R>, S: Retires>(
     requires hands { AreReady (S.is_of site.now.epochs.now) R.is_steady hands.old }
     requires memory { AsksNoMemory (R.is_steady × R.lends) (after (known_to held.old).seen) (asked_for (one_call_of asks.now)) → ⊥ }
     ensures hands { AreReady (S.is_of site.now.epochs.now) R.is_steady hands.new }
+    ensures heard { HasHeardIn own_answer result (S.knows hands.old.own) (S.knows hands.new.own) }
     ensures entered { IfOk result (HasEntered (promises_of R.is_steady R.lends (held_stripes held.old)) (one_call_of asks.now)
         own_answer (held.old, D.failures device.old) (held.new, D.failures device.new)) }
     ensures cold { OnErr result (WasCold R.is_steady R.lends (one_call_of asks.now)
@@ -214,6 +218,7 @@ fn enter_settled<L: Latch, R: Shows, D: Device<Receipt = R>, S: Retires>(
     requires settled { IsSettled R.is_steady (shard_meaning R.is_steady) (held_stripes held.old) (part_at (held_parts held.old))
         asks.now.key.now asks.now.value.now (command_asked asks.now) settled }
     ensures is { S.is_of site.now.epochs.now own.new }
+    ensures heard { HasHeardFor own_answer result (S.knows own.old) (S.knows own.new) }
     ensures entered { HasEntered (promises_of R.is_steady R.lends (held_stripes held.old)) (one_call_of asks.now) own_answer
         (held.old, D.failures device.old) (held.new, D.failures device.new) result }
 {
@@ -245,6 +250,7 @@ fn carry_out<L: Latch, R: Shows, D: Device<Receipt = R>, S: Retires>(
     requires settled { IsSettled R.is_steady (shard_meaning R.is_steady) (held_stripes held.old) (part_at (held_parts held.old))
         asks.now.key.now asks.now.value.now (command_asked asks.now) settled.now }
     ensures is { S.is_of site.now.epochs.now own.new }
+    ensures heard { HasHeardFor own_answer (came_to settled.now.reply result) (S.knows own.old) (S.knows own.new) }
     ensures entered { HasEntered (promises_of R.is_steady R.lends (held_stripes held.old)) (one_call_of asks.now) own_answer
         (held.old, D.failures device.old) (held.new, D.failures device.new) (came_to settled.now.reply result) }
 {
@@ -279,6 +285,7 @@ fn enter_reply<L: Latch, R: Shows>(
         reply.now [] }
     ensures entered { (failures : ℕ) → HasEntered (promises_of R.is_steady R.lends (held_stripes held.old)) (one_call_of asks.now)
         own_answer (held.old, failures) (held.new, failures) (came_to reply.now result) }
+    ensures worn { IfErr result (λ stopped. stopped ≡ worn_out) }
 {
     writes_install_a_command::<R>();
     site.latch.at(held.number(), Point::Holding);
@@ -312,6 +319,7 @@ fn enter_in_place<L: Latch, R: Shows>(
     requires spot { IsSpot (held_stripes held.old) (logs_of (part_at (held_parts held.old))) asks.now.key.now text.now spot }
     ensures entered { (failures : ℕ) → HasEntered (promises_of R.is_steady R.lends (held_stripes held.old)) (one_call_of asks.now)
         own_answer (held.old, failures) (held.new, failures) (came_to reply.now result) }
+    ensures worn { IfErr result (λ stopped. stopped ≡ worn_out) }
 {
     writes_install_a_command::<R>();
     site.latch.at(held.number(), Point::Holding);
@@ -349,6 +357,7 @@ fn enter_put<L: Latch, R: Shows, D: Device<Receipt = R>, S: Retires>(
     requires fits { Fits asks.now.key.now (option_copied value) }
     requires is { S.is_of site.now.epochs.now own.old }
     ensures is { S.is_of site.now.epochs.now own.new }
+    ensures heard { HasHeardFor own_answer (came_to reply.now result) (S.knows own.old) (S.knows own.new) }
     ensures entered { HasEntered (promises_of R.is_steady R.lends (held_stripes held.old)) (one_call_of asks.now) own_answer
         (held.old, D.failures device.old) (held.new, D.failures device.new) (came_to reply.now result) }
 {

@@ -1,12 +1,14 @@
 //! The rounds of a call: it is entered over the stripes that are held, and anew after each read outside, until it is answered.
 
-ghost use Rattle.std.specs.Prelude.{◌≡◌, ◌+◌, IfErr, IfNone, IfOk, IfSome, OnErr, OnOk};
+ghost use Rattle.std.specs.Prelude.{◌≡◌, ◌+◌, IfErr, IfNone, IfOk, IfSome, OnErr, OnOk, OnSome};
 ghost use Rattle.gates.specs.Passes.{IsResting, known, stripes_of};
 ghost use Rattle.engine.specs.Answers.{IsAnswered};
 ghost use Rattle.engine.specs.Calls.{promises_of};
 ghost use Rattle.engine.specs.Entering.{AreStripesOf, HasWaited, MaySubmit};
-ghost use Rattle.engine.specs.Passes.{HasHands, know};
-ghost use Rattle.engine.specs.Visits.{IsVisit};
+ghost use Rattle.engine.specs.Passes.{HasHands, OfSeat, OfSeats, know};
+ghost use Rattle.engine.specs.Stops.{HasHeardWith};
+ghost use Rattle.engine.specs.Visits.{IsVisit, view_of};
+ghost use Rattle.shards.specs.Heard.{HasHeard};
 
 use crate::enter::{Entered, give_back, told_of};
 use crate::site::Site;
@@ -43,6 +45,7 @@ pub(crate) trait Enters<A> {
     ghost use Rattle.transact.specs.Submits.{asked_for};
     ghost use Rattle.engine.specs.Calls.{promises_of};
     ghost use Rattle.engine.specs.Entering.{AreReady, AreStripesOf, HasEntered, MayBegin, WasAbandoned, WasCold};
+    ghost use Rattle.engine.specs.Stops.{HasHeardIn};
 
     /// The call that it stands for.
     ghost call_of: { Self → Call };
@@ -67,6 +70,7 @@ pub(crate) trait Enters<A> {
         requires begin { MayBegin R.is_steady (call_of self.now) held.old }
         requires hands { AreReady (S.is_of site.now.epochs.now) R.is_steady hands.old }
         ensures hands { AreReady (S.is_of site.now.epochs.now) R.is_steady hands.new }
+        ensures heard { HasHeardIn says result (S.knows hands.old.own) (S.knows hands.new.own) }
         ensures entered { IfOk result (HasEntered (promises_of R.is_steady R.lends (held_stripes held.old)) (call_of self.now) says
             (held.old, D.failures device.old) (held.new, D.failures device.new)) }
         ensures cold { OnErr result (WasCold R.is_steady R.lends (call_of self.now)
@@ -107,6 +111,7 @@ pub(crate) fn run<A, E: Enters<A>, T: Wait, L: Latch, R: Shows, D: Device<Receip
     requires wanted { AreStripesOf (stripes_of site.now.gates.now) (E.call_of asking.now.call.now) asking.now.wanted.now }
     ensures rests { IsResting R.is_steady site.now.gates.now pass.new }
     ensures hands { HasHands site.now.epochs.now hands.new }
+    ensures heard { OfSeats (HasHeardWith (known pass.old) (known pass.new)) hands.old hands.new }
     ensures answered { IsAnswered (promises_of R.is_steady R.lends (stripes_of site.now.gates.now)) asking.now.wanted.now
         (E.call_of asking.now.call.now) (E.says result) (know (known pass.old) (D.failures device.old))
         (know (known pass.new) (D.failures device.new)) }
@@ -141,10 +146,12 @@ fn first_round<A, E: Enters<A>, T: Wait, L: Latch, R: Shows, D: Device<Receipt =
     requires wanted { AreStripesOf (stripes_of site.now.gates.now) (E.call_of asking.now.call.now) asking.now.wanted.now }
     ensures rests { IsResting R.is_steady site.now.gates.now pass.new }
     ensures hands { OnOk result (HasHands site.now.epochs.now hands.new) }
+    ensures heard { OnOk result (OfSeats (HasHeardWith (known pass.old) (known pass.new)) hands.old hands.new) }
     ensures answered { IfOk result (λ answer. IsAnswered (promises_of R.is_steady R.lends (stripes_of site.now.gates.now))
         asking.now.wanted.now (E.call_of asking.now.call.now) (E.says answer) (know (known pass.old) (D.failures device.old))
         (know (known pass.new) (D.failures device.new))) }
     ensures visit { IfErr result (IsVisit R.is_steady site.now.epochs.now) }
+    ensures begun { IfErr result (λ visit. OfSeat (λ before. HasHeard before (view_of visit)) hands.old) }
     ensures waited { OnErr result (HasWaited asking.now.wanted.now (known pass.old, D.failures device.old)
         (known pass.new, D.failures device.new)) }
 {
@@ -194,6 +201,7 @@ fn later_rounds<A, E: Enters<A>, T: Wait, L: Latch, R: Shows, D: Device<Receipt 
     requires wanted { AreStripesOf (stripes_of site.now.gates.now) (E.call_of asking.now.call.now) asking.now.wanted.now }
     requires visit { IsVisit R.is_steady site.now.epochs.now visit.old }
     ensures visit { IsVisit R.is_steady site.now.epochs.now visit.new }
+    ensures heard { HasHeardWith (known pass.old) (known pass.new) (view_of visit.old) (view_of visit.new) }
     ensures rests { IsResting R.is_steady site.now.gates.now pass.new }
     ensures answered { IsAnswered (promises_of R.is_steady R.lends (stripes_of site.now.gates.now)) asking.now.wanted.now
         (E.call_of asking.now.call.now) (E.says result) (know (known pass.old) (D.failures device.old))
@@ -220,6 +228,8 @@ fn later_round<A, E: Enters<A>, T: Wait, L: Latch, R: Shows, D: Device<Receipt =
     requires wanted { AreStripesOf (stripes_of site.now.gates.now) (E.call_of asking.now.call.now) asking.now.wanted.now }
     requires visit { IsVisit R.is_steady site.now.epochs.now visit.old }
     ensures visit { IsVisit R.is_steady site.now.epochs.now visit.new }
+    ensures heard { HasHeard (view_of visit.old) (view_of visit.new) }
+    ensures told { OnSome result (HasHeardWith (known pass.old) (known pass.new) (view_of visit.old) (view_of visit.new)) }
     ensures rests { IsResting R.is_steady site.now.gates.now pass.new }
     ensures answered { IfSome result (λ answer. IsAnswered (promises_of R.is_steady R.lends (stripes_of site.now.gates.now))
         asking.now.wanted.now (E.call_of asking.now.call.now) (E.says answer) (know (known pass.old) (D.failures device.old))

@@ -1,6 +1,6 @@
 //! The short way of a SET without an option, whose key and value stay the caller's.
 
-ghost use Rattle.std.specs.Prelude.{◌≡◌, [], ℕ, false};
+ghost use Rattle.std.specs.Prelude.{◌≡◌, [], ℕ, false, IfErr};
 ghost use Rattle.words.specs.declared.command.Command.TheVariants as command;
 ghost use Rattle.words.specs.declared.command.When.TheVariants.{Always};
 ghost use Rattle.words.specs.declared.history.Operation.TheVariants.{Run};
@@ -16,11 +16,10 @@ ghost use Rattle.transact.specs.Plans.{IsPlan};
 ghost use Rattle.transact.specs.Submits.{asked_for, stripes_asked};
 ghost use Rattle.engine.specs.Answers.{IsAnswered};
 ghost use Rattle.engine.specs.Calls.{promises_of};
-ghost use Rattle.engine.specs.Entering.{MayBeGiven, MayEnter, asks_set, given, setting_call};
+ghost use Rattle.engine.specs.Entering.{MayBeGiven, MayEnter, asks_set, given, line_came_to, own_answer, setting_call};
 ghost use Rattle.engine.specs.Memory.{set_call};
-ghost use Rattle.engine.specs.Passes.{HasHands, know};
-ghost use Rattle.engine.specs.Stops.{IfSpent, IsWornBy};
-ghost use Rattle.shards.specs.Heard.{HasHeard};
+ghost use Rattle.engine.specs.Passes.{HasHands, OfSeats, know};
+ghost use Rattle.engine.specs.Stops.{HasHeardFor, HasHeardWith};
 
 use crate::enter::{Stopped, told_of};
 use crate::site::Site;
@@ -71,6 +70,7 @@ pub(crate) fn submit_set<T: Wait, L: Latch, R: Shows, D: Device<Receipt = R>>(
     requires place { IsBounded (command.Set setting.now.key.now setting.now.value.now Always) }
     ensures rests { IsResting R.is_steady site.now.gates.now pass.new }
     ensures hands { HasHands site.now.epochs.now hands.new }
+    ensures heard { OfSeats (HasHeardWith (known pass.old) (known pass.new)) hands.old hands.new }
     ensures answered { IsAnswered (promises_of R.is_steady R.lends (stripes_of site.now.gates.now))
         (stripes_asked (stripes_of site.now.gates.now) (setting_call setting.now)) (setting_call setting.now) (answer_of result)
         (know (known pass.old) (D.failures device.old)) (know (known pass.new) (D.failures device.new)) }
@@ -105,8 +105,7 @@ pub(crate) fn enter_set<L: Latch, R: Shows, D: Device<Receipt = R>, S: Retires>(
     requires place { IsBounded (command.Set key.now value.now Always) }
     requires is { S.is_of site.now.epochs.now own.old }
     ensures is { S.is_of site.now.epochs.now own.new }
-    ensures heard { HasHeard (S.knows own.old) (S.knows own.new) }
-    ensures worn { IfSpent result.1 (IsWornBy (S.knows own.old) (S.knows own.new)) }
+    ensures heard { HasHeardFor own_answer (line_came_to result.0 result.1) (S.knows own.old) (S.knows own.new) }
     ensures back { MayBeGiven R.is_steady false result.1 held.old held.new }
     ensures answered { IsAnswered (promises_of R.is_steady R.lends (held_stripes held.old)) [] (set_call key.now value.now)
         (answer_of result.0) (know (known_to held.old) (D.failures device.old))
@@ -141,6 +140,7 @@ fn refuse_set<L: Latch, R: Shows>(
     requires place { IsBounded (command.Set key.now value.now Always) }
     requires due { (seen : History) → IsPlan seen (Run (command.Set key.now value.now Always)) too_much [] }
     ensures back { MayBeGiven R.is_steady false Nothing held.old held.new }
+    ensures worn { IfErr result (λ fault. fault ≡ Fault.CommitsWornOut) }
     ensures answered { (failures : ℕ) → IsAnswered (promises_of R.is_steady R.lends (held_stripes held.old)) []
         (set_call key.now value.now) (answer_of result) (know (known_to held.old) failures) (know (known_to held.new) failures) }
 {

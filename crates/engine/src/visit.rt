@@ -9,6 +9,7 @@ ghost use Rattle.hybrid.specs.Staging.{AreRight};
 ghost use Rattle.plans.specs.Reading.{CameOfReads};
 ghost use Rattle.engine.specs.Calls.{promises_of};
 ghost use Rattle.engine.specs.Entering.{HasEntered, MayBeGiven, MayBegin, WasCold, given};
+ghost use Rattle.engine.specs.Stops.{HasHeardIn};
 ghost use Rattle.engine.specs.Visits.{IsVisit};
 
 use crate::enter::Entered;
@@ -38,13 +39,15 @@ pub(crate) struct Visit<R: Shows> {
 }
 
 impl<R: Shows> Visit<R> {
-    ghost use Rattle.epoch.specs.Seats.{IsOutside};
-    ghost use Rattle.engine.specs.Visits.{IsNewVisit, IsVisit};
+    ghost use Rattle.epoch.specs.Seats as seats;
+    ghost use Rattle.epoch.specs.Seats.{IsOutside, KnowsTheSame};
+    ghost use Rattle.engine.specs.Visits.{IsNewVisit, IsVisit, view_of};
 
     /// Begins a visit by a stay of this seat, in which no page was read yet.
     pub(crate) fn begin<T: Wait>(rt: &T, epochs: &Epochs, hands: Hands<R, EpochSeat>) -> Visit<R>
         requires outside { IsOutside epochs.now hands.own }
         ensures new { IsNewVisit epochs.now result }
+        ensures same { KnowsTheSame (seats.known hands.own) (view_of result) }
     {
         let Hands { alloc, staged, own } = hands;
         let mut pages = staged;
@@ -74,6 +77,7 @@ impl<R: Shows> Visit<R> {
         requires begin { MayBegin R.is_steady (E.call_of call.now) held.old }
         ensures visit { IsVisit R.is_steady site.now.epochs.now self.new }
         ensures same { self.new.rounds ≡ self.old.rounds }
+        ensures heard { HasHeardIn E.says result (view_of self.old) (view_of self.new) }
         ensures entered { IfOk result (HasEntered (promises_of R.is_steady R.lends (held_stripes held.old)) (E.call_of call.now) E.says
             (held.old, D.failures device.old) (held.new, D.failures device.new)) }
         ensures cold { OnErr result (WasCold R.is_steady R.lends (E.call_of call.now)
@@ -119,6 +123,7 @@ impl<R: Shows> Visit<R> {
     pub(crate) fn end(self, epochs: &Epochs) -> Hands<R, EpochSeat>
         requires stay { IsInside epochs.now self.hands.own }
         ensures outside { IsOutside epochs.now result.own }
+        ensures same { KnowsTheSame (view_of self) (seats.known result.own) }
         ensures none { result.staged ≡ [] }
     {
         let Visit { hands, rounds: _ } = self;

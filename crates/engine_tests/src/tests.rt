@@ -6,7 +6,7 @@ ghost use Rattle.words.specs.Commands.{touches_keys};
 ghost use Rattle.engine.specs.Passes.{Rests};
 
 use device::MemoryDevice;
-use engine::{Engine, Gathered, Pass};
+use engine::{Engine, Gathered, GotAll, Pass};
 use engine_harness::calls::{is_due, sets_to};
 use engine_harness::ends::{end_pass, end_passes, end_word};
 use engine_harness::engines::{engine_of, with_pass};
@@ -510,6 +510,7 @@ fn gathers_two<R: Wait>(
     engine: &Engine<MemoryDevice>,
     pass: &mut Pass<MemoryDevice>,
     keys: &[Word],
+    out: &mut Vec<u8>,
     trail: &Trail,
 ) -> bool
     requires { Rests ⊤ engine.now pass.old }
@@ -521,13 +522,17 @@ fn gathers_two<R: Wait>(
     if key.len() > KEY_BYTES_MAX {
         return false;
     }
-    match engine.values(rt, pass, keys, trail) {
-        Gathered::Found(values) => {
+    match engine.say_values(rt, pass, keys, out, trail) {
+        GotAll::Said(said) => {
+            drop(said);
+            false
+        }
+        GotAll::Gathered(Gathered::Found(values)) => {
             let is_two = values.text() == b"$1\r\n2\r\n".as_slice();
             drop(values);
             is_two
         }
-        Gathered::Planned(answer) => {
+        GotAll::Gathered(Gathered::Planned(answer)) => {
             drop(answer);
             false
         }
@@ -558,7 +563,9 @@ fn tells_of_each<R: Abort + Wait>(
     end_word(value);
     end_word(key);
     let keys = [Word::from_slice(alloc, b"n").expect(rt, "memory for a key")];
-    let gathered = gathers_two(rt, engine, pass, &keys, trail);
+    let mut none = Vec::new(alloc);
+    let gathered = gathers_two(rt, engine, pass, &keys, &mut none, trail);
+    drop(none);
     drop(keys);
     called && assigned && got && set && gathered
 }

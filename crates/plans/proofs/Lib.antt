@@ -26,3 +26,4 @@ pub mod Freed
 pub mod Questions
 pub mod Reserved
 pub mod Settled
+pub mod Saying

@@ -2,9 +2,9 @@
 
 ghost use Rattle.std.specs.Prelude.{◌≡◌, ◌+◌, ◌≤◌, ◌++◌, ◌∷◌, [], length, IfNone, IfSome, IsSome, vec_len, vec_capacity};
 ghost use Rattle.std.specs.Bool.{OnTrue};
-ghost use Rattle.words.specs.Answers.{item_of};
+ghost use Rattle.words.specs.Answers.{item_of, items_of};
 ghost use Rattle.words.specs.Encoding.{encoding};
-ghost use Rattle.words.specs.Session.{value_reply};
+ghost use Rattle.words.specs.Session.{value_reply, values_reply};
 ghost use Rattle.hybrid.specs.Staging.{AreRight};
 ghost use Rattle.transact.specs.Tables.{joined};
 ghost use Rattle.shards.specs.Shards.{shard_meaning, shard_store};
@@ -16,7 +16,7 @@ use crate::running::value_at;
 use device::Shows;
 use gates::Parts;
 use hybrid::Staged;
-use resp_write::{Said, say_within};
+use resp_write::{Said, SaidAll, say_up_to};
 use shards::shard::Shard;
 use std::alloc::Global;
 use words::bulks::Bulks;
@@ -80,23 +80,26 @@ pub fn tell_values<R: Shows, P: Parts<Shard<R>>>(
     Some(told)
 }
 
-/// Says what a key has, on the part of its stripe.
+/// Says what a key has, on the part of its stripe, if the buffer then holds at most `limit` bytes.
 fn say_at<R: Shows>(
     part: &Shard<R>,
     key: &Hashed,
     staged: &Staged<R>,
+    limit: usize,
     out: &mut Vec<u8>,
 ) -> Option<Said>
+    requires room { limit ≤ vec_capacity out.old }
+    requires held { vec_len out.old ≤ limit }
     ensures value { IfSome result (λ value. R.is_honest × AreRight staged.now → value ≡ shard_store part.now key.now) }
     ensures said { IfSome result (λ value. out.new.items ≡ out.old.items ++ encoding (value_reply value)) }
-    ensures within { IsSome result → vec_len out.new ≤ vec_capacity out.old }
+    ensures within { IsSome result → vec_len out.new ≤ limit }
     ensures unsaid { IfNone result (out.new.items ≡ out.old.items) }
     ensures room { R.lends → R.is_honest × AreRight staged.now
-        → vec_len out.old + length (encoding (value_reply (shard_store part.now key.now))) ≤ vec_capacity out.old → IsSome result }
+        → vec_len out.old + length (encoding (value_reply (shard_store part.now key.now))) ≤ limit → IsSome result }
     ensures capacity { vec_capacity out.old ≤ vec_capacity out.new }
 {
     match value_at(part, key, staged) {
-        Some(value) => say_within(value, out),
+        Some(value) => say_up_to(value, limit, out),
         None => None,
     }
 }
@@ -120,6 +123,68 @@ pub fn say_value<R: Shows, P: Parts<Shard<R>>>(
     ensures same { P.part_of parts.new ≡ P.part_of parts.old }
     ensures held { IsStillHeld P.is_open P.keeps parts.old parts.new }
 {
+    let limit = out.capacity();
+    say_up_to_limit(parts, key, staged, limit, out)
+}
+
+/// Says what a key has, as [`say_value`] does, if the buffer then holds at most `limit` bytes.
+fn say_up_to_limit<R: Shows, P: Parts<Shard<R>>>(
+    parts: &mut P,
+    key: &Hashed,
+    staged: &Staged<R>,
+    limit: usize,
+    out: &mut Vec<u8>,
+) -> Option<Said>
+    requires may { MayLookUp (P.is_open parts.old) (P.stripes_of parts.old) (P.part_of parts.old) (key.now ∷ []) }
+    requires room { limit ≤ vec_capacity out.old }
+    requires held { vec_len out.old ≤ limit }
+    ensures value { IfSome result (IsValueIn R.is_steady P.stripes_of P.part_of parts.old (R.is_honest × AreRight staged.now) key.now) }
+    ensures said { IfSome result (λ value. out.new.items ≡ out.old.items ++ encoding (value_reply value)) }
+    ensures within { IsSome result → vec_len out.new ≤ limit }
+    ensures unsaid { IfNone result (out.new.items ≡ out.old.items) }
+    ensures room { R.lends → R.is_honest × AreRight staged.now → vec_len out.old + length (encoding (value_reply
+        (joined (shard_meaning R.is_steady) (P.stripes_of parts.old) (P.part_of parts.old) key.now))) ≤ limit → IsSome result }
+    ensures capacity { vec_capacity out.old ≤ vec_capacity out.new }
+    ensures same { P.part_of parts.new ≡ P.part_of parts.old }
+    ensures held { IsStillHeld P.is_open P.keeps parts.old parts.new }
+{
     let stripe = stripe_at(&*parts, key);
-    say_at(parts.part(stripe), key, staged, out)
+    say_at(parts.part(stripe), key, staged, limit, out)
+}
+
+/// Says what these keys have, as an MGET of them is due to be answered: each value is copied once, from where it lies to the end of the
+/// buffer. `None` where a page is wanted, or the buffer has no room for all: it takes no memory.
+pub fn say_values<R: Shows, P: Parts<Shard<R>>>(
+    parts: &mut P,
+    keys: &[Word],
+    staged: &Staged<R>,
+    out: &mut Vec<u8>,
+) -> Option<SaidAll>
+    requires may { MayLookUp (P.is_open parts.old) (P.stripes_of parts.old) (P.part_of parts.old) keys.now }
+    ensures values { IfSome result (AreValuesIn R.is_steady P.stripes_of P.part_of parts.old
+        (R.is_honest × AreRight staged.now) keys.now) }
+    ensures said { IfSome result (λ items. out.new.items ≡ out.old.items ++ encoding (values_reply items)) }
+    ensures within { IsSome result → vec_len out.new ≤ vec_capacity out.old }
+    ensures unsaid { IfNone result (out.new.items ≡ out.old.items) }
+    ensures room { R.lends → R.is_honest × AreRight staged.now → vec_len out.old + length (encoding (values_reply
+        (items_of (joined (shard_meaning R.is_steady) (P.stripes_of parts.old) (P.part_of parts.old)) keys.now))) ≤ vec_capacity out.old
+        → IsSome result }
+    ensures capacity { vec_capacity out.old ≤ vec_capacity out.new }
+    ensures same { P.part_of parts.new ≡ P.part_of parts.old }
+    ensures held { IsStillHeld P.is_open P.keeps parts.old parts.new }
+{
+    let (before, limit) = (out.len(), out.capacity());
+    let Some(mut said) = SaidAll::begin(keys.len(), limit, out) else {
+        return None;
+    };
+    let mut left = keys;
+    while let Some((first, others)) = left.split_first() {
+        let Some(value) = say_up_to_limit(parts, &Hashed::new(first), staged, limit, out) else {
+            out.truncate(before);
+            return None;
+        };
+        said.push(value);
+        left = others;
+    }
+    Some(said)
 }

@@ -1,5 +1,5 @@
 -- The bytes of a value as a reply.
-use Rattle.std.proofs.Common.{ℕ, ◌≡◌, ◌+◌, List, [], ◌∷◌, ◌++◌, length, Some, arith, length-append, append_assoc, refl}
+use Rattle.std.proofs.Common.{ℕ, ◌≡◌, ◌+◌, ◌∷◌, ◌++◌, length, Some, arith, length-append, refl}
 use Rattle.std.specs.Fmt.{decimal}
 use Rattle.words.specs.Encoding.{encoding, command_reply_encoding, item_encoding}
 use Rattle.words.specs.Session.{value_reply}
@@ -16,3 +16,9 @@ said_len bytes =
     let digits = length-append (decimal (length bytes)) crlf in
     let value = length-append bytes crlf in
     rw (said_text bytes) (omega (arith, first, digits, value))
+
+pub header_len : (count : ℕ) → length (header 42 count) ≡ length (decimal count) + 3
+unfolding header
+header_len count =
+    let digits = length-append (decimal count) crlf in
+    omega (arith, digits)

@@ -16,4 +16,4 @@ pub use encoder::{
     encode, encode_line_within, encode_value_within, encode_values_within, encode_within, send,
     send_values,
 };
-pub use said::{Said, say_within};
+pub use said::{Said, SaidAll, say_up_to, say_within};

@@ -1,4 +1,4 @@
-use Rattle.std.proofs.Common.{◌≡◌, ◌++◌, ◌∙◌, [], List, ℕ, append-nil, ap, sym, refl}
+use Rattle.std.proofs.Common.{◌++◌, ◌∙◌, refl}
 use Rattle.streams.specs.Laws.{Appends-then}
 use Rattle.connection.proofs.Known.{regroup, holds_still, sent_of}
 use Rattle.connection.proofs.Conversing.{conversing_next, conversing_same, conversing_says, fewer_unread, front-none}
@@ -138,10 +138,10 @@ loop-talk-preserved-in_default-say_value g c =
       attends = c.answer_next.ensures.attends;
     }
 
-pub returns-in-Err-make_room-clause-paused : goal.returns-in-Err-make_room-clause-paused
-returns-in-Err-make_room-clause-paused g c = λ was fed before talk.
+pub returns-in-Err-go_on_behind-clause-paused : goal.returns-in-Err-go_on_behind-clause-paused
+returns-in-Err-go_on_behind-clause-paused g c = λ was fed before talk.
     let so_far = c.loop-talk.invariant.talk was fed before talk in
-    let put = c.in-Err-make_room.ensures.put in
+    let put = c.in-Err-go_on_behind.ensures.put in
     let all = sent_of c.loop-talk.talk.out.items _ c.answer_next.new.out.items (put.0 ++ put.1) c.in-Said.ensures.said put.2 in
     (so_far.0 ++ put.0, Appends-then _ _ _ so_far.0 put.0 so_far.1 put.3, (c.answer_next.new.client, _, put.1, conversing_next _ _ _ _ _ _ _ _ so_far.2 c.in-Said.ensures.due, regroup before so_far.0 _ _ put.0 put.1 all))
 
@@ -150,8 +150,8 @@ loop-talk-smaller g c = fewer_unread _ _ _ c.in-Said.ensures.turned.1
 
 pub loop-talk-preserved : goal.loop-talk-preserved
 loop-talk-preserved g c =
-    let put = c.in_default-make_room.ensures.put in
-    let all = sent_of c.loop-talk.talk.out.items _ c.answer_next.new.out.items (put.0 ++ c.make_room.new.out.items) c.in-Said.ensures.said put.2 in
+    let put = c.in_default-go_on_behind.ensures.put in
+    let all = sent_of c.loop-talk.talk.out.items _ c.answer_next.new.out.items (put.0 ++ c.go_on_behind.new.out.items) c.in-Said.ensures.said put.2 in
     record {
       talk = λ was fed before talk.
           let so_far = c.loop-talk.invariant.talk was fed before talk in (
@@ -160,7 +160,7 @@ loop-talk-preserved g c =
             conversing_says _ _ _ _ (conversing_next _ _ _ _ _ _ _ _ so_far.2 c.in-Said.ensures.due) (regroup before so_far.0 _ _ put.0 _ all),
           );
       room = c.loop-talk.invariant.room;
-      told = c.in_default-make_room.ensures.told ∙ c.loop-talk.invariant.told;
+      told = c.in_default-go_on_behind.ensures.told ∙ c.loop-talk.invariant.told;
       rests = c.answer_next.ensures.rests;
       attends = c.answer_next.ensures.attends;
     }

@@ -1,4 +1,4 @@
-use Rattle.std.proofs.Common.{rules, ◌≡◌, ◌∙◌, ℕ, List, [], ◌∷◌, Some, false, refl, sym, ap, subst}
+use Rattle.std.proofs.Common.{◌∙◌, ℕ, List, [], Err, false, refl, sym, ap, subst}
 use Rattle.std.specs.Borrow.{Bor}
 use Rattle.words.specs.declared.command.Command.{Command}
 use Rattle.words.specs.declared.command.Command.TheVariants.{MSet}
@@ -6,12 +6,11 @@ use Rattle.words.specs.Answers.{writes_set}
 use Rattle.words.specs.Briefs.{pairs_of}
 use Rattle.words.specs.declared.reply.Fault.{Fault}
 use Rattle.words.specs.declared.reply.Reply.{Reply}
-use Rattle.words.specs.declared.history.Operation.TheVariants.{Run}
 use Rattle.words.specs.History.{HasPlace}
 use Rattle.words.specs.Session as asked
 use Rattle.words.specs.Session.{line_reply, operation_of}
 use Rattle.words.specs.declared.reply.Line.TheVariants.{Done}
-use Rattle.words.specs.Store.{Bytes, Write}
+use Rattle.words.specs.Store.{Write}
 use Rattle.gates.specs.declared.gates.Gates.{Gates}
 use Rattle.gates.specs.declared.held.Held.{Held}
 use Rattle.gates.specs.declared.report.Report.{Report}
@@ -23,21 +22,23 @@ use Rattle.gates.specs.Sets.{part_at}
 use Rattle.gates.specs.Helds.{held_stripes, held_parts, held_taken, known_to, same_as_it}
 use Rattle.transact.specs.declared.call.Call.TheVariants as call
 use Rattle.transact.specs.Calls.{asked_of, call_keys}
-use Rattle.transact.specs.Plans.{IsPlan}
 use Rattle.transact.specs.Submits.{asked_for}
-use Rattle.transact.specs.Tables.{AreThere, Became, stays, touches}
+use Rattle.transact.specs.Tables.{Became, stays, touches}
 use Rattle.shards.specs.declared.shard.Shard.{Shard}
 use Rattle.shards.specs.Rooms.{AreRoomy}
 use Rattle.shards.specs.Shards.{logs_of, shard_meaning}
 use Rattle.engine.specs.Calls.{IsUndone, promises_of}
-use Rattle.engine.specs.Entering.{given}
+use Rattle.engine.specs.Entering.{given, line_came_to, own_answer}
+use Rattle.transact.specs.declared.call.Answer.TheVariants as answer
 use Rattle.engine.specs.Memory.{settings_call}
 use Rattle.engine.specs.Passes.{know}
-use Rattle.engine.specs.Stops.{fault_of}
+use Rattle.engine.specs.Stops.{HasHeardFor, fault_of}
+use Rattle.engine.specs.declared.enter.Entered.{Entered}
+use Rattle.transact.specs.declared.call.Answer.{Answer}
 use Rattle.engine.proofs.Parts.{there_after}
 use Rattle.engine.proofs.Settings.{fits_of}
 use Rattle.engine.proofs.Stopped.{cold_in, full_in, full_then, memory_in, writes_stopped}
-use Rattle.engine.proofs.Entering.{WasCommitted, counted, done_by, entered_as, fit_installed, fit_kept, fit_undone, given_still, named_held, parts_of, placed, reply_due, stands, told_stop, was_worn}
+use Rattle.engine.proofs.Entering.{WasCommitted, counted, done_by, entered_as, fit_installed, fit_kept, fit_undone, given_still, heard_stop, named_held, parts_of, placed, reply_due, stands, told_stop, was_worn}
 use Rattle.engine.proofs.assign.enter_light.Goals as goal
 
 pub settings_freeing-requires-clause-may : goal.settings_freeing-requires-clause-may
@@ -74,6 +75,11 @@ returns-in-Err-clause-entered g c =
             c.in-Err.ensures.failed (full_in c.in-Err.halt.stop _ _ _ _ c.in-Err.ensures.halted) c.requires.due));
       };
     })
+
+pub returns-in-Err-clause-heard : goal.returns-in-Err-clause-heard
+returns-in-Err-clause-heard g c =
+    subst (λ (e : Entered Answer). HasHeardFor own_answer e (g.S.Retires.knows c.args.own.now) (g.S.Retires.knows c.settings_freeing.new.own)) (sym c.answered.ensures)
+    (heard_stop c.in-Err.halt.stop c.in-Err.halt.refused (line_came_to (Err c.told_of-fault.result.fault) c.told_of-fault.result.report) _ _ (ap answer.Fault c.told_of-fault.ensures.fault) c.told_of-fault.ensures.report c.settings_freeing.ensures.retires.heard (full_then c.in-Err.halt.stop _ _ (λ stripe stuck. stuck.worn) c.in-Err.ensures.full))
 
 pub commit-requires-clause-due : goal.commit-requires-clause-due
 commit-requires-clause-due g c =

@@ -6,9 +6,13 @@ use Rattle.transact.specs.Calls.{call_keys}
 use Rattle.transact.specs.Submits.{stripes_asked}
 use Rattle.engine.specs.Answers.{IsAnswered}
 use Rattle.engine.specs.Calls.{promises_of}
-use Rattle.engine.specs.Entering.{given}
+use Rattle.engine.specs.Entering.{given, own_answer}
 use Rattle.engine.specs.Passes.{know}
-use Rattle.engine.proofs.Entering.{given_here, may_begin, parts_of}
+use Rattle.engine.proofs.Entering.{given_here, heard_nothing, may_begin, parts_of}
+use Rattle.epoch.specs.declared.view.View.{View}
+use Rattle.epoch.specs.Seats as epoch
+use Rattle.engine.specs.Stops.{HasHeardWith}
+use Rattle.engine.proofs.Hearing.{heard_after, heard_given, seats_heard}
 use Rattle.engine.proofs.Behind.{answered_behind, answered_counted}
 use Rattle.engine.proofs.call.try_submit.Goals as goal
 
@@ -52,3 +56,22 @@ returns-in-Some-clause-hands g c = (
   refl,
   record { outside = c.enter_at_once-answer.ensures.hands.own; none = c.clear.ensures },
 )
+
+pub returns-in-Some-clause-heard : goal.returns-in-Some-clause-heard
+returns-in-Some-clause-heard g c =
+    let taken = c.hold-held.ensures.taken _ c.in-Ok.ensures.ok in
+    let before : Knowledge = known c.args.pass.now in
+    let mid : Knowledge = known_to c.hold-held.result in
+    let told : ToldBusy [] before mid = ([], (c.hold-held.ensures.told _ c.in-Ok.ensures.ok), tt) in
+    let promises = promises_of g.R.Shows.is_steady g.R.Shows.lends (held_stripes c.hold-held.result) in
+    let entered = c.enter_at_once-answer.result in
+    let noted : Knowledge = known_to c.enter_at_once-answer.new.held in
+    let f0 : ℕ = g.D.Device.failures c.args.device.now in
+    let f1 : ℕ = g.D.Device.failures c.enter_at_once-answer.new.device in
+    let had : View = epoch.known c.in-Some.taken.own in
+    let has : View = epoch.known c.enter_at_once-answer.new.hands.own in
+    let last = c.give_back.ensures.known in
+    seats_heard before _ c.args.hands.now _ c.in-Some.taken (record { alloc = c.enter_at_once-answer.new.hands.alloc; staged = c.clear.new.self; own = c.enter_at_once-answer.new.hands.own }) (sym c.in-Some.ensures.value) refl
+    (subst (λ (k : Knowledge). HasHeardWith before k had has) (sym (search (rules, last)))
+    (heard_after [] before mid (given entered.ends entered.report noted) had had has told (heard_nothing had)
+    (heard_given own_answer entered promises c.args.call mid noted f0 f1 had has c.enter_at_once-answer.ensures.heard c.enter_at_once-answer.ensures.entered.answered)))

@@ -23,14 +23,13 @@ use Rattle.transact.specs.Tables.{AreThere, Became, HasBegun, begins, stays}
 use Rattle.engine.specs.Calls.{IsDone, IsUndone, promises_of}
 use Rattle.engine.specs.Entering.{given}
 use Rattle.engine.specs.Passes.{know}
-use Rattle.engine.specs.Stops.{IfSpent, IsOfCall, IsWornBy, fault_of, report_of}
-use Rattle.gates.specs.declared.view.Refused.{Refused}
+use Rattle.engine.specs.Stops.{IsOfCall, fault_of, report_of}
 use Rattle.gates.specs.Passes.{AreAsTaken}
 use Rattle.engine.proofs.Parts.{ended_there, there_after}
 use Rattle.engine.proofs.Memory.{asks_on}
 use Rattle.engine.proofs.Values.{all_short}
 use Rattle.engine.proofs.Stopped.{full_then, is_placed, memory_in, not_wanted}
-use Rattle.engine.proofs.Entering.{became_by, counted, holder_same, marks_undone, asks, done_by, fit_installed, fit_kept, fit_undone, given_behind, given_still, may_still, named_held, no_reply, parts_of, of_call, placed, reply_due, seat_is, spent_of, told_stop, stands, stopped_by, this_fault, was_worn}
+use Rattle.engine.proofs.Entering.{became_by, counted, holder_same, marks_undone, asks, done_by, fit_installed, fit_kept, fit_undone, given_behind, given_still, heard_stop, heard_worn, may_still, named_held, no_reply, parts_of, of_call, placed, reply_due, seat_is, told_stop, stands, stopped_by, this_fault, was_worn}
 use Rattle.engine.proofs.enter.enter.Goals as goal
 
 pub plan_freeing-requires-clause-may : goal.plan_freeing-requires-clause-may
@@ -64,10 +63,9 @@ pub returns-in_default : goal.returns-in_default
 returns-in_default g c =
     record {
       hands = record { own = c.plan_freeing.ensures.works.retires.is; right = λ t. c.plan_freeing.ensures.works.right t (c.requires.hands.right t) };
-      heard = c.plan_freeing.ensures.works.retires.heard;
-      worn =
-          let P : Refused → Type 0 = IsWornBy (g.S.Retires.knows c.args.hands.now.own) (g.S.Retires.knows c.plan_freeing.new.hands.own) in
-          subst (λ (r : Report). IfSpent r P) (sym (c.refuse.ensures.report ∙ c.told_of-fault.ensures.report)) (spent_of P c.in-Err.field-0.stop c.in-Err.field-0.refused (full_then c.in-Err.field-0.stop _ _ (λ stripe stuck. stuck.stuck.worn) c.in-Err.ensures.full));
+      heard =
+          heard_stop c.in-Err.field-0.stop c.in-Err.field-0.refused c.refuse.result _ _ (c.refuse.ensures.answer ∙ ap answer.Fault c.told_of-fault.ensures.fault) (c.refuse.ensures.report ∙ c.told_of-fault.ensures.report)
+          c.plan_freeing.ensures.works.retires.heard (full_then c.in-Err.field-0.stop _ _ (λ stripe stuck. stuck.stuck.worn) c.in-Err.ensures.full);
       entered = record {
         back = given_behind g.R.Shows.is_steady c.refuse.result.ends c.refuse.result.report c.args.held.now c.plan_freeing.new.parts c.refuse.new.held
             (ap (λ (g : Bor (Gates (Shard _))). g.now) c.plan_freeing.ensures.held.kept.gates) c.plan_freeing.ensures.held.kept.pass c.refuse.ensures.back;
@@ -293,3 +291,6 @@ returns-in-Cold-clause-hands g c = record {
   own = c.plan_freeing.ensures.works.retires.is;
   right = λ t. c.plan_freeing.ensures.works.right t (c.requires.hands.right t);
 }
+
+pub returns-in-Err-commit-clause-heard : goal.returns-in-Err-commit-clause-heard
+returns-in-Err-commit-clause-heard g c = heard_worn c.refuse-in-Err-commit.result _ _ c.refuse-in-Err-commit.ensures.answer c.refuse-in-Err-commit.ensures.report c.plan_freeing.ensures.works.retires.heard

@@ -1,5 +1,4 @@
 use Rattle.std.proofs.Common.{ℕ, refl, sym, subst, arith}
-use Rattle.words.specs.History.{after}
 use Rattle.gates.specs.declared.held.Held.{Held}
 use Rattle.gates.specs.declared.report.Report.TheVariants.{Nothing}
 use Rattle.gates.specs.Helds.{held_stripes, known_to}
@@ -10,6 +9,7 @@ use Rattle.engine.specs.Memory.{values_call}
 use Rattle.engine.specs.Entering.{HasEntered, values_answer}
 use Rattle.engine.specs.declared.enter.Entered.{Entered}
 use Rattle.engine.specs.declared.gather.Gathered.{Gathered}
+use Rattle.engine.specs.Stops.{HasHeardFor}
 use Rattle.engine.proofs.Entering.{given_still}
 use Rattle.engine.proofs.Stopped.{stopped_quietly}
 use Rattle.engine.proofs.gather.enter_planned.Goals as goal
@@ -35,3 +35,9 @@ returns-in-Ok-entered-clause-entered g c =
     subst (λ (e : Entered Gathered). HasEntered (promises_of g.R.Shows.is_steady g.R.Shows.lends (held_stripes c.args.held.now)) (values_call c.args.reading.now.keys.now) values_answer (c.args.held.now, g.D.Device.failures c.args.device.now)
     (c.enter-entered.new.held, g.D.Device.failures c.enter-entered.new.device) e) (sym c.planned.ensures)
     (record { back = has.back; answered = rw c.in-Ok.ensures at has.answered })
+
+pub returns-in-Ok-entered-clause-heard : goal.returns-in-Ok-entered-clause-heard
+returns-in-Ok-entered-clause-heard g c =
+    let has = c.in-Ok-entered.ensures.heard in
+    subst (λ (e : Entered Gathered). HasHeardFor values_answer e (g.S.Retires.knows c.args.hands.now.own) (g.S.Retires.knows c.enter-entered.new.hands.own)) (sym c.planned.ensures)
+    (record { heard = has.heard; worn = has.worn; full = has.full })

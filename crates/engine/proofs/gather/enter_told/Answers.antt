@@ -1,4 +1,4 @@
-use Rattle.std.proofs.Common.{◌≡◌, ◌∙◌, ℕ, [], refl, sym, ap}
+use Rattle.std.proofs.Common.{◌≡◌, ℕ, [], refl, ap}
 use Rattle.words.specs.declared.command.Command.TheVariants.{MGet}
 use Rattle.words.specs.Session as asked
 use Rattle.words.specs.Session.{values_reply}
@@ -11,7 +11,7 @@ use Rattle.shards.specs.Shards.{shard_meaning}
 use Rattle.engine.specs.Calls.{promises_of}
 use Rattle.engine.specs.Memory.{values_call}
 use Rattle.engine.proofs.Parts.{became_same, unwritten}
-use Rattle.engine.proofs.Entering.{WasCommitted, done_by, fit_installed, fit_undone, given_still, named_held, parts_of, placed, reply_due, stands, was_worn}
+use Rattle.engine.proofs.Entering.{WasCommitted, done_by, fit_installed, fit_undone, given_still, heard_nothing, named_held, parts_of, placed, reply_due, stands, was_worn}
 use Rattle.engine.proofs.gather.enter_told.Goals as goal
 
 pub commit-requires-clause-due : goal.commit-requires-clause-due
@@ -50,6 +50,7 @@ returns-in-Ok g c = record {
           undone = tt;
         };
       };
+  heard = λ view. record { heard = heard_nothing view; worn = tt; full = tt };
 }
 
 pub returns-in-Err : goal.returns-in-Err
@@ -71,4 +72,5 @@ returns-in-Err g c = record {
               refl refl refl refl c.in-Err.ensures.worn refl;
         };
       };
+  heard = λ view. record { heard = heard_nothing view; worn = tt; full = tt };
 }

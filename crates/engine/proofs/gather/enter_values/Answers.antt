@@ -55,3 +55,6 @@ returns-clause-entered g c =
     entered_behind g.R.Shows.is_steady g.R.Shows.lends (values_call c.args.reading.now.keys.now) values_answer c.args.held.now c.tell_values.new.parts c.enter_told.new.held
     (g.D.Device.failures c.args.device.now) (g.D.Device.failures c.args.device.now) c.enter_told.result c.tell_values.ensures.held.kept
     (c.enter_told.ensures.entered (g.D.Device.failures c.args.device.now))
+
+pub returns-clause-heard : goal.returns-clause-heard
+returns-clause-heard g c = c.enter_told.ensures.heard (g.S.Retires.knows c.args.hands.now.own)

@@ -20,6 +20,9 @@ use Rattle.engine.specs.Passes.{know}
 use Rattle.engine.proofs.Memory.{asks_on}
 use Rattle.engine.proofs.Stopped.{full_in, memory_in, not_wanted, stopped_quietly}
 use Rattle.engine.specs.Memory.{get_call}
+use Rattle.engine.specs.Stops.{TellsFull}
+use Rattle.transact.specs.declared.call.Answer.TheVariants as answer
+use Rattle.engine.proofs.Hearing.{never_full}
 use Rattle.engine.proofs.Parts.{became_same, unwritten}
 use Rattle.engine.proofs.Entering.{done_by, fit_installed, fit_kept, fit_undone, given_still, named_held, parts_of, reply_due, stands, was_worn}
 use Rattle.engine.proofs.get.enter_get.Goals as goal
@@ -155,3 +158,7 @@ returns-in-Err-clause-right g c = λ t. c.value_staged.ensures.right t (c.requir
 
 pub returns-in-Err-Cold-clause-right : goal.returns-in-Err-Cold-clause-right
 returns-in-Err-Cold-clause-right g c = λ t. c.value_staged.ensures.right t (c.requires.right t)
+
+pub returns-in-Err-clause-full : goal.returns-in-Err-clause-full
+returns-in-Err-clause-full g c =
+    subst (λ (f : Fault). TellsFull (answer.Fault f) Nothing) (sym c.told_of.ensures.fault) (never_full c.in-Err.stop (full_in c.in-Err.stop _ _ _ _ c.in-Err.ensures.stopped))

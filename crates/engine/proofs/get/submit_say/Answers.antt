@@ -6,14 +6,24 @@ use Rattle.engine.specs.Passes.{know}
 use Rattle.engine.proofs.Later.{answered_waited}
 use Rattle.engine.proofs.get.submit_say.Goals as goal
 
+pub returns-in-Some-clause-answered : goal.returns-in-Some-clause-answered
+returns-in-Some-clause-answered g c =
+    rw (c.got_of.ensures.answer)
+    ((rw (c.stripe_of_key-wanted.ensures.exact, c.stripes.ensures.count, c.new-hashed.ensures) at c.in-Some.ensures.answered) (g.D.Device.failures c.args.device.now))
+
+pub returns-in-Some-clause-said : goal.returns-in-Some-clause-said
+returns-in-Some-clause-said g c = rw (c.got_of.ensures.text) c.in-Some.ensures.said
+
 pub returns-in-Ok-clause-answered : goal.returns-in-Ok-clause-answered
 returns-in-Ok-clause-answered g c =
     answered_waited (promises_of g.R.Shows.is_steady g.R.Shows.lends (stripes_of c.args.site.now.gates.now)) (stripes_asked (stripes_of c.args.site.now.gates.now) (get_call c.args.key.now)) (get_call c.args.key.now) _
-    (known c.args.pass.now, g.D.Device.failures c.args.device.now) (known c.say_at_once.new.pass, g.D.Device.failures c.args.device.now) (know (known c.submit_get.new.pass) (g.D.Device.failures c.submit_get.new.device))
-    (rw c.new-hashed.ensures at (c.in_default.ensures.waited (g.D.Device.failures c.args.device.now))) c.in-Ok.ensures.answered
+    (known c.args.pass.now, g.D.Device.failures c.args.device.now) (known c.say_at_once.new.pass, g.D.Device.failures c.args.device.now) (know (known c.run.new.pass) (g.D.Device.failures c.run.new.device))
+    ((rw (c.stripe_of_key-wanted.ensures.exact, c.stripes.ensures.count, c.new-hashed.ensures) at c.in_default.ensures.waited) (g.D.Device.failures c.args.device.now))
+    (rw (c.stripe_of_key-wanted.ensures.exact, c.stripes.ensures.count, c.new-hashed.ensures) at c.in-Ok.ensures.answered)
 
 pub returns-in-Err-clause-answered : goal.returns-in-Err-clause-answered
 returns-in-Err-clause-answered g c =
     answered_waited (promises_of g.R.Shows.is_steady g.R.Shows.lends (stripes_of c.args.site.now.gates.now)) (stripes_asked (stripes_of c.args.site.now.gates.now) (get_call c.args.key.now)) (get_call c.args.key.now) _
-    (known c.args.pass.now, g.D.Device.failures c.args.device.now) (known c.say_at_once.new.pass, g.D.Device.failures c.args.device.now) (know (known c.submit_get.new.pass) (g.D.Device.failures c.submit_get.new.device))
-    (rw c.new-hashed.ensures at (c.in_default.ensures.waited (g.D.Device.failures c.args.device.now))) c.in-Err.ensures.answered
+    (known c.args.pass.now, g.D.Device.failures c.args.device.now) (known c.say_at_once.new.pass, g.D.Device.failures c.args.device.now) (know (known c.run.new.pass) (g.D.Device.failures c.run.new.device))
+    ((rw (c.stripe_of_key-wanted.ensures.exact, c.stripes.ensures.count, c.new-hashed.ensures) at c.in_default.ensures.waited) (g.D.Device.failures c.args.device.now))
+    (rw (c.stripe_of_key-wanted.ensures.exact, c.stripes.ensures.count, c.new-hashed.ensures) at c.in-Err.ensures.answered)

@@ -2,7 +2,7 @@ use Rattle.std.proofs.Common.{refl}
 use Rattle.gates.specs.declared.held.Held.{Held}
 use Rattle.gates.specs.Helds.{held_stripes, known_to}
 use Rattle.shards.specs.declared.shard.Shard.{Shard}
-use Rattle.engine.proofs.Entering.{stands}
+use Rattle.engine.proofs.Entering.{heard_quietly, stands}
 use Rattle.engine.proofs.one.carry_out.Goals as goal
 
 pub enter_reply-requires-clause-due : goal.enter_reply-requires-clause-due
@@ -49,3 +49,12 @@ returns-in-Some-clause-entered g c = c.enter_in_place.ensures.entered (g.D.Devic
 
 pub returns-in-Some-spot-clause-entered : goal.returns-in-Some-spot-clause-entered
 returns-in-Some-spot-clause-entered g c = c.enter_in_place-in-Some-spot.ensures.entered (g.D.Device.failures c.args.device.now)
+
+pub returns-in-Nothing-clause-heard : goal.returns-in-Nothing-clause-heard
+returns-in-Nothing-clause-heard g c = heard_quietly c.args.settled.now.reply c.enter_reply.result (g.S.Retires.knows c.args.own.now) c.enter_reply.ensures.worn
+
+pub returns-in-Some-clause-heard : goal.returns-in-Some-clause-heard
+returns-in-Some-clause-heard g c = heard_quietly c.args.settled.now.reply c.enter_in_place.result (g.S.Retires.knows c.args.own.now) c.enter_in_place.ensures.worn
+
+pub returns-in-Some-spot-clause-heard : goal.returns-in-Some-spot-clause-heard
+returns-in-Some-spot-clause-heard g c = heard_quietly c.args.settled.now.reply c.enter_in_place-in-Some-spot.result (g.S.Retires.knows c.args.own.now) c.enter_in_place-in-Some-spot.ensures.worn

@@ -1,8 +1,7 @@
-use Rattle.std.proofs.Common.{◌≡◌, ◌∙◌, ℕ, List, [], ◌∷◌, Some, IsSome, refl, sym, ap, subst}
+use Rattle.std.proofs.Common.{◌∙◌, ℕ, List, [], ◌∷◌, Some, IsSome, refl, sym, ap, subst}
 use Rattle.std.specs.Borrow.{Bor}
 use Rattle.words.specs.declared.command.Command.{Command}
 use Rattle.words.specs.declared.reply.Reply.{Reply}
-use Rattle.words.specs.declared.history.Operation.TheVariants.{Run}
 use Rattle.words.specs.Session as asked
 use Rattle.words.specs.Session.{operation_of}
 use Rattle.words.specs.Store.{Bytes, Write}
@@ -94,6 +93,7 @@ returns-in-Ok g c = record {
           undone = tt;
         };
       };
+  worn = tt;
 }
 
 pub returns-in-Err : goal.returns-in-Err
@@ -117,4 +117,5 @@ returns-in-Err g c = record {
               (one_touches c.args.asks.now.verb c.args.asks.now.key.now c.args.asks.now.value.now) refl refl refl c.in-Err.ensures.worn refl;
         };
       };
+  worn = refl;
 }

@@ -1,11 +1,11 @@
-use Rattle.std.proofs.Common.{◌≡◌, ◌∷◌, [], ℕ, List, ap, subst}
+use Rattle.std.proofs.Common.{ℕ, List, ap, subst}
 use Rattle.std.specs.Borrow.{Bor}
 use Rattle.words.specs.History.{after}
 use Rattle.words.specs.Store.{Bytes}
 use Rattle.gates.specs.declared.gates.Gates.{Gates}
 use Rattle.gates.specs.declared.held.Held.{Held}
 use Rattle.gates.specs.declared.view.Knowledge.{Knowledge}
-use Rattle.gates.specs.Helds.{held_stripes, known_to}
+use Rattle.gates.specs.Helds.{held_stripes}
 use Rattle.hybrid.specs.Staging.{AreRight}
 use Rattle.transact.specs.Submits.{asked_for}
 use Rattle.transact.specs.Tables.{AreThere, joined}

@@ -1,10 +1,9 @@
-use Rattle.std.proofs.Common.{◌≡◌, ◌∙◌, ℕ, List, [], ◌∷◌, false, refl, sym, ap, subst}
+use Rattle.std.proofs.Common.{◌∙◌, ℕ, List, [], ◌∷◌, Err, false, refl, sym, ap, subst}
 use Rattle.std.specs.Borrow.{Bor}
 use Rattle.std.specs.Option.{option_copied}
 use Rattle.words.specs.declared.command.Command.{Command}
 use Rattle.words.specs.declared.reply.Fault.{Fault}
 use Rattle.words.specs.declared.reply.Reply.{Reply}
-use Rattle.words.specs.declared.history.Operation.TheVariants.{Run}
 use Rattle.words.specs.History.{HasPlace}
 use Rattle.words.specs.Session as asked
 use Rattle.words.specs.Session.{operation_of}
@@ -27,14 +26,15 @@ use Rattle.shards.specs.declared.shard.Shard.{Shard}
 use Rattle.shards.specs.Rooms.{IsRoomyAt}
 use Rattle.shards.specs.Shards.{logs_of, shard_meaning, weigh}
 use Rattle.engine.specs.Calls.{IsUndone, promises_of}
-use Rattle.engine.specs.Entering.{given}
+use Rattle.engine.specs.Entering.{came_to, given}
+use Rattle.transact.specs.declared.call.Answer.TheVariants as answer
 use Rattle.engine.specs.Entering.{command_asked, one_call_of}
 use Rattle.engine.specs.Passes.{know}
 use Rattle.engine.specs.Stops.{fault_of}
 use Rattle.engine.proofs.Ones.{one_names, one_touches}
 use Rattle.engine.proofs.Parts.{there_after}
 use Rattle.engine.proofs.Stopped.{cold_in, full_in, full_then, memory_in, put_stopped}
-use Rattle.engine.proofs.Entering.{WasCommitted, counted, done_by, fit_installed, fit_kept, fit_undone, given_still, named_held, parts_of, placed, reply_due, stands, told_stop, was_worn}
+use Rattle.engine.proofs.Entering.{WasCommitted, counted, done_by, fit_installed, fit_kept, fit_undone, given_still, heard_stop, named_held, parts_of, placed, reply_due, stands, told_stop, was_worn}
 use Rattle.engine.proofs.one.enter_put.Goals as goal
 
 pub reserve_freeing-requires-clause-may : goal.reserve_freeing-requires-clause-may
@@ -77,6 +77,10 @@ returns-in-Err-clause-entered g c =
             c.in-Err.ensures.failed (full_in c.in-Err.halt.stop _ _ _ _ c.in-Err.ensures.halted) c.requires.due));
       };
     }
+
+pub returns-in-Err-clause-heard : goal.returns-in-Err-clause-heard
+returns-in-Err-clause-heard g c =
+    heard_stop c.in-Err.halt.stop c.in-Err.halt.refused (came_to c.args.reply.now (Err c.told_of.result)) _ _ (ap answer.Fault c.told_of.ensures.fault) c.told_of.ensures.report c.reserve_freeing.ensures.retires.heard (full_then c.in-Err.halt.stop _ _ (λ stripe stuck. stuck.worn) c.in-Err.ensures.full)
 
 pub commit-requires-clause-due : goal.commit-requires-clause-due
 commit-requires-clause-due g c =

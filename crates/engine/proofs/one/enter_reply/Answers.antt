@@ -1,4 +1,4 @@
-use Rattle.std.proofs.Common.{◌≡◌, ◌∙◌, ℕ, [], refl, sym, ap}
+use Rattle.std.proofs.Common.{◌≡◌, ℕ, [], refl, ap}
 use Rattle.words.specs.Session as asked
 use Rattle.gates.specs.declared.held.Held.{Held}
 use Rattle.gates.specs.declared.report.Report.TheVariants.{Nothing}
@@ -49,6 +49,7 @@ returns-in-Ok g c = record {
           undone = tt;
         };
       };
+  worn = tt;
 }
 
 pub returns-in-Err : goal.returns-in-Err
@@ -70,4 +71,5 @@ returns-in-Err g c = record {
               (one_touches c.args.asks.now.verb c.args.asks.now.key.now c.args.asks.now.value.now) refl refl refl c.in-Err.ensures.worn refl;
         };
       };
+  worn = refl;
 }

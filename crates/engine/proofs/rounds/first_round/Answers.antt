@@ -1,7 +1,7 @@
 use Rattle.std.proofs.Common.{refl, ◌∙◌, ◌+◌, ℕ, false, sym, ap, subst, rules}
 use Rattle.gates.specs.declared.report.Report.TheVariants.{Nothing}
 use Rattle.gates.specs.declared.view.Knowledge.{Knowledge}
-use Rattle.gates.specs.Passes.{known, stripes_of}
+use Rattle.gates.specs.Passes.{ToldBusy, known, stripes_of}
 use Rattle.gates.specs.Helds.{held_stripes, known_to}
 use Rattle.transact.specs.declared.call.Answer.TheVariants as answer
 use Rattle.transact.specs.declared.call.Call.{Call}
@@ -9,10 +9,18 @@ use Rattle.transact.specs.Calls.{call_keys}
 use Rattle.plans.specs.Stops.{faults}
 use Rattle.engine.specs.Answers.{IsAnswered}
 use Rattle.engine.specs.Calls.{promises_of}
-use Rattle.engine.specs.Entering.{given}
+use Rattle.engine.specs.Entering.{at_fault, given}
+use Rattle.epoch.specs.declared.view.View.{View}
+use Rattle.epoch.specs.Seats as epoch
+use Rattle.engine.specs.Stops.{HasHeardWith}
+use Rattle.engine.specs.Visits.{view_of}
+use Rattle.epoch.specs.declared.epochs.Inside.{Inside}
+use Rattle.shards.specs.Heard.{HasHeard}
+use Rattle.transact.specs.Submits.{asked_for}
 use Rattle.engine.specs.Passes.{know}
 use Rattle.engine.specs.Stops.{fault_of}
-use Rattle.engine.proofs.Entering.{given_here, may_begin, parts_of}
+use Rattle.engine.proofs.Entering.{given_here, heard_nothing, may_begin, parts_of}
+use Rattle.engine.proofs.Hearing.{heard_after, heard_given, heard_same, heard_waiting, seats_heard, told_again}
 use Rattle.engine.proofs.Behind.{answered_behind, answered_counted}
 use Rattle.engine.proofs.Later.{failed_outside, this_failed}
 use Rattle.engine.proofs.rounds.first_round.Goals as goal
@@ -72,3 +80,39 @@ returns-in-Ok-clause-hands g c = (
 
 pub returns-in-Err-read-clause-hands : goal.returns-in-Err-read-clause-hands
 returns-in-Err-read-clause-hands g c = (c.end.result, refl, record { outside = c.end.ensures.outside; none = c.end.ensures.none })
+
+pub returns-in-Ok-clause-heard : goal.returns-in-Ok-clause-heard
+returns-in-Ok-clause-heard g c =
+    let before : Knowledge = known c.args.pass.now in
+    let mid : Knowledge = known_to c.take-held.result in
+    let call : Call = g.E.Enters.call_of c.args.asking.now.call.now in
+    let promises = promises_of g.R.Shows.is_steady g.R.Shows.lends (held_stripes c.take-held.result) in
+    let entered = c.in-Ok.entered in
+    let noted : Knowledge = known_to c.enter.new.held in
+    let f0 : ℕ = g.D.Device.failures c.args.device.now in
+    let f1 : ℕ = g.D.Device.failures c.enter.new.device in
+    let had : View = epoch.known c.in-Some.own.own in
+    let has : View = epoch.known c.enter.new.hands.own in
+    let last = c.give_back.ensures.known in
+    seats_heard before _ c.args.hands.now _ c.in-Some.own (record { alloc = c.enter.new.hands.alloc; staged = c.clear.new.self; own = c.enter.new.hands.own }) (sym c.in-Some.ensures.value) refl
+    (subst (λ (k : Knowledge). HasHeardWith before k had has) (sym (search (rules, last)))
+    (heard_after c.args.asking.now.wanted.now before mid (given entered.ends entered.report noted) had had has c.take-held.ensures.told (heard_nothing had)
+    (heard_given g.E.Enters.says entered promises call mid noted f0 f1 had has c.in-Ok.ensures.heard c.in-Ok.ensures.entered.answered)))
+
+pub returns-in-Err-read-clause-heard : goal.returns-in-Err-read-clause-heard
+returns-in-Err-read-clause-heard g c =
+    let before : Knowledge = known c.args.pass.now in
+    let mid : Knowledge = known_to c.take-held.result in
+    let wanted = c.args.asking.now.wanted.now in
+    let outside = c.read.ensures.known in
+    let left = c.fail.ensures.known in
+    let at : Knowledge = at_fault (asked_for (g.E.Enters.call_of c.args.asking.now.call.now)) left.taken in
+    let told : ToldBusy wanted before at = told_again wanted before mid _ left.taken c.take-held.ensures.told left.learned left.told (search (rules, outside) ∙ c.in-Err.ensures.cold.known) in
+    let had : View = epoch.known c.in-Some.own.own in
+    let between : View = epoch.known c.enter.new.hands.own in
+    let has : View = epoch.known c.end.result.own in
+    let began : HasHeard had (view_of c.begin-visit.result) = heard_same had between (view_of c.begin-visit.result) c.in-Err.ensures.heard c.begin-visit.ensures.same in
+    let went : HasHeard had (epoch.known (epoch.seat_in c.read.new.self.hands.own)) = subst (λ (s : Inside). HasHeard had (epoch.known (epoch.seat_in s))) (sym c.read.ensures.same) began in
+    seats_heard before _ c.args.hands.now _ c.in-Some.own c.end.result (sym c.in-Some.ensures.value) refl
+    (subst (λ (k : Knowledge). HasHeardWith before k had has) (sym left.is)
+    (heard_waiting wanted before at had has told (heard_same had (view_of c.read.new.self) has went c.end.ensures.same)))

@@ -1,7 +1,7 @@
 use Rattle.std.proofs.Common.{◌∙◌, ◌+◌, ℕ, false, sym, ap, subst, rules}
 use Rattle.gates.specs.declared.report.Report.TheVariants.{Nothing}
 use Rattle.gates.specs.declared.view.Knowledge.{Knowledge}
-use Rattle.gates.specs.Passes.{known, stripes_of}
+use Rattle.gates.specs.Passes.{ToldBusy, known, stripes_of}
 use Rattle.gates.specs.Helds.{held_stripes, known_to}
 use Rattle.transact.specs.declared.call.Answer.TheVariants as answer
 use Rattle.transact.specs.declared.call.Call.{Call}
@@ -9,10 +9,18 @@ use Rattle.transact.specs.Calls.{call_keys}
 use Rattle.plans.specs.Stops.{faults}
 use Rattle.engine.specs.Answers.{IsAnswered}
 use Rattle.engine.specs.Calls.{promises_of}
-use Rattle.engine.specs.Entering.{given}
+use Rattle.engine.specs.Entering.{at_fault, given}
+use Rattle.epoch.specs.declared.view.View.{View}
+use Rattle.epoch.specs.Seats as epoch
+use Rattle.engine.specs.Stops.{HasHeardWith}
+use Rattle.engine.specs.Visits.{view_of}
+use Rattle.epoch.specs.declared.epochs.Inside.{Inside}
+use Rattle.shards.specs.Heard.{HasHeard}
+use Rattle.transact.specs.Submits.{asked_for}
 use Rattle.engine.specs.Passes.{know}
 use Rattle.engine.specs.Stops.{fault_of}
-use Rattle.engine.proofs.Entering.{given_here, may_begin, parts_of}
+use Rattle.engine.proofs.Entering.{given_here, heard_nothing, may_begin, parts_of}
+use Rattle.engine.proofs.Hearing.{heard_after, heard_given, heard_waiting, told_again}
 use Rattle.engine.proofs.Behind.{answered_behind, answered_counted}
 use Rattle.engine.proofs.Later.{failed_outside, this_failed}
 use Rattle.engine.proofs.rounds.later_round.Goals as goal
@@ -62,3 +70,34 @@ returns-in-Err-read-clause-answered g c =
     cold.planned.entry cold.planned.other cold.unlent c.take-held.ensures.learned c.take-held.ensures.told
     (search (rules, outside) ∙ cold.known) left.learned left.told left.is
     c.told_of-fault.ensures.never_cold c.in-Err-read.ensures.came.never_full (c.in-Err-read.ensures.came.faults ∙ ap (λ (f : ℕ). f + faults stop) cold.no_fault))
+
+pub returns-in-Ok-clause-told : goal.returns-in-Ok-clause-told
+returns-in-Ok-clause-told g c =
+    let before : Knowledge = known c.args.pass.now in
+    let mid : Knowledge = known_to c.take-held.result in
+    let call : Call = g.E.Enters.call_of c.args.asking.now.call.now in
+    let promises = promises_of g.R.Shows.is_steady g.R.Shows.lends (held_stripes c.take-held.result) in
+    let entered = c.in-Ok.entered in
+    let noted : Knowledge = known_to c.enter.new.held in
+    let f0 : ℕ = g.D.Device.failures c.args.device.now in
+    let f1 : ℕ = g.D.Device.failures c.enter.new.device in
+    let had : View = view_of c.args.visit.now in
+    let has : View = view_of c.enter.new.self in
+    let last = c.give_back.ensures.known in
+    subst (λ (k : Knowledge). HasHeardWith before k had has) (sym (search (rules, last)))
+    (heard_after c.args.asking.now.wanted.now before mid (given entered.ends entered.report noted) had had has c.take-held.ensures.told (heard_nothing had)
+    (heard_given g.E.Enters.says entered promises call mid noted f0 f1 had has c.in-Ok.ensures.heard c.in-Ok.ensures.entered.answered))
+
+pub returns-in-Err-read-clause-told : goal.returns-in-Err-read-clause-told
+returns-in-Err-read-clause-told g c =
+    let before : Knowledge = known c.args.pass.now in
+    let mid : Knowledge = known_to c.take-held.result in
+    let wanted = c.args.asking.now.wanted.now in
+    let outside = c.read.ensures.known in
+    let left = c.fail.ensures.known in
+    let at : Knowledge = at_fault (asked_for (g.E.Enters.call_of c.args.asking.now.call.now)) left.taken in
+    let told : ToldBusy wanted before at = told_again wanted before mid _ left.taken c.take-held.ensures.told left.learned left.told (search (rules, outside) ∙ c.in-Err.ensures.cold.known) in
+    let had : View = view_of c.args.visit.now in
+    let has : View = view_of c.read.new.self in
+    let went : HasHeard had has = subst (λ (s : Inside). HasHeard had (epoch.known (epoch.seat_in s))) (sym c.read.ensures.same) c.in-Err.ensures.heard in
+    subst (λ (k : Knowledge). HasHeardWith before k had has) (sym left.is) (heard_waiting wanted before at had has told went)

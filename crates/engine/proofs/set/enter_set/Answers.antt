@@ -1,4 +1,4 @@
-use Rattle.std.proofs.Common.{◌∙◌, arith, ℕ, List, [], ◌∷◌, Some, false, refl, sym, ap, subst}
+use Rattle.std.proofs.Common.{◌∙◌, arith, ℕ, List, [], ◌∷◌, Some, Err, false, refl, sym, ap, subst}
 use Rattle.std.specs.Borrow.{Bor}
 use Rattle.words.specs.declared.command.Command.TheVariants.{Set}
 use Rattle.words.specs.declared.command.When.TheVariants.{Always}
@@ -22,15 +22,15 @@ use Rattle.transact.specs.Tables.{Became, stays, touches}
 use Rattle.shards.specs.declared.shard.Shard.{Shard}
 use Rattle.shards.specs.Shards.{logs_of, shard_meaning, weigh}
 use Rattle.engine.specs.Calls.{IsUndone, promises_of}
-use Rattle.engine.specs.Entering.{given}
+use Rattle.engine.specs.Entering.{given, line_came_to}
+use Rattle.transact.specs.declared.call.Answer.TheVariants as answer
 use Rattle.engine.specs.Memory.{set_call}
 use Rattle.engine.specs.Passes.{know}
-use Rattle.engine.specs.Stops.{IfSpent, IsWornBy, fault_of}
-use Rattle.gates.specs.declared.view.Refused.{Refused}
+use Rattle.engine.specs.Stops.{fault_of}
 use Rattle.gates.specs.Passes.{AreAsTaken}
 use Rattle.engine.proofs.Parts.{there_after}
 use Rattle.engine.proofs.Stopped.{cold_in, full_in, full_then, memory_in, set_stopped}
-use Rattle.engine.proofs.Entering.{counted, done_by, fit_installed, fit_kept, fit_undone, given_still, named_held, parts_of, reply_due, spent_of, stands, told_stop, was_worn}
+use Rattle.engine.proofs.Entering.{counted, done_by, fit_installed, fit_kept, fit_undone, given_still, heard_stop, named_held, parts_of, reply_due, stands, told_stop, was_worn}
 use Rattle.engine.proofs.set.enter_set.Goals as goal
 
 pub reserve_freeing-requires-clause-may : goal.reserve_freeing-requires-clause-may
@@ -70,10 +70,9 @@ returns-in-Err-clause-answered g c = record {
       ((rw c.key.ensures at c.weighs_too_much.ensures.light) c.if-weighs_too_much.false start.seen)));
 }
 
-pub returns-in-Err-clause-worn : goal.returns-in-Err-clause-worn
-returns-in-Err-clause-worn g c =
-    let P : Refused → Type 0 = IsWornBy (g.S.Retires.knows c.args.own.now) (g.S.Retires.knows c.reserve_freeing.new.own) in
-    subst (λ (r : Report). IfSpent r P) (sym c.told_of-fault.ensures.report) (spent_of P c.in-Err.halt.stop c.in-Err.halt.refused (full_then c.in-Err.halt.stop _ _ (λ stripe stuck. stuck.worn) c.in-Err.ensures.full))
+pub returns-in-Err-clause-heard : goal.returns-in-Err-clause-heard
+returns-in-Err-clause-heard g c =
+    heard_stop c.in-Err.halt.stop c.in-Err.halt.refused (line_came_to (Err c.told_of-fault.result.fault) c.told_of-fault.result.report) _ _ (ap answer.Fault c.told_of-fault.ensures.fault) c.told_of-fault.ensures.report c.reserve_freeing.ensures.retires.heard (full_then c.in-Err.halt.stop _ _ (λ stripe stuck. stuck.worn) c.in-Err.ensures.full)
 
 pub commit_line-requires-clause-due : goal.commit_line-requires-clause-due
 commit_line-requires-clause-due g c =

@@ -1,13 +1,12 @@
-use Rattle.std.proofs.Common.{◌≡◌, ◌∙◌, ◌+◌, ◌≤◌, [], ℕ, length, Option, Some, None, IfSome, IsSome, vec_len, vec_capacity, refl, sym, ap, subst}
+use Rattle.std.proofs.Common.{◌≡◌, ◌∙◌, ◌+◌, ◌≤◌, [], ℕ, length, Option, Some, None, IfSome, vec_len, refl, sym, ap, subst}
 use Rattle.words.specs.Encoding.{encoding}
 use Rattle.words.specs.Session.{value_reply}
 use Rattle.words.specs.Store.{Bytes}
 use Rattle.words.specs.Stripes.{stripe_of}
-use Rattle.hybrid.specs.Staging.{AreRight}
 use Rattle.transact.specs.Tables.{joined, value_in}
 use Rattle.shards.specs.Shards.{shard_meaning, shard_store}
 use Rattle.plans.proofs.Plans.{plan_of_get}
-use Rattle.plans.proofs.telling.say_value.Goals as goal
+use Rattle.plans.proofs.telling.say_up_to_limit.Goals as goal
 
 some_then : {A : Type 0} (result : Option A) (P Q : A → Type 0) → ((a : A) → P a → Q a) → IfSome result P → IfSome result Q
 some_then (Some a) P Q turn has = turn a has
@@ -37,4 +36,4 @@ returns-clause-room g c = λ lends right fits.
     let there : parts (stripe_of n c.args.key.now) ≡ Some part = sym (ap parts c.stripe_at-stripe.ensures) ∙ c.part.ensures.value in
     let same : joined contents n parts c.args.key.now ≡ shard_store part c.args.key.now = sym (ap (value_in contents c.args.key.now) (sym there)) in
     c.say_at.ensures.room lends right
-    (subst (λ (v : Option Bytes). vec_len c.args.out.now + length (encoding (value_reply v)) ≤ vec_capacity c.args.out.now) same fits)
+    (subst (λ (v : Option Bytes). vec_len c.args.out.now + length (encoding (value_reply v)) ≤ c.args.limit) same fits)
