@@ -228,9 +228,14 @@ abbrev pub LeavesAt : Paused → Bytes → Type 0
 LeavesAt paused.Input held = held ≡ []
 LeavesAt _ held = Unit {0}
 
+-- All whole requests that a client was fed are answered, its session has not ended, and all replies are written: the output buffer holds
+-- nothing.
+abbrev pub IsAnswered : Progress → (held : Bytes) → Type 0
+IsAnswered standing held = (front standing.unread ≡ Part) × IsOpen (mode_of standing.stage) × (held ≡ [])
+
 -- how a client stands, and what the output buffer holds, where a connection goes on
 abbrev pub GoesOn : Option Ended → Progress → (held : Bytes) → Type 0
-GoesOn None standing held = (front standing.unread ≡ Part) × IsOpen (mode_of standing.stage) × (held ≡ [])
+GoesOn None standing held = IsAnswered standing held
 GoesOn (Some ended) standing held = Unit {0}
 
 -- the endings to which the answering of a piece may come

@@ -1,6 +1,6 @@
 //! The core of a connection, without input or output: it is fed bytes, and says what comes next.
 
-ghost use Rattle.std.specs.Prelude.{◌≡◌, ◌<◌, ◌⊎◌, ◌↔◌, [], ◌++◌, length, OnOk, OnErr, IfOk, IsOk, IsTrue, true, false};
+ghost use Rattle.std.specs.Prelude.{◌≡◌, ◌<◌, ◌⊎◌, ◌↔◌, [], ◌∷◌, ◌++◌, length, OnOk, OnErr, IfOk, IsOk, IsTrue, true, false};
 
 use crate::state::State;
 use bytes::Bytes;
@@ -114,13 +114,17 @@ impl Client {
     }
 
     /// Words for requests to be taken up into. They take no memory until then.
-    pub(crate) fn no_words(&self) -> Words {
+    pub(crate) fn no_words(&self) -> Words
+        ensures { result ≡ [] ∷ [] }
+    {
         Words::one(self.alloc, Word::empty(self.alloc))
     }
 
     /// Lets go what the words hold of the last request. A client waits for its reply, so that is done once the
     /// reply is written.
-    pub(crate) fn let_go(&self, words: &mut Words) {
+    pub(crate) fn let_go(&self, words: &mut Words)
+        ensures { words.new ≡ [] ∷ [] }
+    {
         *words = self.no_words();
     }
 

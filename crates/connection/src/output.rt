@@ -34,10 +34,12 @@ pub(crate) fn flush<W: Write>(out: &mut Vec<u8>, writer: &mut Noted<W>) -> Resul
     Ok(())
 }
 
-/// The most bytes that the output buffer holds where a request is answered.
+/// The most bytes that the output buffer holds behind a reply that the engine put into it, to a GET or an MGET. Behind a reply that is
+/// said it may be full.
 pub(crate) const HELD_BYTES: usize = 65_536;
 
-/// Writes what the output buffer holds, if that is more than [`HELD_BYTES`]: so there is room for the longest reply to a GET behind it.
+/// Writes what the output buffer holds, if that is more than [`HELD_BYTES`]. A buffer that was granted its whole room then has room
+/// for the longest reply to a GET.
 #[inline]
 fn make_room<W: Write>(out: &mut Vec<u8>, writer: &mut Noted<W>) -> Result<(), WriteFault>
     ensures put { IsPut (W.contents (stream_of writer.old)) (W.contents (stream_of writer.new))

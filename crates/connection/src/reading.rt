@@ -1,12 +1,12 @@
 //! What is read of a client: pieces that are cut from blocks, and fed to it.
 
-ghost use Rattle.std.specs.Prelude.{◌≡◌, ◌<◌, ◌≤◌, ◌+◌, ℕ, [], ◌++◌, List, length, OnOk, OnErr, IsOk, IfNone, IsTrue, Some};
+ghost use Rattle.std.specs.Prelude.{◌≡◌, ◌<◌, ◌≤◌, ◌+◌, ℕ, [], ◌∷◌, ◌++◌, List, length, OnOk, OnErr, IsOk, IfNone, IsTrue, Some};
 ghost use Rattle.streams.specs.Streams.{stream_of, told_of, reads_of};
-ghost use Rattle.connection.specs.Served.{HasTaken, HasWaited, LeavesRoom, taken_told, waited_count};
+ghost use Rattle.connection.specs.Served.{IsAnswered, HasTaken, HasWaited, LeavesRoom, taken_told, waited_count};
 ghost use Rattle.std.specs.Io.KnownBytes.{Consumes, IsAtEnd};
 
 use crate::client::Client;
-use crate::serving::Ended;
+use crate::serving::{Ended, Talk};
 use bytes::BytesMut;
 use std::alloc::Global;
 use std::io::Read;
@@ -88,28 +88,28 @@ pub(crate) enum Waiting {
     NoMemory,
 }
 
-/// Reads a piece of at most [`PIECE_BYTES`] bytes, and feeds it to the client. `None` where the connection
-/// goes on.
-pub(crate) fn take_piece<R: Read>(
-    reader: &mut Noted<R>,
-    room: &mut Room,
-    client: &mut Client,
-) -> Option<Ended>
-    requires { room.old.items ≡ [] }
+/// Reads a piece of at most [`PIECE_BYTES`] bytes, and feeds it to the client. It waits where the client sends
+/// nothing: by then every reply is written, and the words of the last request are let go. `None` where the
+/// connection goes on.
+pub(crate) fn take_piece<R: Read>(reader: &mut Noted<R>, talk: &mut Talk) -> Option<Ended>
+    requires answered { IsAnswered talk.old.client talk.old.out.items }
+    requires let_go { talk.old.words ≡ [] ∷ [] }
+    requires room { talk.old.room.items ≡ [] }
     ensures taken { (bytes : List ℕ) × (length bytes ≤ 16384)
         × Consumes (R.remaining (stream_of reader.old)) (R.remaining (stream_of reader.new)) bytes
-        × HasTaken result client.old bytes client.new }
+        × HasTaken result talk.old.client bytes talk.new.client }
     ensures end { result ≡ Some Ended.EndOfInput → IsAtEnd (R.remaining (stream_of reader.new)) }
     ensures told { told_of reader.new ≡ taken_told result (told_of reader.old) }
     ensures fewer { IfNone result (reads_of reader.new < reads_of reader.old) }
-    ensures empty { IfNone result (room.new.items ≡ []) }
-    ensures few { IfNone result (room.new.more ≤ MORE_PIECES) }
+    ensures empty { IfNone result (talk.new.room.items ≡ []) }
+    ensures few { IfNone result (talk.new.room.more ≤ MORE_PIECES) }
+    ensures held { talk.new.out.items ≡ [] }
 {
-    if room.make_room() {
-        take_many(reader, room, client)
+    if talk.room.make_room() {
+        take_many(reader, &mut talk.room, &mut talk.client)
     } else {
-        room.more = 0;
-        take_few(reader, &mut room.block, client)
+        talk.room.more = 0;
+        take_few(reader, &mut talk.room.block, &mut talk.client)
     }
 }
 

@@ -1,7 +1,7 @@
 //! Serving one connection: what a reader gives is answered by the engine, and the replies go to a
 //! writer.
 
-ghost use Rattle.std.specs.Prelude.{◌≡◌, ◌≤◌, ℕ, [], List};
+ghost use Rattle.std.specs.Prelude.{◌≡◌, ◌≤◌, ℕ, [], ◌∷◌, List};
 ghost use Rattle.streams.specs.Streams.{stream_of, told_of, HasFailed};
 ghost use Rattle.engine.specs.Passes.{knows, Rests, stripe_count};
 ghost use Rattle.engine.specs.Calls.{promises_of};
@@ -26,8 +26,8 @@ use words::word::Words;
 
 /// The room that the output buffer has at least, in bytes: every line fits.
 const LINE_ROOM: usize = 128;
-/// The room that the output buffer has where memory serves, in bytes: for what it holds where a request is answered, and for a value
-/// behind that with its first line, of at most 8 bytes, and its line end.
+/// The room that the output buffer has where memory serves, in bytes: for the [`HELD_BYTES`] that stay behind a reply that the engine
+/// put into it, and for a value behind these with its first line, of at most 8 bytes, and its line end.
 const OUTPUT_BYTES: usize = HELD_BYTES + VALUE_BYTES_MAX + 10;
 
 /// How a connection ended.
@@ -91,6 +91,7 @@ impl Talk {
     /// A connection that was fed nothing, with this output buffer. It takes no memory.
     pub(crate) fn new(alloc: Global, out: Vec<u8>) -> Talk
         ensures begins { result.client ≡ beginning }
+        ensures words { result.words ≡ [] ∷ [] }
         ensures room { result.room.items ≡ [] }
         ensures out { result.out ≡ out }
     {
@@ -128,6 +129,7 @@ fn converse<T: Wait, L: Latch, R: ReadReady, W: Write, D: Device>(
     requires rests { Rests D.Receipt.is_steady store.now.engine.now pass.old }
     requires watches { (knows D.failures pass.old).watched ≡ [] }
     requires begins { talk.old.client ≡ beginning }
+    requires words { talk.old.words ≡ [] ∷ [] }
     requires room { talk.old.room.items ≡ [] }
     requires empty { talk.old.out.items ≡ [] }
     ensures served { (bytes text : List ℕ)
@@ -141,7 +143,7 @@ fn converse<T: Wait, L: Latch, R: ReadReady, W: Write, D: Device>(
     ensures attends { Attends (knows D.failures pass.new) talk.new.client }
 {
     loop {
-        if let Some(ended) = take_piece(reader, &mut talk.room, &mut talk.client) {
+        if let Some(ended) = take_piece(reader, talk) {
             return ended;
         }
         if let Some(ended) = answer_piece(store, talk, reader, writer, pass) {
@@ -186,9 +188,10 @@ pub(crate) fn forget<T: Wait, L: Latch, D: Device>(
 /// It reads pieces of at most 16,384 bytes. Where a piece has that many, and all of its complete requests are
 /// answered, the reader is asked for what is there already, and that is answered too, up to 15 pieces. The
 /// replies of all complete requests are written before the next read that waits, in one write where they fit
-/// into 65,536 bytes and the writer takes them. No memory is asked for from when a call has changed the store until its
-/// reply is said: a reply that does not fit into the output buffer is written after what the buffer holds,
-/// piece by piece. However the connection ends, what its session watched is forgotten.
+/// into 65,536 bytes, the output buffer was granted its room, and the writer takes them. No memory is asked for
+/// from when a call has changed the store until its reply is said: a reply that does not fit into the output
+/// buffer is written after what the buffer holds, piece by piece. However the connection ends, what its session
+/// watched is forgotten.
 ///
 /// # Memory
 ///
@@ -201,8 +204,8 @@ pub(crate) fn forget<T: Wait, L: Latch, D: Device>(
 /// one byte a piece costs 41 bytes a byte, or 81 just after the list has doubled. Only where memory was
 /// refused for a word do whole words stay in the pieces: then the request's 132,358 bytes stand in at most ten
 /// blocks. The words of a request, 131,072 bytes at most, stay until the reply is written. The output buffer has
-/// 98,314 bytes. A transaction keeps at most 128 commands with 131,072 bytes of words, and a session at most 128
-/// watched keys.
+/// 98,314 bytes, or 128 where more are refused. A transaction keeps at most 128 commands with 131,072 bytes of
+/// words, and a session at most 128 watched keys.
 pub fn serve<T: Wait, L: Latch, R: ReadReady, W: Write, D: Device>(
     rt: &T,
     alloc: Global,

@@ -33,7 +33,7 @@ use Rattle.engine.specs.Answers.{IsAnswered}
 use Rattle.engine.specs.Calls.{IsDone, IsUndone, Promises}
 use Rattle.engine.specs.Entering.{given}
 use Rattle.engine.specs.Passes.{Known, OfSeats, know}
-use Rattle.engine.specs.Stops.{HasHeardFor, HasHeardWith, IfSpent, IsWornBy, TellsFull, fault_of}
+use Rattle.engine.specs.Stops.{HasHeardFor, HasHeardWith, IfLacking, IfSpent, IsWornBy, TellsFull, fault_of}
 use Rattle.engine.proofs.Later.{told_both}
 
 -- a list is not a part of its own tail
@@ -185,3 +185,10 @@ never_full (stop.Cold receipts) never = tt
 -- what a pass was told that took its stripes once more
 pub told_again : (stripes : List ℕ) (before mid outside taken : Knowledge) → ToldBusy stripes before mid → Learned outside taken → ToldBusy stripes outside taken → outside ≡ mid → ToldBusy stripes before taken
 told_again stripes before mid outside taken told learned again same = told_both stripes before mid taken told (subst (λ (k : Knowledge). ToldBusy stripes k taken) same again)
+
+-- a fault that says that room was lacking
+pub lacking_then : (f : Fault) (P : Type 0) → P → IfLacking f P
+lacking_then fault.OutOfMemory P lacks = tt
+lacking_then fault.DeviceFault P lacks = lacks
+lacking_then fault.StoreFull P lacks = lacks
+lacking_then fault.CommitsWornOut P lacks = tt

@@ -32,6 +32,13 @@ module _ {R : Type 0} where
   report_of (stop.StoreFull stripe) refused = report.Full stripe refused
   report_of (stop.Cold receipts) refused = report.Nothing
 
+-- where a fault says that a stripe is full, or that a call of the device failed, this
+abbrev pub IfLacking : Fault → Type 0 → Type 0
+IfLacking fault.OutOfMemory P = Unit {0}
+IfLacking fault.DeviceFault P = P
+IfLacking fault.StoreFull P = P
+IfLacking fault.CommitsWornOut P = Unit {0}
+
 -- where a report says that a stripe is full, this of what the epochs refused
 abbrev pub IfSpent : Report → (Refused → Type 0) → Type 0
 IfSpent report.Nothing P = Unit {0}

@@ -21,7 +21,12 @@ ghost use Rattle.engine.specs.Calls.{promises_of};
 ghost use Rattle.engine.specs.Entering.{AreReady, HasEntered, MayBegin, WasCold, assigning_call, line_came_to, own_answer};
 ghost use Rattle.engine.specs.Memory.{settings_call};
 ghost use Rattle.engine.specs.Passes.{HasHands, OfSeats, know};
-ghost use Rattle.engine.specs.Stops.{HasHeardFor, HasHeardIn, HasHeardWith};
+ghost use Rattle.engine.specs.Stops.{HasHeardFor, HasHeardIn, HasHeardWith, IfLacking};
+ghost use Rattle.gates.specs.Helds.{held_parts};
+ghost use Rattle.gates.specs.Sets.{part_at};
+ghost use Rattle.plans.specs.Lacking.{FoundLacking};
+ghost use Rattle.shards.specs.Shards.{logs_of};
+ghost use Rattle.transact.specs.Submits.{IfFault};
 
 use crate::enter::{Entered, Stopped, enter, told_of};
 use crate::rounds::{Asking, Enters, run};
@@ -162,6 +167,9 @@ fn enter_light<L: Latch, R: Shows, D: Device<Receipt = R>, S: Retires>(
     requires is { S.is_of site.now.epochs.now own.old }
     ensures is { S.is_of site.now.epochs.now own.new }
     ensures heard { HasHeardFor own_answer result (S.knows own.old) (S.knows own.new) }
+    ensures lacks { IfFault result.answer (λ fault. IfLacking fault (FoundLacking
+        (λ due. due ≡ writes_set (pairs_of assigning.now.words.now)) (held_stripes held.old)
+        (logs_of (part_at (held_parts held.old))) (logs_of (part_at (held_parts held.new))))) }
     ensures entered { HasEntered (promises_of R.is_steady R.lends (held_stripes held.old)) (assigning_call assigning.now) own_answer
         (held.old, D.failures device.old) (held.new, D.failures device.new) result }
 {

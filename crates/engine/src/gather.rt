@@ -55,9 +55,9 @@ pub enum GotAll {
 /// What an MGET is answered that has said nothing.
 #[derive(Drop)]
 pub enum Gathered {
-    /// The values of its keys, which lay near.
+    /// The values of its keys.
     Found(Bulks),
-    /// The answer to it, since some did not.
+    /// The answer to it, where it was planned, or was not done.
     Planned(Answer),
 }
 
@@ -161,7 +161,8 @@ fn got_all_of(spoken: Result<Spoken, Fault>) -> GotAll
     }
 }
 
-/// Runs an MGET over the parts that are held. Where a value does not lie near, it is planned.
+/// Runs an MGET over the parts that are held. Where a value lies neither near nor on a staged page, or memory is refused for the text, it
+/// is planned.
 ///
 /// # Errors
 ///

@@ -8,7 +8,8 @@
 //! the call is answered, which keeps the places of these pages from being used anew.
 //!
 //! GET, MGET, a SET without an option, MSET and other commands of one key have ways of their own ([`Engine::say`], [`Engine::say_values`],
-//! [`Engine::set`], [`Engine::set_all`], [`Engine::one`]), with no plan made.
+//! [`Engine::set`], [`Engine::set_all`], [`Engine::one`]). No plan is made there, unless a value does not lie near or the writes may weigh too
+//! much.
 //! Background threads make their steps by a [`Pass`] too.
 #![tactic(auto)]
 

@@ -21,7 +21,8 @@ ghost use Rattle.engine.specs.Calls.{promises_of};
 ghost use Rattle.engine.specs.Entering.{AreReady, HasEntered, MayBegin, WasCold, came_to, command_asked, one_call_of, own_answer};
 ghost use Rattle.engine.specs.Memory.{AsksNoMemory, one_call};
 ghost use Rattle.engine.specs.Passes.{HasHands, OfSeats, know};
-ghost use Rattle.engine.specs.Stops.{HasHeardFor, HasHeardIn, HasHeardWith, worn_out};
+ghost use Rattle.engine.specs.Stops.{HasHeardFor, HasHeardIn, HasHeardWith, IfLacking, worn_out};
+ghost use Rattle.plans.specs.Reserving.{LacksRoomToPut};
 
 use crate::enter::{Entered, Stopped, enter, told_of};
 use crate::rounds::{Asking, Enters, run};
@@ -358,6 +359,8 @@ fn enter_put<L: Latch, R: Shows, D: Device<Receipt = R>, S: Retires>(
     requires is { S.is_of site.now.epochs.now own.old }
     ensures is { S.is_of site.now.epochs.now own.new }
     ensures heard { HasHeardFor own_answer (came_to reply.now result) (S.knows own.old) (S.knows own.new) }
+    ensures lacks { IfErr result (λ stopped. IfLacking stopped.fault (LacksRoomToPut (held_stripes held.old)
+        (asks.now.key.now, option_copied value.entry) (part_at (held_parts held.old)) (part_at (held_parts held.new)))) }
     ensures entered { HasEntered (promises_of R.is_steady R.lends (held_stripes held.old)) (one_call_of asks.now) own_answer
         (held.old, D.failures device.old) (held.new, D.failures device.new) (came_to reply.now result) }
 {

@@ -68,6 +68,7 @@ impl Says for Saying<'_> {
 
 /// Runs a call that only reads in one hold of its stripes, if what its keys have lies near and the buffer has room for the reply. `None`
 /// otherwise: it was not answered then.
+#[inline(always)]
 pub(crate) fn say_at_once<T: Wait, L: Latch, R: Shows>(
     rt: &T,
     site: &Site<L, R>,
@@ -101,6 +102,7 @@ pub(crate) fn say_at_once<T: Wait, L: Latch, R: Shows>(
 
 /// Runs a call that only reads over the parts that are held, if what its keys have lies near and the buffer has room for the reply:
 /// appends it, and commits the one entry. `None` otherwise: nothing has changed then.
+#[inline(always)]
 fn enter_spoken<L: Latch, R: Shows>(
     site: &Site<L, R>,
     held: &mut Held<'_, Shard<R>>,
@@ -135,6 +137,7 @@ fn enter_spoken<L: Latch, R: Shows>(
 }
 
 /// Says what the keys of such a call have, if it lies near and the buffer has room for the reply.
+#[inline(always)]
 fn say<R: Shows>(
     held: &mut Held<'_, Shard<R>>,
     call: &Speaking,

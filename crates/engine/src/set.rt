@@ -1,6 +1,6 @@
 //! The short way of a SET without an option, whose key and value stay the caller's.
 
-ghost use Rattle.std.specs.Prelude.{◌≡◌, [], ℕ, false, IfErr};
+ghost use Rattle.std.specs.Prelude.{◌≡◌, [], ℕ, Some, false, IfErr};
 ghost use Rattle.words.specs.declared.command.Command.TheVariants as command;
 ghost use Rattle.words.specs.declared.command.When.TheVariants.{Always};
 ghost use Rattle.words.specs.declared.history.Operation.TheVariants.{Run};
@@ -19,7 +19,9 @@ ghost use Rattle.engine.specs.Calls.{promises_of};
 ghost use Rattle.engine.specs.Entering.{MayBeGiven, MayEnter, asks_set, given, line_came_to, own_answer, setting_call};
 ghost use Rattle.engine.specs.Memory.{set_call};
 ghost use Rattle.engine.specs.Passes.{HasHands, OfSeats, know};
-ghost use Rattle.engine.specs.Stops.{HasHeardFor, HasHeardWith};
+ghost use Rattle.engine.specs.Stops.{HasHeardFor, HasHeardWith, IfLacking};
+ghost use Rattle.gates.specs.Sets.{part_at};
+ghost use Rattle.plans.specs.Reserving.{LacksRoomToPut};
 
 use crate::enter::{Stopped, told_of};
 use crate::site::Site;
@@ -106,6 +108,8 @@ pub(crate) fn enter_set<L: Latch, R: Shows, D: Device<Receipt = R>, S: Retires>(
     requires is { S.is_of site.now.epochs.now own.old }
     ensures is { S.is_of site.now.epochs.now own.new }
     ensures heard { HasHeardFor own_answer (line_came_to result.0 result.1) (S.knows own.old) (S.knows own.new) }
+    ensures lacks { IfErr result.0 (λ fault. IfLacking fault (LacksRoomToPut (held_stripes held.old) (key.now, Some value.now)
+        (part_at (held_parts held.old)) (part_at (held_parts held.new)))) }
     ensures back { MayBeGiven R.is_steady false result.1 held.old held.new }
     ensures answered { IsAnswered (promises_of R.is_steady R.lends (held_stripes held.old)) [] (set_call key.now value.now)
         (answer_of result.0) (know (known_to held.old) (D.failures device.old))

@@ -128,6 +128,7 @@ pub fn say_value<R: Shows, P: Parts<Shard<R>>>(
 }
 
 /// Says what a key has, as [`say_value`] does, if the buffer then holds at most `limit` bytes.
+#[inline(always)]
 fn say_up_to_limit<R: Shows, P: Parts<Shard<R>>>(
     parts: &mut P,
     key: &Hashed,

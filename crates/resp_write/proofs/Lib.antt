@@ -1,3 +1,4 @@
+pub mod Bounds
 pub mod Given
 pub mod LineLengths
 pub mod SaidLengths

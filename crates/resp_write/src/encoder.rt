@@ -6,6 +6,7 @@ ghost use Rattle.words.specs.Session.{line_reply, value_reply, values_reply};
 ghost use Rattle.streams.specs.Streams.{IsSent, stream_of, told_of, told_when};
 ghost use Rattle.resp_write.specs.Lines.{IsLine};
 
+use crate::bound::surely_fits;
 use crate::sink::Length;
 use crate::walk::{put_line, put_reply, put_value, put_values};
 use std::alloc::AllocError;
@@ -47,8 +48,13 @@ pub fn encode_within(reply: &Reply, out: &mut Vec<u8>) -> bool
     ensures room { IsTrue (not result) → vec_capacity out.new ≡ vec_capacity out.old }
     ensures capacity { vec_capacity out.old ≤ vec_capacity out.new }
 {
+    let room = out.capacity() - out.len();
+    if surely_fits(reply, room) {
+        append(reply, out);
+        return true;
+    }
     match encoded_len(reply) {
-        Some(len) if len <= out.capacity() - out.len() => {
+        Some(len) if len <= room => {
             append(reply, out);
             true
         }

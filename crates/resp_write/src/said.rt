@@ -67,6 +67,7 @@ impl SaidAll {
         ensures none { IfSome result (λ said. said ≡ []) }
         ensures done { IfSome result (λ said. out.new.items ≡ out.old.items ++ header 42 count) }
         ensures full { IfNone result (out.new.items ≡ out.old.items) }
+        ensures no_more { IfNone result (vec_capacity out.new ≡ vec_capacity out.old) }
         ensures capacity { vec_capacity out.old ≤ vec_capacity out.new }
     {
         let mut buffer = Buffer::new();
@@ -99,6 +100,7 @@ pub fn say_within(value: Option<&[u8]>, out: &mut Vec<u8>) -> Option<Said>
     ensures said { IfSome result (λ said. said ≡ option_copied value.entry) }
     ensures done { IfSome result (λ said. out.new.items ≡ out.old.items ++ encoding (value_reply said)) }
     ensures full { IfNone result (out.new.items ≡ out.old.items) }
+    ensures no_more { IfNone result (vec_capacity out.new ≡ vec_capacity out.old) }
     ensures capacity { vec_capacity out.old ≤ vec_capacity out.new }
 {
     let limit = out.capacity();
@@ -114,6 +116,7 @@ pub fn say_up_to(value: Option<&[u8]>, limit: usize, out: &mut Vec<u8>) -> Optio
     ensures said { IfSome result (λ said. said ≡ option_copied value.entry) }
     ensures done { IfSome result (λ said. out.new.items ≡ out.old.items ++ encoding (value_reply said)) }
     ensures full { IfNone result (out.new.items ≡ out.old.items) }
+    ensures no_more { IfNone result (vec_capacity out.new ≡ vec_capacity out.old) }
     ensures capacity { vec_capacity out.old ≤ vec_capacity out.new }
 {
     match value {
@@ -132,6 +135,7 @@ fn say_bytes(bytes: &[u8], limit: usize, out: &mut Vec<u8>) -> Option<Said>
     ensures said { IfSome result (λ said. said ≡ Some bytes.now) }
     ensures done { IfSome result (λ said. out.new.items ≡ out.old.items ++ encoding (value_reply (Some bytes.now))) }
     ensures full { IfNone result (out.new.items ≡ out.old.items) }
+    ensures no_more { IfNone result (vec_capacity out.new ≡ vec_capacity out.old) }
     ensures capacity { vec_capacity out.old ≤ vec_capacity out.new }
 {
     let mut buffer = Buffer::new();
@@ -162,6 +166,7 @@ fn say_null(limit: usize, out: &mut Vec<u8>) -> Option<Said>
     ensures said { IfSome result (λ said. said ≡ None) }
     ensures done { IfSome result (λ said. out.new.items ≡ out.old.items ++ encoding (value_reply None)) }
     ensures full { IfNone result (out.new.items ≡ out.old.items) }
+    ensures no_more { IfNone result (vec_capacity out.new ≡ vec_capacity out.old) }
     ensures capacity { vec_capacity out.old ≤ vec_capacity out.new }
 {
     if limit - out.len() < 5 {

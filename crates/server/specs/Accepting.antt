@@ -1,5 +1,5 @@
--- When no connection comes any more.
-use Rattle.std.specs.Prelude.{◌≢◌, Result, Ok, Err}
+-- When no connection comes any more, and what a client reads that is turned away.
+use Rattle.std.specs.Prelude.{ℕ, ◌≢◌, Result, Ok, Err, List, [], ◌∷◌, ◌++◌, codes}
 use Rattle.std.specs.IoError.{error_kind}
 use Rattle.std.specs.declared.io.Error.{Error}
 use Rattle.std.specs.declared.io.ErrorKind.{ErrorKind}
@@ -9,3 +9,7 @@ use Rattle.std.specs.declared.io.ErrorKind.TheVariants.{ConnectionAborted}
 abbrev pub IsFailure : {T : Type 0} → Result T Error → Type 0
 IsFailure (Ok stream) = ⊥
 IsFailure (Err error) = error_kind error ≢ ConnectionAborted
+
+-- the line of a client that is turned away, with its end
+abbrev pub turned_away_line : List ℕ
+turned_away_line = codes "-ERR max number of clients reached" ++ 13 ∷ 10 ∷ []

@@ -1,13 +1,15 @@
 //! Listening, and handing each connection to a worker.
 
 ghost use Rattle.std.specs.Duration.{as_nanos};
-ghost use Rattle.std.specs.Prelude.{◌≡◌, ◌≢◌, ◌*◌, ◌↔◌, true, false, IfErr, IsErr, IsTrue};
-ghost use Rattle.server.specs.Accepting.{IsFailure};
+ghost use Rattle.std.specs.Net.Addr.{ipv4_octets};
+ghost use Rattle.std.specs.Net.Socket.{v4_ip, v4_port};
+ghost use Rattle.std.specs.Prelude.{◌≡◌, ◌≢◌, ◌*◌, ◌↔◌, ◌∷◌, [], true, false, IfErr, IsErr, IsTrue};
+ghost use Rattle.server.specs.Accepting.{IsFailure, turned_away_line};
 
 use crate::fault::ServerFault;
 use crossbeam_channel::Sender;
 use options::Options;
-use sockets::{Leaving, close_later};
+use sockets::{Leaving, Serving, close_later};
 use std::io;
 use std::io::{ErrorKind, Write};
 use std::net::{Ipv4Addr, Net, SocketAddrV4, TcpListener, TcpStream};
@@ -17,10 +19,7 @@ use std::time::Duration;
 
 /// How many milliseconds a connection waits for a worker to come free, before it is turned away.
 const PATIENCE_MILLISECONDS: u64 = 100;
-/// What a client reads that is turned away.
-const TURNED_AWAY: &[u8] = b"-ERR max number of clients reached\r\n";
-
-/// Listens on the port of the options, at 127.0.0.1.
+/// Listens on the port of the options, at 127.0.0.1. The line that asks the system for it is left to trust.
 ///
 /// # Errors
 ///
@@ -28,8 +27,15 @@ const TURNED_AWAY: &[u8] = b"-ERR max number of clients reached\r\n";
 pub fn listen<R: Net>(net: &R, options: &Options) -> Result<R::Listener, ServerFault>
     ensures { IfErr result (λ fault. fault ≡ ServerFault.CannotListen) }
 {
-    let address = SocketAddrV4::new(Ipv4Addr::LOCALHOST, options.port);
-    TcpListener::bind(net, address).map_err(|_| ServerFault::CannotListen)
+    TcpListener::bind(net, address_of(options)).map_err(|_| ServerFault::CannotListen)
+}
+
+/// Where a server with these options listens.
+fn address_of(options: &Options) -> SocketAddrV4
+    ensures ip { ipv4_octets (v4_ip result) ≡ 127 ∷ 0 ∷ 0 ∷ 1 ∷ [] }
+    ensures port { v4_port result ≡ options.now.port }
+{
+    SocketAddrV4::new(Ipv4Addr::LOCALHOST, options.port)
 }
 
 /// Where connections come in, and whether it ever failed to give one.
@@ -73,10 +79,14 @@ fn has_failed(came: &io::Result<TcpStream>) -> bool
 
 /// Accepts so many connections and no more, and hands each to a worker that is free or comes free soon. One
 /// for which there is none is turned away. Once it returns nothing can be handed over. It goes on until one cannot be accepted.
+///
+/// Each is counted as served before it is handed over, so that none is left out between here and its worker, who ends the count.
+/// One that is turned away is not counted any more.
 pub(crate) fn accept_all<R: Clock + Wait>(
     rt: &R,
     door: &mut Door,
     count: u32,
+    serving: &Serving,
     workers: Sender<TcpStream>,
     closer: Sender<Leaving>,
 ) -> Result<(), ServerFault>
@@ -86,7 +96,9 @@ pub(crate) fn accept_all<R: Clock + Wait>(
 {
     for _ in 0..count {
         let stream = accept(rt, door)?;
+        serving.begin();
         if let Err(refused) = workers.send_timeout(rt, stream, patience()) {
+            serving.end();
             turn_away(rt, refused.into_inner(), &closer);
         }
     }
@@ -118,7 +130,8 @@ fn accept(rt: &impl Wait, door: &mut Door) -> Result<TcpStream, ServerFault>
     unreachable!()
 }
 
-/// Tells a client that there is no worker for it, and has its connection closed. It waits for nothing.
+/// Tells a client that there is no worker for it, and has its connection closed. It waits for no client, but
+/// for the closer where that has not taken the 64 connections that were handed over last.
 fn turn_away<R: Clock + Wait>(rt: &R, stream: TcpStream, closer: &Sender<Leaving>) {
     if tell(&stream).is_ok() {
         close_later(rt, stream, closer);
@@ -129,5 +142,12 @@ fn turn_away<R: Clock + Wait>(rt: &R, stream: TcpStream, closer: &Sender<Leaving
 /// it.
 fn tell(mut stream: &TcpStream) -> io::Result<()> {
     stream.set_nonblocking(true)?;
-    stream.write_all(TURNED_AWAY)
+    stream.write_all(turned_away())
+}
+
+/// What a client reads that is turned away.
+fn turned_away() -> &'static [u8]
+    ensures { result.now ≡ turned_away_line }
+{
+    b"-ERR max number of clients reached\r\n"
 }

@@ -13,7 +13,8 @@ pub enum ServerFault {
     /// The address can't be listened on, as where another process listens on it.
     #[error("garnetd: cannot listen")]
     CannotListen,
-    /// The file of the device can't be made or emptied, as where its folder does not exist.
+    /// The file of the device can't be made anew, or has no further handle, as where its folder does not exist. One that is there is
+    /// removed before.
     #[error("garnetd: cannot open device")]
     CannotOpenDevice,
     /// The system gives no further connection, as where the process has too many files open.

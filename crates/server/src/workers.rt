@@ -1,8 +1,8 @@
 //! A server: the thread that accepts, one for each worker, one that closes, and up to three that work in the background.
 
-ghost use Rattle.std.specs.Prelude.{◌≡◌, ◌≢◌, ◌+◌, [], IfErr, IfOk, All, length, vec_len};
+ghost use Rattle.std.specs.Prelude.{◌≡◌, ◌≢◌, ◌+◌, ◌↔◌, [], false, Err, IfErr, IfOk, IsTrue, All, length, vec_len};
 ghost use Rattle.engine.specs.Passes.{knows, Rests, stripe_count};
-ghost use Rattle.upkeep.specs.Rounds.{laps_of};
+ghost use Rattle.upkeep.specs.Rounds.{laps_of, places_of};
 ghost use Rattle.engine.specs.declared.TheConstants.{BACKGROUND_PASSES};
 
 use crate::accepting::{Door, accept_all};
@@ -128,7 +128,16 @@ where
             ensures listens { IfErr result (λ fault. fault ≢ ServerFault.CannotListen) }
             ensures opened { IfErr result (λ fault. fault ≢ ServerFault.CannotOpenDevice) }
         {
-            let came = start_and_accept(rt, scope, shared, listener, options, passes, to_workers);
+            let came = start_and_accept(
+                rt,
+                scope,
+                shared,
+                &mut Door::new(&listener),
+                options,
+                passes,
+                to_workers,
+            );
+            drop(listener);
             shared.serving.close();
             came
         },
@@ -140,7 +149,7 @@ fn start_and_accept<'s, 'e, 'a, R, L, D>(
     rt: &'s R,
     scope: &Scope<'s, &'e ()>,
     shared: &'s Shared<'a, L, D>,
-    listener: TcpListener,
+    door: &mut Door,
     options: &Options,
     passes: Vec<Pass<D>>,
     to_workers: Sender<TcpStream>,
@@ -150,16 +159,19 @@ where
     L: Latch + Sync,
     D: Device + Send + Sync,
     D::Receipt: Send + Sync,
+    requires door { door.old.failed ≡ false }
     requires rest { All (Rests D.Receipt.is_steady shared.now.engine.now) passes.items }
     requires watch { All (λ pass. (knows D.failures pass).watched ≡ []) passes.items }
     ensures listens { IfErr result (λ fault. fault ≢ ServerFault.CannotListen) }
     ensures opened { IfErr result (λ fault. fault ≢ ServerFault.CannotOpenDevice) }
+    ensures cause { IsTrue door.new.failed ↔ (result ≡ Err ServerFault.CannotAccept) }
 {
     let to_closer = start_threads(rt, scope, shared, options, passes)?;
     accept_all(
         rt,
-        &mut Door::new(&listener),
+        door,
         options.accept,
+        &shared.serving,
         to_workers,
         to_closer,
     )
@@ -223,18 +235,19 @@ where
     ensures fault { IfErr result (λ fault. fault ≡ ServerFault.OutOfMemory) }
 {
     let all = Background::new(rt.alloc(), engine.stripes(), options.places)?;
-    let passes = start_chores(rt, scope, engine, passes, all.cleaner, serving)?;
+    let passes = start_chores(rt, scope, options, engine, passes, all.cleaner, serving)?;
     if D::Receipt::hold_pages() {
         return Ok(passes);
     }
-    let passes = start_chores(rt, scope, engine, passes, all.evictor, serving)?;
-    start_chores(rt, scope, engine, passes, all.flusher, serving)
+    let passes = start_chores(rt, scope, options, engine, passes, all.evictor, serving)?;
+    start_chores(rt, scope, options, engine, passes, all.flusher, serving)
 }
 
 /// Starts a thread for these chores, with the last pass, and gives the others back.
 fn start_chores<'s, 'e, R, D>(
     rt: &'s R,
     scope: &Scope<'s, &'e ()>,
+    options: &Options,
     engine: &'s Engine<D>,
     mut passes: Vec<Pass<D>>,
     chores: Chores,
@@ -247,6 +260,7 @@ where
     requires rest { All (Rests D.Receipt.is_steady engine.now) passes.items }
     requires watch { All (λ pass. (knows D.failures pass).watched ≡ []) passes.items }
     requires laps { length (laps_of chores) ≡ stripe_count engine.now }
+    requires places { places_of chores ≡ options.now.places }
     ensures rest { IfOk result (λ others. All (Rests D.Receipt.is_steady engine.now) others.items) }
     ensures watch { IfOk result (λ others. All (λ pass. (knows D.failures pass).watched ≡ []) others.items) }
     ensures fault { IfErr result (λ fault. fault ≡ ServerFault.OutOfMemory) }
@@ -254,7 +268,7 @@ where
     let Some(pass) = passes.pop() else {
         return Ok(passes);
     };
-    start_one(rt, scope, engine, pass, chores, serving)?;
+    start_one(rt, scope, options, engine, pass, chores, serving)?;
     Ok(passes)
 }
 
@@ -262,6 +276,7 @@ where
 fn start_one<'s, 'e, R, D>(
     rt: &'s R,
     scope: &Scope<'s, &'e ()>,
+    options: &Options,
     engine: &'s Engine<D>,
     pass: Pass<D>,
     chores: Chores,
@@ -273,6 +288,7 @@ where
     D::Receipt: Send + Sync,
     requires rests { Rests D.Receipt.is_steady engine.now pass }
     requires laps { length (laps_of chores) ≡ stripe_count engine.now }
+    requires places { places_of chores ≡ options.now.places }
     ensures { IfErr result (λ fault. fault ≡ ServerFault.OutOfMemory) }
 {
     scope.spawn(

@@ -1,7 +1,11 @@
 //! A worker, who serves one connection after the other.
 
-ghost use Rattle.std.specs.Prelude.{◌≡◌, ◌↔◌, [], IsSome, IsTrue};
-ghost use Rattle.engine.specs.Passes.{knows, Rests};
+ghost use Rattle.std.specs.Io.KnownBytes.{Appends, Consumes, IsAtEnd};
+ghost use Rattle.std.specs.Prelude.{◌≡◌, ◌↔◌, ℕ, List, [], IsSome, IsTrue};
+ghost use Rattle.streams.specs.Streams.{HasFailed, stream_of, told_of};
+ghost use Rattle.engine.specs.Passes.{knows, Rests, stripe_count};
+ghost use Rattle.engine.specs.Calls.{promises_of};
+ghost use Rattle.connection.specs.Served.{Served, reader_told, writer_told};
 ghost use Rattle.server.specs.Closing.{has_client_by};
 
 use crate::ending_list::Endings;
@@ -11,10 +15,11 @@ use device::Device;
 use engine::{Engine, Pass};
 use gates::Latch;
 use sockets::{ClosedLater, Leaving, Serving, Socket, SocketReader, SocketWriter, close_later};
+use std::io::Write;
 use std::net::TcpStream;
 use std::rt::Clock;
 use std::sync::Wait;
-use streams::Noted;
+use streams::{Noted, ReadReady};
 
 /// What all workers share.
 #[derive(Drop)]
@@ -29,7 +34,8 @@ pub(crate) struct Shared<'a, L: Latch, D: Device> {
 }
 
 /// Serves connections as they are handed over, one after the other, until nobody can hand over another.
-/// The pass is kept from one to the next.
+/// The pass is kept from one to the next. Each was counted as served before it was handed over (`accept_all`), and is until it
+/// has been.
 pub(crate) fn work<R: AllocGlobal + Clock + Wait, L: Latch, D: Device>(
     rt: &R,
     shared: &Shared<L, D>,
@@ -46,8 +52,10 @@ pub(crate) fn work<R: AllocGlobal + Clock + Wait, L: Latch, D: Device>(
         let Ok(stream) = shared.handed.recv(rt) else {
             return pass;
         };
-        shared.serving.begin();
-        let (back, ended) = serve_stream(rt, shared, &stream, pass);
+        let socket = Socket::new(&stream);
+        let mut reader = Noted::new(SocketReader::new(rt, &socket, &shared.serving));
+        let mut writer = Noted::new(SocketWriter::new(&socket));
+        let (back, ended) = serve_stream(rt, shared, &mut reader, &mut writer, pass);
         shared.serving.end();
         pass = back;
         // Without memory for it, the ending is not listed.
@@ -57,26 +65,34 @@ pub(crate) fn work<R: AllocGlobal + Clock + Wait, L: Latch, D: Device>(
     unreachable!()
 }
 
-/// Serves one connection until it ends.
-fn serve_stream<R: AllocGlobal + Clock + Wait, L: Latch, D: Device>(
+/// Serves one connection until it ends, by its reader and its writer.
+fn serve_stream<R: AllocGlobal + Wait, L: Latch, D: Device, I: ReadReady, O: Write>(
     rt: &R,
     shared: &Shared<L, D>,
-    stream: &TcpStream,
+    reader: &mut Noted<I>,
+    writer: &mut Noted<O>,
     pass: Pass<D>,
 ) -> (Pass<D>, Ended)
     requires rests { Rests D.Receipt.is_steady shared.now.engine.now pass }
     requires watches { (knows D.failures pass).watched ≡ [] }
+    ensures served { (bytes text : List ℕ)
+        × Consumes (I.remaining (stream_of reader.old)) (I.remaining (stream_of reader.new)) bytes
+        × Appends (O.contents (stream_of writer.old)) (O.contents (stream_of writer.new)) text
+        × Served (promises_of D.Receipt.is_steady D.Receipt.lends (stripe_count shared.now.engine.now))
+        (knows D.failures pass) (knows D.failures result.0) result.1 bytes text }
+    ensures end { result.1 ≡ Ended.EndOfInput → IsAtEnd (I.remaining (stream_of reader.new)) }
+    ensures reader_told { told_of reader.new ≡ reader_told result.1 (told_of reader.old) }
+    ensures writer_told { told_of writer.new ≡ writer_told result.1 (told_of writer.old) }
+    ensures reader_failed { result.1 ≡ Ended.ReadFailed → HasFailed reader.new }
+    ensures writer_failed { result.1 ≡ Ended.WriteFailed → HasFailed writer.new }
     ensures rests { Rests D.Receipt.is_steady shared.now.engine.now result.0 }
     ensures watches { (knows D.failures result.0).watched ≡ [] }
 {
-    let socket = Socket::new(stream);
-    let mut reader = Noted::new(SocketReader::new(rt, &socket, &shared.serving));
-    let mut writer = Noted::new(SocketWriter::new(&socket));
     serve(
         rt,
         rt.alloc(),
-        &mut reader,
-        &mut writer,
+        reader,
+        writer,
         shared.engine,
         pass,
         shared.latch,

@@ -1,5 +1,5 @@
 -- How many stripes a round leaves out.
-use Rattle.std.proofs.Common.{◌≡◌, ℕ, zero, suc, ◌+◌, ◌≤◌, ◌<◌, false, cond, nat_lt, List, [], ◌∷◌, arith, ltb-true, ltb-false, lt-ltb, refl, add-one}
+use Rattle.std.proofs.Common.{◌≡◌, ℕ, zero, suc, ◌+◌, ◌≤◌, ◌<◌, false, cond, nat_lt, List, [], ◌∷◌, arith, ltb-true, ltb-false, lt-ltb, refl, ap, add-one}
 use Rattle.std.proofs.lemmas.Bool.{cond_both}
 use Rattle.upkeep.specs.declared.stripes.Duty.TheVariants.{Flush, Evict}
 use Rattle.upkeep.specs.declared.stripes.Event.{Event}
@@ -36,6 +36,38 @@ missed-more (suc k) before between later more =
       arith,
       cost-more (times_told k before) (times_told k between) (times_told k later) (more k),
       missed-more k before between later more,
+    )
+
+-- it falls as more was told before
+cost-from : (a b c : ℕ) → a ≤ b → cond (nat_lt a c) 0 1 ≤ cond (nat_lt b c) 0 1
+cost-from a b c from =
+    cond_both (nat_lt b c) 0 1 (λ n. cond (nat_lt a c) 0 1 ≤ n)
+    (λ is. cost-grown a c (omega (arith, ltb-true b c is)))
+    (λ is. cost-most a c)
+
+-- what was missed from the first on is no more than what was missed from later on
+missed-from : (count : ℕ) (before between later : List Event) → ((k : ℕ) → times_told k before ≤ times_told k between)
+    → missed count before later ≤ missed count between later
+unfolding missed
+missed-from zero before between later from = omega arith
+missed-from (suc k) before between later from =
+    omega (
+      arith,
+      cost-from (times_told k before) (times_told k between) (times_told k later) (from k),
+      missed-from k before between later from,
+    )
+
+-- where the last of several rounds left out no more stripes than calls have failed, all of them together left out no more
+pub missed-last : (count now-count : ℕ) (before between later : List Event) (first was now : ℕ)
+    → now-count ≡ count → ((k : ℕ) → times_told k before ≤ times_told k between) → first ≤ was
+    → missed now-count between later + was ≤ now → missed count before later + first ≤ now
+missed-last count now-count before between later first was now is from more fair =
+    omega (
+      arith,
+      missed-from count before between later from,
+      ap (λ n. missed n between later) is,
+      more,
+      fair,
     )
 
 -- a stripe costs nothing, or a call has failed

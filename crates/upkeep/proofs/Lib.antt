@@ -1,3 +1,4 @@
 pub mod Counted
 pub mod Fair
 pub mod LapRows
+pub mod Visited

@@ -18,6 +18,10 @@ duty_of chores = chores.duty
 abbrev pub laps_of : Chores → List Laps
 laps_of chores = chores.laps.items
 
+-- how many places they take each stripe to have
+abbrev pub places_of : Chores → ℕ
+places_of chores = chores.places
+
 -- they are of this duty, at so many stripes of so many places, and no lap has begun
 pub record AreFor (of : Duty) (count each : ℕ) (chores : Chores) : Type 0 where
   pub duty : chores.duty ≡ of

@@ -1,5 +1,5 @@
 -- What is done at a stripe by what is seen there: the table of duties.
-use Rattle.std.specs.Prelude.{ℕ, ◌≡◌, ◌-◌, ◌<◌, Bool, true, false, List, [], ◌∷◌, ◌++◌}
+use Rattle.std.specs.Prelude.{ℕ, zero, suc, ◌≡◌, ◌-◌, ◌≤◌, ◌<◌, nat_lt, Bool, true, false, List, [], ◌∷◌, ◌++◌}
 use Rattle.upkeep.specs.declared.stripes.Duty.{Duty}
 use Rattle.upkeep.specs.declared.stripes.Duty.TheVariants.{Flush, Evict, Clean}
 use Rattle.upkeep.specs.declared.stripes.Outcome.{Outcome}
@@ -64,6 +64,42 @@ HasStepped Clean places (Waits seen) was now =
 HasStepped Clean places (First seen came) was now =
     (was.left ≡ 0) × (seen.places ≡ places) × (begins_by (choice_by was seen) seen.used ≡ true)
     × (begun : Laps) × IsAfter was seen (choice_by was seen) begun × HasStopped came begun now
+
+-- One step was made at this stripe of so many places, as both tables say, and was done or not.
+abbrev pub HasMade : Duty → (stripe places : ℕ) → (before later : List Event) → (was now : Laps) → (done : Bool) → Type 0
+HasMade duty stripe places before later was now done =
+    (step : Step) × IsTold duty stripe step before later × HasStepped duty places step was now × (done ≡ is_done_by step)
+
+-- so many steps were done there, one after the other, and no other was made
+unfoldable pub HaveDone : (count : ℕ) → Duty → (stripe places : ℕ) → (before later : List Event) → (was now : Laps) → Type 0
+HaveDone zero duty stripe places before later was now = (later ≡ before) × (now ≡ was)
+HaveDone (suc count) duty stripe places before later was now =
+    (between : List Event) × (laps : Laps)
+    × HaveDone count duty stripe places before between was laps × HasMade duty stripe places between later laps now true
+
+-- after so many steps that were done: none more, where they are 16, or one that was not done
+abbrev pub HasEnded : (left : ℕ) → Duty → (stripe places : ℕ) → (before later : List Event) → (was now : Laps) → Type 0
+HasEnded zero duty stripe places before later was now = (later ≡ before) × (now ≡ was)
+HasEnded (suc left) duty stripe places before later was now = HasMade duty stripe places before later was now false
+
+-- Up to 16 steps were done there, and where they are fewer, one more was made, which was not done; any says whether one was done.
+abbrev pub HaveMade : Duty → (stripe places : ℕ) → (before later : List Event) → (was now : Laps) → (any : Bool) → Type 0
+HaveMade duty stripe places before later was now any =
+    (count : ℕ) × (between : List Event) × (laps : Laps) × (count ≤ 16) × (any ≡ nat_lt 0 count)
+    × HaveDone count duty stripe places before between was laps × HasEnded (16 - count) duty stripe places between later laps now
+
+-- after these the cleaner looks at how many places are used, where it did one; nobody else looks
+abbrev pub HasLookedAfter : Duty → (any : Bool) → (stripe : ℕ) → (before later : List Event) → Type 0
+HasLookedAfter Flush any stripe before later = later ≡ before
+HasLookedAfter Evict any stripe before later = later ≡ before
+HasLookedAfter Clean false stripe before later = later ≡ before
+HasLookedAfter Clean true stripe before later = (used : ℕ) × (later ≡ event.Used stripe used ∷ before)
+
+-- A visit: these steps, and then this look. But for whether it is behind, which is noted then, the laps are as the steps left them.
+abbrev pub HasVisited : Duty → (stripe places : ℕ) → (before later : List Event) → (was now : Laps) → (any : Bool) → Type 0
+HasVisited duty stripe places before later was now any =
+    (between : List Event) × (laps : Laps) × HaveMade duty stripe places before between was laps any
+    × HasLookedAfter duty any stripe between later × (now.left ≡ laps.left) × SameLap laps now
 
 -- The cleaner looked last at how many places of this stripe are used, and is behind there by that.
 abbrev pub IsBehindAfter : (stripe places : ℕ) → Laps → List Event → Type 0

@@ -10,10 +10,11 @@ use std::alloc::{AllocError, Global};
 /// What a thread of the background does, and what it knows of the stripes.
 #[derive(Drop)]
 pub struct Chores {
+    /// What it does at each stripe.
     pub(crate) duty: Duty,
-    /// The cleaner's laps, of each stripe. Those of others never begin.
+    /// The cleaner's laps, one for each stripe, by the stripe's number. Those of others never begin.
     pub(crate) laps: Vec<Laps>,
-    /// How many places a stripe has on the device.
+    /// How many places each stripe has on the device, of one page each.
     pub(crate) places: usize,
 }
 
@@ -39,8 +40,11 @@ impl Chores {
 /// What the three threads of the background do.
 #[derive(Drop)]
 pub struct Background {
+    /// Those of the thread that writes pages to the device.
     pub flusher: Chores,
+    /// Those of the thread that drops written pages from their frames.
     pub evictor: Chores,
+    /// Those of the thread that gives places back.
     pub cleaner: Chores,
 }
 

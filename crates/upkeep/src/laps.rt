@@ -11,7 +11,7 @@ const GAIN_PART: usize = 32;
 const LOOKS_MIN: usize = 10;
 
 const LOOKS_MAX: usize = 1_000;
-/// Those who write wait for a lap where fewer places than this part are left.
+/// Those who write wait for a lap where fewer places than this part of all are left, or just so many.
 const LEFT_PART: usize = 8;
 /// The most steps of a short lap, which begins where a deletion has opened a page: one page that is gained is room for the next.
 const SHORT_STEPS: usize = 64;

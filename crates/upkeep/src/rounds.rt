@@ -1,9 +1,9 @@
 //! Rounds over all stripes, the rests between them, and when they end.
 
-ghost use Rattle.std.specs.Prelude.{◌≡◌, ◌≢◌, ◌<◌, ◌≤◌, ◌+◌, true, false, length};
+ghost use Rattle.std.specs.Prelude.{◌≡◌, ◌≢◌, ◌<◌, ◌≤◌, ◌+◌, ℕ, true, false, length};
 ghost use Rattle.std.specs.List.{list_any};
-ghost use Rattle.upkeep.specs.Events.{missed, steps_done};
-ghost use Rattle.upkeep.specs.Rounds.{rest_by, laps_of, duty_of};
+ghost use Rattle.upkeep.specs.Events.{missed, steps_done, times_told};
+ghost use Rattle.upkeep.specs.Rounds.{rest_by, laps_of, duty_of, places_of};
 
 use crate::chores::Chores;
 use crate::laps::Laps;
@@ -28,6 +28,10 @@ pub fn keep_up<W: Wait, S: Stripes, B: Surroundings>(
     requires ready { S.is_ready stripes.old }
     requires laps { length (laps_of chores.old) ≡ S.count stripes.old }
     ensures ready { S.is_ready stripes.new }
+    ensures count { S.count stripes.new ≡ S.count stripes.old }
+    // At least one round is made before it ends.
+    ensures fair { missed (S.count stripes.old) (S.events stripes.old) (S.events stripes.new)
+        + S.failures stripes.old ≤ S.failures stripes.new }
     ensures over { B.over beside.new ≡ true }
 {
     for _ in rt.forever() {
@@ -48,6 +52,9 @@ pub fn round<S: Stripes>(stripes: &mut S, chores: &mut Chores) -> bool
     ensures count { S.count stripes.new ≡ S.count stripes.old }
     ensures laps { length (laps_of chores.new) ≡ S.count stripes.new }
     ensures duty { duty_of chores.new ≡ duty_of chores.old }
+    ensures places { places_of chores.new ≡ places_of chores.old }
+    // No stripe was told of less often.
+    ensures others { (k : ℕ) → times_told k (S.events stripes.old) ≤ times_told k (S.events stripes.new) }
     // Each stripe was looked at: no more were left out than calls of the device have failed.
     ensures fair { missed (S.count stripes.old) (S.events stripes.old) (S.events stripes.new)
         + S.failures stripes.old ≤ S.failures stripes.new }

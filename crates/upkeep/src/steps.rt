@@ -2,7 +2,7 @@
 
 ghost use Rattle.std.specs.Prelude.{◌≡◌, ◌≤◌, ◌<◌, ◌+◌, ◌++◌, ◌∷◌, ℕ, true, false};
 ghost use Rattle.upkeep.specs.Events.{stepped, steps_done, times_told};
-ghost use Rattle.upkeep.specs.Steps.{HasStepped, HasStopped, IsBehindAfter, IsTold, is_done_by};
+ghost use Rattle.upkeep.specs.Steps.{HasMade, HasStepped, HasStopped, HasVisited, HaveMade, IsBehindAfter, IsTold, is_done_by};
 ghost use Rattle.upkeep.specs.declared.stripes.Event.{Event};
 
 use crate::laps::{Laps, Seen};
@@ -150,6 +150,8 @@ pub fn visit<S: Stripes>(
     ensures ready { S.is_ready stripes.new }
     ensures count { S.count stripes.new ≡ S.count stripes.old }
     ensures more { S.failures stripes.old ≤ S.failures stripes.new }
+    // Each step is the next one of its duty, as the tables say.
+    ensures made { HasVisited duty stripe places (S.events stripes.old) (S.events stripes.new) laps.old laps.new result }
     // It was looked at, or a call of the device has failed.
     ensures looked { times_told stripe (S.events stripes.old) + S.failures stripes.old
         < times_told stripe (S.events stripes.new) + S.failures stripes.new }
@@ -183,6 +185,7 @@ fn some_steps<S: Stripes>(
     ensures ready { S.is_ready stripes.new }
     ensures count { S.count stripes.new ≡ S.count stripes.old }
     ensures more { S.failures stripes.old ≤ S.failures stripes.new }
+    ensures made { HaveMade duty stripe places (S.events stripes.old) (S.events stripes.new) laps.old laps.new result }
     ensures looked { times_told stripe (S.events stripes.old) + S.failures stripes.old
         < times_told stripe (S.events stripes.new) + S.failures stripes.new }
     ensures others { (k : ℕ) → times_told k (S.events stripes.old) ≤ times_told k (S.events stripes.new) }
@@ -214,6 +217,7 @@ fn one_step<S: Stripes>(
     ensures looked { times_told stripe (S.events stripes.old) + S.failures stripes.old
         < times_told stripe (S.events stripes.new) + S.failures stripes.new }
     ensures others { (k : ℕ) → times_told k (S.events stripes.old) ≤ times_told k (S.events stripes.new) }
+    ensures made { HasMade duty stripe places (S.events stripes.old) (S.events stripes.new) laps.old laps.new result }
     ensures done { result ≡ true → steps_done (S.events stripes.new) ≡ steps_done (S.events stripes.old) + 1 }
     ensures idle { result ≡ false → steps_done (S.events stripes.new) ≡ steps_done (S.events stripes.old) }
 {

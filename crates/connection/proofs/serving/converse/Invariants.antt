@@ -1,4 +1,4 @@
-use Rattle.std.proofs.Common.{◌≡◌, ℕ, List, []}
+use Rattle.std.proofs.Common.{◌≡◌, ℕ, List, [], ◌∷◌}
 use Rattle.std.specs.Io.KnownBytes.{Appends, Consumes}
 use Rattle.words.specs.Stream.{front, Part}
 use Rattle.engine.specs.Passes.{knows, Rests, stripe_count}
@@ -17,6 +17,7 @@ invariant-loop-ended g l = record {
   waits : front (l.talk.client).unread ≡ Part;
   is_open : IsOpen (mode_of (l.talk.client).stage);
   empty : l.talk.out.items ≡ [];
+  words : l.talk.words ≡ [] ∷ [];
   room : l.talk.room.items ≡ [];
   reader_told : told_of l.reader ≡ told_of l.initial.reader;
   writer_told : told_of l.writer ≡ told_of l.initial.writer;

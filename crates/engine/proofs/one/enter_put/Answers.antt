@@ -35,6 +35,7 @@ use Rattle.engine.proofs.Ones.{one_names, one_touches}
 use Rattle.engine.proofs.Parts.{there_after}
 use Rattle.engine.proofs.Stopped.{cold_in, full_in, full_then, memory_in, put_stopped}
 use Rattle.engine.proofs.Entering.{WasCommitted, counted, done_by, fit_installed, fit_kept, fit_undone, given_still, heard_stop, named_held, parts_of, placed, reply_due, stands, told_stop, was_worn}
+use Rattle.engine.proofs.Hearing.{lacking_then}
 use Rattle.engine.proofs.one.enter_put.Goals as goal
 
 pub reserve_freeing-requires-clause-may : goal.reserve_freeing-requires-clause-may
@@ -173,3 +174,6 @@ returns-in-Err-commit-clause-entered g c =
             (one_touches c.args.asks.now.verb c.args.asks.now.key.now c.args.asks.now.value.now) refl refl same.known c.in-Err-commit.ensures.worn c.in_default.ensures.failed;
       };
     }
+
+pub returns-in-Err-clause-lacks : goal.returns-in-Err-clause-lacks
+returns-in-Err-clause-lacks g c = lacking_then c.told_of.result.fault _ c.in-Err.ensures.lacks

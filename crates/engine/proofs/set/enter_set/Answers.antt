@@ -31,6 +31,7 @@ use Rattle.gates.specs.Passes.{AreAsTaken}
 use Rattle.engine.proofs.Parts.{there_after}
 use Rattle.engine.proofs.Stopped.{cold_in, full_in, full_then, memory_in, set_stopped}
 use Rattle.engine.proofs.Entering.{counted, done_by, fit_installed, fit_kept, fit_undone, given_still, heard_stop, named_held, parts_of, reply_due, stands, told_stop, was_worn}
+use Rattle.engine.proofs.Hearing.{lacking_then}
 use Rattle.engine.proofs.set.enter_set.Goals as goal
 
 pub reserve_freeing-requires-clause-may : goal.reserve_freeing-requires-clause-may
@@ -143,3 +144,6 @@ returns-in-Err-commit_line-clause-answered g c = record {
       (known_to c.commit_line.new.held) (known_to c.commit_line.new.held) (g.D.Device.failures c.args.device.now) (g.D.Device.failures c.reserve_freeing.new.device)
       refl refl refl c.reserve_freeing.ensures.held.kept.known c.in-Err-commit_line.ensures.worn c.in_default.ensures.failed;
 }
+
+pub returns-in-Err-clause-lacks : goal.returns-in-Err-clause-lacks
+returns-in-Err-clause-lacks g c = lacking_then c.told_of-fault.result.fault _ c.in-Err.ensures.lacks

@@ -1,6 +1,6 @@
 use Rattle.std.proofs.Common.{◌≡◌, ℕ, ◌+◌, ◌<◌, ◌≤◌, true, false, length}
 use Rattle.upkeep.specs.Events.{missed, steps_done, times_told}
-use Rattle.upkeep.specs.Rounds.{duty_of, laps_of}
+use Rattle.upkeep.specs.Rounds.{duty_of, laps_of, places_of}
 use Rattle.upkeep.proofs.rounds.round.Given as goal
 
 abbrev pub invariant-loop-stripe : goal.invariant-loop-stripe
@@ -9,6 +9,7 @@ invariant-loop-stripe g l = record {
   count : g.S.Stripes.count l.stripes ≡ g.S.Stripes.count l.initial.stripes;
   laps : length (laps_of l.chores) ≡ g.S.Stripes.count l.initial.stripes;
   duty : duty_of l.chores ≡ duty_of l.initial.chores;
+  places : places_of l.chores ≡ places_of l.initial.chores;
   fair : missed l.stripe (g.S.Stripes.events l.initial.stripes) (g.S.Stripes.events l.stripes) + g.S.Stripes.failures l.initial.stripes
       ≤ g.S.Stripes.failures l.stripes;
   others : (k : ℕ) → times_told k (g.S.Stripes.events l.initial.stripes) ≤ times_told k (g.S.Stripes.events l.stripes);
