@@ -44,11 +44,13 @@ use Rattle.plans.specs.declared.stop.Stop.{Stop}
 use Rattle.plans.specs.declared.stop.Stop.TheVariants as stop
 use Rattle.plans.specs.Stops.{IfCold, IfFull, IfNoMemory, faults}
 use Rattle.transact.specs.Submits.{IfFault, IfReply, asked_for}
-use Rattle.transact.specs.Tables.{AreThere, Became, HasBegun, Stand, clears, stays, touches_and_clears}
+use Rattle.transact.specs.Tables.{AreThere, Became, HasBegun, Stand, clears, keys_written, stays, touches_and_clears}
 use Rattle.engine.specs.Calls.{Forgot, HasItsPlace, IsCause, IsDone, IsUndone, Promises, promises_of}
 use Rattle.engine.specs.Answers.{IsAnswered}
 use Rattle.engine.specs.declared.enter.Entered.{Entered}
-use Rattle.engine.specs.Entering.{HasEntered, MayBeGiven, MayBegin, MayEnter, MaySubmit, WasCold, at_fault, came_to, given, own_answer}
+use Rattle.engine.specs.Entering.{HasEntered, IsPlacedOn, MayBeGiven, MayBegin, MayEnter, MaySubmit, WasCold, at_fault, came_to, given, own_answer}
+use Rattle.plans.specs.declared.placing.Placed.{Placed}
+use Rattle.plans.specs.Placing.{AllGoThere, IsPlacedFor, spots_of, writes_of}
 use Rattle.engine.specs.declared.enter.Stopped.{Stopped}
 use Rattle.epoch.specs.declared.view.View.{View}
 use Rattle.shards.specs.Heard.{HasHeard}
@@ -269,6 +271,20 @@ module _ {R : Type 0} (steady : Type 0) where
     place = subst (λ (k : Knowledge). HasItsPlace k.watched (asked_of call)) (sym same.known) begin.place;
     ends = subst (λ (k : Knowledge). EndsAll call k.watched) (sym same.known) begin.ends;
   }
+
+  -- what a call comes to whose writes all go over values that are there, where parts are the same
+  pub placed_still : (start mid : Held (Shard R)) (call : Call) (placed : Placed) (Due : Reply → List Write → Type 0) → SameHold start mid → parts_of mid ≡ parts_of start
+      → (steady → (said : Reply) (writes : List Write) → Due said writes → IsPlan (known_to start).seen (operation_of (known_to start).watched (asked_for call)) said writes)
+      → IsPlacedFor Due (held_stripes start) (parts_of start) placed → IsPlacedOn steady call mid placed
+  placed_still start mid call placed Due same parts turn has =
+      let count = counted start mid (ap (λ (g : Bor (Gates (Shard R))). g.now) same.gates) in record {
+        due = λ t. subst (λ (k : Knowledge). IsPlan k.seen (operation_of k.watched (asked_for call)) placed.reply (writes_of placed.placing)) (sym same.known) (turn t placed.reply (writes_of placed.placing) has.due);
+        fits = has.fits;
+        there = subst (λ (m : ℕ). AreThere m (parts_of mid) (keys_written (writes_of placed.placing))) (sym count)
+            (subst (λ (p : ℕ → Option (Shard R)). AreThere (held_stripes start) p (keys_written (writes_of placed.placing))) (sym parts) has.there);
+        spots = subst (λ (m : ℕ). AllGoThere m (logs_of (parts_of mid)) (writes_of placed.placing) (spots_of placed.placing)) (sym count)
+            (subst (λ (p : ℕ → Option (Shard R)). AllGoThere (held_stripes start) (logs_of p) (writes_of placed.placing) (spots_of placed.placing)) (sym parts) has.spots);
+      }
 
   -- what a call came to, from before the last steps, in which nothing was learned
   pub entered_behind : {A : Type 0} (lends : Type 0) (call : Call) (says : A → Answer) (start mid last : Held (Shard R)) (f0 f1 : ℕ) (entered : Entered A) → SameHold start mid

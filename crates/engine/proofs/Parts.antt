@@ -1,5 +1,5 @@
 -- Parts that are held: of which keys they are, and what they have together.
-use Rattle.std.proofs.Common.{◌≡◌, ◌∙◌, ◌||◌, ℕ, Bool, true, false, List, [], ◌∷◌, ◌++◌, Option, Some, None, IsSome, cond, bytes_eq, refl, sym, ap, subst, eq-eqb}
+use Rattle.std.proofs.Common.{◌≡◌, ◌∙◌, ◌||◌, ℕ, nat_eq, if◌then◌else◌, Bool, true, false, List, [], ◌∷◌, ◌++◌, Option, Some, None, IsSome, cond, bytes_eq, refl, sym, ap, subst, eq-eqb}
 use Rattle.words.specs.Commands.{keys_of_all}
 use Rattle.words.specs.History.{Pair, is_among, keys_of_pairs}
 use Rattle.words.specs.Store.{Bytes, Store}
@@ -10,7 +10,7 @@ use Rattle.transact.specs.declared.call.Call.{Call}
 use Rattle.transact.specs.declared.call.Call.TheVariants.{One, Watch, Exec, Forget}
 use Rattle.transact.specs.Calls.{call_keys}
 use Rattle.transact.specs.Plans.{keys_ended}
-use Rattle.transact.specs.Tables.{AllRead, AreThere, Became, joined, stays, touches, value_in}
+use Rattle.transact.specs.Tables.{AllRead, AreThere, Became, begins, joined, stays, touches, value_in}
 
 pub some_of : {A : Type 0} (o : Option A) → IsSome o → (a : A) × (o ≡ Some a)
 some_of (Some a) s = (a, refl)
@@ -74,6 +74,22 @@ module _ {T : Type 0} (n : ℕ) where
       part,
       ap (λ (p : ℕ → Option T). p i) (sym same) ∙ is,
       record { here = λ key here. refl; away = λ key ne. refl; marks = λ key number here. refl; aside = λ key number ne. refl },
+    );
+  }
+
+  -- nor does a watch of no key change one
+  pub became_none : (contents : Meaning T) (own : ℕ) (before later : ℕ → Option T) → later ≡ before → Became contents n [] (begins own []) before later
+  became_none contents own before later same = record {
+    there = λ i some. subst (λ (p : ℕ → Option T). IsSome (p i)) (sym same) some;
+    was = λ i part is. (
+      part,
+      ap (λ (p : ℕ → Option T). p i) (sym same) ∙ is,
+      record {
+        here = λ key here. refl;
+        away = λ key ne. refl;
+        marks = λ key number here. sym (elim (nat_eq own number) as (λ b. (if b then contents.marks part key number else contents.marks part key number) ≡ contents.marks part key number) [ true ↦ refl | false ↦ refl ]);
+        aside = λ key number ne. refl;
+      },
     );
   }
 

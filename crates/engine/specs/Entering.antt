@@ -26,12 +26,14 @@ use Rattle.transact.specs.declared.call.Answer.{Answer}
 use Rattle.transact.specs.declared.call.Answer.TheVariants as answer
 use Rattle.transact.specs.declared.call.Call.{Call}
 use Rattle.transact.specs.Calls.{answer_of, asked_of, call_keys}
-use Rattle.transact.specs.Plans.{EndsAll, IsEntry}
+use Rattle.transact.specs.Plans.{EndsAll, IsEntry, IsPlan}
 use Rattle.transact.specs.Submits.{asked_for, stripes_asked}
 use Rattle.transact.specs.Tables.{AreThere}
 use Rattle.shards.specs.declared.shard.Shard.{Shard}
 use Rattle.shards.specs.Shards.{shard_meaning}
 use Rattle.plans.specs.declared.hands.Hands.{Hands}
+use Rattle.plans.specs.declared.placing.Placed.{Placed}
+use Rattle.plans.specs.Placing.{IsPlacedFor}
 use Rattle.engine.specs.declared.enter.Entered.{Entered}
 use Rattle.engine.specs.Answers.{IsAnswered}
 use Rattle.engine.specs.Calls.{HasItsPlace, Promises}
@@ -186,6 +188,12 @@ module _ {R : Type 0} where
     pub unlent : lends → ⊥
     pub planned : IsPlanned call
     pub no_fault : later.1 ≡ before.1
+
+  -- What a call comes to whose writes all go over values that are there is due to it, for the pass that holds.
+  abbrev pub IsPlacedOn : (steady : Type 0) → Call → Held (Shard R) → Placed → Type 0
+  IsPlacedOn steady call held placed =
+      IsPlacedFor (λ said writes. steady → IsPlan (known_to held).seen (operation_asked held (asked_for call)) said writes) (held_stripes held)
+      (part_at (held_parts held)) placed
 
   -- A pass that holds nothing may submit a call: what it asks has its place in the history, and it ends all that the pass watches.
   pub record MaySubmit (steady : Type 0) (gates : Gates (Shard R)) (call : Call) (pass : Pass (Shard R)) : Type 0 where

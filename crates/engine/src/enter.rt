@@ -1,14 +1,14 @@
 //! Calls over the stripes that a pass holds: from what is held to what may be given back.
 
-ghost use Rattle.std.specs.Prelude.{◌≡◌, [], IfOk, OnErr};
+ghost use Rattle.std.specs.Prelude.{◌≡◌, [], ℕ, IfOk, OnErr};
 ghost use Rattle.gates.specs.Passes.{IsResting, known};
 ghost use Rattle.gates.specs.Plays.{kept};
 ghost use Rattle.gates.specs.Background.{IsToldOf};
 ghost use Rattle.gates.specs.Helds.{gates_of, held_parts, held_stripes, held_taken, known_to};
-ghost use Rattle.transact.specs.Plans.{EndsAll, IsEntry};
-ghost use Rattle.transact.specs.Submits.{asked_for};
+ghost use Rattle.transact.specs.Plans.{EndsAll, IsEntry, keys_begun};
+ghost use Rattle.transact.specs.Submits.{IfFault, asked_for};
 ghost use Rattle.engine.specs.Calls.{promises_of};
-ghost use Rattle.engine.specs.Entering.{AreReady, HasEntered, IsPlanned, MayBeGiven, MayBegin, MayEnter, WasCold};
+ghost use Rattle.engine.specs.Entering.{AreReady, HasEntered, IsPlacedOn, IsPlanned, MayBeGiven, MayBegin, MayEnter, WasCold};
 ghost use Rattle.engine.specs.Entering.{at_fault, given, own_answer};
 ghost use Rattle.engine.specs.Stops.{HasHeardFor, HasHeardIn, IsOfCall, fault_of, report_of};
 ghost use Rattle.shards.specs.Shards.{shard_meaning};
@@ -24,6 +24,7 @@ use plans::hands::Hands;
 use plans::hashed::HashedCall;
 use plans::laws::writes_install_a_call;
 use plans::marks::forget;
+use plans::placing::{Placed, place};
 use plans::reading::WhenCold;
 use plans::stop::{Receipts, Stop};
 use shards::retires::Retires;
@@ -131,9 +132,81 @@ pub(crate) fn give_back<R: Shows>(held: Held<'_, Shard<R>>, ends: bool, report: 
     }
 }
 
+/// Runs a call over the parts that are held: commits its one entry, and makes what it writes. A transaction whose writes all go over
+/// values that are there looks each key up once and makes no room; else the call is planned. With a fault nothing was committed, and
+/// values are as they were.
+///
+/// # Errors
+///
+/// Copies of the receipts of the pages that are wanted, where they may not be read: nothing has changed then.
+pub(crate) fn enter<L: Latch, R: Shows, D: Device<Receipt = R>, S: Retires>(
+    site: &Site<L, R>,
+    held: &mut Held<'_, Shard<R>>,
+    device: &mut D,
+    hands: &mut Hands<R, S>,
+    call: &HashedCall,
+    cold: WhenCold,
+) -> Result<Entered<Answer>, Receipts<R>>
+    requires begin { MayBegin R.is_steady call.now held.old }
+    requires hands { AreReady (S.is_of site.now.epochs.now) R.is_steady hands.old }
+    requires planned { IsPlanned call.now }
+    ensures hands { AreReady (S.is_of site.now.epochs.now) R.is_steady hands.new }
+    ensures heard { HasHeardIn own_answer result (S.knows hands.old.own) (S.knows hands.new.own) }
+    ensures entered { IfOk result (HasEntered (promises_of R.is_steady R.lends (held_stripes held.old)) call.now own_answer
+        (held.old, D.failures device.old) (held.new, D.failures device.new)) }
+    ensures cold { OnErr result (WasCold R.is_steady R.lends call.now
+        (held.old, D.failures device.old) (held.new, D.failures device.new)) }
+    ensures outside { OnErr result (cold ≡ Stops) }
+{
+    values_are_bounded();
+    match place(hands.alloc, held, call, &hands.staged) {
+        Some(placed) => Ok(enter_placed(site, held, call, placed)),
+        None => enter_anew(site, held, device, hands, call, cold),
+    }
+}
+
+/// Runs a call whose writes all go over values that are there, over the parts that are held: commits its one entry, and makes what it
+/// writes. It takes no memory and wants no room.
+fn enter_placed<L: Latch, R: Shows>(
+    site: &Site<L, R>,
+    held: &mut Held<'_, Shard<R>>,
+    call: &HashedCall,
+    placed: Placed,
+) -> Entered<Answer>
+    requires begin { MayBegin R.is_steady call.now held.old }
+    requires planned { IsPlanned call.now }
+    requires placed { IsPlacedOn R.is_steady call.now held.old placed }
+    requires unwatched { keys_begun call.now ≡ [] }
+    ensures entered { (failures : ℕ) → HasEntered (promises_of R.is_steady R.lends (held_stripes held.old)) call.now own_answer
+        (held.old, failures) (held.new, failures) result }
+    ensures worn { IfFault result.answer (λ fault. fault ≡ Fault.CommitsWornOut) }
+    ensures quiet { result.report ≡ Report.Nothing }
+{
+    writes_install_a_call::<R>();
+    site.latch.at(held.number(), Point::Holding);
+    match held.commit(call, &placed.reply) {
+        Ok(_) => {
+            let answer = Answer::Reply(placed.install(held, call));
+            Entered {
+                answer,
+                ends: false,
+                report: Report::Nothing,
+            }
+        }
+        Err(_) => {
+            drop(placed);
+            refuse(held, call, Fault::CommitsWornOut, Report::Nothing)
+        }
+    }
+}
+
 /// Runs a call over the parts that are held: plans it, commits its one entry, and installs what it writes. With a fault
 /// nothing was committed, and values are as they were.
-pub(crate) fn enter<L: Latch, R: Shows, D: Device<Receipt = R>, S: Retires>(
+///
+/// # Errors
+///
+/// As [`enter`].
+fn enter_anew<L: Latch, R: Shows, D: Device<Receipt = R>, S: Retires>(
     site: &Site<L, R>,
     held: &mut Held<'_, Shard<R>>,
     device: &mut D,

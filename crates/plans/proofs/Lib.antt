@@ -27,3 +27,4 @@ pub mod Questions
 pub mod Reserved
 pub mod Settled
 pub mod Saying
+pub mod Spots

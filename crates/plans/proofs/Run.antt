@@ -9,7 +9,7 @@ use Rattle.words.specs.declared.reply.CommandReply.TheVariants.{Array}
 use Rattle.words.specs.declared.reply.Item.{Item}
 use Rattle.words.specs.Commands.{keys_of, keys_set}
 use Rattle.words.specs.Locality.{AreSameAt}
-use Rattle.words.specs.Store.{Bytes, Store, Write, empty, written}
+use Rattle.words.specs.Store.{Bytes, Store, Write, empty, writes_key, written}
 use Rattle.hybrid.specs.Writing.{AreFit}
 use Rattle.transact.specs.Tables.{AreThere, keys_written, values_of}
 use Rattle.plans.specs.Running.{AreAlike, AsksPresence, HasRun, HasRunOn, HasShown, IsFound, ReadsOne, stand_in}
@@ -17,7 +17,15 @@ use Rattle.plans.specs.Sizes.{AllShort, AreShort, IsShort, IsSized}
 use Rattle.plans.proofs.Found.{short_more, short_one, short_written}
 use Rattle.plans.proofs.Keys.{found_agrees, values_of-append}
 use Rattle.plans.proofs.Sized.{fit_both, short_fit}
-use Rattle.plans.proofs.Stores.{written-append, written_same}
+use Rattle.plans.proofs.Stores.{same_key, written-append, written_same}
+
+left_false : (a b : Bool) → (a || b) ≡ false → a ≡ false
+left_false true b e = absurd (cc e)
+left_false false b e = refl
+
+right_false : (a b : Bool) → (a || b) ≡ false → b ≡ false
+right_false true b e = absurd (cc e)
+right_false false b e = e
 
 -- of what there is, what follows
 pub some_then : {A : Type 0} (P Q : A → Type 0) (o : Option A) → ((x : A) → P x → Q x) → IfSome o P → IfSome o Q
@@ -195,3 +203,20 @@ runs_items Right store keys command before after items is same are = subst (λ (
   writes_are = same ∙ sym (append-nil before);
   is = λ right. record { reply_is = ap Array (are right); writes_are = same ∙ sym (append-nil before) };
 })
+
+-- a key that writes leave has what it had
+pub written_apart : (writes : List Write) (store : Store) (key : Bytes) → writes_key writes key ≡ false → written store writes key ≡ store key
+written_apart [] store key none = refl
+written_apart (write ∷ writes) store key none =
+    let here : bytes_eq write.0 key ≡ false = left_false (bytes_eq write.0 key) (writes_key writes key) none in
+    written_apart writes (update bytes_eq store write.0 write.1) key (right_false (bytes_eq write.0 key) (writes_key writes key) none)
+    ∙ ap (λ b. cond b write.1 (store key)) here
+
+-- a command was run on what its key has, which no write before it is to
+pub run_apart : (key : Bytes) (value : Option Bytes) (command : Command) (before after : List Write) (reply : CommandReply) (done : CommandReply × List Write) → writes_key before key ≡ false
+    → ((store : Store) → store key ≡ value → answer store command ≡ done) → reply ≡ done.0 → after ≡ before ++ done.1 → HasRun (written empty ((key, value) ∷ [])) command before after reply
+run_apart key value command before after reply done none told said wrote =
+    let alone : Store = written empty ((key, value) ∷ []) in
+    let at : alone key ≡ value = ap (λ b. cond b value None) (same_key key) in
+    let is : answer (written alone before) command ≡ done = told (written alone before) (written_apart before alone key none ∙ at) in
+    record { reply_is = said ∙ ap (λ (a : CommandReply × List Write). a.0) (sym is); writes_are = wrote ∙ ap (λ (a : CommandReply × List Write). before ++ a.1) (sym is) }

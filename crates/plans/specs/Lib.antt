@@ -10,3 +10,4 @@ pub mod Reserving
 pub mod Holding
 pub mod Settling
 pub mod Telling
+pub mod Placing

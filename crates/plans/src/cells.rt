@@ -13,7 +13,9 @@ ghost use Rattle.transact.specs.Tables.{stays};
 ghost use Rattle.shards.specs.Devices.{StillServes};
 ghost use Rattle.shards.specs.Receipts.{kept_by};
 ghost use Rattle.shards.specs.Shards.{SameLogs, SameWaits, logs_of, shard_log, shard_store};
-ghost use Rattle.plans.specs.Settling.{IsSpotIn};
+ghost use Rattle.plans.specs.Settling.{IsSpot, IsSpotIn};
+ghost use Rattle.hybrid.specs.declared.stripe.find.Spot.{Spot};
+ghost use Rattle.words.specs.Store.{Bytes};
 ghost use Rattle.plans.specs.Finding.{FindsInPlaceAt, FindsInPlaceIn, JoinsWanted, LooksUpAt, LooksUpIn, WantsPage};
 ghost use Rattle.plans.specs.Planning.{IsStillHeld, MayLookUp, MissedAt};
 ghost use Rattle.plans.specs.Reserving.{FailsToReserveAt, GrowsBy, HasRoomAt, HasShedAt, IsRoomyFor, LeavesRoom, ReservesAt};
@@ -279,7 +281,7 @@ pub(crate) fn delete<R: Shows, P: Parts<Shard<R>>>(parts: &mut P, key: &Hashed)
     parts.part(stripe).delete(key);
 }
 
-/// Gives a key a value in place.
+/// Gives a key a value in place. Where others may be written in place, they still may.
 pub(crate) fn set_at<R: Shows, P: Parts<Shard<R>>>(
     parts: &mut P,
     key: &Hashed,
@@ -292,11 +294,15 @@ pub(crate) fn set_at<R: Shows, P: Parts<Shard<R>>>(
     requires fits { Fits key.now (Some value.now) }
     ensures became { BecomesWritten R.is_steady P.stripes_of P.part_of parts.old parts.new ((key.now, Some value.now) ∷ []) }
     ensures grown { GrowsBy (P.stripes_of parts.old) (key.now, Some value.now) (P.part_of parts.old) (P.part_of parts.new) }
+    ensures spots { (other text : Bytes) (at : Spot) → IsSpotIn P.stripes_of P.part_of parts.old other text at
+        → IsSpot (P.stripes_of parts.old) (logs_of (P.part_of parts.new)) other text at }
     ensures waits { SameWaits (P.part_of parts.old) (P.part_of parts.new) }
     ensures held { IsStillHeld P.is_open P.keeps parts.old parts.new }
 {
     let stripe = stripe_at(&*parts, key);
-    parts.part(stripe).set_at(key, spot, value);
+    let part = parts.part(stripe);
+    is_laid_out(&*part);
+    part.set_at(key, spot, value);
 }
 
 /// A session watches a key from here on. It answers whether it did not watch the key.

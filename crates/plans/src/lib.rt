@@ -15,6 +15,7 @@ mod install;
 pub mod laws;
 mod looks;
 pub mod marks;
+pub mod placing;
 pub mod plan;
 pub mod planned;
 pub mod reading;

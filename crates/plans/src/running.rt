@@ -1,15 +1,18 @@
 //! What commands answer and write that run one after the other, each on what its keys have where it lies. What one wrote the
 //! next ones find.
 
-ghost use Rattle.std.specs.Prelude.{◌≡◌, [], ◌∷◌, None, Some, if◌then◌else◌, IfSome, IsSome, OnSome};
+ghost use Rattle.std.specs.Prelude.{◌≡◌, [], ◌∷◌, None, Some, false, if◌then◌else◌, slice_get, IfSome, IsSome, OnSome};
 ghost use Rattle.std.specs.Option.{option_copied};
-ghost use Rattle.words.specs.Store.{Store, empty, written};
+ghost use Rattle.words.specs.Briefs.{counting};
+ghost use Rattle.words.specs.Store.{Bytes, Store, empty, written, writes_key};
 ghost use Rattle.words.specs.declared.command.Command.TheVariants.{MGet};
 ghost use Rattle.words.specs.Answers.{is_some, item_of};
 ghost use Rattle.words.specs.Commands.{keys_of, keys_of_all};
+ghost use Rattle.hybrid.specs.Lookups.{IsInPlace};
 ghost use Rattle.hybrid.specs.Staging.{AreRight};
 ghost use Rattle.transact.specs.Tables.{joined};
-ghost use Rattle.shards.specs.Shards.{shard_meaning, shard_store};
+ghost use Rattle.shards.specs.Shards.{shard_log, shard_meaning, shard_store};
+ghost use Rattle.plans.specs.Placing.{IsPlaceIn};
 ghost use Rattle.plans.specs.Planning.{IsStillHeld, MayLookUp};
 ghost use Rattle.plans.specs.Running.{AsksPresence, HasRun, HasRunIn, HasRunOn, HasShownIn, HaveRunIn, IsFound, ReadsOne};
 ghost use Rattle.plans.specs.Sizes.{AreSized};
@@ -17,9 +20,10 @@ ghost use Rattle.plans.specs.Sizes.{AreSized};
 use crate::cells::stripe_at;
 use crate::find::room_for;
 use crate::looks::{Looks, looks_of};
+use crate::settling::{look_at, number_made, text_of};
 use device::Shows;
 use gates::Parts;
-use hybrid::{Lookup, Staged};
+use hybrid::{Lookup, Spot, Staged};
 use shards::shard::Shard;
 use std::alloc::Global;
 use std::mem;
@@ -27,11 +31,11 @@ use strings::found::Findings;
 use strings::keys::{key_at, key_count};
 use strings::overlay::Overlay;
 use strings::run::run;
-use strings::writes::Writes;
-use words::command::Command;
+use strings::writes::{Write, Writes, writes_to};
+use words::command::{Command, Count};
 use words::hash::Hashed;
 use words::locality::writes_named_keys;
-use words::reply::{CommandReply, Item};
+use words::reply::{CommandReply, Item, Line};
 use words::sequence::Sequence;
 use words::word::Word;
 
@@ -75,8 +79,9 @@ pub(crate) fn value_at<'a, R: Shows>(
     }
 }
 
-/// What a command that reads this key alone answers after these writes, on the part of its stripe: the value is read where it
-/// lies. `None` where a page is wanted, or memory: the writes are then lost.
+/// What a command that reads this key alone answers after these writes, on the part of its stripe, and where the key's newest record
+/// stands, if it may be written in place: the value is read where it lies. `None` where a page is wanted, or memory: the writes are then
+/// lost.
 fn run_at<R: Shows>(
     alloc: Global,
     part: &Shard<R>,
@@ -84,33 +89,100 @@ fn run_at<R: Shows>(
     command: &Command,
     staged: &Staged<R>,
     writes: &mut Writes,
-) -> Option<CommandReply>
+) -> Option<(CommandReply, Option<Spot>)>
     requires reads { ReadsOne key.now command.now }
-    ensures { (store : Store) → store key.now ≡ shard_store part.now key.now
-        → IfSome result (HasRunOn (R.is_honest × AreRight staged.now) store command.now writes.old writes.new) }
+    requires names { slice_get (keys_of command.now) 0 ≡ Some key.now }
+    ensures ran { (store : Store) → store key.now ≡ shard_store part.now key.now
+        → IfSome result (λ done. HasRunOn (R.is_honest × AreRight staged.now) store command.now writes.old writes.new done.0) }
+    ensures place { IfSome result (λ done. IfSome done.1 (λ spot. IsInPlace (shard_log part.now) key.now spot.capacity spot.address)) }
 {
-    let value = value_at(part, key, staged)?;
-    let mut found = Findings::new(alloc);
-    match found.push(key.key().as_slice(), value) {
-        Ok(()) => run_after(alloc, found, command, writes),
-        Err(_) => None,
+    let (value, spot) = look_at(part, key, staged)?;
+    match run_found(alloc, key, value, command, writes) {
+        Some(reply) => Some((reply, spot)),
+        None => None,
     }
 }
 
-/// What a command that reads this key alone answers after these writes. `None` where a page is wanted, or memory: the writes are
-/// then lost.
-fn run_key<R: Shows, P: Parts<Shard<R>>>(
+/// What a command that reads this key alone answers after these writes, where the key has this. `None` where memory was refused: the
+/// writes are then lost. One that counts what no write before it has changed is run by itself.
+fn run_found(
+    alloc: Global,
+    key: &Hashed,
+    value: Option<&[u8]>,
+    command: &Command,
+    writes: &mut Writes,
+) -> Option<CommandReply>
+    requires names { slice_get (keys_of command.now) 0 ≡ Some key.now }
+    ensures { IfSome result (HasRun (written empty ((key.now, option_copied value.entry) ∷ [])) command.now writes.old writes.new) }
+{
+    match count_of(command) {
+        Some(by) if !writes_to(writes.as_slice(), key.key()) => {
+            run_count(alloc, key, by, value, writes)
+        }
+        _ => {
+            let mut found = Findings::new(alloc);
+            match found.push(key.key().as_slice(), value) {
+                Ok(()) => run_after(alloc, found, command, writes),
+                Err(_) => None,
+            }
+        }
+    }
+}
+
+/// By how much a command counts, if it does.
+fn count_of(command: &Command) -> Option<Count>
+    ensures { IfSome result (λ by. (key : Bytes) → slice_get (keys_of command.now) 0 ≡ Some key → command.now ≡ counting by key) }
+{
+    match command {
+        Command::Add(_, number) => Some(Count::Add(*number)),
+        Command::Subtract(_, number) => Some(Count::Subtract(*number)),
+        _ => None,
+    }
+}
+
+/// What a command that counts answers after these writes, none of which is to its key, where the key has this. `None` where memory
+/// was refused.
+fn run_count(
+    alloc: Global,
+    key: &Hashed,
+    by: Count,
+    value: Option<&[u8]>,
+    writes: &mut Writes,
+) -> Option<CommandReply>
+    requires apart { writes_key writes.old key.now ≡ false }
+    ensures { IfSome result (HasRun (written empty ((key.now, option_copied value.entry) ∷ [])) (counting by key.now)
+        writes.old writes.new) }
+{
+    match number_made(by, value) {
+        Ok(number) => {
+            let Ok(name) = key.key().clone() else {
+                return None;
+            };
+            match writes.push(Write::new(name, Some(text_of(alloc, number)))) {
+                Ok(()) => Some(CommandReply::integer(number)),
+                Err(_) => None,
+            }
+        }
+        Err(refusal) => Some(CommandReply::line(Line::Refused(refusal))),
+    }
+}
+
+/// What a command that reads this key alone answers after these writes, and where the key's newest record stands, if it may be written
+/// in place. `None` where a page is wanted, or memory: the writes are then lost.
+pub(crate) fn run_key<R: Shows, P: Parts<Shard<R>>>(
     alloc: Global,
     parts: &mut P,
     key: &Word,
     command: &Command,
     staged: &Staged<R>,
     writes: &mut Writes,
-) -> Option<CommandReply>
+) -> Option<(CommandReply, Option<Spot>)>
     requires reads { ReadsOne key.now command.now }
+    requires names { slice_get (keys_of command.now) 0 ≡ Some key.now }
     requires may { MayLookUp (P.is_open parts.old) (P.stripes_of parts.old) (P.part_of parts.old) (key.now ∷ []) }
-    ensures ran { IfSome result (HasRunIn R.is_steady P.stripes_of P.part_of parts.old
-        (R.is_honest × AreRight staged.now) command.now writes.old writes.new) }
+    ensures ran { IfSome result (λ done. HasRunIn R.is_steady P.stripes_of P.part_of parts.old
+        (R.is_honest × AreRight staged.now) command.now writes.old writes.new done.0) }
+    ensures place { IfSome result (λ done. IfSome done.1 (IsPlaceIn P.stripes_of P.part_of parts.old key.now)) }
     ensures same { P.part_of parts.new ≡ P.part_of parts.old }
     ensures held { IsStillHeld P.is_open P.keeps parts.old parts.new }
 {
@@ -294,7 +366,10 @@ pub(crate) fn run_next<R: Shows, P: Parts<Shard<R>>>(
 {
     match looks_of(command) {
         Looks::AtNothing => run_after(alloc, Findings::new(alloc), command, writes),
-        Looks::AtValue(key) => run_key(alloc, parts, key, command, staged, writes),
+        Looks::AtValue(key) => match run_key(alloc, parts, key, command, staged, writes) {
+            Some((reply, _spot)) => Some(reply),
+            None => None,
+        },
         Looks::AtItems(keys) => run_items(alloc, parts, keys, staged, writes),
         Looks::AtPresence => run_present(alloc, parts, command, staged, writes),
     }

@@ -1,7 +1,7 @@
 //! Commands of one key, on what the key has where it lies: nothing is copied but a value that is answered, and one that the command
 //! makes.
 
-ghost use Rattle.std.specs.Prelude.{◌≡◌, ◌≤◌, ◌∷◌, ◌++◌, [], length, if◌then◌else◌, IfOk, IfSome, IsOk, IsSome, MatchOption, Some};
+ghost use Rattle.std.specs.Prelude.{◌≡◌, ◌≤◌, ◌∷◌, ◌++◌, [], length, if◌then◌else◌, IfOk, IfSome, IsOk, IsSome, MatchOption, MatchResult, Some};
 ghost use Rattle.std.specs.Fmt.{signed_decimal};
 ghost use Rattle.std.specs.Option.{option_copied};
 ghost use Rattle.words.specs.declared.limits.TheConstants.{VALUE_BYTES_MAX, WEIGHT_MAX};
@@ -22,6 +22,7 @@ ghost use Rattle.shards.specs.Shards.{shard_log, shard_meaning, shard_store, wei
 ghost use Rattle.plans.specs.Memory.{IsBriefOn};
 ghost use Rattle.plans.specs.Settling.{IfGives, IsInlineOn, IsSettledIn, SettlesAs, changes};
 ghost use Rattle.plans.specs.Planning.{IsStillHeld, MayLookUp};
+ghost use Rattle.plans.specs.Sizes.{IsShort};
 
 use crate::cells::stripe_at;
 use device::Shows;
@@ -120,13 +121,14 @@ fn settle_at<R: Shows>(
 
 /// What a key has, where it lies, and where its newest record stands, if it may be written in place. `None` where a page is wanted,
 /// which receipts do not lend.
-fn look_at<'a, R: Shows>(
+pub(crate) fn look_at<'a, R: Shows>(
     part: &'a Shard<R>,
     key: &Hashed,
     staged: &'a Staged<R>,
 ) -> Option<(Option<&'a [u8]>, Option<Spot>)>
     ensures found { IfSome result (λ has. R.is_honest × AreRight staged.entry.now
         → shard_store part.entry.now key.now ≡ option_copied has.0) }
+    ensures short { IfSome result (λ has. IsShort (option_copied has.0)) }
     ensures place { IfSome result (λ has. IfSome has.1 (λ spot. IsInPlace (shard_log part.entry.now) key.now spot.capacity spot.address)) }
     ensures lent { R.lends → IsSome result }
 {
@@ -187,16 +189,32 @@ fn counted(alloc: Global, by: Count, found: Option<&[u8]>) -> (CommandReply, Cha
         → answer store (counting by key) ≡ (result.0, changes result.1 key value) }
     ensures short { (value : Bytes) → IfGives result.1 value (λ text. length text ≤ VALUE_BYTES_MAX) }
 {
+    match number_made(by, found) {
+        Ok(number) => (
+            CommandReply::integer(number),
+            Change::Made(text_of(alloc, number)),
+        ),
+        Err(refusal) => refused(refusal),
+    }
+}
+
+/// The number that a command that counts makes of what its key has.
+///
+/// # Errors
+///
+/// Why it is refused, and changes nothing.
+pub(crate) fn number_made(by: Count, found: Option<&[u8]>) -> Result<i64, Refusal>
+    ensures { (key : Bytes) (store : Store) → store key ≡ option_copied found.entry → MatchResult result
+        (λ number. answer store (counting by key) ≡ (One (Integer number), (key, Some (signed_decimal number)) ∷ []))
+        (λ refusal. answer store (counting by key) ≡ answering.refused refusal) }
+{
     let Some(old) = number_in(found) else {
-        return refused(Refusal::NotAnInteger);
+        return Err(Refusal::NotAnInteger);
     };
-    let Some(number) = number_after(by, old) else {
-        return refused(Refusal::Overflow);
-    };
-    (
-        CommandReply::integer(number),
-        Change::Made(text_of(alloc, number)),
-    )
+    match number_after(by, old) {
+        Some(number) => Ok(number),
+        None => Err(Refusal::Overflow),
+    }
 }
 
 /// A refusal, which changes nothing.
@@ -229,7 +247,7 @@ fn number_after(by: Count, old: i64) -> Option<i64>
 }
 
 /// The text of a number. It takes no memory.
-fn text_of(alloc: Global, number: i64) -> Word
+pub(crate) fn text_of(alloc: Global, number: i64) -> Word
     ensures text { result ≡ signed_decimal number }
     ensures short { length result ≤ VALUE_BYTES_MAX }
 {

@@ -22,6 +22,7 @@ ghost use Rattle.hybrid.specs.Lookups.{IsInPlace, MatchLookup, Tells};
 ghost use Rattle.hybrid.specs.Reserving.{IsFull};
 ghost use Rattle.hybrid.specs.Staging.{AreRight, IsMissing};
 ghost use Rattle.hybrid.specs.Log.{Fits};
+ghost use Rattle.hybrid.specs.Writing.{IsWritten};
 ghost use Rattle.shards.specs.Devices.{StillServes};
 ghost use Rattle.shards.specs.Counted.{HasLanded, MatchBegun, MatchMoved, claimed, without_flight};
 ghost use Rattle.epoch.specs.Seats.{IsOutside, known};
@@ -252,6 +253,7 @@ impl<R: Shows> Shard<R> {
     pub fn set_at(&mut self, key: &Hashed, spot: Spot, value: &Word)
         requires place { IsInPlace (shard_log self.old) key.now (length value.now) spot.address }
         requires fits { Fits key.now (Some value.now) }
+        ensures written { IsWritten (shard_log self.old) key.now (Some value.now) (shard_log self.new) }
         ensures waits { shard_waiting self.new ≡ shard_waiting self.old }
         ensures value { (k : List ℕ) → shard_store self.new k ≡ update bytes_eq (shard_store self.old) key.now (Some value.now) k }
         ensures marks { TouchesKey key.now self.old self.new }
