@@ -17,7 +17,7 @@ use Rattle.gates.specs.declared.view.Note.TheVariants.{Busy, Worn, Full, Idle, D
 use Rattle.gates.specs.declared.report.Report.{Report}
 use Rattle.gates.specs.declared.report.Report.TheVariants as report
 use Rattle.gates.specs.Background.{notes_of}
-use Rattle.gates.specs.Passes.{AreBusy, Learned, ToldBusy}
+use Rattle.gates.specs.Passes.{AreBusy, Learned, ToldBusy, WasBusy}
 use Rattle.transact.specs.declared.call.Answer.{Answer}
 use Rattle.transact.specs.declared.call.Answer.TheVariants as answer
 use Rattle.transact.specs.declared.call.Call.{Call}
@@ -35,6 +35,7 @@ use Rattle.engine.specs.Entering.{given}
 use Rattle.engine.specs.Passes.{Known, OfSeats, know}
 use Rattle.engine.specs.Stops.{HasHeardFor, HasHeardWith, IfLacking, IfSpent, IsWornBy, TellsFull, fault_of}
 use Rattle.engine.proofs.Later.{told_both}
+use Rattle.engine.proofs.Entering.{heard_nothing}
 
 -- a list is not a part of its own tail
 not_longer : {A : Type 0} (x : A) (more was : List A) → was ≡ x ∷ (more ++ was) → ⊥
@@ -161,6 +162,24 @@ pub seats_heard : {R : Type 0} (was now : Knowledge) (had has : Option (Hands R 
 seats_heard {R} was now had has own last is ends heard = λ before later one two.
     subst (λ (h : Hands R EpochSeat). HasHeardWith was now (known before.own) (known h.own)) (some_hands last later (sym ends ∙ two))
     (subst (λ (h : Hands R EpochSeat). HasHeardWith was now (known h.own) (known last.own)) (some_hands own before (sym is ∙ one)) heard)
+
+-- a seat that stays as it is
+pub seats_kept : {R : Type 0} (was now : Knowledge) (hands : Option (Hands R EpochSeat)) → ((view : View) → HasHeardWith was now view view) → OfSeats (HasHeardWith was now) hands hands
+seats_kept {R} was now hands heard = λ before later one two.
+    subst (λ (h : Hands R EpochSeat). HasHeardWith was now (known before.own) (known h.own)) (some_hands before later (sym one ∙ two)) (heard (known before.own))
+
+-- of a pass that was told of busy stripes alone, and then so
+pub seats_after : {R : Type 0} (stripes : List ℕ) (was mid now : Knowledge) (had has : Option (Hands R EpochSeat)) → ToldBusy stripes was mid → OfSeats (HasHeardWith mid now) had has → OfSeats (HasHeardWith was now) had has
+seats_after stripes was mid now had has told heard = λ before later one two.
+    heard_after stripes was mid now (known before.own) (known before.own) (known later.own) told (heard_nothing (known before.own)) (heard before later one two)
+
+-- a pass that found a stripe busy, and a seat that was told nothing
+pub heard_busy : (stripe : ℕ) (was now : Knowledge) (view : View) → WasBusy stripe was now → HasHeardWith was now view view
+heard_busy stripe was now view busy = record {
+  told = (Busy stripe ∷ [], busy.notes);
+  heard = heard_nothing view;
+  worn = λ full refused more notes. absurd (cc (sym busy.notes ∙ notes));
+}
 
 -- a seat that was told the same
 pub heard_same : (one two three : View) → HasHeard one two → KnowsTheSame two three → HasHeard one three

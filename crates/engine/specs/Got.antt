@@ -1,5 +1,5 @@
 -- What a call that only reads is answered, and what it has appended to the buffer of its caller.
-use Rattle.std.specs.Prelude.{[], Result, Ok, Err}
+use Rattle.std.specs.Prelude.{ℕ, List, [], Option, IfSome, Result, Ok, Err}
 use Rattle.words.specs.declared.command.Command.{Command}
 use Rattle.words.specs.declared.command.Command.TheVariants.{Get, MGet}
 use Rattle.words.specs.declared.history.Operation.TheVariants as operation
@@ -10,6 +10,7 @@ use Rattle.words.specs.History.{History, after}
 use Rattle.words.specs.Session.{Asked, Run, value_reply, values_reply}
 use Rattle.words.specs.Store.{Bytes}
 use Rattle.gates.specs.declared.held.Held.{Held}
+use Rattle.gates.specs.declared.view.Knowledge.{Knowledge}
 use Rattle.gates.specs.Helds.{held_parts, held_stripes}
 use Rattle.gates.specs.Sets.{part_at}
 use Rattle.transact.specs.declared.call.Answer.{Answer}
@@ -20,7 +21,10 @@ use Rattle.transact.specs.Plans.{IsPlan}
 use Rattle.transact.specs.Tables.{AllRead}
 use Rattle.shards.specs.declared.shard.Shard.{Shard}
 use Rattle.shards.specs.Shards.{shard_meaning}
+use Rattle.engine.specs.Answers.{IsAnswered}
+use Rattle.engine.specs.Calls.{Promises}
 use Rattle.engine.specs.Entering.{values_answer}
+use Rattle.engine.specs.Passes.{know}
 use Rattle.engine.specs.declared.gather.GotAll.{GotAll}
 use Rattle.engine.specs.declared.gather.GotAll.TheVariants as got_all
 use Rattle.engine.specs.declared.get.Got.{Got}
@@ -62,6 +66,13 @@ spoken_answer (Err fault) = answer.Fault fault
 abbrev pub spoken_text : Result Spoken Fault → Bytes
 spoken_text (Ok said) = encoding (spoken_reply said)
 spoken_text (Err fault) = []
+
+-- Such a call was answered by what it came to, if it came to something: by a pass that knew the one, and then knows the other. However many
+-- calls of its device had failed, none has failed since. Of these stripes alone it was told that others had them.
+abbrev pub WasSpoken : Promises → (stripes : List ℕ) → Speaking → Option (Result Spoken Fault) → (was now : Knowledge) → Type 0
+WasSpoken promises stripes call result was now =
+    (failures : ℕ) → IfSome result
+    (λ spoken. IsAnswered promises stripes (speaking_call call) (spoken_answer spoken) (know was failures) (know now failures))
 
 module _ {R : Type 0} where
   -- The reply that was appended is due to the call, after each history whose store the parts have.

@@ -9,6 +9,7 @@ use Rattle.gates.specs.declared.view.Note.TheVariants.{Full}
 use Rattle.gates.specs.declared.view.Refused.{Refused}
 use Rattle.gates.specs.declared.report.Report.{Report}
 use Rattle.gates.specs.declared.report.Report.TheVariants as report
+use Rattle.gates.specs.Passes.{known}
 use Rattle.shards.specs.Heard.{HasHeard, HasHeardWorn}
 use Rattle.plans.specs.declared.stop.Stop.{Stop}
 use Rattle.plans.specs.declared.stop.Stop.TheVariants as stop
@@ -16,6 +17,8 @@ use Rattle.transact.specs.declared.call.Answer.{Answer}
 use Rattle.transact.specs.declared.call.Answer.TheVariants as answer
 use Rattle.engine.specs.declared.enter.Entered.{Entered}
 use Rattle.engine.specs.declared.enter.Stopped.{Stopped}
+use Rattle.engine.specs.declared.pass.Pass.{Pass}
+use Rattle.engine.specs.Passes.{OfSeats}
 
 module _ {R : Type 0} where
   -- the fault by which a call is answered whose plan was not made. (No call is answered where pages are wanted: they are read.)
@@ -99,3 +102,7 @@ pub record HasHeardWith (was now : Knowledge) (before later : View) : Type 0 whe
   pub heard : HasHeard before later
   pub worn : (stripe : ℕ) (refused : Refused) (more : List Note) → now.notes ≡ Full stripe refused ∷ (more ++ was.notes)
       → IsWornBy before later refused
+
+-- the same of a pass of an engine and of its own seat
+abbrev pub HasHeardBy : {D R : Type 0} → (was now : Pass D R) → Type 0
+HasHeardBy was now = OfSeats (HasHeardWith (known was.gates) (known now.gates)) was.hands now.hands

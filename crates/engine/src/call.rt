@@ -1,6 +1,6 @@
 //! Any call of a pass over the gates.
 
-ghost use Rattle.std.specs.Prelude.{◌≡◌, ◌<◌, [], IfErr, IfOk, OnOk};
+ghost use Rattle.std.specs.Prelude.{◌≡◌, ◌<◌, [], IfErr, IfOk};
 ghost use Rattle.gates.specs.Sets.{times};
 ghost use Rattle.gates.specs.Passes.{IsResting, WasBusy, known, stripes_of};
 ghost use Rattle.transact.specs.Plans.{EndsAll, IsEntry};
@@ -112,7 +112,7 @@ pub(crate) fn try_submit<L: Latch, R: Shows, D: Device<Receipt = R>>(
     requires hands { HasHands site.now.epochs.now hands.old }
     ensures rests { IsResting R.is_steady site.now.gates.now pass.new }
     ensures hands { HasHands site.now.epochs.now hands.new }
-    ensures heard { OnOk result (OfSeats (HasHeardWith (known pass.old) (known pass.new)) hands.old hands.new) }
+    ensures heard { OfSeats (HasHeardWith (known pass.old) (known pass.new)) hands.old hands.new }
     ensures answered { IfOk result (λ answer. IsAnswered (promises_of R.is_steady R.lends (stripes_of site.now.gates.now)) [] call answer
         (know (known pass.old) (D.failures device.old)) (know (known pass.new) (D.failures device.new))) }
     ensures stripe { IfErr result (λ refusal. 0 < times refusal.0.stripe (stripes_asked (stripes_of site.now.gates.now) call)) }

@@ -16,8 +16,8 @@ ghost use Rattle.engine.specs.Calls.{promises_of};
 ghost use Rattle.engine.specs.Entering.{AreReady, HasEntered, MayBegin, WasCold, as_planned, reading_call, values_answer};
 ghost use Rattle.engine.specs.Got.{got_all_answer, got_all_text, spoken_answer, spoken_text};
 ghost use Rattle.engine.specs.Memory.{values_call};
-ghost use Rattle.engine.specs.Passes.{HasHands, know};
-ghost use Rattle.engine.specs.Stops.{HasHeardFor, HasHeardIn};
+ghost use Rattle.engine.specs.Passes.{HasHands, OfSeats, know};
+ghost use Rattle.engine.specs.Stops.{HasHeardFor, HasHeardIn, HasHeardWith};
 ghost use Rattle.epoch.specs.declared.view.View.{View};
 
 use crate::enter::{Entered, enter};
@@ -132,6 +132,7 @@ pub(crate) fn submit_values<T: Wait, L: Latch, R: Shows, D: Device<Receipt = R>>
     requires place { IsBounded (command.MGet keys.now) }
     ensures rests { IsResting R.is_steady site.now.gates.now pass.new }
     ensures hands { HasHands site.now.epochs.now hands.new }
+    ensures heard { OfSeats (HasHeardWith (known pass.old) (known pass.new)) hands.old hands.new }
     ensures answered { IsAnswered (promises_of R.is_steady R.lends (stripes_of site.now.gates.now))
         (stripes_asked (stripes_of site.now.gates.now) (values_call keys.now)) (values_call keys.now) (got_all_answer result)
         (know (known pass.old) (D.failures device.old)) (know (known pass.new) (D.failures device.new)) }

@@ -14,8 +14,8 @@ ghost use Rattle.engine.specs.Calls.{promises_of};
 ghost use Rattle.engine.specs.Entering.{MayBeGiven, MayEnter, WasCold};
 ghost use Rattle.engine.specs.Got.{got_answer, got_text, spoken_answer, spoken_text};
 ghost use Rattle.engine.specs.Memory.{get_call};
-ghost use Rattle.engine.specs.Passes.{HasHands, know};
-ghost use Rattle.engine.specs.Stops.{TellsFull};
+ghost use Rattle.engine.specs.Passes.{HasHands, OfSeats, know};
+ghost use Rattle.engine.specs.Stops.{HasHeardWith, TellsFull};
 ghost use Rattle.plans.specs.declared.reading.WhenCold.TheVariants.{Stops};
 
 use crate::enter::{Entered, told_of};
@@ -127,6 +127,7 @@ pub(crate) fn submit_get<T: Wait, L: Latch, R: Shows, D: Device<Receipt = R>>(
     requires place { IsBounded (command.Get key.now) }
     ensures rests { IsResting R.is_steady site.now.gates.now pass.new }
     ensures hands { HasHands site.now.epochs.now hands.new }
+    ensures heard { OfSeats (HasHeardWith (known pass.old) (known pass.new)) hands.old hands.new }
     ensures answered { IsAnswered (promises_of R.is_steady R.lends (stripes_of site.now.gates.now))
         (stripes_asked (stripes_of site.now.gates.now) (get_call key.now)) (get_call key.now) (answer_with result)
         (know (known pass.old) (D.failures device.old)) (know (known pass.new) (D.failures device.new)) }
@@ -160,6 +161,7 @@ pub(crate) fn submit_say<T: Wait, L: Latch, R: Shows, D: Device<Receipt = R>>(
     requires place { IsBounded (command.Get key.now) }
     ensures rests { IsResting R.is_steady site.now.gates.now pass.new }
     ensures hands { HasHands site.now.epochs.now hands.new }
+    ensures heard { OfSeats (HasHeardWith (known pass.old) (known pass.new)) hands.old hands.new }
     ensures answered { IsAnswered (promises_of R.is_steady R.lends (stripes_of site.now.gates.now))
         (stripes_asked (stripes_of site.now.gates.now) (get_call key.now)) (get_call key.now) (got_answer result)
         (know (known pass.old) (D.failures device.old)) (know (known pass.new) (D.failures device.new)) }

@@ -23,12 +23,14 @@ ghost use Rattle.gates.specs.Sets.{times};
 ghost use Rattle.transact.specs.Calls.{answer_of, answer_with, asked_of};
 ghost use Rattle.transact.specs.Plans.{EndsAll};
 ghost use Rattle.transact.specs.Submits.{stripes_asked};
-ghost use Rattle.shards.specs.Shards.{shard_meaning};
+ghost use Rattle.shards.specs.Logs.{counted_alone, log_by};
+ghost use Rattle.shards.specs.Shards.{shard_counted, shard_meaning};
 ghost use Rattle.engine.specs.Got.{got_all_answer, got_all_text, got_answer, got_text};
 ghost use Rattle.engine.specs.Memory.{get_call, one_call, set_call, settings_call, values_call};
 ghost use Rattle.engine.specs.Passes.{AreOf, knows, Rests, stripe_count};
 ghost use Rattle.engine.specs.Answers.{ComesTo, WaitsAndComesTo};
 ghost use Rattle.engine.specs.Calls.{FoundBusy, HasItsPlace, HasLearned};
+ghost use Rattle.engine.specs.Stops.{HasHeardBy};
 
 use crate::assign::submit_settings;
 use crate::call::{submit, try_submit};
@@ -120,7 +122,8 @@ impl<D: Device> Engine<D> {
     /// Does what the call asks, whole or not at all, and tells its reply. It may wait for calls of other
     /// passes on the stripes of its keys. The pages that it wants are read through the pass's opening of the device while nobody
     /// waits for these stripes; where it wants further ones after three such reads, they are read while it holds them. A
-    /// transaction leaves nothing watched, whatever it is answered.
+    /// transaction leaves nothing watched, whatever it is answered. Where the pass is told last that a stripe is full, and
+    /// that the epochs refused to retire, its seat was told last that their word is worn out.
     ///
     /// # Errors
     ///
@@ -139,6 +142,7 @@ impl<D: Device> Engine<D> {
         requires place { HasItsPlace (knows D.failures pass.old).watched (asked_of call) }
         requires watching { EndsAll call (knows D.failures pass.old).watched }
         ensures rests { Rests D.Receipt.is_steady self.now pass.new }
+        ensures heard { HasHeardBy pass.old pass.new }
         ensures answered { WaitsAndComesTo D.Receipt.is_steady D.Receipt.lends D.failures self.now call result pass.old pass.new }
     {
         self.submit_with(rt, pass, call, &Open)
@@ -157,6 +161,7 @@ impl<D: Device> Engine<D> {
         requires place { HasItsPlace (knows D.failures pass.old).watched (asked_of call) }
         requires watching { EndsAll call (knows D.failures pass.old).watched }
         ensures rests { Rests D.Receipt.is_steady self.now pass.new }
+        ensures heard { HasHeardBy pass.old pass.new }
         ensures answered { WaitsAndComesTo D.Receipt.is_steady D.Receipt.lends D.failures self.now call result pass.old pass.new }
     {
         let number = pass.gates.number();
@@ -194,6 +199,7 @@ impl<D: Device> Engine<D> {
         requires rests { Rests D.Receipt.is_steady self.now pass.old }
         requires place { IsBounded (command.Get key.now) }
         ensures rests { Rests D.Receipt.is_steady self.now pass.new }
+        ensures heard { HasHeardBy pass.old pass.new }
         ensures answered { WaitsAndComesTo D.Receipt.is_steady D.Receipt.lends D.failures self.now (get_call key.now) (answer_with result)
             pass.old pass.new }
     {
@@ -234,6 +240,7 @@ impl<D: Device> Engine<D> {
         requires rests { Rests D.Receipt.is_steady self.now pass.old }
         requires place { IsBounded (command.Get key.now) }
         ensures rests { Rests D.Receipt.is_steady self.now pass.new }
+        ensures heard { HasHeardBy pass.old pass.new }
         ensures answered { WaitsAndComesTo D.Receipt.is_steady D.Receipt.lends D.failures self.now (get_call key.now) (got_answer result)
             pass.old pass.new }
         ensures said { out.new.items ≡ out.old.items ++ got_text result }
@@ -276,6 +283,7 @@ impl<D: Device> Engine<D> {
         requires rests { Rests D.Receipt.is_steady self.now pass.old }
         requires place { IsBounded (command.Set key.now value.now Always) }
         ensures rests { Rests D.Receipt.is_steady self.now pass.new }
+        ensures heard { HasHeardBy pass.old pass.new }
         ensures answered { WaitsAndComesTo D.Receipt.is_steady D.Receipt.lends D.failures self.now (set_call key.now value.now)
             (answer_of result) pass.old pass.new }
     {
@@ -317,6 +325,7 @@ impl<D: Device> Engine<D> {
         requires rests { Rests D.Receipt.is_steady self.now pass.old }
         requires place { IsBounded (commanded verb key.now value.now) }
         ensures rests { Rests D.Receipt.is_steady self.now pass.new }
+        ensures heard { HasHeardBy pass.old pass.new }
         ensures answered { WaitsAndComesTo D.Receipt.is_steady D.Receipt.lends D.failures self.now (one_call verb key.now value.now) result
             pass.old pass.new }
     {
@@ -357,6 +366,7 @@ impl<D: Device> Engine<D> {
         requires rests { Rests D.Receipt.is_steady self.now pass.old }
         requires place { IsBounded (command.MGet keys.now) }
         ensures rests { Rests D.Receipt.is_steady self.now pass.new }
+        ensures heard { HasHeardBy pass.old pass.new }
         ensures answered { WaitsAndComesTo D.Receipt.is_steady D.Receipt.lends D.failures self.now (values_call keys.now)
             (got_all_answer result) pass.old pass.new }
         ensures said { out.new.items ≡ out.old.items ++ got_all_text result }
@@ -395,6 +405,7 @@ impl<D: Device> Engine<D> {
         requires rests { Rests D.Receipt.is_steady self.now pass.old }
         requires place { IsBounded (command.MSet (pairs_of words.now)) }
         ensures rests { Rests D.Receipt.is_steady self.now pass.new }
+        ensures heard { HasHeardBy pass.old pass.new }
         ensures answered { WaitsAndComesTo D.Receipt.is_steady D.Receipt.lends D.failures self.now (settings_call words.now) result
             pass.old pass.new }
     {
@@ -429,6 +440,7 @@ impl<D: Device> Engine<D> {
         requires place { HasItsPlace (knows D.failures pass.old).watched (asked_of call) }
         requires watching { EndsAll call (knows D.failures pass.old).watched }
         ensures rests { Rests D.Receipt.is_steady self.now pass.new }
+        ensures heard { HasHeardBy pass.old pass.new }
         ensures answered { IfOk result (λ answer. ComesTo D.Receipt.is_steady D.Receipt.lends D.failures self.now [] call answer
             pass.old pass.new) }
         ensures stripe { IfErr result (λ refusal. 0 < times refusal.0.stripe (stripes_asked (stripe_count self.now) call)) }
@@ -468,10 +480,11 @@ impl<D: Device> Engine<D> {
     }
 }
 
-/// So many shards without a key as the limits have stripes.
+/// So many shards without a key as the limits have stripes, each with an empty log of the limits.
 fn empty_shards<R: Shows>(alloc: Global, limits: &Limits) -> Result<Vec<Shard<R>>, OutOfMemory>
     ensures count { IfOk result (λ shards. vec_len shards ≡ limits.now.stripes) }
     ensures empty { IfOk result (λ shards. AreEmpty (shard_meaning R.is_steady) shards.items) }
+    ensures logs { IfOk result (λ shards. All (λ shard. shard_counted shard ≡ counted_alone (log_by limits.now)) shards.items) }
 {
     let mut shards = Vec::with_capacity(alloc, limits.stripes)?;
     for _ in 0..limits.stripes {

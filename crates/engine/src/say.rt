@@ -1,6 +1,6 @@
 //! Calls that only read and say their reply themselves: where what their keys have lies near, it is copied once, to where the reply goes.
 
-ghost use Rattle.std.specs.Prelude.{◌≡◌, ◌≤◌, ◌++◌, ℕ, [], false, IfNone, IfSome, IsSome, vec_len, vec_capacity};
+ghost use Rattle.std.specs.Prelude.{◌≡◌, ◌≤◌, ◌++◌, ℕ, [], false, IfNone, IfSome, IsSome, OnSome, vec_len, vec_capacity};
 ghost use Rattle.words.specs.Bounds.{IsBounded};
 ghost use Rattle.words.specs.Encoding.{encoding};
 ghost use Rattle.gates.specs.Passes.{IsResting, known, stripes_of};
@@ -8,11 +8,12 @@ ghost use Rattle.gates.specs.Helds.{IsOpen, SameHold, held_parts, held_stripes, 
 ghost use Rattle.gates.specs.Sets.{part_at};
 ghost use Rattle.gates.specs.declared.report.Report.TheVariants.{Nothing};
 ghost use Rattle.hybrid.specs.Staging.{AreRight};
-ghost use Rattle.engine.specs.Answers.{IsAnswered};
 ghost use Rattle.engine.specs.Calls.{promises_of};
 ghost use Rattle.engine.specs.Entering.{AreStripesOf, HasWaited, MayBeGiven, MayEnter};
-ghost use Rattle.engine.specs.Got.{IsSpokenIn, speaking_call, speaking_command, spoken_answer, spoken_reply, spoken_text};
-ghost use Rattle.engine.specs.Passes.{HasHands, know};
+ghost use Rattle.engine.specs.Got.{IsSpokenIn, WasSpoken, speaking_call, speaking_command, spoken_answer, spoken_reply, spoken_text};
+ghost use Rattle.engine.specs.Passes.{HasHands};
+ghost use Rattle.engine.specs.Stops.{HasHeardWith, TellsFull};
+ghost use Rattle.epoch.specs.declared.view.View.{View};
 
 use crate::enter::give_back;
 use crate::site::Site;
@@ -83,9 +84,9 @@ pub(crate) fn say_at_once<T: Wait, L: Latch, R: Shows>(
     requires place { IsBounded (speaking_command call.now) }
     requires wanted { AreStripesOf (stripes_of site.now.gates.now) (speaking_call call.now) wanted.now }
     ensures rests { IsResting R.is_steady site.now.gates.now pass.new }
-    ensures answered { (failures : ℕ) → IfSome result (λ spoken. IsAnswered
-        (promises_of R.is_steady R.lends (stripes_of site.now.gates.now)) wanted.now (speaking_call call.now) (spoken_answer spoken)
-        (know (known pass.old) failures) (know (known pass.new) failures)) }
+    ensures heard { (view : View) → OnSome result (HasHeardWith (known pass.old) (known pass.new) view view) }
+    ensures answered { WasSpoken (promises_of R.is_steady R.lends (stripes_of site.now.gates.now)) wanted.now call.now result
+        (known pass.old) (known pass.new) }
     ensures waited { (failures : ℕ) → IfNone result (HasWaited wanted.now (known pass.old, failures) (known pass.new, failures)) }
     ensures said { IfSome result (λ spoken. out.new.items ≡ out.old.items ++ spoken_text spoken) }
     ensures unsaid { IfNone result (out.new.items ≡ out.old.items) }
@@ -114,8 +115,9 @@ fn enter_spoken<L: Latch, R: Shows>(
     requires place { IsBounded (speaking_command call.now) }
     requires right { R.is_steady → AreRight staged.now }
     ensures back { MayBeGiven R.is_steady false Nothing held.old held.new }
-    ensures answered { (failures : ℕ) → IfSome result (λ spoken. IsAnswered (promises_of R.is_steady R.lends (held_stripes held.old)) []
-        (speaking_call call.now) (spoken_answer spoken) (know (known_to held.old) failures) (know (known_to held.new) failures)) }
+    ensures answered { WasSpoken (promises_of R.is_steady R.lends (held_stripes held.old)) [] call.now result
+        (known_to held.old) (known_to held.new) }
+    ensures full { IfSome result (λ spoken. TellsFull (spoken_answer spoken) Nothing) }
     ensures untold { IfNone result (known_to held.new ≡ known_to held.old) }
     ensures said { IfSome result (λ spoken. out.new.items ≡ out.old.items ++ spoken_text spoken) }
     ensures unsaid { IfNone result (out.new.items ≡ out.old.items) }

@@ -12,7 +12,7 @@ use Rattle.engine.proofs.Entering.{given_here, heard_nothing, may_begin, parts_o
 use Rattle.epoch.specs.declared.view.View.{View}
 use Rattle.epoch.specs.Seats as epoch
 use Rattle.engine.specs.Stops.{HasHeardWith}
-use Rattle.engine.proofs.Hearing.{heard_after, heard_given, seats_heard}
+use Rattle.engine.proofs.Hearing.{heard_after, heard_busy, heard_given, seats_heard, seats_kept}
 use Rattle.engine.proofs.Behind.{answered_behind, answered_counted}
 use Rattle.engine.proofs.call.try_submit.Goals as goal
 
@@ -75,3 +75,8 @@ returns-in-Some-clause-heard g c =
     (subst (λ (k : Knowledge). HasHeardWith before k had has) (sym (search (rules, last)))
     (heard_after [] before mid (given entered.ends entered.report noted) had had has told (heard_nothing had)
     (heard_given own_answer entered promises c.args.call mid noted f0 f1 had has c.enter_at_once-answer.ensures.heard c.enter_at_once-answer.ensures.entered.answered)))
+
+pub returns-in-Err-clause-heard : goal.returns-in-Err-clause-heard
+returns-in-Err-clause-heard g c =
+    seats_kept (known c.args.pass.now) (known c.try_take.new.pass) c.args.hands.now
+    (λ (view : View). heard_busy c.in-Err.stripe (known c.args.pass.now) (known c.try_take.new.pass) view c.in-Err.ensures.busy.2)

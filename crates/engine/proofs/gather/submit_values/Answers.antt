@@ -4,6 +4,7 @@ use Rattle.engine.specs.Calls.{promises_of}
 use Rattle.engine.specs.Memory.{values_call}
 use Rattle.engine.specs.Passes.{know}
 use Rattle.engine.proofs.Later.{answered_waited}
+use Rattle.engine.proofs.Hearing.{seats_after, seats_kept}
 use Rattle.engine.proofs.gather.submit_values.Goals as goal
 
 pub returns-in-Some-clause-answered : goal.returns-in-Some-clause-answered
@@ -20,3 +21,11 @@ returns-clause-answered g c =
     (known c.args.pass.now, g.D.Device.failures c.args.device.now) (known c.say_at_once.new.pass, g.D.Device.failures c.args.device.now) (know (known c.run.new.pass) (g.D.Device.failures c.run.new.device))
     ((rw (c.stripes_of_keys-wanted.ensures.exact, c.stripes.ensures.count) at c.in_default.ensures.waited) (g.D.Device.failures c.args.device.now))
     (rw (c.stripes_of_keys-wanted.ensures.exact, c.stripes.ensures.count) at c.run.ensures.answered)
+
+pub returns-in-Some-clause-heard : goal.returns-in-Some-clause-heard
+returns-in-Some-clause-heard g c = seats_kept (known c.args.pass.now) (known c.say_at_once.new.pass) c.args.hands.now c.in-Some.ensures.heard
+
+pub returns-clause-heard : goal.returns-clause-heard
+returns-clause-heard g c =
+    seats_after c.stripes_of_keys-wanted.result (known c.args.pass.now) (known c.say_at_once.new.pass) (known c.run.new.pass) c.args.hands.now c.run.new.hands
+    (c.in_default.ensures.waited 0).told c.run.ensures.heard
