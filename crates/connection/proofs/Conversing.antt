@@ -316,7 +316,11 @@ pub served_cut : {promises : Promises} {was now : Known} {fed : Bytes} {at : Pro
     → Conversing promises was now fed at whole → whole ≡ text ++ more → Served promises was now ended.WriteFailed fed text
 served_cut {whole = whole} text more talk is = record { talk = closed talk; ends = (whole, more, inl talk.conversation.text, is) }
 
--- the same of one whose client was not fed the piece that was read last
+-- a connection whose writer had failed before it began
+pub served_unheard : {promises : Promises} (was : Known) → was.watched ≡ [] → Served promises was was ended.WriteFailed [] []
+served_unheard was none = served_cut [] [] (conversing_begins was beginning none refl) refl
+
+-- a text that was cut, of a connection whose client was not fed the piece that was read last
 pub served_cut_unfed : {promises : Promises} {was now : Known} {fed : Bytes} {at : Progress} {whole : Bytes} (bytes piece text more : Bytes)
     → Conversing promises was now fed at whole → bytes ≡ fed ++ piece → whole ≡ text ++ more → Served promises was now ended.WriteFailed bytes text
 unfolding conversing_with conversation_fed

@@ -177,6 +177,10 @@ abbrev pub due_text : Due → Bytes
 due_text (due.Said said) = encoding (spoken_reply said)
 due_text _ = []
 
+-- a client hears what is answered: no write to it has failed
+abbrev pub IsHeard : (writer : Told) → Type 0
+IsHeard writer = writer ≢ told.Failure
+
 -- what the reader has told when a connection ended so
 abbrev pub reader_told : Ended → Told → Told
 reader_told ended.EndOfInput old = told.End
@@ -218,9 +222,13 @@ abbrev pub IsFed : Paused → Type 0
 IsFed paused.Unfed = ⊥
 IsFed _ = Unit {0}
 
+-- all whole requests that a client was fed are answered, and its session has not ended
+abbrev pub WaitsForInput : Progress → Type 0
+WaitsForInput standing = (front standing.unread ≡ Part) × IsOpen (mode_of standing.stage)
+
 -- how a client stands where the answering of what it was fed paused
 abbrev pub StandsAt : Paused → Progress → Type 0
-StandsAt paused.Input standing = (front standing.unread ≡ Part) × IsOpen (mode_of standing.stage)
+StandsAt paused.Input standing = WaitsForInput standing
 StandsAt _ standing = Unit {0}
 
 -- nothing is in the room that is read into where the answering paused for input

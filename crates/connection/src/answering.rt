@@ -13,13 +13,14 @@ ghost use Rattle.words.specs.Session.{line_reply};
 ghost use Rattle.words.specs.Spelling.{IsRequest};
 ghost use Rattle.transact.specs.Calls.{answer_of, reply_to};
 ghost use Rattle.connection.specs.Clients.{Progress, before, mode_of, IsIdle, IsOpen};
-ghost use Rattle.connection.specs.Served.{HasTurned, IsDue, IsDueToIdle, due_text, Attends, Conversing, HasPaused, IsFed, StandsAt, LeavesAt, paused_told, HasAnswered, GoesOn, EndsAnswering, answered_told};
+ghost use Rattle.connection.specs.Served.{HasTurned, IsDue, IsDueToIdle, due_text, Attends, Conversing, HasPaused, IsHeard, IsFed, StandsAt, LeavesAt, paused_told, HasAnswered, GoesOn, EndsAnswering, answered_told};
 ghost use Rattle.std.specs.Io.KnownBytes.{Appends, Consumes};
 
+use crate::asking::{OpenStore, Store};
 use crate::client::{Client, Front, Next};
 use crate::output::{flush, go_on_behind, say_line, say_spent, say_value, say_values};
 use crate::reading::{MORE_PIECES, Waiting, take_waiting};
-use crate::serving::{Ended, Store, Talk};
+use crate::serving::{Ended, Talk};
 use device::Device;
 use engine::{Gathered, Got, GotAll, Pass, Spoken};
 use gates::Latch;
@@ -84,6 +85,7 @@ pub(crate) fn answer_all<T: Wait, L: Latch, W: Write, D: Device>(
 ) -> Paused
     requires rests { Rests D.Receipt.is_steady store.now.engine.now pass.old }
     requires attends { Attends (knows D.failures pass.old) talk.old.client }
+    requires heard { IsHeard (told_of writer.old) }
     ensures paused { (was : Known) (fed before : List ℕ)
         → Conversing (promises_of D.Receipt.is_steady D.Receipt.lends (stripe_count store.now.engine.now)) was (knows D.failures pass.old) fed talk.old.client (before ++ talk.old.out.items)
         → (sent : List ℕ)
@@ -100,11 +102,13 @@ pub(crate) fn answer_all<T: Wait, L: Latch, W: Write, D: Device>(
         if talk.client.wants_input() {
             return Paused::Input;
         }
+        // The store and the writer are lent for this request alone.
         match answer_next(
-            store,
+            &*store,
             &mut talk.client,
             &mut talk.words,
             &mut talk.out,
+            &*writer,
             pass,
         ) {
             Due::Reply(reply) => {
@@ -210,6 +214,7 @@ pub(crate) fn answer_piece<T: Wait, L: Latch, R: ReadReady, W: Write, D: Device>
     requires room { talk.old.room.items ≡ [] }
     requires few { talk.old.room.more ≤ MORE_PIECES }
     requires empty { talk.old.out.items ≡ [] }
+    requires heard { IsHeard (told_of writer.old) }
     ensures answered { (was : Known) (fed before : List ℕ)
         → Conversing (promises_of D.Receipt.is_steady D.Receipt.lends (stripe_count store.now.engine.now)) was (knows D.failures pass.old) fed talk.old.client before
         → (bytes sent : List ℕ)
@@ -233,15 +238,17 @@ pub(crate) fn answer_piece<T: Wait, L: Latch, R: ReadReady, W: Write, D: Device>
 /// Answers the client's next request, if there is a whole one. It is taken up into these words. What a GET or an MGET
 /// found may be said at once, into the output buffer.
 #[inline]
-fn answer_next<T: Wait, L: Latch, D: Device>(
-    store: &Store<T, L, D>,
+fn answer_next<'s, T: Wait, L: Latch, W, D: Device>(
+    store: &'s Store<T, L, D>,
     client: &mut Client,
     words: &mut Words,
     out: &mut Vec<u8>,
+    writer: &'s Noted<W>,
     pass: &mut Pass<D>,
 ) -> Due
     requires rests { Rests D.Receipt.is_steady store.now.engine.now pass.old }
     requires attends { Attends (knows D.failures pass.old) client.old }
+    requires heard { IsHeard (told_of writer.now) }
     ensures turned { HasTurned client.old result client.new }
     ensures due { IsDue (promises_of D.Receipt.is_steady D.Receipt.lends (stripe_count store.now.engine.now)) (knows D.failures pass.old) (knows D.failures pass.new) client.old result client.new }
     ensures rests { Rests D.Receipt.is_steady store.now.engine.now pass.new }
@@ -250,10 +257,11 @@ fn answer_next<T: Wait, L: Latch, D: Device>(
 {
     match client.take_up(words) {
         Front::Request => {
+            let store = store.open(writer);
             if client.is_idle() {
-                answer_idle(store, client, words, out, pass)
+                answer_idle(&store, client, words, out, pass)
             } else {
-                answer_obeyed(store, client, words, pass)
+                answer_obeyed(&store, client, words, pass)
             }
         }
         Front::Input => Due::Input,
@@ -268,7 +276,7 @@ fn answer_next<T: Wait, L: Latch, D: Device>(
 /// session does no more to them than to hand them on. A PING without a text is answered at once.
 #[inline]
 fn answer_idle<T: Wait, L: Latch, D: Device>(
-    store: &Store<T, L, D>,
+    store: &OpenStore<T, L, D>,
     client: &mut Client,
     words: &Words,
     out: &mut Vec<u8>,
@@ -305,7 +313,7 @@ fn answer_idle<T: Wait, L: Latch, D: Device>(
 /// they lie, and what the key has may be said at once.
 #[inline]
 fn answer_get<T: Wait, L: Latch, D: Device>(
-    store: &Store<T, L, D>,
+    store: &OpenStore<T, L, D>,
     words: &Words,
     out: &mut Vec<u8>,
     pass: &mut Pass<D>,
@@ -334,7 +342,7 @@ fn answer_get<T: Wait, L: Latch, D: Device>(
 /// they lie, and what the keys have may be said at once.
 #[inline(never)]
 fn answer_values<T: Wait, L: Latch, D: Device>(
-    store: &Store<T, L, D>,
+    store: &OpenStore<T, L, D>,
     words: &Words,
     out: &mut Vec<u8>,
     pass: &mut Pass<D>,
@@ -368,7 +376,7 @@ fn answer_values<T: Wait, L: Latch, D: Device>(
 /// they lie.
 #[inline(never)]
 fn answer_settings<T: Wait, L: Latch, D: Device>(
-    store: &Store<T, L, D>,
+    store: &OpenStore<T, L, D>,
     words: &Words,
     pass: &mut Pass<D>,
 ) -> Due
@@ -395,7 +403,7 @@ fn answer_settings<T: Wait, L: Latch, D: Device>(
 /// the engine as they lie.
 #[inline(never)]
 fn answer_one<T: Wait, L: Latch, D: Device>(
-    store: &Store<T, L, D>,
+    store: &OpenStore<T, L, D>,
     words: &Words,
     pass: &mut Pass<D>,
     verb: Verb,
@@ -436,7 +444,7 @@ fn key_and_value<'a>(words: &'a [Word], verb: Verb) -> (&'a Word, &'a Word)
 /// and says its answer as it comes.
 #[inline(never)]
 fn answer_command<T: Wait, L: Latch, D: Device>(
-    store: &Store<T, L, D>,
+    store: &OpenStore<T, L, D>,
     client: &mut Client,
     words: &Words,
     pass: &mut Pass<D>,
@@ -488,7 +496,7 @@ fn line_of(told: Result<Line, Fault>) -> Line
 /// Answers the request of these words, which was taken off.
 #[inline(never)]
 fn answer_obeyed<T: Wait, L: Latch, D: Device>(
-    store: &Store<T, L, D>,
+    store: &OpenStore<T, L, D>,
     client: &mut Client,
     words: &Words,
     pass: &mut Pass<D>,
@@ -512,7 +520,7 @@ fn answer_obeyed<T: Wait, L: Latch, D: Device>(
 /// Answers the request of these words, which was taken off and makes this command.
 #[inline(never)]
 fn answer_step<T: Wait, L: Latch, D: Device>(
-    store: &Store<T, L, D>,
+    store: &OpenStore<T, L, D>,
     client: &mut Client,
     words: &Words,
     command: Result<Command, Refusal>,
@@ -561,6 +569,7 @@ fn answer_waiting<T: Wait, L: Latch, R: ReadReady, W: Write, D: Device>(
     requires attends { Attends (knows D.failures pass.old) talk.old.client }
     requires room { talk.old.room.items ≡ [] }
     requires few { talk.old.room.more ≤ MORE_PIECES }
+    requires heard { IsHeard (told_of writer.old) }
     ensures paused { (was : Known) (fed before : List ℕ)
         → Conversing (promises_of D.Receipt.is_steady D.Receipt.lends (stripe_count store.now.engine.now)) was (knows D.failures pass.old) fed talk.old.client (before ++ talk.old.out.items)
         → (bytes sent : List ℕ)

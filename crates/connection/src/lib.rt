@@ -13,10 +13,12 @@
 //!
 //! A connection ends in one of the six ways of [`Ended`], each where its cause came. Out of memory it ends where
 //! there was none for the output buffer, for the piece that was read last, or for the request at the front; all whole
-//! requests before that are answered. However it ends, what the session watches is forgotten.
+//! requests before that are answered. Once a write has failed, none of the requests that follow is put to the store. However
+//! a connection ends, what the session watches is forgotten.
 #![tactic(auto)]
 
 mod answering;
+mod asking;
 pub mod client;
 pub mod conversation;
 mod output;

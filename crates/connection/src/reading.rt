@@ -2,7 +2,7 @@
 
 ghost use Rattle.std.specs.Prelude.{◌≡◌, ◌<◌, ◌≤◌, ◌+◌, ℕ, [], ◌∷◌, ◌++◌, List, length, OnOk, OnErr, IsOk, IfNone, IsTrue, Some};
 ghost use Rattle.streams.specs.Streams.{stream_of, told_of, reads_of};
-ghost use Rattle.connection.specs.Served.{IsAnswered, HasTaken, HasWaited, LeavesRoom, taken_told, waited_count};
+ghost use Rattle.connection.specs.Served.{IsAnswered, HasTaken, HasWaited, LeavesRoom, WaitsForInput, taken_told, waited_count};
 ghost use Rattle.std.specs.Io.KnownBytes.{Consumes, IsAtEnd};
 
 use crate::client::Client;
@@ -113,15 +113,16 @@ pub(crate) fn take_piece<R: Read>(reader: &mut Noted<R>, talk: &mut Talk) -> Opt
     }
 }
 
-/// Reads a piece of at most [`PIECE_BYTES`] bytes that is there already, and feeds it to the client. The
-/// reader is asked only where its last read filled what it was given, at most [`MORE_PIECES`] times, and
-/// where there is room for a piece.
+/// Reads a piece of at most [`PIECE_BYTES`] bytes that is there already, and feeds it to the client, whose whole
+/// requests are all answered by then. The reader is asked only where its last read filled what it was given, at
+/// most [`MORE_PIECES`] times, and where there is room for a piece.
 pub(crate) fn take_waiting<R: ReadReady>(
     reader: &mut Noted<R>,
     room: &mut Room,
     client: &mut Client,
 ) -> Waiting
-    requires { room.old.items ≡ [] }
+    requires empty { room.old.items ≡ [] }
+    requires waits { WaitsForInput client.old }
     ensures taken { (bytes : List ℕ) × (length bytes ≤ 16384)
         × Consumes (R.remaining (stream_of reader.old)) (R.remaining (stream_of reader.new)) bytes
         × HasWaited result client.old bytes client.new }

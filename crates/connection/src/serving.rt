@@ -6,11 +6,11 @@ ghost use Rattle.streams.specs.Streams.{stream_of, told_of, HasFailed};
 ghost use Rattle.engine.specs.Passes.{knows, Rests, stripe_count};
 ghost use Rattle.engine.specs.Calls.{promises_of};
 ghost use Rattle.connection.specs.Clients.{beginning};
-ghost use Rattle.connection.specs.Conversations.{Went};
-ghost use Rattle.connection.specs.Served.{Attends, Served, reader_told, writer_told};
+ghost use Rattle.connection.specs.Served.{Attends, IsHeard, Served, reader_told, writer_told};
 ghost use Rattle.std.specs.Io.KnownBytes.{Appends, Consumes, IsAtEnd};
 
 use crate::answering::answer_piece;
+use crate::asking::{Store, forget};
 use crate::client::Client;
 use crate::output::HELD_BYTES;
 use crate::reading::{Room, take_piece};
@@ -20,7 +20,7 @@ use gates::Latch;
 use std::alloc::Global;
 use std::io::Write;
 use std::sync::Wait;
-use streams::{Noted, ReadReady};
+use streams::{Noted, ReadReady, Told};
 use words::limits::VALUE_BYTES_MAX;
 use words::word::Words;
 
@@ -41,7 +41,7 @@ pub enum Ended {
     ProtocolFault,
     /// A read failed. All complete requests are answered.
     ReadFailed,
-    /// A write failed, or took no byte.
+    /// A write failed, or took no byte, or one had failed before. No request that follows is put to the store.
     WriteFailed,
     /// A buffer, the reader or a request's words found no memory. What was answered before is
     /// written.
@@ -64,16 +64,6 @@ impl Ended {
             Ended::NoMemory => 6,
         }
     }
-}
-
-/// The store that a connection's requests are put to, and what its calls need to wait for others.
-#[derive(Drop)]
-pub(crate) struct Store<'a, T: Wait, L: Latch, D: Device> {
-    /// By what a call waits.
-    pub(crate) rt: &'a T,
-    /// Which pass goes first where two meet.
-    pub(crate) latch: &'a L,
-    pub(crate) engine: &'a Engine<D>,
 }
 
 /// What a connection keeps from piece to piece.
@@ -132,6 +122,7 @@ fn converse<T: Wait, L: Latch, R: ReadReady, W: Write, D: Device>(
     requires words { talk.old.words ≡ [] ∷ [] }
     requires room { talk.old.room.items ≡ [] }
     requires empty { talk.old.out.items ≡ [] }
+    requires heard { IsHeard (told_of writer.old) }
     ensures served { (bytes text : List ℕ)
         × Consumes (R.remaining (stream_of reader.old)) (R.remaining (stream_of reader.new)) bytes
         × Appends (W.contents (stream_of writer.old)) (W.contents (stream_of writer.new)) text
@@ -153,25 +144,6 @@ fn converse<T: Wait, L: Latch, R: ReadReady, W: Write, D: Device>(
     }
 }
 
-/// Ends a client, and what it watches.
-pub(crate) fn forget<T: Wait, L: Latch, D: Device>(
-    store: &Store<T, L, D>,
-    client: Client,
-    pass: &mut Pass<D>,
-)
-    requires rests { Rests D.Receipt.is_steady store.now.engine.now pass.old }
-    requires attends { Attends (knows D.failures pass.old) client }
-    ensures rests { Rests D.Receipt.is_steady store.now.engine.now pass.new }
-    ensures watches { (knows D.failures pass.new).watched ≡ [] }
-    ensures went { Went (knows D.failures pass.old) (knows D.failures pass.new) [] }
-    ensures no_failure { (knows D.failures pass.new).failures ≡ (knows D.failures pass.old).failures }
-{
-    if let Some(call) = client.close() {
-        // A call that ends watches cannot fail, and is told nothing.
-        let _ = store.engine.submit_with(store.rt, pass, call, store.latch);
-    }
-}
-
 /// Serves one connection: reads requests, answers them by the engine, and writes the replies, until
 /// the connection ends. It gives the pass back, which watches nothing, and says how the connection ended.
 /// It may wait for calls of other passes.
@@ -188,10 +160,10 @@ pub(crate) fn forget<T: Wait, L: Latch, D: Device>(
 /// It reads pieces of at most 16,384 bytes. Where a piece has that many, and all of its complete requests are
 /// answered, the reader is asked for what is there already, and that is answered too, up to 15 pieces. The
 /// replies of all complete requests are written before the next read that waits, in one write where they fit
-/// into 65,536 bytes, the output buffer was granted its room, and the writer takes them. No memory is asked for
-/// from when a call has changed the store until its reply is said: a reply that does not fit into the output
-/// buffer is written after what the buffer holds, piece by piece. However the connection ends, what its session
-/// watched is forgotten.
+/// into 65,536 bytes, the output buffer was granted its room, and the writer takes them. Once a write has failed,
+/// none of the requests that follow is put to the store. No memory is asked for from when a call has changed the
+/// store until its reply is said: a reply that does not fit into the output buffer is written after what the
+/// buffer holds, piece by piece. However the connection ends, what its session watched is forgotten.
 ///
 /// # Memory
 ///
@@ -232,17 +204,23 @@ pub fn serve<T: Wait, L: Latch, R: ReadReady, W: Write, D: Device>(
     ensures reader_failed { result.1 ≡ Ended.ReadFailed → HasFailed reader.new }
     ensures writer_failed { result.1 ≡ Ended.WriteFailed → HasFailed writer.new }
 
+    // A client whose writer had failed before is not served.
+    ensures unheard { told_of writer.old ≡ Told.Failure → (result.1 ≡ Ended.WriteFailed) × (result.0 ≡ pass) }
+
     // The pass holds nothing, and where the device is steady what it has seen is legal.
     ensures rests { Rests D.Receipt.is_steady engine.now result.0 }
     ensures watches { (knows D.failures result.0).watched ≡ [] }
 {
+    if let Told::Failure = writer.told() {
+        return (pass, Ended::WriteFailed);
+    }
     let Ok(mut out) = Vec::with_capacity(alloc, LINE_ROOM) else {
         return (pass, Ended::NoMemory);
     };
     // More room where memory serves: it saves writes.
     let _ = out.reserve(OUTPUT_BYTES);
     let mut talk = Talk::new(alloc, out);
-    let store = Store { rt, latch, engine };
+    let store = Store::new(rt, latch, engine);
     let ended = converse(&store, &mut talk, reader, writer, &mut pass);
     forget(&store, talk.into_client(), &mut pass);
     (pass, ended)

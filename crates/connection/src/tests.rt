@@ -7,14 +7,15 @@ ghost use Rattle.engine.specs.declared.TheConstants.{BACKGROUND_PASSES};
 ghost use Rattle.connection.specs.Served.{Attends};
 
 use crate::answering::{answer_all, conclude};
-use crate::serving::{Ended, Store, Talk, forget};
+use crate::asking::{Store, forget};
+use crate::serving::{Ended, Talk};
 use bytes::Bytes;
 use device::{Device, MemoryDevice};
 use engine::{BACKGROUND_PASSES, Engine, Pass};
 use gates::Open;
 use std::alloc::{AllocError, Global};
 use std::sync::Wait;
-use streams::Noted;
+use streams::{Noted, Told};
 use words::limits::{FRAMES_MIN, Limits, PLACES_MIN};
 
 /// With each allocation refused in turn (`rt try --test --fail-alloc`), a watched key that was missing and is deleted by
@@ -94,11 +95,7 @@ fn both_are_answered<R: Wait, D: Device>(
     requires rests { Rests D.Receipt.is_steady engine.now watcher.pass × Rests D.Receipt.is_steady engine.now deleter.pass }
     requires attends { Attends (knows D.failures watcher.pass) watcher.talk.client × Attends (knows D.failures deleter.pass) deleter.talk.client }
 {
-    let store = Store {
-        rt,
-        latch: &Open,
-        engine,
-    };
+    let store = Store::new(rt, &Open, engine);
     say(&store, &mut watcher, b"*2\r\n$5\r\nWATCH\r\n$1\r\nk\r\n");
     say(&store, &mut deleter, b"*2\r\n$3\r\nDEL\r\n$1\r\nk\r\n");
     say(
@@ -123,6 +120,9 @@ fn say<R: Wait, D: Device>(store: &Store<R, Open, D>, side: &mut Side<D>, piece:
     }
     if let Err(_) = side.talk.client.feed(Bytes::from_static(piece)) {
         side.ended = Some(Ended::NoMemory);
+        return;
+    }
+    if let Told::Failure = side.writer.told() {
         return;
     }
     let paused = answer_all(store, &mut side.talk, &mut side.writer, &mut side.pass);
