@@ -67,6 +67,14 @@ const ASKED: &[Row] = &[
     ("APPEND t ,more", ":9"),
     ("GETSET g new", "$3,old"),
     ("MGET n g", "*2,$3,-10,$3,new"),
+    // So is a transaction of nothing else.
+    ("MULTI", "+OK"),
+    ("INCRBY n 5", "+QUEUED"),
+    ("GETSET g two", "+QUEUED"),
+    ("DECRBY n 5", "+QUEUED"),
+    ("SET g new", "+QUEUED"),
+    ("GET g", "+QUEUED"),
+    ("EXEC", "*5,:-5,$3,new,:-10,+OK,$3,new"),
     // So is what writes nothing.
     ("SETNX g x", ":0"),
     ("SET g x NX", "$-1"),

@@ -32,6 +32,18 @@ const ROWS: &[(&[u8], &[&[u8]])] = &[
             b"+OK\r\n+QUEUED\r\n+QUEUED\r\n+QUEUED\r\n-OOM out of memory\r\n",
         ],
     ),
+    // A transaction over what is there, which writes one key twice.
+    (
+        b"*3\r\n$3\r\nSET\r\n$1\r\na\r\n$1\r\n1\r\n*1\r\n$5\r\nMULTI\r\n*2\r\n$4\r\nINCR\r\n$1\r\na\r\n*2\r\n$4\r\nINCR\r\n$1\r\na\r\n*1\r\n$4\r\nEXEC\r\n*2\r\n$3\r\nGET\r\n$1\r\na\r\n",
+        &[
+            b"+OK\r\n+OK\r\n+QUEUED\r\n+QUEUED\r\n*2\r\n:2\r\n:3\r\n$1\r\n3\r\n",
+            b"-OOM out of memory\r\n+OK\r\n+QUEUED\r\n+QUEUED\r\n*2\r\n:1\r\n:2\r\n$1\r\n2\r\n",
+            b"+OK\r\n+OK\r\n-OOM out of memory\r\n+QUEUED\r\n-EXECABORT transaction discarded because of earlier errors\r\n$1\r\n1\r\n",
+            b"+OK\r\n+OK\r\n+QUEUED\r\n-OOM out of memory\r\n-EXECABORT transaction discarded because of earlier errors\r\n$1\r\n1\r\n",
+            b"+OK\r\n+OK\r\n+QUEUED\r\n+QUEUED\r\n-OOM out of memory\r\n$1\r\n1\r\n",
+            b"+OK\r\n+OK\r\n+QUEUED\r\n+QUEUED\r\n*2\r\n:2\r\n:3\r\n-OOM out of memory\r\n",
+        ],
+    ),
     // A session that writes the key that it watches, and then watches nothing.
     (
         b"*3\r\n$3\r\nSET\r\n$1\r\nk\r\n$1\r\nv\r\n*2\r\n$5\r\nWATCH\r\n$1\r\nk\r\n*3\r\n$3\r\nSET\r\n$1\r\nk\r\n$1\r\nv\r\n*1\r\n$5\r\nMULTI\r\n*1\r\n$4\r\nPING\r\n*1\r\n$4\r\nEXEC\r\n*1\r\n$5\r\nMULTI\r\n*1\r\n$4\r\nPING\r\n*1\r\n$4\r\nEXEC\r\n",

@@ -171,7 +171,7 @@ fn place_each<R: Shows, P: Parts<Shard<R>>>(
     let mut replies = room_for(alloc, commands.len());
     let mut placing = Placing {
         writes: Writes::new(alloc),
-        spots: room_for(alloc, commands.len()),
+        spots: Vec::new(alloc),
     };
     let mut left = commands;
     while let Some((command, others)) = left.split_first() {
