@@ -8,8 +8,9 @@ use device::{Device, Faulty, MemoryDevice};
 use duties::{Site, work_in_background};
 use engine::{BACKGROUND_PASSES, Engine, Pass};
 use gates::Open;
-use sockets::Serving;
+use sockets::{Counted, Serving};
 use std::alloc::Global;
+use std::cell::Cell;
 use std::io;
 use std::process::Abort;
 use std::rt::Clock;
@@ -389,6 +390,7 @@ fn a_cleaner_takes_it_back(rt: HostRuntime) {
 struct Rested<'a, W> {
     rt: &'a W,
     serving: &'a Serving,
+    served: Cell<Option<Counted<'a>>>,
     rests: AtomicU64,
     time: AtomicU64,
 }
@@ -408,7 +410,7 @@ impl<W> Clock for Rested<'_, W> {
         let time = u64::try_from(duration.as_millis()).unwrap_or(u64::MAX);
         self.time.fetch_add(time, Ordering::SeqCst);
         match self.rests.fetch_add(1, Ordering::SeqCst) {
-            2 => self.serving.end(),
+            2 => drop(self.served.take()),
             4 => self.serving.close(),
             _ => {}
         }
@@ -421,10 +423,10 @@ fn a_thread_rests_by_the_clock(rt: HostRuntime) {
     let alloc = rt.alloc();
     let (engine, pass, background) = engine_in_memory(&rt, alloc, 1);
     let serving = Serving::new(&rt);
-    serving.begin();
     let clock = Rested {
         rt: &rt,
         serving: &serving,
+        served: Cell::new(Some(serving.begin())),
         rests: AtomicU64::new(0),
         time: AtomicU64::new(0),
     };

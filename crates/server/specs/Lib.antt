@@ -1,4 +1,5 @@
 pub mod Accepting
 pub mod Closing
+pub mod Crew
 pub mod Faults
 pub mod Numbers

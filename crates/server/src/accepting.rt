@@ -3,13 +3,18 @@
 ghost use Rattle.std.specs.Duration.{as_nanos};
 ghost use Rattle.std.specs.Net.Addr.{ipv4_octets};
 ghost use Rattle.std.specs.Net.Socket.{v4_ip, v4_port};
-ghost use Rattle.std.specs.Prelude.{◌≡◌, ◌≢◌, ◌*◌, ◌↔◌, ◌∷◌, [], true, false, IfErr, IsErr, IsTrue};
-ghost use Rattle.server.specs.Accepting.{IsFailure, turned_away_line};
+ghost use Rattle.std.specs.Prelude.{◌≡◌, ◌≤◌, ◌<◌, ◌+◌, ◌-◌, ◌*◌, ◌^◌, ◌↔◌, ◌∷◌, [], true, false, IfErr, IfOk, IsErr, IsTrue};
+ghost use Rattle.server.specs.Accepting.{IsFailure, came_once, turned_away_line};
+ghost use Rattle.server.specs.Crew.{IsManned};
 
+use crate::crew::Crew;
 use crate::fault::ServerFault;
+use crate::working::Shared;
 use crossbeam_channel::Sender;
+use device::Device;
+use gates::Latch;
 use options::Options;
-use sockets::{Leaving, Serving, close_later};
+use sockets::{Accepted, Leaving, close_later};
 use std::io;
 use std::io::{ErrorKind, Write};
 use std::net::{Ipv4Addr, Net, SocketAddrV4, TcpListener, TcpStream};
@@ -38,31 +43,40 @@ fn address_of(options: &Options) -> SocketAddrV4
     SocketAddrV4::new(Ipv4Addr::LOCALHOST, options.port)
 }
 
-/// Where connections come in, and whether it ever failed to give one.
+/// Where connections come in, how many came, and whether it ever failed to give one.
 #[derive(Drop)]
 pub(crate) struct Door<'a> {
     listener: &'a TcpListener,
+    came: u32,
     failed: bool,
 }
 
 impl<'a> Door<'a> {
     /// The connections that come to this listener.
     pub(crate) fn new(listener: &'a TcpListener) -> Door<'a>
-        ensures { result.failed ≡ false }
+        ensures came { result.came ≡ 0 }
+        ensures failed { result.failed ≡ false }
     {
         Door {
             listener,
+            came: 0,
             failed: false,
         }
     }
 
-    /// Asks the system for the next connection, in one line, and notes where it fails. That line is what is left to trust.
+    /// Asks the system for the next connection, in one line, counts it, and notes where it fails. That line is what is left to
+    /// trust.
     fn next(&mut self) -> io::Result<TcpStream>
+        requires { self.old.came < 2 ^ 32 - 1 }
+        ensures came { self.new.came ≡ self.old.came + came_once result }
         ensures failed { self.old.failed ≡ false → (IsTrue self.new.failed ↔ IsFailure result) }
         ensures kept { self.old.failed ≡ true → self.new.failed ≡ true }
     {
         let came = self.listener.accept().map(|(stream, _)| stream);
         self.failed = self.failed || has_failed(&came);
+        if came.is_ok() {
+            self.came += 1;
+        }
         came
     }
 }
@@ -77,29 +91,35 @@ fn has_failed(came: &io::Result<TcpStream>) -> bool
     }
 }
 
-/// Accepts so many connections and no more, and hands each to a worker that is free or comes free soon. One
+/// Accepts as many connections as the options say and no more, and hands each to a worker that is free or comes free soon. One
 /// for which there is none is turned away. Once it returns nothing can be handed over. It goes on until one cannot be accepted.
 ///
-/// Each is counted as served before it is handed over, so that none is left out between here and its worker, who ends the count.
-/// One that is turned away is not counted any more.
-pub(crate) fn accept_all<R: Clock + Wait>(
+/// No connection is accepted before all threads have been started that the options ask for (`IsManned`).
+///
+/// Each is counted before it is handed over, so that none is left out between here and its worker: nothing else can be handed over
+/// ([`Accepted`]). One that is turned away is not counted any more.
+pub(crate) fn accept_all<'a, R: Clock + Wait, L: Latch, D: Device>(
     rt: &R,
     door: &mut Door,
-    count: u32,
-    serving: &Serving,
-    workers: Sender<TcpStream>,
+    options: &Options,
+    shared: &Shared<'a, L, D>,
+    crew: &Crew,
+    workers: Sender<Accepted<'a>>,
     closer: Sender<Leaving>,
 ) -> Result<(), ServerFault>
-    requires { door.old.failed ≡ false }
+    requires door { door.old.failed ≡ false }
+    requires closed { door.old.came ≡ 0 }
+    requires manned { IsManned options.now.workers D.Receipt.lends crew.now }
     ensures fault { IfErr result (λ fault. fault ≡ ServerFault.CannotAccept) }
     ensures failed { IsTrue door.new.failed ↔ IsErr result }
+    ensures all { IfOk result (λ _. door.new.came ≡ options.now.accept) }
+    ensures most { door.new.came ≤ options.now.accept }
 {
-    for _ in 0..count {
-        let stream = accept(rt, door)?;
-        serving.begin();
-        if let Err(refused) = workers.send_timeout(rt, stream, patience()) {
-            serving.end();
-            turn_away(rt, refused.into_inner(), &closer);
+    let _ = crew;
+    while door.came < options.accept {
+        let connection = Accepted::new(shared.serving, accept(rt, door)?);
+        if let Err(refused) = workers.send_timeout(rt, connection, patience()) {
+            turn_away(rt, refused.into_inner().end(), &closer);
         }
     }
     Ok(())
@@ -114,7 +134,9 @@ fn patience() -> Duration
 
 /// The next connection. One that its client gave up before it was accepted is passed over, and no failure is.
 fn accept(rt: &impl Wait, door: &mut Door) -> Result<TcpStream, ServerFault>
-    requires { door.old.failed ≡ false }
+    requires door { door.old.failed ≡ false }
+    requires room { door.old.came < 2 ^ 32 - 1 }
+    ensures came { door.new.came ≡ door.old.came + came_once result }
     ensures fault { IfErr result (λ fault. fault ≡ ServerFault.CannotAccept) }
     ensures failed { IsTrue door.new.failed ↔ IsErr result }
 {

@@ -10,6 +10,7 @@
 #![tactic(auto)]
 
 mod accepting;
+mod crew;
 mod ending_list;
 mod fault;
 mod workers;

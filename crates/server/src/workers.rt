@@ -1,22 +1,24 @@
 //! A server: the thread that accepts, one for each worker, one that closes, and up to three that work in the background.
 
-ghost use Rattle.std.specs.Prelude.{◌≡◌, ◌≢◌, ◌+◌, ◌↔◌, [], false, Err, IfErr, IfOk, IsTrue, All, length, vec_len};
+ghost use Rattle.std.specs.Prelude.{◌≡◌, ◌≢◌, ◌≤◌, ◌<◌, ◌+◌, ◌↔◌, [], false, Err, IfErr, IfOk, IsTrue, All, length, vec_len};
 ghost use Rattle.engine.specs.Passes.{knows, Rests, stripe_count};
-ghost use Rattle.upkeep.specs.Rounds.{laps_of, places_of};
+ghost use Rattle.upkeep.specs.Rounds.{duty_of, laps_of, places_of};
+ghost use Rattle.server.specs.Crew.{nobody, with_background, with_workers, HasBackground, IsManned};
 ghost use Rattle.engine.specs.declared.TheConstants.{BACKGROUND_PASSES};
 
 use crate::accepting::{Door, accept_all};
+use crate::crew::Crew;
 use crate::ending_list::Endings;
 use crate::fault::ServerFault;
-use crate::working::{Shared, work};
+use crate::working::Shared;
 use crossbeam_channel::{Sender, bounded};
 use device::{Device, Shows};
-use duties::{Background, Chores, work_in_background};
+use duties::{Background, Chores};
 use engine::{BACKGROUND_PASSES, Engine, Pass};
 use gates::Latch;
 use options::Options;
-use sockets::{LEAVING_MAX, Leaving, Serving, close_all};
-use std::net::{TcpListener, TcpStream};
+use sockets::{Accepted, Leaving, Serving};
+use std::net::TcpListener;
 use std::rt::Clock;
 use std::sync::Wait;
 use std::thread;
@@ -86,28 +88,30 @@ where
     D::Receipt: Send + Sync,
     requires rest { All (Rests D.Receipt.is_steady engine.now) passes.items }
     requires watch { All (λ pass. (knows D.failures pass).watched ≡ []) passes.items }
+    requires passes { vec_len passes ≡ options.now.workers + BACKGROUND_PASSES }
     ensures listens { IfErr result (λ fault. fault ≢ ServerFault.CannotListen) }
     ensures opened { IfErr result (λ fault. fault ≢ ServerFault.CannotOpenDevice) }
 {
+    let serving = Serving::new(rt);
     let (to_workers, for_workers) = bounded(rt.alloc(), 0)?;
     let shared = Shared {
         latch,
         endings,
         engine,
-        serving: Serving::new(rt),
+        serving: &serving,
         handed: for_workers,
     };
     run_threads(rt, &shared, listener, options, passes, to_workers)
 }
 
 /// Starts the threads, and accepts connections for them. It returns when all have ended.
-fn run_threads<R, L, D>(
+fn run_threads<'a, R, L, D>(
     rt: &R,
-    shared: &Shared<L, D>,
+    shared: &Shared<'a, L, D>,
     listener: TcpListener,
     options: &Options,
     passes: Vec<Pass<D>>,
-    to_workers: Sender<TcpStream>,
+    to_workers: Sender<Accepted<'a>>,
 ) -> Result<(), ServerFault>
 where
     R: AllocGlobal + Clock + Threads + Wait + Sync,
@@ -116,6 +120,7 @@ where
     D::Receipt: Send + Sync,
     requires rest { All (Rests D.Receipt.is_steady shared.now.engine.now) passes.items }
     requires watch { All (λ pass. (knows D.failures pass).watched ≡ []) passes.items }
+    requires passes { vec_len passes ≡ options.now.workers + BACKGROUND_PASSES }
     ensures listens { IfErr result (λ fault. fault ≢ ServerFault.CannotListen) }
     ensures opened { IfErr result (λ fault. fault ≢ ServerFault.CannotOpenDevice) }
 {
@@ -125,6 +130,7 @@ where
         move |scope| -> Result<(), ServerFault>
             requires rest { All (Rests D.Receipt.is_steady shared.now.engine.now) passes.items }
             requires watch { All (λ pass. (knows D.failures pass).watched ≡ []) passes.items }
+            requires passes { vec_len passes ≡ options.now.workers + BACKGROUND_PASSES }
             ensures listens { IfErr result (λ fault. fault ≢ ServerFault.CannotListen) }
             ensures opened { IfErr result (λ fault. fault ≢ ServerFault.CannotOpenDevice) }
         {
@@ -152,7 +158,7 @@ fn start_and_accept<'s, 'e, 'a, R, L, D>(
     door: &mut Door,
     options: &Options,
     passes: Vec<Pass<D>>,
-    to_workers: Sender<TcpStream>,
+    to_workers: Sender<Accepted<'a>>,
 ) -> Result<(), ServerFault>
 where
     R: AllocGlobal + Clock + Wait + Sync,
@@ -160,28 +166,28 @@ where
     D: Device + Send + Sync,
     D::Receipt: Send + Sync,
     requires door { door.old.failed ≡ false }
+    requires closed { door.old.came ≡ 0 }
     requires rest { All (Rests D.Receipt.is_steady shared.now.engine.now) passes.items }
     requires watch { All (λ pass. (knows D.failures pass).watched ≡ []) passes.items }
+    requires passes { vec_len passes ≡ options.now.workers + BACKGROUND_PASSES }
     ensures listens { IfErr result (λ fault. fault ≢ ServerFault.CannotListen) }
     ensures opened { IfErr result (λ fault. fault ≢ ServerFault.CannotOpenDevice) }
     ensures cause { IsTrue door.new.failed ↔ (result ≡ Err ServerFault.CannotAccept) }
+    ensures all { IfOk result (λ _. door.new.came ≡ options.now.accept) }
+    ensures most { door.new.came ≤ options.now.accept }
 {
-    let to_closer = start_threads(rt, scope, shared, options, passes)?;
-    accept_all(
-        rt,
-        door,
-        options.accept,
-        &shared.serving,
-        to_workers,
-        to_closer,
-    )
+    let mut crew = Crew::new();
+    let to_closer = start_threads(rt, scope, shared, &mut crew, options, passes)?;
+    accept_all(rt, door, options, shared, &crew, to_workers, to_closer)
 }
 
-/// Starts the threads beside the one that accepts, and gives what the closer is handed connections over by.
+/// Starts the threads beside the one that accepts: the closer, those that work in the background, and as many workers as the options
+/// say. Gives what the closer is handed connections over by.
 fn start_threads<'s, 'e, 'a, R, L, D>(
     rt: &'s R,
     scope: &Scope<'s, &'e ()>,
     shared: &'s Shared<'a, L, D>,
+    crew: &mut Crew,
     options: &Options,
     passes: Vec<Pass<D>>,
 ) -> Result<Sender<Leaving>, ServerFault>
@@ -192,121 +198,98 @@ where
     D::Receipt: Send + Sync,
     requires rest { All (Rests D.Receipt.is_steady shared.now.engine.now) passes.items }
     requires watch { All (λ pass. (knows D.failures pass).watched ≡ []) passes.items }
-    ensures { IfErr result (λ fault. fault ≡ ServerFault.OutOfMemory) }
+    requires passes { vec_len passes ≡ options.now.workers + BACKGROUND_PASSES }
+    requires nobody { crew.old ≡ nobody }
+    ensures fault { IfErr result (λ fault. fault ≡ ServerFault.OutOfMemory) }
+    ensures manned { IfOk result (λ _. IsManned options.now.workers D.Receipt.lends crew.new) }
 {
-    let to_closer = start_closer(rt, scope)?;
-    let passes = start_background(rt, scope, options, shared.engine, passes, &shared.serving)?;
-    start_workers(rt, scope, shared, passes, options.workers, &to_closer)?;
+    let to_closer = crew.start_closer(rt, scope)?;
+    let passes = start_background(rt, scope, shared, crew, options, passes)?;
+    start_workers(rt, scope, shared, crew, passes, options.workers, &to_closer)?;
     Ok(to_closer)
-}
-
-/// Starts the thread that closes connections, and gives what they are handed over by.
-fn start_closer<'s, 'e, R: AllocGlobal + Clock + Wait + Sync>(
-    rt: &'s R,
-    scope: &Scope<'s, &'e ()>,
-) -> Result<Sender<Leaving>, ServerFault>
-    ensures { IfErr result (λ fault. fault ≡ ServerFault.OutOfMemory) }
-{
-    let all = Vec::with_capacity(rt.alloc(), LEAVING_MAX)?;
-    let (closer, handed) = bounded(rt.alloc(), LEAVING_MAX)?;
-    scope.spawn(move || close_all(rt, &handed, all))?;
-    Ok(closer)
 }
 
 /// Starts the threads that work in the background, each with one of the last passes, and gives the others back. They work until
 /// serving is over. Where receipts hold their pages, a page leaves its frame as it is, by the call that needs the frame: then the
 /// cleaner alone is started.
-fn start_background<'s, 'e, R, D>(
+fn start_background<'s, 'e, 'a, R, L, D>(
     rt: &'s R,
     scope: &Scope<'s, &'e ()>,
+    shared: &'s Shared<'a, L, D>,
+    crew: &mut Crew,
     options: &Options,
-    engine: &'s Engine<D>,
     passes: Vec<Pass<D>>,
-    serving: &'s Serving,
 ) -> Result<Vec<Pass<D>>, ServerFault>
 where
     R: AllocGlobal + Clock + Wait + Sync,
+    L: Latch + Sync,
     D: Device + Send + Sync,
     D::Receipt: Send + Sync,
-    requires rest { All (Rests D.Receipt.is_steady engine.now) passes.items }
+    requires rest { All (Rests D.Receipt.is_steady shared.now.engine.now) passes.items }
     requires watch { All (λ pass. (knows D.failures pass).watched ≡ []) passes.items }
-    ensures rest { IfOk result (λ others. All (Rests D.Receipt.is_steady engine.now) others.items) }
+    requires enough { BACKGROUND_PASSES ≤ vec_len passes }
+    ensures rest { IfOk result (λ others. All (Rests D.Receipt.is_steady shared.now.engine.now) others.items) }
     ensures watch { IfOk result (λ others. All (λ pass. (knows D.failures pass).watched ≡ []) others.items) }
+    ensures count { IfOk result (λ others. vec_len passes ≤ vec_len others + BACKGROUND_PASSES) }
     ensures fault { IfErr result (λ fault. fault ≡ ServerFault.OutOfMemory) }
+    ensures started { IfOk result (λ _. HasBackground D.Receipt.lends crew.old crew.new) }
 {
-    let all = Background::new(rt.alloc(), engine.stripes(), options.places)?;
-    let passes = start_chores(rt, scope, options, engine, passes, all.cleaner, serving)?;
+    let all = Background::new(rt.alloc(), shared.engine.stripes(), options.places)?;
+    let passes = start_chores(rt, scope, shared, crew, options, passes, all.cleaner)?;
     if D::Receipt::hold_pages() {
         return Ok(passes);
     }
-    let passes = start_chores(rt, scope, options, engine, passes, all.evictor, serving)?;
-    start_chores(rt, scope, options, engine, passes, all.flusher, serving)
+    let passes = start_chores(rt, scope, shared, crew, options, passes, all.evictor)?;
+    start_chores(rt, scope, shared, crew, options, passes, all.flusher)
 }
 
 /// Starts a thread for these chores, with the last pass, and gives the others back.
-fn start_chores<'s, 'e, R, D>(
+fn start_chores<'s, 'e, 'a, R, L, D>(
     rt: &'s R,
     scope: &Scope<'s, &'e ()>,
+    shared: &'s Shared<'a, L, D>,
+    crew: &mut Crew,
     options: &Options,
-    engine: &'s Engine<D>,
     mut passes: Vec<Pass<D>>,
     chores: Chores,
-    serving: &'s Serving,
 ) -> Result<Vec<Pass<D>>, ServerFault>
 where
     R: AllocGlobal + Clock + Wait + Sync,
+    L: Latch + Sync,
     D: Device + Send + Sync,
     D::Receipt: Send + Sync,
-    requires rest { All (Rests D.Receipt.is_steady engine.now) passes.items }
+    requires rest { All (Rests D.Receipt.is_steady shared.now.engine.now) passes.items }
     requires watch { All (λ pass. (knows D.failures pass).watched ≡ []) passes.items }
-    requires laps { length (laps_of chores) ≡ stripe_count engine.now }
+    requires some { 0 < vec_len passes }
+    requires laps { length (laps_of chores) ≡ stripe_count shared.now.engine.now }
     requires places { places_of chores ≡ options.now.places }
-    ensures rest { IfOk result (λ others. All (Rests D.Receipt.is_steady engine.now) others.items) }
+    ensures rest { IfOk result (λ others. All (Rests D.Receipt.is_steady shared.now.engine.now) others.items) }
     ensures watch { IfOk result (λ others. All (λ pass. (knows D.failures pass).watched ≡ []) others.items) }
+    ensures count { IfOk result (λ others. vec_len others + 1 ≡ vec_len passes) }
     ensures fault { IfErr result (λ fault. fault ≡ ServerFault.OutOfMemory) }
+    ensures started { IfOk result (λ _. crew.new ≡ with_background (duty_of chores) crew.old) }
 {
     let Some(pass) = passes.pop() else {
-        return Ok(passes);
+        unreachable!()
     };
-    start_one(rt, scope, options, engine, pass, chores, serving)?;
+    crew.start_chores(
+        rt,
+        scope,
+        options,
+        shared.engine,
+        pass,
+        chores,
+        shared.serving,
+    )?;
     Ok(passes)
 }
 
-/// Starts a thread for these chores with this pass.
-fn start_one<'s, 'e, R, D>(
-    rt: &'s R,
-    scope: &Scope<'s, &'e ()>,
-    options: &Options,
-    engine: &'s Engine<D>,
-    pass: Pass<D>,
-    chores: Chores,
-    serving: &'s Serving,
-) -> Result<(), ServerFault>
-where
-    R: AllocGlobal + Clock + Wait + Sync,
-    D: Device + Send + Sync,
-    D::Receipt: Send + Sync,
-    requires rests { Rests D.Receipt.is_steady engine.now pass }
-    requires laps { length (laps_of chores) ≡ stripe_count engine.now }
-    requires places { places_of chores ≡ options.now.places }
-    ensures { IfErr result (λ fault. fault ≡ ServerFault.OutOfMemory) }
-{
-    scope.spawn(
-        move ||
-            requires rests { Rests D.Receipt.is_steady engine.now pass }
-            requires laps { length (laps_of chores) ≡ stripe_count engine.now }
-        {
-            work_in_background(rt, engine, pass, chores, serving);
-        },
-    )?;
-    Ok(())
-}
-
-/// Starts so many workers, each with a pass of its own. Further passes are dropped.
+/// Starts so many workers, each with a pass of its own and a way of its own to hand over to the closer. Further passes are dropped.
 fn start_workers<'s, 'e, 'a, R, L, D>(
     rt: &'s R,
     scope: &Scope<'s, &'e ()>,
     shared: &'s Shared<'a, L, D>,
+    crew: &mut Crew,
     mut passes: Vec<Pass<D>>,
     count: usize,
     closer: &Sender<Leaving>,
@@ -318,63 +301,16 @@ where
     D::Receipt: Send + Sync,
     requires rest { All (Rests D.Receipt.is_steady shared.now.engine.now) passes.items }
     requires watch { All (λ pass. (knows D.failures pass).watched ≡ []) passes.items }
-    ensures { IfErr result (λ fault. fault ≡ ServerFault.OutOfMemory) }
+    requires enough { count ≤ vec_len passes }
+    ensures fault { IfErr result (λ fault. fault ≡ ServerFault.OutOfMemory) }
+    ensures started { IfOk result (λ _. crew.new ≡ with_workers count crew.old) }
 {
     passes.truncate(count);
     while let Some(pass) = passes.pop() {
-        start_worker(rt, scope, shared, pass, closer)?;
+        match closer.clone() {
+            Ok(closer) => crew.start_worker(rt, scope, shared, pass, closer)?,
+            Err(error) => return Err(error.into()),
+        }
     }
-    Ok(())
-}
-
-/// Starts one worker, with a way of its own to hand over to the closer.
-fn start_worker<'s, 'e, 'a, R, L, D>(
-    rt: &'s R,
-    scope: &Scope<'s, &'e ()>,
-    shared: &'s Shared<'a, L, D>,
-    pass: Pass<D>,
-    closer: &Sender<Leaving>,
-) -> Result<(), ServerFault>
-where
-    R: AllocGlobal + Clock + Wait + Sync,
-    L: Latch + Sync,
-    D: Device + Send + Sync,
-    D::Receipt: Send + Sync,
-    requires rests { Rests D.Receipt.is_steady shared.now.engine.now pass }
-    requires watches { (knows D.failures pass).watched ≡ [] }
-    ensures { IfErr result (λ fault. fault ≡ ServerFault.OutOfMemory) }
-{
-    match closer.clone() {
-        Ok(closer) => spawn_worker(rt, scope, shared, pass, closer),
-        Err(error) => Err(error.into()),
-    }
-}
-
-/// Starts the thread of one worker.
-fn spawn_worker<'s, 'e, 'a, R, L, D>(
-    rt: &'s R,
-    scope: &Scope<'s, &'e ()>,
-    shared: &'s Shared<'a, L, D>,
-    pass: Pass<D>,
-    closer: Sender<Leaving>,
-) -> Result<(), ServerFault>
-where
-    R: AllocGlobal + Clock + Wait + Sync,
-    L: Latch + Sync,
-    D: Device + Send + Sync,
-    D::Receipt: Send + Sync,
-    requires rests { Rests D.Receipt.is_steady shared.now.engine.now pass }
-    requires watches { (knows D.failures pass).watched ≡ [] }
-    ensures { IfErr result (λ fault. fault ≡ ServerFault.OutOfMemory) }
-{
-    scope.spawn(
-        move ||
-            requires rests { Rests D.Receipt.is_steady shared.now.engine.now pass }
-            requires watches { (knows D.failures pass).watched ≡ [] }
-        {
-            // It gives its pass back, which nobody wants any more.
-            let _ = work(rt, shared, pass, &closer);
-        },
-    )?;
     Ok(())
 }

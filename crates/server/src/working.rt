@@ -14,7 +14,9 @@ use crossbeam_channel::{Receiver, Sender};
 use device::Device;
 use engine::{Engine, Pass};
 use gates::Latch;
-use sockets::{ClosedLater, Leaving, Serving, Socket, SocketReader, SocketWriter, close_later};
+use sockets::{
+    Accepted, ClosedLater, Leaving, Serving, Socket, SocketReader, SocketWriter, close_later,
+};
 use std::io::Write;
 use std::net::TcpStream;
 use std::rt::Clock;
@@ -28,14 +30,14 @@ pub(crate) struct Shared<'a, L: Latch, D: Device> {
     pub(crate) latch: &'a L,
     pub(crate) endings: &'a Endings,
     pub(crate) engine: &'a Engine<D>,
-    pub(crate) serving: Serving,
-    /// By what connections are handed over.
-    pub(crate) handed: Receiver<TcpStream>,
+    pub(crate) serving: &'a Serving,
+    /// By what connections are handed over, each of which is counted.
+    pub(crate) handed: Receiver<Accepted<'a>>,
 }
 
 /// Serves connections as they are handed over, one after the other, until nobody can hand over another.
-/// The pass is kept from one to the next. Each was counted as served before it was handed over (`accept_all`), and is until it
-/// has been.
+/// The pass is kept from one to the next. Each is counted from before it was handed over until it has been served, since no other
+/// has a socket ([`Accepted`]).
 pub(crate) fn work<R: AllocGlobal + Clock + Wait, L: Latch, D: Device>(
     rt: &R,
     shared: &Shared<L, D>,
@@ -49,18 +51,17 @@ pub(crate) fn work<R: AllocGlobal + Clock + Wait, L: Latch, D: Device>(
 {
     let mut pass = pass;
     for _ in rt.forever() {
-        let Ok(stream) = shared.handed.recv(rt) else {
+        let Ok(connection) = shared.handed.recv(rt) else {
             return pass;
         };
-        let socket = Socket::new(&stream);
-        let mut reader = Noted::new(SocketReader::new(rt, &socket, &shared.serving));
+        let socket = Socket::new(&connection);
+        let mut reader = Noted::new(SocketReader::new(rt, &socket, shared.serving));
         let mut writer = Noted::new(SocketWriter::new(&socket));
         let (back, ended) = serve_stream(rt, shared, &mut reader, &mut writer, pass);
-        shared.serving.end();
         pass = back;
         // Without memory for it, the ending is not listed.
         let _ = shared.endings.push(rt, ended);
-        let _ = close(rt, stream, ended, closer);
+        let _ = close(rt, connection.end(), ended, closer);
     }
     unreachable!()
 }

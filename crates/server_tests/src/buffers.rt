@@ -2,9 +2,10 @@
 
 use crate::client::{connect, options_with, reads_at_once, sends};
 use server::listen;
-use sockets::{Serving, Socket, SocketReader, SocketWriter};
+use sockets::{Accepted, Serving, Socket, SocketReader, SocketWriter};
 use std::io;
 use std::io::{Read, Write};
+use std::mem::forget;
 use std::net::{Net, TcpListener, TcpStream};
 use std::rt::Clock;
 use std::sync::atomic::{AtomicU64, Ordering};
@@ -30,6 +31,11 @@ where
     Some((client, served))
 }
 
+/// A further handle of the same connection, by which a test looks at it.
+fn again(served: &TcpStream) -> Option<TcpStream> {
+    served.try_clone().ok()
+}
+
 /// Whether all bytes come to be there, to be read. False after all turns.
 fn come(clock: &impl Clock, served: &TcpStream) -> bool {
     let mut buffer = [0; 16_384];
@@ -52,7 +58,8 @@ fn are_sent(clock: &impl Clock, client: &TcpStream, served: &TcpStream) -> bool 
 fn a_read_takes_all_that_is_there(rt: HostRuntime) {
     let (client, served) = ends(&rt).expect(&rt, "a connection");
     let serving = Serving::new(&rt);
-    let socket = Socket::new(&served);
+    let connection = Accepted::new(&serving, again(&served).expect(&rt, "a handle"));
+    let socket = Socket::new(&connection);
     let mut reader = SocketReader::new(&rt, &socket, &serving);
     let mut buffer = [0; 16_384];
     assert!(rt; are_sent(&rt, &client, &served));
@@ -67,11 +74,12 @@ fn a_read_takes_all_that_is_there(rt: HostRuntime) {
 #[test]
 fn a_write_hands_on_all_bytes(rt: HostRuntime) {
     let (client, served) = ends(&rt).expect(&rt, "a connection");
-    let socket = Socket::new(&served);
+    let serving = Serving::new(&rt);
+    let connection = Accepted::new(&serving, served);
+    let socket = Socket::new(&connection);
     let mut writer = SocketWriter::new(&socket);
     assert!(rt; matches!(writer.write(&BYTES), Ok(16_384)));
     assert!(rt; reads_at_once(rt.alloc(), &client, &BYTES));
-    drop(served);
     drop(client);
 }
 
@@ -79,7 +87,9 @@ fn a_write_hands_on_all_bytes(rt: HostRuntime) {
 #[test]
 fn a_socket_sends_at_once(rt: HostRuntime) {
     let (_client, served) = ends(&rt).expect(&rt, "a connection");
-    let _socket = Socket::new(&served);
+    let serving = Serving::new(&rt);
+    let connection = Accepted::new(&serving, again(&served).expect(&rt, "a handle"));
+    let _socket = Socket::new(&connection);
     assert!(rt; matches!(served.nodelay(), Ok(true)));
     drop(served);
 }
@@ -89,7 +99,8 @@ fn a_socket_sends_at_once(rt: HostRuntime) {
 fn a_read_waits_for_the_cleaner(rt: HostRuntime) {
     let (client, served) = ends(&rt).expect(&rt, "a connection");
     let serving = Serving::new(&rt);
-    let socket = Socket::new(&served);
+    let connection = Accepted::new(&serving, again(&served).expect(&rt, "a handle"));
+    let socket = Socket::new(&connection);
     let mut reader = SocketReader::new(&rt, &socket, &serving);
     let mut buffer = [0; 16_384];
     assert!(rt; are_sent(&rt, &client, &served));
@@ -137,7 +148,8 @@ where
 {
     let (client, served) = ends(rt)?;
     let serving = Serving::new(rt);
-    let socket = Socket::new(&served);
+    let connection = Accepted::new(&serving, again(&served)?);
+    let socket = Socket::new(&connection);
     let clock = Sleeps {
         serving: &serving,
         slept: AtomicU64::new(0),
@@ -160,7 +172,7 @@ fn a_read_waits_only_while_the_cleaner_is_behind(rt: HostRuntime) {
     assert_eq!(rt; waits(&rt, true, 1_000), Some(20));
 }
 
-/// As many connections are few as the system has processors for this process, and one more are not.
+/// As many connections are few as the system has processors for this process, and one more are not, until it has ended.
 #[test]
 fn connections_are_few_up_to_the_processors(rt: HostRuntime) {
     let processors = available_parallelism(&rt)
@@ -168,9 +180,12 @@ fn connections_are_few_up_to_the_processors(rt: HostRuntime) {
         .get();
     let serving = Serving::new(&rt);
     for _ in 0..processors {
-        serving.begin();
+        // It stays counted.
+        forget(serving.begin());
     }
     assert!(rt; serving.is_few());
-    serving.begin();
+    let one_more = serving.begin();
     assert!(rt; !serving.is_few());
+    drop(one_more);
+    assert!(rt; serving.is_few());
 }

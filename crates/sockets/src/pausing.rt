@@ -1,8 +1,9 @@
 //! How long a read waits for the cleaner of the store.
 
-ghost use Rattle.std.specs.Prelude.{◌≡◌, ◌≤◌, ◌<◌, ◌+◌, ◌-◌, ◌^◌, ℕ};
-ghost use Rattle.sockets.specs.Pausing.{count_of};
+ghost use Rattle.std.specs.Prelude.{◌≡◌, ◌+◌, ℕ};
+ghost use Rattle.sockets.specs.Pausing.{count_of, pauses, HasPaused};
 
+use crate::counts::Count;
 use crate::serving::Serving;
 use std::rt::Clock;
 use std::thread::sleep;
@@ -24,15 +25,12 @@ pub(crate) trait Awaited {
 
     /// Whether it is behind those who write.
     fn is_behind(&mut self) -> bool
-        requires asked { asked self.old < 2 ^ 32 - 1 }
-        requires told { told self.old < 2 ^ 32 - 1 }
         ensures asked { asked self.new ≡ asked self.old + 1 }
         ensures told { told self.new ≡ told self.old + count_of result }
         ensures waited { waited self.new ≡ waited self.old };
 
     /// Waits for a millisecond.
     fn wait(&mut self)
-        requires { waited self.old < 2 ^ 32 - 1 }
         ensures asked { asked self.new ≡ asked self.old }
         ensures told { told self.new ≡ told self.old }
         ensures waited { waited self.new ≡ waited self.old + 1 };
@@ -43,12 +41,12 @@ pub(crate) trait Awaited {
 pub(crate) struct Cleaner<'a, C> {
     clock: &'a C,
     serving: &'a Serving,
-    /// How often it was asked in the last read whether it is behind.
-    pub(crate) asked: u32,
-    /// How often it was said there that it is.
-    pub(crate) told: u32,
-    /// How many milliseconds it was waited for there.
-    pub(crate) waited: u32,
+    /// How often it was asked whether it is behind.
+    asked: Count,
+    /// How often it was said that it is.
+    told: Count,
+    /// How many milliseconds it was waited for.
+    waited: Count,
 }
 
 impl<'a, C> Cleaner<'a, C> {
@@ -57,21 +55,10 @@ impl<'a, C> Cleaner<'a, C> {
         Cleaner {
             clock,
             serving,
-            asked: 0,
-            told: 0,
-            waited: 0,
+            asked: Count::new(),
+            told: Count::new(),
+            waited: Count::new(),
         }
-    }
-
-    /// Another read begins, in which nobody has asked or waited.
-    pub(crate) fn begin(&mut self)
-        ensures asked { self.new.asked ≡ 0 }
-        ensures told { self.new.told ≡ 0 }
-        ensures waited { self.new.waited ≡ 0 }
-    {
-        self.asked = 0;
-        self.told = 0;
-        self.waited = 0;
     }
 }
 
@@ -85,28 +72,24 @@ impl<C: Clock> Awaited for Cleaner<'_, C> {
 
     fn is_behind(&mut self) -> bool {
         let behind = self.serving.is_behind();
-        self.asked += 1;
+        self.asked.note();
         if behind {
-            self.told += 1;
+            self.told.note();
         }
         behind
     }
 
     fn wait(&mut self) {
         sleep(self.clock, Duration::from_millis(1));
-        self.waited += 1;
+        self.waited.note();
     }
 }
 
 /// Waits for the cleaner where it is behind, a millisecond each time that it is said so, and 20 at most. It waits for less only
 /// where it was said that it is not behind.
 pub(crate) fn pause<A: Awaited>(cleaner: &mut A)
-    requires asked { A.asked cleaner.old ≡ 0 }
-    requires told { A.told cleaner.old ≡ 0 }
-    requires waited { A.waited cleaner.old ≡ 0 }
-    ensures each { A.waited cleaner.new ≡ A.told cleaner.new }
-    ensures most { A.waited cleaner.new ≤ 20 }
-    ensures stops { A.waited cleaner.new < 20 → A.asked cleaner.new ≡ A.told cleaner.new + 1 }
+    ensures { HasPaused (pauses (A.asked cleaner.old) (A.told cleaner.old) (A.waited cleaner.old))
+        (pauses (A.asked cleaner.new) (A.told cleaner.new) (A.waited cleaner.new)) }
 {
     let mut left = PAUSES_MAX;
     while left > 0 {

@@ -15,15 +15,18 @@
 //! the other, or more than is read at once, has it changed seldom.
 
 ghost use Rattle.std.specs.Duration.{as_nanos};
-ghost use Rattle.std.specs.Prelude.{◌≡◌, ◌≤◌, ◌<◌, ◌-◌, ◌/◌, ◌↔◌, true, None, length, IfSome, IsTrue, OnOk};
+ghost use Rattle.std.specs.Prelude.{◌≡◌, ◌≤◌, ◌<◌, ◌-◌, ◌/◌, ◌⊎◌, ◌↔◌, [], true, None, length, IfSome, IsTrue};
 ghost use Rattle.std.specs.Io.{ReadsAtMost, WritesAtMost};
-ghost use Rattle.std.specs.Io.KnownBytes.{ReadConsumes, WriteAppends};
+ghost use Rattle.std.specs.Io.KnownBytes.{Keeps, ReadConsumes, WriteAppends};
 ghost use Rattle.streams.specs.Streams.{IsReadReady};
 ghost use Rattle.sockets.specs.Pausing.{HasPaused};
+ghost use Rattle.sockets.specs.Sockets.{source_of, asked_of, kept_in, pauses_in, sink_of, handed_of};
+ghost use Rattle.sockets.specs.SystemCalls.{GivesBytes, HasLooked, HasRead, HasWritten, IsKept};
 
+use crate::line::Line;
 use crate::pausing::{Cleaner, pause};
-use crate::serving::Serving;
-use std::cell::Cell;
+use crate::serving::{Accepted, Serving};
+use crate::waiting::Waiting;
 use std::io;
 use std::io::{ErrorKind, Read, Write};
 use std::net::TcpStream;
@@ -47,45 +50,33 @@ const CROWDED_RESTS: u32 = 255;
 #[derive(Drop)]
 pub struct Socket<'a> {
     stream: &'a TcpStream,
-    waits: Cell<bool>,
+    waiting: Waiting<'a>,
 }
 
 impl<'a> Socket<'a> {
-    /// This socket, whose calls are to wait, as those of a new connection do. What is written to it is sent at once.
-    pub fn new(stream: &'a TcpStream) -> Socket<'a> {
+    /// The socket of this connection, whose calls are to wait, as those of a new connection do. What is written to it is sent at
+    /// once.
+    pub fn new(connection: &'a Accepted<'_>) -> Socket<'a> {
+        let stream = connection.stream();
         // Without this a short reply may wait for the client's acknowledgement of the one before.
         let _ = stream.set_nodelay(true);
         Socket {
             stream,
-            waits: Cell::new(true),
+            waiting: Waiting::new(stream),
         }
-    }
-
-    /// Has the socket's calls wait from here on, or not.
-    ///
-    /// # Errors
-    ///
-    /// Why the system refused it. All is as before then, and the next call asks for it again.
-    fn set_waiting(&self, waits: bool) -> io::Result<()> {
-        if self.waits.get() != waits {
-            self.stream.set_nonblocking(!waits)?;
-            self.waits.set(waits);
-        }
-        Ok(())
     }
 }
 
-/// Reads from a socket, and can be asked for what is there already.
+/// Reads from a stream as a [`SocketReader`](crate::SocketReader) reads from its socket.
 ///
-/// A read waits for input: where few connections are served it may ask for it again and again for 50 µs, and then it sleeps.
-/// Before, it waits for the cleaner where that is behind, some 20 milliseconds at most. It fails as the socket does. Asked for
-/// what is there, it waits for nothing; the end and a failure are told by the next read.
+/// It is proved over each stream `S`, also over one whose bytes contracts know: it gives exactly the bytes that it takes.
 #[derive(Drop)]
-pub struct SocketReader<'a, C> {
+pub(crate) struct Reading<'a, C, S> {
     clock: &'a C,
-    socket: &'a Socket<'a>,
     serving: &'a Serving,
-    /// How long the last read waited for the cleaner.
+    /// Where the bytes come from.
+    line: Line<'a, S>,
+    /// How long reads waited for the cleaner.
     cleaner: Cleaner<'a, C>,
     /// Whether few connections were served when that was asked last.
     few: bool,
@@ -95,41 +86,38 @@ pub struct SocketReader<'a, C> {
     rests: u32,
     /// How many do so once asking finds nothing.
     next_rests: u32,
-    /// How many bytes the system was asked for last.
-    asked: usize,
 }
 
-impl<'a, C: Clock> SocketReader<'a, C> {
+impl<'a, C> Reading<'a, C, &'a TcpStream> {
     /// Reads from this socket, whose connection is one of those that are served.
-    pub fn new(clock: &'a C, socket: &'a Socket<'a>, serving: &'a Serving) -> SocketReader<'a, C> {
-        SocketReader {
+    pub(crate) fn new(
+        clock: &'a C,
+        socket: &'a Socket<'a>,
+        serving: &'a Serving,
+    ) -> Reading<'a, C, &'a TcpStream>
+        ensures reads { asked_of result ≡ [] }
+        ensures kept { kept_in result ≡ None }
+    {
+        Reading {
             clock,
-            socket,
             serving,
+            line: Line::new(socket.stream, &socket.waiting),
             cleaner: Cleaner::new(clock, serving),
             few: false,
             failed: None,
             rests: 0,
             next_rests: 0,
-            asked: 0,
         }
     }
+}
 
-    /// Asks the system for as many bytes as the buffer has room for, in one call, and notes how many these are. That line is
-    /// what is left to trust of it.
-    fn ask(&mut self, buffer: &mut [u8]) -> io::Result<usize>
-        ensures bound { ReadsAtMost result buffer.new }
-        ensures asked { self.new.asked ≡ length buffer.new }
-        ensures kept { self.new.cleaner ≡ self.old.cleaner }
-    {
-        self.asked = buffer.len();
-        let mut stream = self.socket.stream;
-        stream.read(buffer)
-    }
-
-    /// Keeps a failure for the next read to tell.
+impl<C: Clock, S: Read> Reading<'_, C, S> {
+    /// Keeps a failure for the next read to tell. That the call would block or was interrupted is none.
     fn note(&mut self, kind: ErrorKind)
-        ensures { self.new.cleaner ≡ self.old.cleaner }
+        requires { self.old.failed ≡ None }
+        ensures cleaner { self.new.cleaner ≡ self.old.cleaner }
+        ensures line { self.new.line ≡ self.old.line }
+        ensures kept { IsKept kind self.new.failed }
     {
         if kind != ErrorKind::WouldBlock && kind != ErrorKind::Interrupted {
             self.failed = Some(kind);
@@ -141,7 +129,9 @@ impl<'a, C: Clock> SocketReader<'a, C> {
     fn takes_a_look(&mut self) -> bool
         ensures rests { self.new.rests ≡ self.old.rests - 1 }
         ensures look { IsTrue result ↔ (self.old.rests ≡ 0) × IsTrue self.new.few }
-        ensures kept { self.new.cleaner ≡ self.old.cleaner }
+        ensures cleaner { self.new.cleaner ≡ self.old.cleaner }
+        ensures line { self.new.line ≡ self.old.line }
+        ensures failed { self.new.failed ≡ self.old.failed }
     {
         self.few = self.serving.is_few();
         if self.rests > 0 {
@@ -149,6 +139,35 @@ impl<'a, C: Clock> SocketReader<'a, C> {
             return false;
         }
         self.few
+    }
+
+    /// Asks for input before it sleeps, where that is done. `None` where none came, or the socket ended or failed.
+    fn look_first(&mut self, buffer: &mut [u8]) -> Option<usize>
+        ensures within { IfSome result (λ count. count ≤ length buffer.new) }
+        ensures bytes { GivesBytes (S.remaining (source_of self.old)) (S.remaining (source_of self.new)) buffer.new result }
+        ensures calls { HasLooked (length buffer.new) (kept_in self.old) (kept_in self.new) result (asked_of self.old) (asked_of self.new) }
+        ensures cleaner { self.new.cleaner ≡ self.old.cleaner }
+    {
+        if self.failed.is_none() && !buffer.is_empty() && self.takes_a_look() {
+            self.look(buffer)
+        } else {
+            None
+        }
+    }
+
+    /// Tells a failure that was kept, or sleeps until there is input or an end.
+    fn wait(&mut self, buffer: &mut [u8]) -> io::Result<usize>
+        ensures bound { ReadsAtMost result buffer.new }
+        ensures bytes { ReadConsumes (S.remaining (source_of self.old)) (S.remaining (source_of self.new)) result buffer.new }
+        ensures calls { HasRead (length buffer.new) (kept_in self.old) result (asked_of self.old) (asked_of self.new) }
+        ensures kept { kept_in self.new ≡ None }
+        ensures cleaner { self.new.cleaner ≡ self.old.cleaner }
+    {
+        if let Some(kind) = self.failed.take() {
+            return Err(kind.into());
+        }
+        self.line.set_waiting(true)?;
+        self.line.read(buffer)
     }
 
     /// Whether a reader that began to ask then still asks.
@@ -165,8 +184,9 @@ impl<'a, C: Clock> SocketReader<'a, C> {
         requires room { 0 < length buffer.old }
         requires few { self.old.few ≡ true }
         requires rested { self.old.rests ≡ 0 }
-        ensures within { IfSome result (λ count. count ≤ length buffer.new) }
-        ensures asked { IfSome result (λ count. self.new.asked ≡ length buffer.new) }
+        requires well { self.old.failed ≡ None }
+        ensures ready { IsReadReady (S.remaining (source_of self.old)) (S.remaining (source_of self.new)) buffer.new result }
+        ensures calls { HasLooked (length buffer.new) (kept_in self.old) (kept_in self.new) result (asked_of self.old) (asked_of self.new) }
         ensures kept { self.new.cleaner ≡ self.old.cleaner }
     {
         let Ok(began) = Instant::now(self.clock) else {
@@ -182,12 +202,23 @@ impl<'a, C: Clock> SocketReader<'a, C> {
             }
             yield_now();
             if !self.is_early(&began) {
-                if looks < LOOKS_MIN {
-                    self.rests = CROWDED_RESTS;
-                    return None;
-                }
-                break;
+                self.rest(looks < LOOKS_MIN);
+                return None;
             }
+        }
+        self.rest(false);
+        None
+    }
+
+    /// Asking found nothing, so some reads sleep at once: more each time, or many where other programs had the processors.
+    fn rest(&mut self, is_crowded: bool)
+        ensures cleaner { self.new.cleaner ≡ self.old.cleaner }
+        ensures line { self.new.line ≡ self.old.line }
+        ensures failed { self.new.failed ≡ self.old.failed }
+    {
+        if is_crowded {
+            self.rests = CROWDED_RESTS;
+            return;
         }
         self.rests = self.next_rests;
         self.next_rests = self
@@ -195,7 +226,6 @@ impl<'a, C: Clock> SocketReader<'a, C> {
             .saturating_mul(2)
             .saturating_add(1)
             .min(RESTS_MAX);
-        None
     }
 }
 
@@ -206,45 +236,41 @@ fn is_brief(time: Duration) -> bool
     time.as_micros() < u128::from(POLL_MICROSECONDS)
 }
 
-impl<C: Clock> Read for SocketReader<'_, C> {
-    /// What is given was asked for in one call, with room for the whole buffer. Before, the cleaner was waited for where it is
-    /// behind.
+impl<C: Clock, S: Read> Read for Reading<'_, C, S> {
+    ghost remaining = { λ r. S.remaining (source_of r) };
+
+    /// What is given was asked for in one call, with room for the whole buffer; those before it gave nothing, so no byte is lost.
+    /// A failure and the end are told as the system told them. Before, the cleaner was waited for where it is behind.
     fn read(&mut self, buffer: &mut [u8]) -> io::Result<usize>
         ensures bound { ReadsAtMost result buffer.new }
-        ensures bytes { ReadConsumes None None result buffer.new }
-        ensures whole { OnOk result (self.new.asked ≡ length buffer.new) }
-        ensures paused { HasPaused self.new.cleaner.asked self.new.cleaner.told self.new.cleaner.waited }
+        ensures bytes { ReadConsumes (S.remaining (source_of self.old)) (S.remaining (source_of self.new)) result buffer.new }
+        ensures calls { HasRead (length buffer.new) (kept_in self.old) result (asked_of self.old) (asked_of self.new) }
+        ensures kept { kept_in self.new ≡ None }
+        ensures paused { HasPaused (pauses_in self.old) (pauses_in self.new) }
     {
-        self.cleaner.begin();
         pause(&mut self.cleaner);
-        if self.failed.is_none() && !buffer.is_empty() && self.takes_a_look() {
-            if let Some(count) = self.look(buffer) {
-                return Ok(count);
-            }
+        match self.look_first(buffer) {
+            Some(count) => Ok(count),
+            None => self.wait(buffer),
         }
-        if let Some(kind) = self.failed.take() {
-            return Err(kind.into());
-        }
-        self.socket.set_waiting(true)?;
-        self.ask(buffer)
     }
 }
 
-impl<C: Clock> ReadReady for SocketReader<'_, C> {
+impl<C: Clock, S: Read> ReadReady for Reading<'_, C, S> {
     /// What is given was asked for in one call, with room for the whole buffer.
     fn read_ready(&mut self, buffer: &mut [u8]) -> Option<usize>
         requires { 0 < length buffer.old }
-        ensures ready { IsReadReady None None buffer.new result }
-        ensures whole { IfSome result (λ count. self.new.asked ≡ length buffer.new) }
+        ensures ready { IsReadReady (S.remaining (source_of self.old)) (S.remaining (source_of self.new)) buffer.new result }
+        ensures calls { HasLooked (length buffer.new) (kept_in self.old) (kept_in self.new) result (asked_of self.old) (asked_of self.new) }
         ensures kept { self.new.cleaner ≡ self.old.cleaner }
     {
         if self.serving.is_behind() || self.failed.is_some() {
             return None;
         }
-        if self.socket.set_waiting(false).is_err() {
+        if self.line.set_waiting(false).is_err() {
             return None;
         }
-        match self.ask(buffer) {
+        match self.line.read(buffer) {
             Ok(0) => None,
             Ok(count) => Some(count),
             Err(error) => {
@@ -255,49 +281,50 @@ impl<C: Clock> ReadReady for SocketReader<'_, C> {
     }
 }
 
-/// Writes to a socket. A write waits only where the socket has no room, and fails as the socket does.
+/// Writes to a stream as a [`SocketWriter`](crate::SocketWriter) writes to its socket.
+///
+/// It is proved over each stream `S`, also over one whose bytes contracts know: it hands on exactly the bytes that it is given.
 #[derive(Drop)]
-pub struct SocketWriter<'a> {
-    socket: &'a Socket<'a>,
-    /// How many bytes were handed to the system last.
-    handed: usize,
+pub(crate) struct Writing<'a, S> {
+    /// Where the bytes go to.
+    line: Line<'a, S>,
 }
 
-impl<'a> SocketWriter<'a> {
+impl<'a> Writing<'a, &'a TcpStream> {
     /// Writes to this socket.
-    pub fn new(socket: &'a Socket<'a>) -> SocketWriter<'a> {
-        SocketWriter { socket, handed: 0 }
-    }
-
-    /// Hands all these bytes to the system, in one call, and notes how many these are. That line is what is left to trust of it.
-    fn hand_on(&mut self, bytes: &[u8]) -> io::Result<usize>
-        ensures bound { WritesAtMost result bytes.now }
-        ensures handed { self.new.handed ≡ length bytes.now }
+    pub(crate) fn new(socket: &'a Socket<'a>) -> Writing<'a, &'a TcpStream>
+        ensures { handed_of result ≡ [] }
     {
-        self.handed = bytes.len();
-        let mut stream = self.socket.stream;
-        stream.write(bytes)
+        Writing {
+            line: Line::new(socket.stream, &socket.waiting),
+        }
     }
 }
 
-impl Write for SocketWriter<'_> {
-    /// Waits only where the socket has no room. All the bytes are handed to the system, in one call.
+impl<S: Write> Write for Writing<'_, S> {
+    ghost contents = { λ w. S.contents (sink_of w) };
+
+    /// Waits only where the socket has no room. All the bytes are handed to the system, in one call; one before it said that it
+    /// would block.
     fn write(&mut self, bytes: &[u8]) -> io::Result<usize>
         ensures bound { WritesAtMost result bytes.now }
-        ensures bytes { WriteAppends None None result bytes.now }
-        ensures whole { OnOk result (self.new.handed ≡ length bytes.now) }
+        ensures bytes { WriteAppends (S.contents (sink_of self.old)) (S.contents (sink_of self.new)) result bytes.now }
+        ensures calls { HasWritten (length bytes.now) result (handed_of self.old) (handed_of self.new) }
     {
-        match self.hand_on(bytes) {
+        match self.line.write(bytes) {
             Err(error) if error.kind() == ErrorKind::WouldBlock => {
-                self.socket.set_waiting(true)?;
-                self.hand_on(bytes)
+                match self.line.set_waiting(true) {
+                    Ok(()) => self.line.write(bytes),
+                    Err(refused) => Err(refused),
+                }
             }
             written => written,
         }
     }
 
-    fn flush(&mut self) -> io::Result<()> {
-        let mut stream = self.socket.stream;
-        stream.flush()
+    fn flush(&mut self) -> io::Result<()>
+        ensures { Keeps (S.contents (sink_of self.old)) (S.contents (sink_of self.new)) }
+    {
+        self.line.flush()
     }
 }

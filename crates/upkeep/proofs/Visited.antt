@@ -1,11 +1,11 @@
 -- Steps at a stripe, one after the other, and what is looked at after them.
-use Rattle.std.proofs.Common.{◌≡◌, ◌≢◌, ℕ, suc, ◌+◌, ◌-◌, ◌<◌, ◌≤◌, Bool, true, false, nat_lt, List, ◌∷◌, refl, sym, subst, add-one, arith}
+use Rattle.std.proofs.Common.{◌≡◌, ◌≢◌, ℕ, suc, ◌+◌, ◌-◌, ◌<◌, Bool, true, false, if◌then◌else◌, nat_lt, List, ◌∷◌, refl, sym, subst, add-one, arith}
 use Rattle.upkeep.specs.declared.stripes.Duty.{Duty}
 use Rattle.upkeep.specs.declared.stripes.Duty.TheVariants.{Flush, Evict, Clean}
 use Rattle.upkeep.specs.declared.stripes.Event.{Event}
 use Rattle.upkeep.specs.declared.stripes.Event.TheVariants as event
 use Rattle.upkeep.specs.declared.laps.Laps.{Laps}
-use Rattle.upkeep.specs.Steps.{HasEnded, HasLookedAfter, HasMade, HaveDone, HaveMade}
+use Rattle.upkeep.specs.Steps.{HasEnded, HasLookedAfter, HasMade, HasNoted, HasVisitedOne, HaveDone, HaveMade, HaveVisited, IsBehindAfter}
 
 -- no step was made
 pub none-done : (duty : Duty) (stripe places : ℕ) (events : List Event) (laps : Laps)
@@ -84,3 +84,36 @@ pub looked-other : (duty : Duty) (any : Bool) (stripe : ℕ) (events : List Even
 looked-other Flush any stripe events other = refl
 looked-other Evict any stripe events other = refl
 looked-other Clean any stripe events other = absurd (other refl)
+
+-- no stripe was visited
+pub none-visited : (duty : Duty) (places : ℕ) (events : List Event) (laps : List Laps)
+    → HaveVisited 0 duty places events events laps laps false
+unfolding HaveVisited
+none-visited duty places events laps = (refl, refl, refl)
+
+suc-visited : (stripe : ℕ) (duty : Duty) (places : ℕ) (before between later : List Event) (was laps now : List Laps) (earlier here any : Bool)
+    → any ≡ (if here then true else earlier) → HaveVisited stripe duty places before between was laps earlier
+    → HasVisitedOne duty places stripe between later laps now here → HaveVisited (suc stripe) duty places before later was now any
+unfolding HaveVisited
+suc-visited stripe duty places before between later was laps now earlier here any is had one = (between, laps, earlier, here, had, one, is)
+
+-- one more was
+pub one-visited : (stripe : ℕ) (duty d : Duty) (places p : ℕ) (before between later : List Event) (was laps now : List Laps)
+    (earlier here any : Bool) → d ≡ duty → p ≡ places → any ≡ (if here then true else earlier)
+    → HaveVisited stripe duty places before between was laps earlier → HasVisitedOne d p stripe between later laps now here
+    → HaveVisited (stripe + 1) duty places before later was now any
+one-visited stripe duty d places p before between later was laps now earlier here any e f is had one =
+    rw add-one
+    (suc-visited stripe duty places before between later was laps now earlier here any is had
+    (subst (λ (x : Duty). HasVisitedOne x places stripe between later laps now here) e
+    (subst (λ (n : ℕ). HasVisitedOne d n stripe between later laps now here) f one)))
+
+-- what is noted after a visit, by the two clauses that say it
+pub noted-by : (duty : Duty) (stripe places : ℕ) (laps : Laps) (events : List Event) (any : Bool) → (any ≡ false → laps.behind ≡ false)
+    → (duty ≡ Clean → any ≡ true → IsBehindAfter stripe places laps events) → HasNoted duty stripe places laps events any
+noted-by Flush stripe places laps events false level behind = level refl
+noted-by Evict stripe places laps events false level behind = level refl
+noted-by Clean stripe places laps events false level behind = level refl
+noted-by Flush stripe places laps events true level behind = tt
+noted-by Evict stripe places laps events true level behind = tt
+noted-by Clean stripe places laps events true level behind = behind refl refl

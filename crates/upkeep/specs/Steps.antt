@@ -1,5 +1,5 @@
 -- What is done at a stripe by what is seen there: the table of duties.
-use Rattle.std.specs.Prelude.{ℕ, zero, suc, ◌≡◌, ◌-◌, ◌≤◌, ◌<◌, nat_lt, Bool, true, false, List, [], ◌∷◌, ◌++◌}
+use Rattle.std.specs.Prelude.{ℕ, zero, suc, ◌≡◌, ◌-◌, ◌≤◌, ◌<◌, nat_lt, Bool, true, false, if◌then◌else◌, List, [], ◌∷◌, ◌++◌, length, set, slice_index_or}
 use Rattle.upkeep.specs.declared.stripes.Duty.{Duty}
 use Rattle.upkeep.specs.declared.stripes.Duty.TheVariants.{Flush, Evict, Clean}
 use Rattle.upkeep.specs.declared.stripes.Outcome.{Outcome}
@@ -111,3 +111,27 @@ IsBehindAfter stripe places laps (event.Opened of answer ∷ events) = ⊥
 IsBehindAfter stripe places laps (event.Full of ∷ events) = ⊥
 IsBehindAfter stripe places laps (event.Idle of duty ∷ events) = ⊥
 IsBehindAfter stripe places laps (event.Done of duty ∷ events) = ⊥
+
+-- What is noted after a visit by which it is told whether the cleaner is behind: it is where it looked last, by what it saw there, and nowhere else.
+abbrev pub HasNoted : Duty → (stripe places : ℕ) → Laps → List Event → (any : Bool) → Type 0
+HasNoted duty stripe places laps events false = laps.behind ≡ false
+HasNoted Flush stripe places laps events true = Unit {0}
+HasNoted Evict stripe places laps events true = Unit {0}
+HasNoted Clean stripe places laps events true = IsBehindAfter stripe places laps events
+
+-- A visit to a stripe with its own laps, which are those at its number. All others stay.
+pub record HasVisitedOne (duty : Duty) (places stripe : ℕ) (before later : List Event) (was now : List Laps) (any : Bool) : Type 0 where
+  pub old : Laps
+  pub new : Laps
+  pub within : stripe < length was
+  pub own : slice_index_or was stripe old ≡ old
+  pub kept : now ≡ set was stripe new
+  pub visited : HasVisited duty stripe places before later old new any
+  pub noted : HasNoted duty stripe places new later any
+
+-- One visit to each of so many stripes, from the first on, of this duty and of so many places each, and to no other; any says whether a step was done.
+unfoldable pub HaveVisited : (stripes : ℕ) → Duty → (places : ℕ) → (before later : List Event) → (was now : List Laps) → (any : Bool) → Type 0
+HaveVisited zero duty places before later was now any = (later ≡ before) × (now ≡ was) × (any ≡ false)
+HaveVisited (suc stripe) duty places before later was now any =
+    (between : List Event) × (laps : List Laps) × (earlier here : Bool) × HaveVisited stripe duty places before between was laps earlier
+    × HasVisitedOne duty places stripe between later laps now here × (any ≡ (if here then true else earlier))

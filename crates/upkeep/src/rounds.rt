@@ -4,6 +4,7 @@ ghost use Rattle.std.specs.Prelude.{◌≡◌, ◌≢◌, ◌<◌, ◌≤◌, �
 ghost use Rattle.std.specs.List.{list_any};
 ghost use Rattle.upkeep.specs.Events.{missed, steps_done, times_told};
 ghost use Rattle.upkeep.specs.Rounds.{rest_by, laps_of, duty_of, places_of};
+ghost use Rattle.upkeep.specs.Steps.{HasVisitedOne, HaveVisited};
 
 use crate::chores::Chores;
 use crate::laps::Laps;
@@ -60,15 +61,40 @@ pub fn round<S: Stripes>(stripes: &mut S, chores: &mut Chores) -> bool
         + S.failures stripes.old ≤ S.failures stripes.new }
     ensures done { result ≡ true → steps_done (S.events stripes.old) < steps_done (S.events stripes.new) }
     ensures idle { result ≡ false → steps_done (S.events stripes.new) ≡ steps_done (S.events stripes.old) }
+    // Each visit is of the chores' duty, with the laps of its stripe and the chores' number of places.
+    ensures visits { HaveVisited (S.count stripes.old) (duty_of chores.old) (places_of chores.old)
+        (S.events stripes.old) (S.events stripes.new) (laps_of chores.old) (laps_of chores.new) result }
 {
     let mut done = false;
     for stripe in 0..stripes.stripes() {
-        let laps = &mut chores.laps[stripe];
-        if visit(stripes, chores.duty, laps, chores.places, stripe) {
+        if visit_one(stripes, chores, stripe) {
             done = true;
         }
     }
     done
+}
+
+/// A visit to one stripe, by the chores, and whether a step was done.
+fn visit_one<S: Stripes>(stripes: &mut S, chores: &mut Chores, stripe: usize) -> bool
+    requires ready { S.is_ready stripes.old }
+    requires below { stripe < S.count stripes.old }
+    requires laps { length (laps_of chores.old) ≡ S.count stripes.old }
+    ensures ready { S.is_ready stripes.new }
+    ensures count { S.count stripes.new ≡ S.count stripes.old }
+    ensures laps { length (laps_of chores.new) ≡ S.count stripes.new }
+    ensures duty { duty_of chores.new ≡ duty_of chores.old }
+    ensures places { places_of chores.new ≡ places_of chores.old }
+    ensures more { S.failures stripes.old ≤ S.failures stripes.new }
+    ensures looked { times_told stripe (S.events stripes.old) + S.failures stripes.old
+        < times_told stripe (S.events stripes.new) + S.failures stripes.new }
+    ensures others { (k : ℕ) → times_told k (S.events stripes.old) ≤ times_told k (S.events stripes.new) }
+    ensures done { result ≡ true → steps_done (S.events stripes.old) < steps_done (S.events stripes.new) }
+    ensures idle { result ≡ false → steps_done (S.events stripes.new) ≡ steps_done (S.events stripes.old) }
+    ensures visited { HasVisitedOne (duty_of chores.old) (places_of chores.old) stripe
+        (S.events stripes.old) (S.events stripes.new) (laps_of chores.old) (laps_of chores.new) result }
+{
+    let laps = &mut chores.laps[stripe];
+    visit(stripes, chores.duty, laps, chores.places, stripe)
 }
 
 /// The cleaner says whether it is behind at any stripe. Others say nothing.

@@ -1,6 +1,7 @@
 use Rattle.std.proofs.Common.{◌≡◌, ℕ, ◌+◌, ◌<◌, ◌≤◌, true, false, length}
 use Rattle.upkeep.specs.Events.{missed, steps_done, times_told}
 use Rattle.upkeep.specs.Rounds.{duty_of, laps_of, places_of}
+use Rattle.upkeep.specs.Steps.{HaveVisited}
 use Rattle.upkeep.proofs.rounds.round.Given as goal
 
 abbrev pub invariant-loop-stripe : goal.invariant-loop-stripe
@@ -15,5 +16,7 @@ invariant-loop-stripe g l = record {
   others : (k : ℕ) → times_told k (g.S.Stripes.events l.initial.stripes) ≤ times_told k (g.S.Stripes.events l.stripes);
   grows : steps_done (g.S.Stripes.events l.initial.stripes) ≤ steps_done (g.S.Stripes.events l.stripes);
   done : l.done ≡ true → steps_done (g.S.Stripes.events l.initial.stripes) < steps_done (g.S.Stripes.events l.stripes);
+  visits : HaveVisited l.stripe (duty_of l.initial.chores) (places_of l.initial.chores) (g.S.Stripes.events l.initial.stripes)
+      (g.S.Stripes.events l.stripes) (laps_of l.initial.chores) (laps_of l.chores) l.done;
   idle : l.done ≡ false → steps_done (g.S.Stripes.events l.stripes) ≡ steps_done (g.S.Stripes.events l.initial.stripes);
 }
