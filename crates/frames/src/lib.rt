@@ -58,8 +58,8 @@ impl Model for Frames {
 
 #[tactic(auto, using(crate::proofs::Windows::frames_steps))]
 impl Frames {
-    /// This many frames, at least 3, and no resident page. The only call that takes memory; that of a frame is touched when its
-    /// first page is opened.
+    /// This many frames, at least 3, and no resident page. The only call that takes memory; that of a frame is touched as records are put
+    /// into its pages.
     pub fn new(alloc: Global, frames: usize) -> Result<Self, AllocError>
         requires { 3 ≤ frames }
         ensures { IfOk result (λ made. made ≡ record { oldest = 0; pages = []; frames = frames }) }

@@ -63,9 +63,17 @@ fn a_frame_that_is_used_again_holds_an_empty_page(rt: HostRuntime) -> Result<(),
             page.bytes_mut()[PAGE_SIZE - 1] = (number % 251 + 1) as u8;
         }
         for older in frames.oldest()..number + 1 {
-            let mark = frames.page(older).map(|page| page.bytes()[PAGE_SIZE - 1]);
+            let mark = frames.page(older).map(last_byte);
             assert_eq!(rt; mark, Some((older % 251 + 1) as u8));
         }
     }
     Ok(())
+}
+
+fn last_byte(page: &Page) -> u8 {
+    let (bytes, _) = page.parts();
+    match bytes.get(PAGE_SIZE - 1) {
+        Some(byte) => *byte,
+        None => 0,
+    }
 }

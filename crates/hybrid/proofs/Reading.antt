@@ -6,7 +6,7 @@ use Rattle.std.specs.List.{Contains}
 use Rattle.std.proofs.lemmas.Slice.Eq.{bytes_eq-Decides}
 use Rattle.hybrid.specs.HybridLog.{HybridLog, Kept}
 use Rattle.hybrid.specs.Staging.{StagedPage, IsRead, IsStaged, IsMissing}
-use Rattle.hybrid.specs.Reading.{HasRead, Source, is_read, is_staged, staged_of, unread, unread_at, unread_of}
+use Rattle.hybrid.specs.Reading.{HasRead, is_read, is_staged, unread, unread_at, unread_of}
 use Rattle.hybrid.proofs.Logs.{some_is, cons_cases, here, there}
 
 -- ---- whether a page is staged
@@ -193,33 +193,3 @@ unread-fewer p staged later number missing read =
     let more : List StagedPage = (record { kept = k; page = read.page; piece = read.piece }) ∷ [] in
     let less : unread_at (staged ++ more) k.identity < unread_at staged k.identity = subst (λ l. unread_at l k.identity < unread_at staged k.identity) read.is (fewer-at staged later k read (not-staged staged k.identity missing.unread)) in
     subst (λ l. unread p l < unread p staged) (sym read.is) (fewer-of p.kept (number - p.oldest) k staged more missing.has less)
-
--- ---- where the pages are kept
-
-pub pages-beyond : (kept : List Source) (pages more : List (List ℕ)) → length kept ≤ length pages → staged_of kept (pages ++ more) ≡ staged_of kept pages
-pages-beyond [] pages more le = refl
-pages-beyond (k ∷ kept) [] more le = absurd (omega (arith, le))
-pages-beyond (k ∷ kept) (page ∷ pages) more le = ap (λ (l : List StagedPage). (record { kept = k.kept; page = page; piece = k.piece }) ∷ l) (pages-beyond kept pages more (omega (arith, le)))
-
-pub page-beyond : (kept : List Source) (pages : List (List ℕ)) (i : ℕ) (page : List ℕ) → length kept ≤ i → staged_of kept (set pages i page) ≡ staged_of kept pages
-page-beyond [] pages i page le = refl
-page-beyond (k ∷ kept) [] i page le = refl
-page-beyond (k ∷ kept) (x ∷ pages) zero page le = absurd (omega (arith, le))
-page-beyond (k ∷ kept) (x ∷ pages) (suc i) page le = ap (λ (l : List StagedPage). (record { kept = k.kept; page = x; piece = k.piece }) ∷ l) (page-beyond kept pages i page (omega (arith, le)))
-
-pub page-read : (kept : List Source) (pages : List (List ℕ)) (k : Source) (page : List ℕ) → length kept < length pages → staged_of (kept ++ k ∷ []) (set pages (length kept) page) ≡ staged_of kept pages ++ (record { kept = k.kept; page = page; piece = k.piece }) ∷ []
-page-read [] [] k page lt = absurd (omega (arith, lt))
-page-read [] (x ∷ pages) k page lt = refl
-page-read (y ∷ kept) [] k page lt = absurd (omega (arith, lt))
-page-read (y ∷ kept) (x ∷ pages) k page lt = ap (λ (l : List StagedPage). (record { kept = y.kept; page = x; piece = y.piece }) ∷ l) (page-read kept pages k page (omega (arith, lt)))
-
-pub staged-at : (kept : List Source) (pages : List (List ℕ)) (i : ℕ) (k : Source) (page : List ℕ) (d : StagedPage) → length kept ≤ length pages → i < length kept → slice_index_or (staged_of kept pages) i d ≡ record { kept = (slice_index_or kept i k).kept; page = slice_index_or pages i page; piece = (slice_index_or kept i k).piece }
-staged-at [] pages i k page d le lt = absurd (omega (arith, lt))
-staged-at (x ∷ kept) [] i k page d le lt = absurd (omega (arith, le))
-staged-at (x ∷ kept) (y ∷ pages) zero k page d le lt = refl
-staged-at (x ∷ kept) (y ∷ pages) (suc i) k page d le lt = staged-at kept pages i k page d (omega (arith, le)) (omega (arith, lt))
-
-pub staged-size : (kept : List Source) (pages : List (List ℕ)) → length kept ≤ length pages → length (staged_of kept pages) ≡ length kept
-staged-size [] pages le = refl
-staged-size (x ∷ kept) [] le = absurd (omega (arith, le))
-staged-size (x ∷ kept) (y ∷ pages) le = ap suc (staged-size kept pages (omega (arith, le)))

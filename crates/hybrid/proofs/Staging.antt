@@ -8,71 +8,40 @@ use Rattle.std.proofs.lemmas.List.{length-map, get_or-map, map-append}
 use Rattle.std.proofs.lemmas.List.Elements.{All-push}
 use Rattle.std.proofs.lemmas.Bool.{cases_lt}
 use Rattle.hybrid.specs.Staging.{StagedPage, AreBytesRead, AreRight, HasBytes, IsRead, IsRight, IsStaged}
-use Rattle.hybrid.specs.Reading.{Source, staged_of}
-use Rattle.hybrid.proofs.Reading.{page-beyond, page-read, pages-beyond, staged-at, staged-size}
-
--- there is a page for each that is staged
-pub staged-few : (kept : List Source) (pages : List (List ℕ)) → length (staged_of kept pages) ≤ length pages
-staged-few [] pages = omega arith
-staged-few (k ∷ more) [] = omega arith
-staged-few (k ∷ more) (page ∷ pages) = omega (arith, staged-few more pages)
-
--- what was read so, with the page
-abbrev pub entry : Source → List ℕ → StagedPage
-entry by page = record { kept = by.kept; page = page; piece = by.piece }
 
 -- ---- a page is looked for
 
-module _ {X : Type 0} (f : X → Source) (items : List X) (pages : List (List ℕ)) (staged : List StagedPage) (is : staged_of (map f items) pages ≡ staged) (fits : length items ≤ length pages) where
-  all_fit : length (map f items) ≤ length pages
-  all_fit = omega (arith, fits, length-map items f)
-
-  at-place : (i : ℕ) (x : X) (page : List ℕ) (d : StagedPage) → i < length items → x ≡ slice_index_or items i x → slice_index_or staged i d ≡ entry (f x) (slice_index_or pages i page)
-  at-place i x page d lt it =
-      ap (λ (l : List StagedPage). slice_index_or l i d) (sym is)
-      ∙ staged-at (map f items) pages i (f x) page d all_fit (omega (arith, lt, length-map items f))
-      ∙ ap (λ (k : Source). entry k (slice_index_or pages i page)) (get_or-map f items i x (f x) lt ∙ ap f (sym it))
-
+module _ {X : Type 0} (f : X → StagedPage) (items : List X) (staged : List StagedPage) (is : map f items ≡ staged) where
   pub count : length staged ≡ length items
-  count = omega (arith, ap length is, staged-size (map f items) pages all_fit, length-map items f)
+  count = omega (arith, ap length is, length-map items f)
 
-  -- item i, with its page, is the entry at i
-  pub entry-at : (i : ℕ) (x : X) (page : List ℕ) (d : StagedPage) → i < length items → x ≡ slice_index_or items i x → page ≡ slice_index_or pages i page → slice_index_or staged i d ≡ entry (f x) page
-  entry-at i x page d lt it there = at-place i x page d lt it ∙ ap (entry (f x)) (sym there)
+  -- item i is the entry at i
+  pub entry-at : (i : ℕ) (x : X) (d : StagedPage) → i < length items → x ≡ slice_index_or items i x → slice_index_or staged i d ≡ f x
+  entry-at i x d lt it =
+      ap (λ (l : List StagedPage). slice_index_or l i d) (sym is)
+      ∙ get_or-map f items i x d lt ∙ ap f (sym it)
 
   -- it is right
-  pub entry-right : (i : ℕ) (x : X) (page : List ℕ) → i < length items → x ≡ slice_index_or items i x → page ≡ slice_index_or pages i page → AreRight staged → IsRight (entry (f x) page)
-  entry-right i x page lt it there right =
-      let d : StagedPage = entry (f x) page in
-      subst IsRight (entry-at i x page d lt it there) (right i d (omega (arith, lt, count)))
+  pub entry-right : (i : ℕ) (x : X) → i < length items → x ≡ slice_index_or items i x → AreRight staged → IsRight (f x)
+  entry-right i x lt it right = subst IsRight (entry-at i x (f x) lt it) (right i (f x) (omega (arith, lt, count)))
 
   -- and is there
-  pub entry-there : (i : ℕ) (x : X) (page : List ℕ) → i < length items → x ≡ slice_index_or items i x → page ≡ slice_index_or pages i page → Contains staged (entry (f x) page)
-  entry-there i x page lt it there = (i, omega (arith, lt, count), entry-at i x page (entry (f x) page) lt it there)
+  pub entry-there : (i : ℕ) (x : X) → i < length items → x ≡ slice_index_or items i x → Contains staged (f x)
+  entry-there i x lt it = (i, omega (arith, lt, count), entry-at i x (f x) lt it)
 
   -- the page that item i shows, if it was read whole
-  pub same-found : (i : ℕ) (x : X) (page : List ℕ) → i < length items → x ≡ slice_index_or items i x → page ≡ slice_index_or pages i page → (f x).piece ≡ None → AreRight staged → page ≡ (f x).kept.shown
-  same-found i x page lt it there whole right =
-      subst (λ (o : Option Piece). MatchOption o (page ≡ (f x).kept.shown) (λ piece. SameWithin piece.from piece.to page (f x).kept.shown)) whole (entry-right i x page lt it there right)
+  pub same-found : (i : ℕ) (x : X) → i < length items → x ≡ slice_index_or items i x → (f x).piece ≡ None → AreRight staged → (f x).page ≡ (f x).kept.shown
+  same-found i x lt it whole right =
+      subst (λ (o : Option Piece). MatchOption o ((f x).page ≡ (f x).kept.shown) (λ piece. SameWithin piece.from piece.to (f x).page (f x).kept.shown)) whole (entry-right i x lt it right)
 
   -- one more item is not the one that is looked for
-  pub more-missed : (Q : StagedPage → Type 0) (i : ℕ) (x : X) (page : List ℕ) → i < length items → x ≡ slice_index_or items i x → page ≡ slice_index_or pages i page → (Q (entry (f x) page) → ⊥)
+  pub more-missed : (Q : StagedPage → Type 0) (i : ℕ) (x : X) → i < length items → x ≡ slice_index_or items i x → (Q (f x) → ⊥)
       → ((k : ℕ) (d : StagedPage) → k < i → Q (slice_index_or staged k d) → ⊥) → (k : ℕ) (d : StagedPage) → k < i + 1 → Q (slice_index_or staged k d) → ⊥
-  more-missed Q i x page lt it there other h k d below same = elim (cases_lt k i) [
+  more-missed Q i x lt it other h k d below same = elim (cases_lt k i) [
     | inl low ↦ h k d low same
     | inr high ↦
         let at : k ≡ i = omega arith in
-        other (subst Q (ap (λ (n : ℕ). slice_index_or staged n d) at ∙ entry-at i x page d lt it there) same)
-  ]
-
-  -- whatever its page
-  pub more-missed-any : (Q : StagedPage → Type 0) (i : ℕ) (x : X) → i < length items → x ≡ slice_index_or items i x → ((page : List ℕ) → Q (entry (f x) page) → ⊥)
-      → ((k : ℕ) (d : StagedPage) → k < i → Q (slice_index_or staged k d) → ⊥) → (k : ℕ) (d : StagedPage) → k < i + 1 → Q (slice_index_or staged k d) → ⊥
-  more-missed-any Q i x lt it other h k d below same = elim (cases_lt k i) [
-    | inl low ↦ h k d low same
-    | inr high ↦
-        let at : k ≡ i = omega arith in
-        other (slice_index_or pages i []) (subst Q (ap (λ (n : ℕ). slice_index_or staged n d) at ∙ at-place i x [] d lt it) same)
+        other (subst Q (ap (λ (n : ℕ). slice_index_or staged n d) at ∙ entry-at i x d lt it) same)
   ]
 
   pub all-missed : (Q : StagedPage → Type 0) (i : ℕ) → length items ≤ i → ((k : ℕ) (d : StagedPage) → k < i → Q (slice_index_or staged k d) → ⊥) → (s : StagedPage) → Contains staged s → Q s → ⊥
@@ -106,26 +75,9 @@ none-has staged identity from size none s = none s.one s.there (s.same, s.has)
 
 -- ---- a page is read
 
--- what a read leaves, from the fields: the page was read to the place behind the others
-module _ {X : Type 0} (f : X → Source) (items : List X) (pages made : List (List ℕ)) (old : List StagedPage) (is : staged_of (map f items) pages ≡ old) (fits : length items ≤ length pages) where
-  kept_fits : length (map f items) ≤ length pages
-  kept_fits = omega (arith, fits, length-map items f)
+-- what a read leaves: one more behind the others
+pub one-staged : {X : Type 0} (f : X → StagedPage) (items : List X) (old : List StagedPage) (x : X) → map f items ≡ old → map f (items ++ x ∷ []) ≡ old ++ f x ∷ []
+one-staged f items old x is = map-append f items (x ∷ []) ∙ ap (λ (l : List StagedPage). l ++ f x ∷ []) is
 
-  -- there is one place more
-  pub still-staged : (more : List (List ℕ)) → made ≡ pages ++ more → staged_of (map f items) made ≡ old
-  still-staged more grown = ap (staged_of (map f items)) grown ∙ pages-beyond (map f items) pages more kept_fits ∙ is
-
-  -- and it has other bytes
-  pub still-set : (more : List (List ℕ)) (i : ℕ) (page : List ℕ) → made ≡ pages ++ more → length items ≡ i → staged_of (map f items) (set made i page) ≡ old
-  still-set more i page grown last = page-beyond (map f items) made i page (omega (arith, last, length-map items f)) ∙ still-staged more grown
-
-  -- which a receipt is kept for
-  pub one-staged : (more : List (List ℕ)) (i : ℕ) (page : List ℕ) (x : X) → made ≡ pages ++ more → length items ≡ i → i < length made → staged_of (map f (items ++ x ∷ [])) (set made i page) ≡ old ++ entry (f x) page ∷ []
-  one-staged more i page x grown last lt =
-      ap (λ (l : List Source). staged_of l (set made i page)) (map-append f items (x ∷ []))
-      ∙ ap (λ (n : ℕ). staged_of (map f items ++ f x ∷ []) (set made n page)) (let e : i ≡ length (map f items) = omega (arith, last, length-map items f) in e)
-      ∙ page-read (map f items) made (f x) page (omega (arith, last, lt, length-map items f))
-      ∙ ap (λ (l : List StagedPage). l ++ entry (f x) page ∷ []) (still-staged more grown)
-
-pub right-more : (staged : List StagedPage) (by : Source) (page : List ℕ) (new : List StagedPage) → new ≡ staged ++ entry by page ∷ [] → AreRight staged → IsRight (entry by page) → AreRight new
-right-more staged by page new is right same = subst AreRight (sym is) (All-push IsRight staged (entry by page) right same)
+pub right-more : (staged : List StagedPage) (one : StagedPage) (new : List StagedPage) → new ≡ staged ++ one ∷ [] → AreRight staged → IsRight one → AreRight new
+right-more staged one new is right same = subst AreRight (sym is) (All-push IsRight staged one right same)

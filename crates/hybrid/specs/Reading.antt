@@ -9,17 +9,21 @@ use Rattle.hybrid.specs.declared.staged.ReadFault.TheVariants as fault
 use Rattle.hybrid.specs.HybridLog.{HybridLog, Kept}
 use Rattle.hybrid.specs.Staging.{StagedPage, IsStaged, IsRead, IsMissing}
 use Rattle.hybrid.specs.declared.piece.Piece.{Piece}
+use Rattle.hybrid.specs.declared.staged.ReadPage.{ReadPage}
+use Rattle.hybrid.specs.declared.staged.ReadPage.TheVariants as read
 
--- what a page was read by: a receipt, and the piece that was read, if it was not read whole
-pub record Source : Type 0 where
-  pub kept : Kept
-  pub piece : Option Piece
+-- the bytes that a read has left, and the piece that was read, if not all was
+abbrev pub bytes_in : ReadPage → List ℕ
+bytes_in (read.All page) = page
+bytes_in (read.Part piece page) = page
 
--- each with the page that was read; pages beyond are free
-abbrev pub staged_of : List Source → List (List ℕ) → List StagedPage
-staged_of [] pages = []
-staged_of (by ∷ more) [] = []
-staged_of (by ∷ more) (page ∷ pages) = (record { kept = by.kept; page = page; piece = by.piece }) ∷ staged_of more pages
+abbrev pub piece_in : ReadPage → Option Piece
+piece_in (read.All page) = None
+piece_in (read.Part piece page) = Some piece
+
+-- what was read by this receipt
+abbrev pub staged_by : Kept → ReadPage → StagedPage
+staged_by kept page = record { kept = kept; page = bytes_in page; piece = piece_in page }
 
 -- a page was staged that was read by this receipt, whole
 pub record HasStaged (kept : Kept) (old new : List StagedPage) : Type 0 where

@@ -1,18 +1,18 @@
 // Pages that were read outside, whole or a piece of each.
 
-ghost use Rattle.std.specs.Prelude.{◌≡◌, ◌≢◌, ◌+◌, ◌<◌, ◌≤◌, ◌++◌, ℕ, List, [], None, IsTrue, IsSome, IsOkAnd};
-ghost use Rattle.std.specs.Prelude.{IfSome, IfNone, IfErr, OnOk, OnErr, length, vec_len};
+ghost use Rattle.std.specs.Prelude.{◌≡◌, ◌≢◌, ◌+◌, ◌↔◌, ◌≤◌, List, [], None, Some, IsTrue, IsSome, IsOkAnd};
+ghost use Rattle.std.specs.Prelude.{IfSome, IfNone, IfErr, OnOk, OnErr, length};
 ghost use Rattle.std.specs.List.{Contains};
 ghost use Rattle.records.specs.Read.{shown};
 ghost use Rattle.records.specs.Records.{IsLaidOut, Stored, records_of, size_of};
 ghost use Rattle.hybrid.specs.Staging.{AreRight, HasBytes, IsRead, IsRight, IsStaged, StagedPage};
-ghost use Rattle.hybrid.specs.Reading.{HasRead, HasStaged, MatchReadFault};
+ghost use Rattle.hybrid.specs.Reading.{HasRead, HasStaged, MatchReadFault, bytes_in, piece_in};
 ghost use Rattle.hybrid.specs.Ways.{AreInReach, IsAtHand};
 
 use crate::piece::Piece;
 use device::{Device, Shows};
 use records::laws::parts_of_the_same_bytes_are_the_same;
-use records::{NotARecord, PAGE_SIZE, Page, Record, record_before};
+use records::{NotARecord, PAGE_SIZE, Page, Record, Whole, record_before, record_there};
 use std::alloc::{AllocError, Global};
 use std::marker::Model;
 use thiserror::Error;
@@ -42,11 +42,20 @@ impl From<ReadFault> for Fault {
     }
 }
 
-// What a page was read by: a receipt, and the piece that was read, if it was not read whole.
+// What was read of a page.
+#[derive(Drop)]
+enum ReadPage {
+    /// All of it.
+    All(Page),
+    /// A piece of it, to its place in a page whose other bytes may be any.
+    Part(Piece, Whole),
+}
+
+// What was read of a page, and the receipt that it was read by.
 #[derive(Drop)]
 struct ReadBy<R: Shows> {
     receipt: R,
-    piece: Option<Piece>,
+    page: ReadPage,
 }
 
 /// Pages that were read from the device, each with the receipt that it was read by: whole, or a piece of it.
@@ -55,22 +64,54 @@ struct ReadBy<R: Shows> {
 #[derive(Drop)]
 pub struct Staged<R: Shows> {
     alloc: Global,
-    /// What was read, each with a page at the same place.
     reads: Vec<ReadBy<R>>,
-    /// Their pages, and behind these the pages that are free for the next reads.
-    pages: Vec<Page>,
+    /// Pages for the next reads, with room for those that are lent to reads.
+    free: Vec<Page>,
 }
 
 impl<R: Shows> Model for Staged<R> {
-    ghost use Rattle.std.specs.Prelude.{List, map, ◌≤◌, vec_len};
+    ghost use Rattle.std.specs.Prelude.{List, map};
     ghost use Rattle.hybrid.specs.Staging.{StagedPage};
-    ghost use Rattle.hybrid.specs.Reading.{staged_of};
+    ghost use Rattle.hybrid.specs.Reading.{staged_by};
 
     ghost Value = { List StagedPage };
 
-    ghost view = { λ s. staged_of (map (λ r. record { kept = record { identity = R.identity r.receipt; shown = R.shown r.receipt }; piece = r.piece }) s.reads.items) s.pages.items };
+    ghost view = { λ s. map (λ r. staged_by (record { identity = R.identity r.receipt; shown = R.shown r.receipt }) r.page) s.reads.items };
+}
 
-    ghost invariant = { λ s. vec_len s.reads ≤ vec_len s.pages };
+impl ReadPage {
+    // The page, if all of it was read.
+    fn whole(&self) -> Option<&Page>
+        ensures page { IfSome result (λ page. page.now ≡ bytes_in self.now) }
+        ensures all { IsSome result ↔ (piece_in self.now ≡ None) }
+    {
+        match self {
+            ReadPage::All(page) => Some(page),
+            ReadPage::Part(_, _) => None,
+        }
+    }
+
+    // The record at an offset. None if not all of it was read.
+    fn record(&self, offset: usize) -> Option<Result<Record<'_>, NotARecord>>
+        ensures found { (s : StagedPage) → s.page ≡ bytes_in self.now → s.piece ≡ piece_in self.now → IsRight s → IsLaidOut s.kept.shown → (r : Stored) → Contains (records_of s.kept.shown) (offset, r)
+            → IfSome result (λ found. IsOkAnd found (λ x. shown x ≡ r) × HasBytes s offset (size_of r)) }
+        ensures unread { (s : StagedPage) → s.page ≡ bytes_in self.now → s.piece ≡ piece_in self.now → IsRight s → IsLaidOut s.kept.shown → (r : Stored) → Contains (records_of s.kept.shown) (offset, r)
+            → IfNone result (HasBytes s offset (size_of r) → ⊥) }
+        ensures whole { IfNone result (piece_in self.now ≢ None) }
+    {
+        match self {
+            ReadPage::All(page) => Some(record_there(page, offset)),
+            ReadPage::Part(piece, page) => record_in(page, *piece, offset),
+        }
+    }
+
+    // The page whose memory it takes.
+    fn into_page(self) -> Page {
+        match self {
+            ReadPage::All(page) => page,
+            ReadPage::Part(_, page) => page.into_page(),
+        }
+    }
 }
 
 impl<R: Shows> Staged<R> {
@@ -81,7 +122,7 @@ impl<R: Shows> Staged<R> {
         Staged {
             alloc,
             reads: Vec::new(alloc),
-            pages: Vec::new(alloc),
+            free: Vec::new(alloc),
         }
     }
 
@@ -89,14 +130,16 @@ impl<R: Shows> Staged<R> {
     pub fn clear(&mut self)
         ensures { self.new ≡ [] }
     {
-        self.reads.clear();
+        while let Some(read) = self.reads.pop() {
+            keep(&mut self.free, read.page.into_page());
+        }
     }
 
     /// For how many pages there is memory: for those that are staged, and those that are free for the next reads.
     pub fn rooms(&self) -> usize
         ensures { length self.now ≤ result }
     {
-        self.pages.len()
+        self.reads.len() + self.free.len()
     }
 
     /// Reads the page of a receipt from the device, once, to where it is kept.
@@ -119,20 +162,19 @@ impl<R: Shows> Staged<R> {
         ensures once { D.reads device.new ≤ D.reads device.old + 1 }
         ensures no_release { D.releases device.new ≡ D.releases device.old }
     {
-        let place = self.reads.len();
         let Ok(()) = self.reads.reserve(1) else {
             return Err(ReadFault::OutOfMemory);
         };
-        let Ok(()) = make_place(self.alloc, &mut self.pages, place) else {
+        let Ok(mut page) = free_page(self.alloc, &mut self.free, self.reads.len() + 1) else {
             return Err(ReadFault::OutOfMemory);
         };
-        let whole = &mut self.pages[place];
-        let Ok(()) = device.read(&receipt, whole) else {
+        let Ok(()) = device.read(&receipt, &mut page) else {
+            keep(&mut self.free, page);
             return Err(ReadFault::DeviceFault);
         };
         self.reads.push_reserved(ReadBy {
             receipt,
-            piece: None,
+            page: ReadPage::All(page),
         });
         Ok(())
     }
@@ -183,20 +225,19 @@ impl<R: Shows> Staged<R> {
         ensures once { D.reads device.new ≤ D.reads device.old + 1 }
         ensures no_release { D.releases device.new ≡ D.releases device.old }
     {
-        let place = self.reads.len();
         let Ok(()) = self.reads.reserve(1) else {
             return Err(ReadFault::OutOfMemory);
         };
-        let Ok(()) = make_place(self.alloc, &mut self.pages, place) else {
+        let Ok(mut page) = free_page(self.alloc, &mut self.free, self.reads.len() + 1) else {
             return Err(ReadFault::OutOfMemory);
         };
-        let page = &mut self.pages[place];
-        let Ok(()) = device.read_piece(&receipt, piece.from, piece.to, page) else {
+        let Ok(()) = device.read_piece(&receipt, piece.from, piece.to, &mut page) else {
+            keep(&mut self.free, page);
             return Err(ReadFault::DeviceFault);
         };
         self.reads.push_reserved(ReadBy {
             receipt,
-            piece: Some(piece),
+            page: ReadPage::Part(piece, Whole::of(page)),
         });
         Ok(())
     }
@@ -223,9 +264,12 @@ impl<R: Shows> Staged<R> {
         if let Some(page) = receipt.page() {
             return Some(page);
         }
-        for (place, read) in self.reads.iter().enumerate() {
-            if read.piece.is_none() && read.receipt.same(receipt) {
-                return Some(&self.pages[place]);
+        for read in &self.reads {
+            if read.receipt.same(receipt) {
+                let page = read.page.whole();
+                if page.is_some() {
+                    return page;
+                }
             }
         }
         None
@@ -246,11 +290,11 @@ impl<R: Shows> Staged<R> {
         ensures lent { R.lends → IsSome result }
     {
         if let Some(page) = receipt.page() {
-            return Some(record_of(page, offset));
+            return Some(record_there(page, offset));
         }
-        for (place, read) in self.reads.iter().enumerate() {
+        for read in &self.reads {
             if read.receipt.same(receipt) {
-                let found = record_in(&self.pages[place], read.piece, offset);
+                let found = read.page.record(offset);
                 if found.is_some() {
                     return found;
                 }
@@ -260,29 +304,13 @@ impl<R: Shows> Staged<R> {
     }
 }
 
-// The record at an offset of a whole page. Only the record's own bytes are read: the page's header lies far from most of them.
-#[inline]
-pub(crate) fn record_of(page: &Page, offset: usize) -> Result<Record<'_>, NotARecord>
-    ensures found { IsLaidOut page.now → (r : Stored) → Contains (records_of page.now) (offset, r) → IsOkAnd result (λ x. shown x ≡ r) }
-{
-    record_before(page, PAGE_SIZE, offset)
-}
-
-// The record at an offset of a page of which this piece was read, or all. None if the piece does not have it whole.
-fn record_in(
-    page: &Page,
-    piece: Option<Piece>,
-    offset: usize,
-) -> Option<Result<Record<'_>, NotARecord>>
-    ensures found { (s : StagedPage) → s.page ≡ page.now → s.piece ≡ piece → IsRight s → IsLaidOut s.kept.shown → (r : Stored) → Contains (records_of s.kept.shown) (offset, r)
+// The record at an offset of a page of which this piece was read. None if the piece does not have it whole.
+fn record_in(page: &Whole, piece: Piece, offset: usize) -> Option<Result<Record<'_>, NotARecord>>
+    ensures found { (s : StagedPage) → s.page ≡ page.now → s.piece ≡ Some piece → IsRight s → IsLaidOut s.kept.shown → (r : Stored) → Contains (records_of s.kept.shown) (offset, r)
         → IfSome result (λ found. IsOkAnd found (λ x. shown x ≡ r) × HasBytes s offset (size_of r)) }
-    ensures unread { (s : StagedPage) → s.page ≡ page.now → s.piece ≡ piece → IsRight s → IsLaidOut s.kept.shown → (r : Stored) → Contains (records_of s.kept.shown) (offset, r)
+    ensures unread { (s : StagedPage) → s.page ≡ page.now → s.piece ≡ Some piece → IsRight s → IsLaidOut s.kept.shown → (r : Stored) → Contains (records_of s.kept.shown) (offset, r)
         → IfNone result (HasBytes s offset (size_of r) → ⊥) }
-    ensures whole { IfNone result (piece ≢ None) }
 {
-    let Some(piece) = piece else {
-        return Some(record_of(page, offset));
-    };
     if offset < piece.from {
         return None;
     }
@@ -293,19 +321,18 @@ fn record_in(
     }
 }
 
-// Sees to it that a page stands at this place, behind the others.
-fn make_place(alloc: Global, pages: &mut Vec<Page>, place: usize) -> Result<(), AllocError>
-    requires { place ≤ vec_len pages.old }
-    ensures there { OnOk result (place < vec_len pages.new) }
-    ensures longer { vec_len pages.old ≤ vec_len pages.new }
-    ensures grown { (more : List (List ℕ)) × (pages.new.items ≡ pages.old.items ++ more) }
-{
-    if place < pages.len() {
-        return Ok(());
+// A page for the next read: one that is free, or a new one. Then there is room to keep as many pages.
+fn free_page(alloc: Global, free: &mut Vec<Page>, pages: usize) -> Result<Page, AllocError> {
+    if let Some(page) = free.pop() {
+        return Ok(page);
     }
-    let page = Page::new(alloc, 0)?;
-    match pages.push(page) {
-        Ok(()) => Ok(()),
-        Err(_) => Err(AllocError),
+    free.reserve(pages)?;
+    Page::blank(alloc)
+}
+
+// Keeps a page for the next read, where there is room for it.
+fn keep(free: &mut Vec<Page>, page: Page) {
+    if free.len() < free.capacity() {
+        free.push_reserved(page);
     }
 }

@@ -26,3 +26,7 @@ used_end-header number used rest h = u32_at-front used [] h
 pub header-with_end : (number used next : ℕ) (rest : List ℕ) → put_mid USED_END_AT 4 (header number used ++ rest) (u32_bytes next) ≡ header number next ++ rest
 unfolding header u32_bytes u64_bytes
 header-with_end number used next rest = refl
+
+pub length-u32 : (n : ℕ) → length (u32_bytes n) ≡ 4
+unfolding u32_bytes
+length-u32 n = refl

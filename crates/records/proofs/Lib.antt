@@ -9,6 +9,10 @@ pub mod Laid
 pub mod After
 pub mod Lent
 pub mod Memory
+pub mod InMemory
 pub mod There
 pub mod Piece
+pub mod Held
+pub mod Alike
+pub mod Changed
 pub mod SizeRows

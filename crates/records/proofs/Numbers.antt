@@ -1,5 +1,5 @@
 -- Numbers in bytes: what was written is read back, and a place in a part of the bytes is a place in the bytes.
-use Rattle.std.proofs.Common.{◌≡◌, ℕ, ◌+◌, ◌<◌, ◌^◌, List, ◌++◌, drop, sym, ap}
+use Rattle.std.proofs.Common.{◌≡◌, ℕ, ◌+◌, ◌<◌, ◌^◌, ◌∙◌, List, [], ◌∷◌, ◌++◌, take, drop, sym, ap, refl}
 use Rattle.std.specs.Int.{w16, w32, w64, from_le_bytes}
 use Rattle.std.proofs.lemmas.Nat.{from_le_bytes-to_le_bytes_2, from_le_bytes-to_le_bytes_4, from_le_bytes-to_le_bytes_8}
 use Rattle.std.proofs.lemmas.List.{drop-drop}
@@ -28,3 +28,39 @@ u32_at-add bytes a b = ap (λ xs. from_le_bytes w32 xs) (sym (drop-drop b a byte
 pub u64_at-add : (bytes : List ℕ) (a b : ℕ) → u64_at bytes (a + b) ≡ u64_at (drop a bytes) b
 unfolding u64_at
 u64_at-add bytes a b = ap (λ xs. from_le_bytes w64 xs) (sym (drop-drop b a bytes))
+
+-- a number is one of the bytes that it takes
+first_two : (xs : List ℕ) → from_le_bytes w16 (take 2 xs) ≡ from_le_bytes w16 xs
+first_two [] = refl
+first_two (a ∷ []) = refl
+first_two (a ∷ b ∷ rest) = refl
+
+first_four : (xs : List ℕ) → from_le_bytes w32 (take 4 xs) ≡ from_le_bytes w32 xs
+first_four [] = refl
+first_four (a ∷ []) = refl
+first_four (a ∷ b ∷ []) = refl
+first_four (a ∷ b ∷ c ∷ []) = refl
+first_four (a ∷ b ∷ c ∷ d ∷ rest) = refl
+
+pub same-u16_at : (page other : List ℕ) (at : ℕ) → take 2 (drop at page) ≡ take 2 (drop at other) → u16_at page at ≡ u16_at other at
+unfolding u16_at
+same-u16_at page other at same = sym (first_two (drop at page)) ∙ (ap (λ (s : List ℕ). from_le_bytes w16 s) same ∙ first_two (drop at other))
+
+pub same-u32_at : (page other : List ℕ) (at : ℕ) → take 4 (drop at page) ≡ take 4 (drop at other) → u32_at page at ≡ u32_at other at
+unfolding u32_at
+same-u32_at page other at same = sym (first_four (drop at page)) ∙ (ap (λ (s : List ℕ). from_le_bytes w32 s) same ∙ first_four (drop at other))
+
+pub first_eight : (xs : List ℕ) → from_le_bytes w64 (take 8 xs) ≡ from_le_bytes w64 xs
+first_eight [] = refl
+first_eight (a ∷ []) = refl
+first_eight (a ∷ b ∷ []) = refl
+first_eight (a ∷ b ∷ c ∷ []) = refl
+first_eight (a ∷ b ∷ c ∷ d ∷ []) = refl
+first_eight (a ∷ b ∷ c ∷ d ∷ e ∷ []) = refl
+first_eight (a ∷ b ∷ c ∷ d ∷ e ∷ f ∷ []) = refl
+first_eight (a ∷ b ∷ c ∷ d ∷ e ∷ f ∷ g ∷ []) = refl
+first_eight (a ∷ b ∷ c ∷ d ∷ e ∷ f ∷ g ∷ h ∷ rest) = refl
+
+pub same-u64_at : (page other : List ℕ) (at : ℕ) → take 8 (drop at page) ≡ take 8 (drop at other) → u64_at page at ≡ u64_at other at
+unfolding u64_at
+same-u64_at page other at same = sym (first_eight (drop at page)) ∙ (ap (λ (s : List ℕ). from_le_bytes w64 s) same ∙ first_eight (drop at other))

@@ -1,13 +1,13 @@
 -- A piece of a page that is laid out: what it says of the records there.
-use Rattle.std.proofs.Common.{◌≡◌, ℕ, ◌+◌, ◌-◌, ◌%◌, ◌<◌, ◌≤◌, List, [], ◌∷◌, ◌++◌, length, take, drop, slice_index, refl, sym, ap, ◌∙◌, arith, ⊎_elim}
-use Rattle.std.specs.Int.{w16, w32, from_le_bytes}
+use Rattle.std.proofs.Common.{◌≡◌, ℕ, ◌+◌, ◌-◌, ◌%◌, ◌<◌, ◌≤◌, List, ◌++◌, length, take, drop, slice_index, refl, sym, ap, ◌∙◌, arith, ⊎_elim, add-zero, lit<, subst}
 use Rattle.std.proofs.lemmas.Bool.{cases_lt}
-use Rattle.std.proofs.lemmas.List.{take-take, drop-take, drop-drop, take-append-drop}
-use Rattle.records.specs.declared.entries.TheConstants.{RECORD_HEADER, KEY_LENGTH_AT, VALUE_LENGTH_AT, CAPACITY_AT, KIND_AT}
-use Rattle.records.specs.Fields.{u16_at, u32_at}
+use Rattle.std.proofs.lemmas.List.{take-take, drop-take, drop-drop, take-append-drop, get_or-drop, get_or-take}
+use Rattle.records.specs.declared.entries.TheConstants.{RECORD_HEADER, KEY_BYTES_MAX, HASH_AT, KEY_LENGTH_AT, VALUE_LENGTH_AT, CAPACITY_AT, KIND_AT, RECORD_FORM_AT}
+use Rattle.records.specs.Fields.{u16_at, u32_at, u64_at}
 use Rattle.records.specs.Page.{SameWithin}
-use Rattle.records.specs.Records.{Stored, IsStored, size_of, spelling, fields_at, value_bytes, IsRecordBefore, HasPiece}
+use Rattle.records.specs.Records.{Stored, IsStored, size_of, spelling, fields_at, value_bytes, IsKindFor, IsRecordBefore, HasPiece}
 use Rattle.records.proofs.Spelling.{key_length_at, value_length_at, capacity_at, kind_at, form_at, fields_at-is}
+use Rattle.records.proofs.Numbers.{same-u16_at, same-u32_at, same-u64_at}
 use Rattle.records.proofs.There.{IsThere, listed-IsThere, kind-is-for}
 
 -- a part of a part is a part
@@ -35,26 +35,78 @@ same-part from to inner last page other after before same =
     rw nothing refl in
     ⊎_elim some none (cases_lt inner last)
 
--- a number is one of the bytes that it takes
-first_two : (xs : List ℕ) → from_le_bytes w16 (take 2 xs) ≡ from_le_bytes w16 xs
-first_two [] = refl
-first_two (a ∷ []) = refl
-first_two (a ∷ b ∷ rest) = refl
+-- the byte at a place
+same-byte : (page other : List ℕ) (at : ℕ) → take 1 (drop at page) ≡ take 1 (drop at other) → slice_index page at ≡ slice_index other at
+same-byte page other at same =
+    let here : (xs : List ℕ) → slice_index xs at ≡ slice_index (take 1 (drop at xs)) 0 = λ xs.
+    ap (λ (n : ℕ). slice_index xs n) (sym (add-zero at)) ∙ (sym (get_or-drop at xs 0 0) ∙ sym (get_or-take 1 (drop at xs) 0 0 (lit< tt))) in
+    here page ∙ (ap (λ (s : List ℕ). slice_index s 0) same ∙ sym (here other))
 
-first_four : (xs : List ℕ) → from_le_bytes w32 (take 4 xs) ≡ from_le_bytes w32 xs
-first_four [] = refl
-first_four (a ∷ []) = refl
-first_four (a ∷ b ∷ []) = refl
-first_four (a ∷ b ∷ c ∷ []) = refl
-first_four (a ∷ b ∷ c ∷ d ∷ rest) = refl
+-- what two pages have in common from a place on says the same record there
+module _ (offset end : ℕ) (page other : List ℕ) (same : SameWithin offset end page other) (at : IsRecordBefore end page offset) where
+  within : offset + (RECORD_HEADER + u16_at page (offset + KEY_LENGTH_AT) + u32_at page (offset + CAPACITY_AT)) ≤ end
+  within = at.within
 
-same-u16_at : (page other : List ℕ) (at : ℕ) → take 2 (drop at page) ≡ take 2 (drop at other) → u16_at page at ≡ u16_at other at
-unfolding u16_at
-same-u16_at page other at same = sym (first_two (drop at page)) ∙ (ap (λ (s : List ℕ). from_le_bytes w16 s) same ∙ first_two (drop at other))
+  value_fits : u32_at page (offset + VALUE_LENGTH_AT) ≤ u32_at page (offset + CAPACITY_AT)
+  value_fits = at.value_length
 
-same-u32_at : (page other : List ℕ) (at : ℕ) → take 4 (drop at page) ≡ take 4 (drop at other) → u32_at page at ≡ u32_at other at
-unfolding u32_at
-same-u32_at page other at same = sym (first_four (drop at page)) ∙ (ap (λ (s : List ℕ). from_le_bytes w32 s) same ∙ first_four (drop at other))
+  -- the bytes of the record from one place up to another
+  part : (from n : ℕ) → offset ≤ from → from + n ≤ end → take n (drop from page) ≡ take n (drop from other)
+  part from n after before =
+      let cut : from + n - from ≡ n = omega arith in
+      rw cut at (same-part offset end from (from + n) page other after before same)
+
+  same-link : u64_at page offset ≡ u64_at other offset
+  same-link = same-u64_at page other offset (part offset 8 (omega arith) (omega (arith, within)))
+
+  same-hash : u64_at page (offset + HASH_AT) ≡ u64_at other (offset + HASH_AT)
+  same-hash = same-u64_at page other (offset + HASH_AT) (part (offset + HASH_AT) 8 (omega arith) (omega (arith, within)))
+
+  same-key_length : u16_at page (offset + KEY_LENGTH_AT) ≡ u16_at other (offset + KEY_LENGTH_AT)
+  same-key_length = same-u16_at page other (offset + KEY_LENGTH_AT) (part (offset + KEY_LENGTH_AT) 2 (omega arith) (omega (arith, within)))
+
+  same-value_length : u32_at page (offset + VALUE_LENGTH_AT) ≡ u32_at other (offset + VALUE_LENGTH_AT)
+  same-value_length = same-u32_at page other (offset + VALUE_LENGTH_AT) (part (offset + VALUE_LENGTH_AT) 4 (omega arith) (omega (arith, within)))
+
+  same-capacity : u32_at page (offset + CAPACITY_AT) ≡ u32_at other (offset + CAPACITY_AT)
+  same-capacity = same-u32_at page other (offset + CAPACITY_AT) (part (offset + CAPACITY_AT) 4 (omega arith) (omega (arith, within)))
+
+  same-kind : slice_index page (offset + KIND_AT) ≡ slice_index other (offset + KIND_AT)
+  same-kind = same-byte page other (offset + KIND_AT) (part (offset + KIND_AT) 1 (omega arith) (omega (arith, within)))
+
+  same-form : slice_index page (offset + RECORD_FORM_AT) ≡ slice_index other (offset + RECORD_FORM_AT)
+  same-form = same-byte page other (offset + RECORD_FORM_AT) (part (offset + RECORD_FORM_AT) 1 (omega arith) (omega (arith, within)))
+
+  same-key : take (u16_at page (offset + KEY_LENGTH_AT)) (drop (offset + RECORD_HEADER) page) ≡ take (u16_at other (offset + KEY_LENGTH_AT)) (drop (offset + RECORD_HEADER) other)
+  same-key =
+      part (offset + RECORD_HEADER) (u16_at page (offset + KEY_LENGTH_AT)) (omega arith) (omega (arith, within))
+      ∙ ap (λ (n : ℕ). take n (drop (offset + RECORD_HEADER) other)) same-key_length
+
+  same-value : take (u32_at page (offset + VALUE_LENGTH_AT)) (drop (offset + RECORD_HEADER + u16_at page (offset + KEY_LENGTH_AT)) page)
+      ≡ take (u32_at other (offset + VALUE_LENGTH_AT)) (drop (offset + RECORD_HEADER + u16_at other (offset + KEY_LENGTH_AT)) other)
+  same-value =
+      part (offset + RECORD_HEADER + u16_at page (offset + KEY_LENGTH_AT)) (u32_at page (offset + VALUE_LENGTH_AT)) (omega arith) (omega (arith, within, value_fits))
+      ∙ (ap (λ (n : ℕ). take n (drop (offset + RECORD_HEADER + u16_at page (offset + KEY_LENGTH_AT)) other)) same-value_length
+      ∙ ap (λ (k : ℕ). take (u32_at other (offset + VALUE_LENGTH_AT)) (drop (offset + RECORD_HEADER + k) other)) same-key_length)
+
+  pub same-IsRecordBefore : IsRecordBefore end other offset
+  same-IsRecordBefore =
+      record {
+        ends_in_page = at.ends_in_page;
+        past_header = at.past_header;
+        used = at.used;
+        aligned = at.aligned;
+        form = sym same-form ∙ at.form;
+        kind = subst (λ (k : ℕ). IsKindFor k (u32_at other (offset + VALUE_LENGTH_AT))) same-kind (subst (λ (n : ℕ). IsKindFor (slice_index page (offset + KIND_AT)) n) same-value_length at.kind);
+        key_length = subst (λ (n : ℕ). n ≤ KEY_BYTES_MAX) same-key_length at.key_length;
+        value_length = omega (arith, value_fits, same-value_length, same-capacity);
+        size = rw (← same-key_length, ← same-capacity) at.size;
+        within = omega (arith, within, same-key_length, same-capacity);
+      }
+
+  pub same-fields : fields_at page offset ≡ fields_at other offset
+  unfolding fields_at
+  same-fields = rw (same-link, same-hash, same-capacity, same-kind, same-key, same-value) refl
 
 -- a record that ends in the piece
 pub record IsInPiece (offset end : ℕ) (page : List ℕ) (r : Stored) : Type 0 where

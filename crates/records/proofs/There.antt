@@ -10,7 +10,7 @@ use Rattle.records.specs.Fields.{u16_at, u32_at, u64_at}
 use Rattle.records.specs.Page.{number_of, used_end}
 use Rattle.records.specs.Read.{shown}
 use Rattle.records.specs.declared.entries.Record.{Record}
-use Rattle.records.specs.Records.{Stored, IsStored, IsKindFor, value_of_kind, value_bytes, kind_of, size_of, spelling, end_from, placed, IsPage, fields_at, records_of, IsLaidOut, with_value, HasRoomAt, IsRecordAt, IsRecordBefore}
+use Rattle.records.specs.Records.{Stored, IsStored, IsKindFor, value_of_kind, value_bytes, kind_of, size_of, spelling, end_from, placed, IsPage, fields_at, records_of, IsLaidOut, with_value, HasRoomAt, IsRecordAt}
 use Rattle.records.proofs.Spelling.{length-spelling, key_length_at, value_length_at, capacity_at, kind_at, form_at, fields_at-is}
 use Rattle.records.proofs.Lists.{end_from-le, end_from-append, Split, split_at, with_value-placed, each-left}
 use Rattle.records.proofs.Laid.{page-number, page-end, page-records, page-laid_out, page-length, listed-ok, listed-within, listed-here, listed_back, overwritten-page}
@@ -129,11 +129,8 @@ IsThere-IsRecordAt page offset r t =
       within = omega (arith, sizes, t.within);
     }
 
--- what `record_at` answers, by what `record_before` does
+-- what `record_at` answers, by whether it does
 module _ {E : Type 0} (page : List ℕ) (offset : ℕ) where
-  pub answer-end : (end : ℕ) (read : Result Record E) → end ≡ used_end page → IsOk read ↔ IsRecordBefore end page offset → IsOk read ↔ IsRecordAt page offset
-  answer-end end read is exact = subst (λ (n : ℕ). IsOk read ↔ IsRecordBefore n page offset) is exact
-
   pub answer-exact : (read : Result Record E) → IsOk read ↔ IsRecordAt page offset → IfOk read (λ r. shown r ≡ fields_at page offset)
       → MatchResult read (λ r. IsRecordAt page offset × (shown r ≡ fields_at page offset)) (λ _. ¬ IsRecordAt page offset)
   answer-exact (Ok r) exact fields = (exact.0 refl, fields)
@@ -145,7 +142,7 @@ module _ {E : Type 0} (page : List ℕ) (offset : ℕ) where
   answer-found (Err e) exact fields was r there =
       let none : IsOk {T = Record} {E = E} (Err e) = exact.1 (IsThere-IsRecordAt page offset r (listed-IsThere page offset r was there)) in cc
 
--- what `record_before` reads
+-- what `record_in` reads
 pub read-fields : (page bytes key : List ℕ) (offset link hash k n capacity kind : ℕ) (value : Option (List ℕ))
     → bytes ≡ page → link ≡ u64_at bytes offset → hash ≡ u64_at bytes (offset + HASH_AT)
     → k ≡ u16_at bytes (offset + KEY_LENGTH_AT) → n ≡ u32_at bytes (offset + VALUE_LENGTH_AT) → capacity ≡ u32_at bytes (offset + CAPACITY_AT) → kind ≡ slice_index bytes (offset + KIND_AT)
@@ -158,14 +155,14 @@ read-fields page bytes key offset link hash k n capacity kind value is_page is_l
     let value_cut : offset + RECORD_HEADER + k + n - (offset + RECORD_HEADER + k) ≡ n = omega arith in
     rw (is_key, is_value, key_cut, value_cut, is_link, is_hash, is_capacity, is_kind, is_k, is_n, is_page) refl
 
--- the part of the page that holds the value which `record_before` reads
-module _ (page bytes : List ℕ) (offset k n : ℕ) (is_page : bytes ≡ page) (is_size : length bytes ≡ PAGE_SIZE) (within : offset + RECORD_HEADER + k + n ≤ PAGE_SIZE) (is_n : n ≡ u32_at bytes (offset + VALUE_LENGTH_AT)) where
+-- the part of the page that holds the value which `record_in` reads
+module _ (page bytes : List ℕ) (offset k n : ℕ) (is_page : bytes ≡ page) (within : offset + RECORD_HEADER + k + n ≤ length bytes) (is_n : n ≡ u32_at bytes (offset + VALUE_LENGTH_AT)) where
   value-length : length (take (offset + RECORD_HEADER + k + n - (offset + RECORD_HEADER + k)) (drop (offset + RECORD_HEADER + k) bytes)) ≡ u32_at page (offset + VALUE_LENGTH_AT)
   value-length =
       let cut = length-take (offset + RECORD_HEADER + k + n - (offset + RECORD_HEADER + k)) (drop (offset + RECORD_HEADER + k) bytes) in
       let rest = length-drop (offset + RECORD_HEADER + k) bytes in
       let same : u32_at bytes (offset + VALUE_LENGTH_AT) ≡ u32_at page (offset + VALUE_LENGTH_AT) = ap (λ (s : List ℕ). u32_at s (offset + VALUE_LENGTH_AT)) is_page in
-      omega (arith, cut, rest, same, is_n, is_size, within)
+      omega (arith, cut, rest, same, is_n, within)
 
   same_kind : slice_index bytes (offset + KIND_AT) ≡ slice_index page (offset + KIND_AT)
   same_kind = ap (λ (s : List ℕ). slice_index s (offset + KIND_AT)) is_page

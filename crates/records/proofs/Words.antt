@@ -1,23 +1,12 @@
 -- Bytes that are equal eight at a time.
-use Rattle.std.proofs.Common.{◌≡◌, ℕ, ◌+◌, ◌<◌, ◌≤◌, List, [], ◌∷◌, length, take, drop, get_or, refl, sym, ap, ◌∙◌, arith, length-take, length-drop, lit<, ⊎_elim}
+use Rattle.std.proofs.Common.{◌≡◌, ℕ, ◌+◌, ◌<◌, ◌≤◌, List, length, take, drop, get_or, refl, sym, ap, ◌∙◌, arith, length-take, length-drop, lit<, ⊎_elim}
 use Rattle.std.proofs.Math.Seq.{take-add}
 use Rattle.std.proofs.lemmas.List.{take-take, take_all, get_or-take, get_or-drop, get_or_past}
 use Rattle.std.proofs.lemmas.Nat.{le_bytes_8}
 use Rattle.std.proofs.lemmas.Bool.{cases_lt}
 use Rattle.std.specs.Int.{w64, from_le_bytes}
 use Rattle.records.specs.Fields.{u64_bytes, u64_at}
-
--- a number of eight bytes is one of the first eight
-first_eight : (xs : List ℕ) → 8 ≤ length xs → from_le_bytes w64 (take 8 xs) ≡ from_le_bytes w64 xs
-first_eight [] h = absurd (omega (arith, h))
-first_eight (a ∷ []) h = absurd (omega (arith, h))
-first_eight (a ∷ b ∷ []) h = absurd (omega (arith, h))
-first_eight (a ∷ b ∷ c ∷ []) h = absurd (omega (arith, h))
-first_eight (a ∷ b ∷ c ∷ d ∷ []) h = absurd (omega (arith, h))
-first_eight (a ∷ b ∷ c ∷ d ∷ e ∷ []) h = absurd (omega (arith, h))
-first_eight (a ∷ b ∷ c ∷ d ∷ e ∷ f ∷ []) h = absurd (omega (arith, h))
-first_eight (a ∷ b ∷ c ∷ d ∷ e ∷ f ∷ g ∷ []) h = absurd (omega (arith, h))
-first_eight (a ∷ b ∷ c ∷ d ∷ e ∷ f ∷ g ∷ i ∷ rest) h = refl
+use Rattle.records.proofs.Numbers.{first_eight}
 
 part-fits : (xs : List ℕ) (at n i : ℕ) → ((k : ℕ) → get_or xs k 0 < 256) → get_or (take n (drop at xs)) i 0 < 256
 part-fits xs at n i fits =
@@ -31,7 +20,7 @@ unfolding u64_at u64_bytes
 u64_bytes-u64_at xs at h fits =
     let part : List ℕ = take 8 (drop at xs) in
     le_bytes_8 part (from_le_bytes w64 (drop at xs)) (omega (arith, length-take 8 (drop at xs), length-drop at xs, h))
-    (λ i. part-fits xs at 8 i fits) (sym (first_eight (drop at xs) (omega (arith, length-drop at xs, h))))
+    (λ i. part-fits xs at 8 i fits) (sym (first_eight (drop at xs)))
 
 -- eight more bytes are the same
 pub take-eight_more : (xs ys : List ℕ) (at m n : ℕ) → u64_bytes m ≡ take 8 (drop at xs) → u64_bytes n ≡ take 8 (drop at ys) → m ≡ n

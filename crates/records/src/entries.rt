@@ -1,14 +1,14 @@
 // The records of a page.
 
-ghost use Rattle.std.specs.Prelude.{◌≡◌, ◌<◌, ◌≤◌, ◌↔◌, ℕ, ◌+◌, ◌-◌, ◌*◌, ◌/◌, ◌%◌, ◌^◌, List, [], ◌∷◌, ◌++◌, length, drop, map, replicate, Option, IsTrue, IsOk, IsErr, IfOk, IsOkAnd, OnOk, OnErr, MatchResult, Contains};
+ghost use Rattle.std.specs.Prelude.{◌≡◌, ◌<◌, ◌≤◌, ◌↔◌, ℕ, ◌+◌, ◌-◌, ◌*◌, ◌/◌, ◌%◌, ◌^◌, List, [], ◌∷◌, ◌++◌, length, drop, map, replicate, Option, IsTrue, IsOk, IsErr, IfOk, IsOkAnd, OnOk, OnErr, MatchResult, Contains, vec_len, vec_capacity};
 ghost use Rattle.std.specs.Option.{option_copied};
-ghost use Rattle.records.specs.Page.{number_of, used_end};
+ghost use Rattle.records.specs.Page.{number_of, used_end, with_end};
 ghost use Rattle.records.specs.Fields.{u16_bytes, u32_bytes, u64_bytes};
 ghost use Rattle.records.specs.Read.{shown};
-ghost use Rattle.records.specs.Records.{Stored, IsKindFor, value_of_kind, kind_of, size_of, size_for, new_record, value_bytes, filled, spelling, fields_at, records_of, IsLaidOut, HasRoomAt, IsRecordAt, IsRecordBefore, HasPiece, with_value};
+ghost use Rattle.records.specs.Records.{Stored, IsKindFor, value_of_kind, kind_of, size_of, size_for, new_record, value_bytes, filled, head, spelling, fields_at, records_of, IsLaidOut, HasRoomAt, IsRecordAt, IsRecordBefore, HasPiece, with_value};
 
 use crate::fields;
-use crate::pages::{self, HEADER_SIZE, PAGE_SIZE, Page};
+use crate::pages::{self, HEADER_SIZE, PAGE_SIZE, Page, Whole};
 use std::error::Error;
 use std::fmt;
 
@@ -113,7 +113,28 @@ pub fn record_at(page: &Page, offset: usize) -> Result<Record<'_>, NotARecord>
     ensures exact { MatchResult result (λ r. IsRecordAt page.now offset × (shown r ≡ fields_at page.now offset)) (λ _. ¬ IsRecordAt page.now offset) }
     ensures found { IsLaidOut page.now → (r : Stored) → Contains (records_of page.now) (offset, r) → IsOkAnd result (λ x. shown x ≡ r) }
 {
-    record_before(page, page.used_end() as usize, offset)
+    let memory = page.memory();
+    let end = page.used_end() as usize;
+    if end > memory.len() {
+        return Err(NotARecord);
+    }
+    record_in(memory, end, offset)
+}
+
+/// The record at an offset of a page, whose bytes may be any, without a look at the page's header: it lies far from most records.
+///
+/// It finds each record that [`record_at`] finds, and may find one behind the used part. It refuses an offset in the page's header or
+/// no multiple of 8, a form or kind that is not known, a key length over 512, a value length over the capacity, a size that is no
+/// multiple of 8 or passes the page's end, and a tombstone with a value length above 0.
+#[inline]
+pub fn record_there(page: &Page, offset: usize) -> Result<Record<'_>, NotARecord>
+    ensures there { IsRecordAt page.now offset → IsOk result }
+    ensures no_other { IsOk result → IsRecordBefore PAGE_SIZE page.now offset }
+    ensures fields { IfOk result (λ r. shown r ≡ fields_at page.now offset) }
+    ensures found { IsLaidOut page.now → (r : Stored) → Contains (records_of page.now) (offset, r) → IsOkAnd result (λ x. shown x ≡ r) }
+{
+    let memory = page.memory();
+    record_in(memory, memory.len(), offset)
 }
 
 /// The record at an offset of a page of which only the bytes from there up to `end` are known. All other bytes of the page may be
@@ -124,14 +145,27 @@ pub fn record_at(page: &Page, offset: usize) -> Result<Record<'_>, NotARecord>
 /// tombstone with a value length above 0. Of the records that this crate put into a page it so refuses those alone that pass
 /// `end`: more of that page is to be read.
 #[inline]
-pub fn record_before(page: &Page, end: usize, offset: usize) -> Result<Record<'_>, NotARecord>
+pub fn record_before(page: &Whole, end: usize, offset: usize) -> Result<Record<'_>, NotARecord>
     ensures exact { IsOk result ↔ IsRecordBefore end page.now offset }
     ensures fields { IfOk result (λ r. shown r ≡ fields_at page.now offset) }
     ensures found { (r : Stored) → HasPiece offset end page.now r → offset + size_of r ≤ end → IsOkAnd result (λ x. shown x ≡ r) }
     ensures refused { (r : Stored) → HasPiece offset end page.now r → end < offset + size_of r → IsErr result }
 {
-    let bytes = page.bytes();
-    if end > PAGE_SIZE || offset < HEADER_SIZE || offset % 8 != 0 {
+    if end > PAGE_SIZE {
+        return Err(NotARecord);
+    }
+    record_in(page.bytes(), end, offset)
+}
+
+// The record that ends by `end` at an offset of a page's first bytes.
+#[inline]
+fn record_in(bytes: &[u8], end: usize, offset: usize) -> Result<Record<'_>, NotARecord>
+    requires end { end ≤ length bytes.now }
+    requires bound { length bytes.now ≤ PAGE_SIZE }
+    ensures exact { IsOk result ↔ IsRecordBefore end bytes.now offset }
+    ensures fields { IfOk result (λ r. shown r ≡ fields_at bytes.now offset) }
+{
+    if offset < HEADER_SIZE || offset % 8 != 0 {
         return Err(NotARecord);
     }
     if offset >= end || end - offset < RECORD_HEADER {
@@ -170,7 +204,7 @@ pub fn record_before(page: &Page, end: usize, offset: usize) -> Result<Record<'_
 ///
 /// Refuses a record that does not fit, and the page is then unchanged. The page has to be laid out,
 /// as `Page::new` and this module's calls leave it: so the bytes behind its used part are zero, and
-/// only the record's own bytes are written.
+/// only the record's own bytes and the end of the used part in the header are written.
 #[inline]
 pub fn put_record(
     page: &mut Page,
@@ -198,12 +232,49 @@ pub fn put_record(
     if size > PAGE_SIZE - end {
         return Err(NoRoom);
     }
+    if page.bytes.len() == end {
+        append_record(&mut page.bytes, size, link, hash, key, value);
+        return Ok(end);
+    }
     let bytes = page.bytes_mut();
     bytes[pages::USED_END_AT..pages::PAGE_FORM_AT].copy_from_slice(
         &((end + size) as u32).to_le_bytes(),
     );
     write_record(&mut bytes[end..end + size], link, hash, key, value);
     Ok(end)
+}
+
+// Puts a record behind the bytes of a page's memory, with which its used part ends. Each byte of it is written once.
+#[inline]
+fn append_record(
+    bytes: &mut Vec<u8>,
+    size: usize,
+    link: u64,
+    hash: u64,
+    key: &[u8],
+    value: Option<&[u8]>,
+)
+    requires header { HEADER_SIZE ≤ vec_len bytes.old }
+    requires room { vec_len bytes.old + size ≤ PAGE_SIZE }
+    requires taken { PAGE_SIZE ≤ vec_capacity bytes.old }
+    requires key { length key.now ≤ KEY_BYTES_MAX }
+    requires size { RECORD_HEADER + length key.now + length (value_bytes (option_copied value)) ≤ size }
+    ensures bytes { bytes.new.items ≡ with_end bytes.old.items (vec_len bytes.old + size)
+        ++ spelling (record { link = link; hash = hash; key = key.now; value = option_copied value.entry; capacity = size - RECORD_HEADER - length key.now }) }
+    ensures len { vec_len bytes.new ≡ vec_len bytes.old + size }
+    ensures capacity { vec_capacity bytes.old ≤ vec_capacity bytes.new }
+{
+    let end = bytes.len() + size;
+    bytes.as_mut_slice()[pages::USED_END_AT..pages::PAGE_FORM_AT].copy_from_slice(
+        &(end as u32).to_le_bytes(),
+    );
+    let capacity = size - RECORD_HEADER - key.len();
+    let mut head = [0; RECORD_HEADER];
+    write_head(&mut head, link, hash, key.len(), value, capacity);
+    pages::add(bytes, &head);
+    pages::add(bytes, key);
+    pages::add(bytes, bytes_of(value));
+    pages::add(bytes, &pages::ZEROS[..capacity - length_of(value)]);
 }
 
 /// Puts another value, or with `None` a tombstone, into the record at `offset`, in place. The value
@@ -221,7 +292,7 @@ pub fn overwrite(page: &mut Page, offset: usize, value: Option<&[u8]>)
     ensures number { number_of page.new ≡ number_of page.old }
     ensures laid_out { IsLaidOut page.new }
 {
-    let bytes = page.bytes_mut();
+    let bytes = page.bytes.as_mut_slice();
     let key_length = fields::u16_at(bytes, offset + KEY_LENGTH_AT) as usize;
     let old_length = fields::u32_at(bytes, offset + VALUE_LENGTH_AT) as usize;
     let capacity = fields::u32_at(bytes, offset + CAPACITY_AT) as usize;
@@ -238,6 +309,17 @@ fn value_of_kind(kind: u8, bytes: &[u8]) -> Result<Option<&[u8]>, NotARecord>
         VALUE => Ok(Some(bytes)),
         TOMBSTONE if bytes.is_empty() => Ok(None),
         _ => Err(NotARecord),
+    }
+}
+
+// The bytes of a value, none of a tombstone.
+#[inline]
+fn bytes_of(value: Option<&[u8]>) -> &[u8]
+    ensures { result.now ≡ value_bytes (option_copied value.entry) }
+{
+    match value {
+        Some(bytes) => bytes,
+        None => &[],
     }
 }
 
@@ -265,7 +347,7 @@ fn kind_of(value: Option<&[u8]>) -> u8
 
 // Writes a record into the bytes that it takes, all of which are zero.
 #[inline]
-#[tactic(auto, unfolding(crate::specs::Records::spelling, crate::specs::Records::head))]
+#[tactic(auto, unfolding(crate::specs::Records::spelling))]
 fn write_record(slot: &mut [u8], link: u64, hash: u64, key: &[u8], value: Option<&[u8]>)
     requires key { length key.now ≤ KEY_BYTES_MAX }
     requires value { RECORD_HEADER + length key.now + length (value_bytes (option_copied value)) ≤ length slot.old }
@@ -275,18 +357,38 @@ fn write_record(slot: &mut [u8], link: u64, hash: u64, key: &[u8], value: Option
 {
     let capacity = slot.len() - RECORD_HEADER - key.len();
     let (head, rest) = slot.split_at_mut(RECORD_HEADER);
-    let (addresses, lengths) = head.split_at_mut(KEY_LENGTH_AT);
+    write_head(head, link, hash, key.len(), value, capacity);
+    let (key_part, room) = rest.split_at_mut(key.len());
+    key_part.copy_from_slice(key);
+    write_value(room, value);
+}
+
+// Writes the header of a record whose key has this length.
+#[inline]
+#[tactic(auto, unfolding(crate::specs::Records::head, crate::specs::Fields::u64_bytes))]
+fn write_head(
+    slot: &mut [u8],
+    link: u64,
+    hash: u64,
+    key_length: usize,
+    value: Option<&[u8]>,
+    capacity: usize,
+)
+    requires size { length slot.old ≡ RECORD_HEADER }
+    requires key { key_length ≤ KEY_BYTES_MAX }
+    requires value { length (value_bytes (option_copied value)) ≤ PAGE_SIZE }
+    requires capacity { capacity ≤ PAGE_SIZE }
+    ensures { slot.new ≡ head link hash key_length (kind_of (option_copied value.entry)) (length (value_bytes (option_copied value.entry))) capacity }
+{
+    let (addresses, lengths) = slot.split_at_mut(KEY_LENGTH_AT);
     write_addresses(addresses, link, hash);
     write_lengths(
         lengths,
-        key.len() as u16,
+        key_length as u16,
         kind_of(value),
         length_of(value) as u32,
         capacity as u32,
     );
-    let (key_part, room) = rest.split_at_mut(key.len());
-    key_part.copy_from_slice(key);
-    write_value(room, value);
 }
 
 // Writes the first two fields of a record.

@@ -21,6 +21,6 @@ mod pages;
 
 pub use entries::{
     KEY_BYTES_MAX, NoRoom, NotARecord, RECORD_HEADER, Record, overwrite, put_record, record_at,
-    record_before, record_size,
+    record_before, record_size, record_there,
 };
-pub use pages::{HEADER_SIZE, NUMBER_SIZE, PAGE_SIZE, Page};
+pub use pages::{HEADER_SIZE, NUMBER_SIZE, PAGE_SIZE, Page, Whole};

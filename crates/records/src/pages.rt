@@ -1,12 +1,13 @@
 // A page and its header.
 
-ghost use Rattle.std.specs.Prelude.{◌≡◌, ◌≤◌, ℕ, List, [], length, IfOk, IsTrue, nat_eq, vec_len};
-ghost use Rattle.std.specs.Prelude.{vec_capacity};
+ghost use Rattle.std.specs.Prelude.{◌≡◌, ◌≤◌, ◌↔◌, ℕ, ◌+◌, ◌-◌, List, [], ◌++◌, length, replicate, IfOk, IsTrue, nat_eq};
+ghost use Rattle.std.specs.Prelude.{vec_capacity, vec_len};
 ghost use Rattle.std.specs.Cmp.Lexicographic.{pointwise, nat_list_eq_equiv};
 ghost use Rattle.std.specs.Cmp;
 ghost use Rattle.std.specs.Borrow.{sem};
+ghost use Rattle.records.specs.Fields.{u32_at, u64_at};
 ghost use Rattle.records.specs.Page.{header, empty_page, number_of, used_end, zero_page};
-ghost use Rattle.records.specs.Memory.{bytes_of, IsPageMemory};
+ghost use Rattle.records.specs.Memory.{bytes_of};
 ghost use Rattle.records.specs.Records.{records_of, IsLaidOut};
 ghost use Rattle.records.specs.Lends.{LendsBytes, with_bytes};
 
@@ -31,16 +32,18 @@ pub(crate) const PAGE_FORM_AT: usize = USED_END_AT + 4;
 /// The form of the pages that this crate writes.
 const PAGE_FORM: u32 = 2;
 
-/// The bytes of a page whose memory was not touched yet.
-static ZEROS: [u8; PAGE_SIZE] = [0; PAGE_SIZE];
+/// Zeros: the bytes of a page behind those that lie in its memory.
+pub(crate) static ZEROS: [u8; PAGE_SIZE] = [0; PAGE_SIZE];
 
-/// A page: `PAGE_SIZE` bytes in memory of their own. A clause sees it as the list of its bytes.
+/// A page: `PAGE_SIZE` bytes. A clause sees it as the list of its bytes.
 ///
-/// A move of a page copies none of its bytes. Its memory serves again: to fill it anew, write `reset` or `copy_from`.
+/// It has memory of its own for all of them. `reset` and `put_record` touch no more of it than the bytes up to the end of the used part,
+/// since those behind are zero; `bytes_mut`, `copy_from` and `Whole` touch all of it. A move of a page copies none of its bytes. Its memory
+/// serves again: to fill it anew, write `reset` or `copy_from`.
 #[derive(Drop)]
 pub struct Page {
-    /// All of its bytes; or none where they are zero and their memory, which is taken, was not touched yet.
-    bytes: Vec<u8>,
+    /// Its first bytes: all of them, or those up to the end of its used part, or none. The others are zero, and their memory is taken.
+    pub(crate) bytes: Vec<u8>,
 }
 
 impl Model for Page {
@@ -61,7 +64,7 @@ impl PartialEq for Page {
     ghost laws = { Cmp.partial_equiv_from_equiv nat_list_eq_equiv };
 
     fn eq(&self, other: &Page) -> bool {
-        self.bytes() == other.bytes()
+        same_but_for_zeros(&self.bytes[..], &other.bytes[..])
     }
 }
 
@@ -70,7 +73,7 @@ impl Eq for Page {
 }
 
 impl Page {
-    /// A page of zero bytes. Its memory is taken, and is touched when the page is written for the first time, which takes none.
+    /// A page of zero bytes. Its memory is taken, and touched where the page is written, which takes none.
     ///
     /// # Errors
     ///
@@ -107,11 +110,12 @@ impl Page {
     pub fn try_clone(&self, alloc: Global) -> Result<Page, AllocError>
         ensures { IfOk result (λ copy. copy ≡ self.now) }
     {
-        let bytes = Vec::from_slice(alloc, self.bytes())?;
+        let mut bytes = Vec::with_capacity(alloc, PAGE_SIZE)?;
+        add(&mut bytes, &self.bytes[..]);
         Ok(Page { bytes })
     }
 
-    /// Makes this page what `Page::new(number)` gives, where it lies.
+    /// Makes this page what `Page::new(number)` gives, where it lies. Of its memory only the header is written.
     pub fn reset(&mut self, number: u64)
         ensures empty { self.new ≡ empty_page number }
         ensures number { number_of self.new ≡ number }
@@ -119,8 +123,118 @@ impl Page {
         ensures records { records_of self.new ≡ [] }
         ensures laid_out { IsLaidOut self.new }
     {
-        let is_zero = self.bytes.is_empty();
-        empty(self.bytes_mut(), number, is_zero);
+        let mut head = [0; HEADER_SIZE];
+        write_header(&mut head, number, HEADER_SIZE as u32);
+        self.bytes.clear();
+        add(&mut self.bytes, &head);
+    }
+
+    /// The page's bytes: those that lie in its memory, and the zeros behind them.
+    #[inline]
+    pub fn parts(&self) -> (&[u8], &[u8])
+        ensures bytes { result.0.now ++ result.1.now ≡ self.now }
+        ensures zeros { result.1.now ≡ replicate (length result.1.now) 0 }
+        ensures size { length result.0.now + length result.1.now ≡ PAGE_SIZE }
+    {
+        let memory = &self.bytes[..];
+        (memory, &ZEROS[memory.len()..])
+    }
+
+    /// The bytes that lie in the page's memory: the others are zero. Of a page whose used part ends in it all of that part lies there.
+    #[inline]
+    pub(crate) fn memory(&self) -> &[u8]
+        ensures bytes { self.now ≡ bytes_of result.now }
+        ensures bound { length result.now ≤ PAGE_SIZE }
+        ensures used { used_end self.now ≤ PAGE_SIZE → used_end self.now ≤ length result.now }
+    {
+        &self.bytes[..]
+    }
+
+    /// The page's bytes, to which any bytes may be given. All of them lie in its memory then.
+    #[inline]
+    pub fn bytes_mut(&mut self) -> &mut [u8]
+        ensures* writes_back { sem 𝓛 (LendsBytes self.entry result) }
+        ensures bytes { result.now ≡ self.old }
+        ensures size { length result.now ≡ PAGE_SIZE }
+        ensures as_written { (written : List ℕ) → length written ≡ PAGE_SIZE → with_bytes self.old written ≡ written }
+    {
+        fill(&mut self.bytes);
+        self.bytes.as_mut_slice()
+    }
+
+    /// Makes this page's bytes those of `other`. All of them lie in its memory then.
+    #[inline]
+    pub fn copy_from(&mut self, other: &Page)
+        ensures { self.new ≡ other.now }
+    {
+        self.bytes.clear();
+        add(&mut self.bytes, &other.bytes[..]);
+        fill(&mut self.bytes);
+    }
+
+    /// The number in the page's header.
+    #[inline]
+    pub fn number(&self) -> u64
+        ensures { result ≡ number_of self.now }
+    {
+        fields::u64_at(self.front(), 0)
+    }
+
+    /// Where the page's header says that its used part ends: for a laid-out page, where the next
+    /// record goes.
+    #[inline]
+    pub fn used_end(&self) -> u32
+        ensures { result ≡ used_end self.now }
+    {
+        fields::u32_at(self.front(), USED_END_AT)
+    }
+
+    // The page's first bytes, its header among them.
+    #[inline]
+    fn front(&self) -> &[u8]
+        ensures number { u64_at result.now 0 ≡ number_of self.now }
+        ensures end { u32_at result.now USED_END_AT ≡ used_end self.now }
+        ensures size { HEADER_SIZE ≤ length result.now }
+    {
+        if self.bytes.is_empty() {
+            return &ZEROS;
+        }
+        &self.bytes[..]
+    }
+}
+
+/// A page all of whose bytes lie in memory, so that each part of them can be lent. A clause sees it as the list of its bytes.
+#[derive(Drop)]
+pub struct Whole {
+    bytes: Vec<u8>,
+}
+
+impl Model for Whole {
+    ghost use Rattle.std.specs.Prelude.{◌≡◌, ℕ, List, length};
+    ghost use Rattle.records.specs.declared.pages.TheConstants.{PAGE_SIZE};
+
+    ghost Value = { List ℕ };
+
+    ghost view = { λ w. w.bytes.items };
+
+    ghost invariant = { λ w. length w.bytes.items ≡ PAGE_SIZE };
+}
+
+impl Whole {
+    /// This page, whose bytes are all put into its memory. That takes none.
+    pub fn of(page: Page) -> Whole
+        ensures { result ≡ page }
+    {
+        let Page { mut bytes } = page;
+        fill(&mut bytes);
+        Whole { bytes }
+    }
+
+    /// The page.
+    pub fn into_page(self) -> Page
+        ensures { result ≡ self }
+    {
+        Page { bytes: self.bytes }
     }
 
     /// The page's bytes.
@@ -129,99 +243,58 @@ impl Page {
         ensures bytes { result.now ≡ self.now }
         ensures size { length result.now ≡ PAGE_SIZE }
     {
-        if self.bytes.is_empty() {
-            return &ZEROS;
-        }
         &self.bytes[..]
     }
-
-    /// The page's bytes, to which any bytes may be given.
-    #[inline]
-    pub fn bytes_mut(&mut self) -> &mut [u8]
-        ensures* writes_back { sem 𝓛 (LendsBytes self.entry result) }
-        ensures bytes { result.now ≡ self.old }
-        ensures size { length result.now ≡ PAGE_SIZE }
-        ensures as_written { (written : List ℕ) → length written ≡ PAGE_SIZE → with_bytes self.old written ≡ written }
-    {
-        touch(&mut self.bytes);
-        self.bytes.as_mut_slice()
-    }
-
-    /// Makes this page's bytes those of `other`.
-    #[inline]
-    pub fn copy_from(&mut self, other: &Page)
-        ensures { self.new ≡ other.now }
-    {
-        self.bytes_mut().copy_from_slice(other.bytes());
-    }
-
-    /// The number in the page's header.
-    #[inline]
-    #[tactic(auto, unfolding(crate::specs::Page::number_of))]
-    pub fn number(&self) -> u64
-        ensures { result ≡ number_of self.now }
-    {
-        fields::u64_at(self.bytes(), 0)
-    }
-
-    /// Where the page's header says that its used part ends: for a laid-out page, where the next
-    /// record goes.
-    #[inline]
-    #[tactic(auto, unfolding(crate::specs::Page::used_end))]
-    pub fn used_end(&self) -> u32
-        ensures { result ≡ used_end self.now }
-    {
-        fields::u32_at(self.bytes(), USED_END_AT)
-    }
 }
 
-// Fills the memory of a page with its zero bytes, where none was touched yet.
+// Adds bytes to the memory of a page, which is taken.
 #[inline]
-fn touch(bytes: &mut Vec<u8>)
-    requires { IsPageMemory bytes.old.items (vec_capacity bytes.old) }
-    ensures same { bytes.new.items ≡ bytes_of bytes.old.items }
-    ensures all { vec_len bytes.new ≡ PAGE_SIZE }
+pub(crate) fn add(bytes: &mut Vec<u8>, more: &[u8])
+    requires { vec_len bytes.old + length more.now ≤ vec_capacity bytes.old }
+    ensures items { bytes.new.items ≡ bytes.old.items ++ more.now }
+    ensures len { vec_len bytes.new ≡ vec_len bytes.old + length more.now }
+    ensures capacity { vec_capacity bytes.old ≤ vec_capacity bytes.new }
 {
-    if bytes.is_empty() {
-        fill(bytes);
-    }
-}
-
-// Fills the memory of a page with zero bytes. It was taken, so this takes none.
-#[cold]
-fn fill(bytes: &mut Vec<u8>)
-    requires none { bytes.old.items ≡ [] }
-    requires size { vec_len bytes.old ≡ 0 }
-    requires taken { PAGE_SIZE ≤ vec_capacity bytes.old }
-    ensures zero { bytes.new.items ≡ zero_page }
-    ensures all { vec_len bytes.new ≡ PAGE_SIZE }
-{
-    let Ok(()) = bytes.extend_from_slice(&ZEROS) else {
+    let Ok(()) = bytes.extend_from_slice(more) else {
         unreachable!()
     };
 }
 
-// Makes the bytes of a page those of the page with this number and no record.
+// Puts all bytes of a page into its memory, which is taken.
 #[inline]
-fn empty(bytes: &mut [u8], number: u64, is_zero: bool)
-    requires size { length bytes.old ≡ PAGE_SIZE }
-    requires zero { IsTrue is_zero → bytes.old ≡ zero_page }
-    ensures { bytes.new ≡ empty_page number }
+fn fill(bytes: &mut Vec<u8>)
+    requires size { vec_len bytes.old ≤ PAGE_SIZE }
+    requires taken { PAGE_SIZE ≤ vec_capacity bytes.old }
+    ensures same { bytes.new.items ≡ bytes_of bytes.old.items }
+    ensures all { vec_len bytes.new ≡ PAGE_SIZE }
+    ensures capacity { vec_capacity bytes.old ≤ vec_capacity bytes.new }
 {
-    if !is_zero {
-        fields::fill_zeros(bytes);
+    let len = bytes.len();
+    if len < PAGE_SIZE {
+        add(bytes, &ZEROS[len..]);
     }
-    begin(bytes, number);
 }
 
-// Writes the header of the page with this number and no record.
-#[inline]
-#[tactic(auto, unfolding(crate::specs::Page::empty_page))]
-fn begin(bytes: &mut [u8], number: u64)
-    requires { bytes.old ≡ zero_page }
-    ensures { bytes.new ≡ empty_page number }
+// Whether two pages have the same bytes, of which these lie in their memories.
+fn same_but_for_zeros(a: &[u8], b: &[u8]) -> bool
+    requires a { length a.now ≤ PAGE_SIZE }
+    requires b { length b.now ≤ PAGE_SIZE }
+    ensures { result ≡ pointwise nat_eq (bytes_of a.now) (bytes_of b.now) }
 {
-    write_header(&mut bytes[..HEADER_SIZE], number, HEADER_SIZE as u32);
+    if a.len() < b.len() {
+        return goes_on_with_zeros(b, a);
+    }
+    goes_on_with_zeros(a, b)
+}
+
+// Whether the longer of two texts is the shorter one and zeros.
+fn goes_on_with_zeros(long: &[u8], short: &[u8]) -> bool
+    requires longer { length short.now ≤ length long.now }
+    requires bound { length long.now ≤ PAGE_SIZE }
+    ensures { IsTrue result ↔ (long.now ≡ short.now ++ replicate (length long.now - length short.now) 0) }
+{
+    let (front, rest) = long.split_at(short.len());
+    front == short && rest == &ZEROS[..rest.len()]
 }
 
 // Writes a page's header.

@@ -8,8 +8,8 @@ use Rattle.hybrid.proofs.staged.record_in.Goals as goal
 
 pub returns-in-Ok-clause-found : goal.returns-in-Ok-clause-found
 returns-in-Ok-clause-found c = λ s page piece right laid r listed.
-    let p = c.in-Some.piece in
-    let piece_is = piece ∙ c.in-Some.is in
+    let p = c.args.piece in
+    let piece_is = piece in
     let read = subst (λ (o : Option Piece). MatchOption o (s.page ≡ s.kept.shown) (λ q. SameWithin q.from q.to s.page s.kept.shown)) piece_is right in
     let has : HasPiece c.args.offset p.to c.args.page.now r = record {
       whole = s.kept.shown;
@@ -26,8 +26,8 @@ returns-in-Ok-clause-found c = λ s page piece right laid r listed.
 
 pub returns-in-Err-clause-unread : goal.returns-in-Err-clause-unread
 returns-in-Err-clause-unread c = λ s page piece right laid r listed bytes.
-    let p = c.in-Some.piece in
-    let piece_is = piece ∙ c.in-Some.is in
+    let p = c.args.piece in
+    let piece_is = piece in
     let read = subst (λ (o : Option Piece). MatchOption o (s.page ≡ s.kept.shown) (λ q. SameWithin q.from q.to s.page s.kept.shown)) piece_is right in
     let has : HasPiece c.args.offset p.to c.args.page.now r = record {
       whole = s.kept.shown;

@@ -1,6 +1,8 @@
-use Rattle.std.proofs.Common.{◌∙◌, ◌++◌, ℕ, List, ap, rules}
-use Rattle.records.specs.Page.{zero_page}
+use Rattle.std.proofs.Common.{◌≡◌, ◌∙◌, length, refl, rules}
+use Rattle.records.proofs.Memory.{filled-bytes}
 use Rattle.records.proofs.pages.fill.Goals as goal
 
-pub returns-clause-zero : goal.returns-clause-zero
-returns-clause-zero c = c.in-Ok.ensures.items ∙ ap (λ (l : List ℕ). l ++ zero_page) c.requires.none
+pub returns-then-len-lt-PAGE_SIZE-clause-same : goal.returns-then-len-lt-PAGE_SIZE-clause-same
+returns-then-len-lt-PAGE_SIZE-clause-same c =
+    let size : c.len-len.result ≡ length c.args.bytes.now.items = search rules in
+    c.add.ensures.items ∙ filled-bytes c.len-len.result c.args.bytes.now.items _ size refl

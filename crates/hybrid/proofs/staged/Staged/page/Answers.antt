@@ -1,51 +1,49 @@
-use Rattle.std.proofs.Common.{List, ◌≡◌, ◌≤◌, ◌∙◌, None, length, map, ap, not, arith, inr}
+use Rattle.std.proofs.Common.{List, ◌≡◌, ◌≤◌, ◌∙◌, None, map, ap, not, sym, arith, inr}
 use Rattle.hybrid.specs.declared.staged.ReadBy.{ReadBy}
-use Rattle.hybrid.specs.Reading.{Source, staged_of}
-use Rattle.hybrid.proofs.Staging.{same-found, entry, entry-there, more-missed-any, all-missed, none-whole, piece_none, piece_some}
-use Rattle.hybrid.proofs.staged.Staged.page.Goals.{else-is_none-via-then-is_none+else-same, else-is_none-via-else-is_none}
+use Rattle.hybrid.specs.Reading.{staged_by}
+use Rattle.hybrid.specs.Staging.{StagedPage}
+use Rattle.hybrid.proofs.Finding.{some-so}
+use Rattle.hybrid.proofs.Staging.{same-found, entry-there, more-missed, all-missed, none-whole}
+use Rattle.hybrid.proofs.staged.Staged.page.Goals.{then-same+else-is_some, else-same}
 use Rattle.hybrid.proofs.staged.Staged.page.Goals as goal
 
-pub returns-then-same-clause-found : goal.returns-then-same-clause-found
-returns-then-same-clause-found g c = λ honest right.
-    let f : ReadBy g.row.R.Denot → Source = λ r. record { kept = record { identity = g.R.Shows.identity r.receipt; shown = g.R.Shows.shown r.receipt }; piece = r.piece } in
+pub returns-then-is_some-clause-found : goal.returns-then-is_some-clause-found
+returns-then-is_some-clause-found g c = λ honest right.
+    let f : ReadBy g.row.R.Denot → StagedPage = λ r. staged_by (record { identity = g.R.Shows.identity r.receipt; shown = g.R.Shows.shown r.receipt }) r.page in
     let items = c.deref-read-items.result.now in
-    let is = ap (λ (l : List (ReadBy g.row.R.Denot)). staged_of (map f l) c.self.inside.pages.items) c.deref-read-items.ensures.value ∙ c.self.view_is in
-    let fits : length items ≤ length c.self.inside.pages.items = omega (arith, c.self.invariant, ap length c.deref-read-items.ensures.value, c.self.inside.reads.ok.0, c.self.inside.pages.ok.0) in
-    let whole : c.read-item.result.piece ≡ None = piece_none c.read-item.result.piece (c.is_none.ensures ∙ ap not c.if-is_none.true) in
-    same-found f items c.self.inside.pages.items c.args.self.now is fits c.loop-place.place c.read-item.result c.index.result.now c.loop-place-test.true c.read-item.is c.index.ensures whole right
-    ∙ g.met.R.Shows.one_page c.read-item.result.receipt c.args.receipt.now (c.same.ensures.only_copies honest c.if-same.true)
+    let is = ap (λ (l : List (ReadBy g.row.R.Denot)). map f l) c.deref-read-items.ensures.value ∙ c.self.view_is in
+    let item = c.read-item.result in
+    let whole : (f item).piece ≡ None = c.whole-page.ensures.all.0 (sym c.is_some.ensures ∙ c.if-is_some.true) in
+    let shown_is = same-found f items c.args.self.now is c.loop-read.read-index item c.loop-read-test.true c.read-item.is whole right
+    ∙ g.met.R.Shows.one_page item.receipt c.args.receipt.now (c.same.ensures.only_copies honest c.if-same.true) in
+    some-so c.whole-page.result _ _ (λ page page_is. page_is ∙ shown_is) c.whole-page.ensures.page
 
-pub returns-then-same-clause-near : goal.returns-then-same-clause-near
-returns-then-same-clause-near g c = λ honest.
-    let f : ReadBy g.row.R.Denot → Source = λ r. record { kept = record { identity = g.R.Shows.identity r.receipt; shown = g.R.Shows.shown r.receipt }; piece = r.piece } in
+pub returns-then-is_some-clause-near : goal.returns-then-is_some-clause-near
+returns-then-is_some-clause-near g c = λ honest.
+    let f : ReadBy g.row.R.Denot → StagedPage = λ r. staged_by (record { identity = g.R.Shows.identity r.receipt; shown = g.R.Shows.shown r.receipt }) r.page in
     let items = c.deref-read-items.result.now in
-    let is = ap (λ (l : List (ReadBy g.row.R.Denot)). staged_of (map f l) c.self.inside.pages.items) c.deref-read-items.ensures.value ∙ c.self.view_is in
-    let fits : length items ≤ length c.self.inside.pages.items = omega (arith, c.self.invariant, ap length c.deref-read-items.ensures.value, c.self.inside.reads.ok.0, c.self.inside.pages.ok.0) in
-    let whole : c.read-item.result.piece ≡ None = piece_none c.read-item.result.piece (c.is_none.ensures ∙ ap not c.if-is_none.true) in
-    inr (record {
-      one = entry (f c.read-item.result) c.index.result.now;
-      there = entry-there f items c.self.inside.pages.items c.args.self.now is fits c.loop-place.place c.read-item.result c.index.result.now c.loop-place-test.true c.read-item.is c.index.ensures;
-      same = c.same.ensures.only_copies honest c.if-same.true;
-      whole = whole;
-    })
+    let is = ap (λ (l : List (ReadBy g.row.R.Denot)). map f l) c.deref-read-items.ensures.value ∙ c.self.view_is in
+    let item = c.read-item.result in
+    let there = entry-there f items c.args.self.now is c.loop-read.read-index item c.loop-read-test.true c.read-item.is in
+    some-so c.whole-page.result _ _
+    (λ page page_is. inr (record { one = f item; there = there; same = c.same.ensures.only_copies honest c.if-same.true; whole = c.whole-page.ensures.all.0 (sym c.is_some.ensures ∙ c.if-is_some.true) }))
+    c.whole-page.ensures.page
 
-pub loop-place-preserved : goal.loop-place-preserved
-loop-place-preserved g c =
-    let f : ReadBy g.row.R.Denot → Source = λ r. record { kept = record { identity = g.R.Shows.identity r.receipt; shown = g.R.Shows.shown r.receipt }; piece = r.piece } in
+pub loop-read-preserved : goal.loop-read-preserved
+loop-read-preserved g c =
+    let f : ReadBy g.row.R.Denot → StagedPage = λ r. staged_by (record { identity = g.R.Shows.identity r.receipt; shown = g.R.Shows.shown r.receipt }) r.page in
     let items = c.deref-read-items.result.now in
-    let is = ap (λ (l : List (ReadBy g.row.R.Denot)). staged_of (map f l) c.self.inside.pages.items) c.deref-read-items.ensures.value ∙ c.self.view_is in
-    let fits : length items ≤ length c.self.inside.pages.items = omega (arith, c.self.invariant, ap length c.deref-read-items.ensures.value, c.self.inside.reads.ok.0, c.self.inside.pages.ok.0) in
-    more-missed-any f items c.self.inside.pages.items c.args.self.now is fits (λ s. (s.kept.identity ≡ g.R.Shows.identity c.args.receipt.now) × (s.piece ≡ None)) c.loop-place.place c.read-item.result c.loop-place-test.true c.read-item.is
-    (λ page same. elim c.else-is_none.branch [
-      | else-is_none-via-then-is_none+else-same w ↦ let bad = w.same.ensures.copies same.0 in absurd (cc (w.if-same.false, bad))
-      | else-is_none-via-else-is_none w ↦ piece_some c.read-item.result.piece (c.is_none.ensures ∙ ap not w.if-is_none.false) same.1
-    ]) c.loop-place.invariant
+    let is = ap (λ (l : List (ReadBy g.row.R.Denot)). map f l) c.deref-read-items.ensures.value ∙ c.self.view_is in
+    more-missed f items c.args.self.now is (λ s. (s.kept.identity ≡ g.R.Shows.identity c.args.receipt.now) × (s.piece ≡ None)) c.loop-read.read-index c.read-item.result c.loop-read-test.true c.read-item.is
+    (λ same. elim c.if-same.branch [
+      | then-same+else-is_some w ↦ let bad = w.is_some.ensures ∙ w.whole-page.ensures.all.1 same.1 in absurd (cc (w.if-is_some.false, bad))
+      | else-same w ↦ let bad = c.same.ensures.copies same.0 in absurd (cc (w.if-same.false, bad))
+    ]) c.loop-read.invariant
 
 pub returns-clause-missing : goal.returns-clause-missing
 returns-clause-missing g c =
-    let f : ReadBy g.row.R.Denot → Source = λ r. record { kept = record { identity = g.R.Shows.identity r.receipt; shown = g.R.Shows.shown r.receipt }; piece = r.piece } in
+    let f : ReadBy g.row.R.Denot → StagedPage = λ r. staged_by (record { identity = g.R.Shows.identity r.receipt; shown = g.R.Shows.shown r.receipt }) r.page in
     let items = c.deref-read-items.result.now in
-    let is = ap (λ (l : List (ReadBy g.row.R.Denot)). staged_of (map f l) c.self.inside.pages.items) c.deref-read-items.ensures.value ∙ c.self.view_is in
-    let fits : length items ≤ length c.self.inside.pages.items = omega (arith, c.self.invariant, ap length c.deref-read-items.ensures.value, c.self.inside.reads.ok.0, c.self.inside.pages.ok.0) in
+    let is = ap (λ (l : List (ReadBy g.row.R.Denot)). map f l) c.deref-read-items.ensures.value ∙ c.self.view_is in
     none-whole c.args.self.now (g.R.Shows.identity c.args.receipt.now)
-    (all-missed f items c.self.inside.pages.items c.args.self.now is fits (λ s. (s.kept.identity ≡ g.R.Shows.identity c.args.receipt.now) × (s.piece ≡ None)) c.loop-place.place c.loop-place-test.false c.loop-place.invariant)
+    (all-missed f items c.args.self.now is (λ s. (s.kept.identity ≡ g.R.Shows.identity c.args.receipt.now) × (s.piece ≡ None)) c.loop-read.read-index c.loop-read-test.false c.loop-read.invariant)
