@@ -2,7 +2,8 @@
 use Rattle.std.specs.Prelude.{ℕ, List, [], ◌∷◌, Bool}
 use Rattle.device.specs.declared.system.Asked.{Asked, Nothing, Write', Read', ReadPiece'}
 
--- one call of the system: from which byte of the file on, the page, and whether all of it was done
+-- one call of the system, or two for a page that is written of which the last bytes are zeros that lie elsewhere: from which byte of the file
+-- on, the page, and whether all of it was done
 pub data SystemCall : Type 0 where
   Write : (at : ℕ) (page : List ℕ) (done : Bool) → SystemCall  -- the page was to be written there
   Read : (at : ℕ) (page : List ℕ) (done : Bool) → SystemCall  -- a page was to be read from there; these are the bytes that were then there for it

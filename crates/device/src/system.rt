@@ -12,8 +12,9 @@ use std::snapshot::Snapshot;
 /// A file of pages. To a contract it is what the system was asked of it, the newest first: each call with the byte of the file
 /// from which it was to go on, the page, and whether the system did all of it.
 ///
-/// Only the calls here make such a note, each of one call of the system. So no caller can say that a page was written or read, or
-/// that the system refused it, where the system was not asked. The notes are not stored.
+/// Only the calls here make such a note, each of one call of the system, or of two for a page whose memory does not hold its last bytes.
+/// So no caller can say that a page was written or read, or that the system refused it, where the system was not asked. The notes are
+/// not stored.
 #[derive(Drop)]
 pub(crate) struct PageFile {
     file: File,
@@ -57,7 +58,7 @@ impl PageFile {
     pub(crate) fn write(&mut self, page: &Page, at: u64) -> bool
         ensures { self.new ≡ Write at page.now result ∷ self.old }
     {
-        let is_done = self.file.write_all_at(page.bytes(), at).is_ok();
+        let is_done = write_parts(&self.file, page, at);
         let earlier = Snapshot::of(&self.last);
         self.last = Asked::Write(at, Snapshot::of(page), is_done, earlier);
         is_done
@@ -87,5 +88,20 @@ impl PageFile {
         let earlier = Snapshot::of(&self.last);
         self.last = Asked::ReadPiece(at, from, to, Snapshot::of(page), is_done, earlier);
         is_done
+    }
+}
+
+// Writes a page from this byte of a file on: the bytes that lie in its memory, and the zeros behind them, if there are some.
+fn write_parts(file: &File, page: &Page, at: u64) -> bool {
+    let (bytes, zeros) = page.parts();
+    if file.write_all_at(bytes, at).is_err() {
+        return false;
+    }
+    if zeros.is_empty() {
+        return true;
+    }
+    match at.checked_add(bytes.len() as u64) {
+        Some(behind) => file.write_all_at(zeros, behind).is_ok(),
+        None => false,
     }
 }

@@ -14,46 +14,39 @@ use std::rt::Clock;
 use std::sync::Wait;
 use std::thread;
 use std::time::Duration;
-use upkeep::{Chores, Surroundings, keep_up};
+use upkeep::{Call, Calls, Chores, Surroundings, keep_up};
 
-/// What a thread shares with all who serve, and what it heard and said last.
+/// What a thread shares with all who serve, and what it heard, said and did so far.
 #[derive(Drop)]
 struct Beside<'a, R> {
     clock: &'a R,
     serving: &'a Serving,
-    over: bool,
-    idle: bool,
-    rested: u64,
-    behind: bool,
+    calls: Calls,
 }
 
 impl<R: Clock> Surroundings for Beside<'_, R> {
-    ghost over = { λ b. b.over };
-
-    ghost idle = { λ b. b.idle };
-
-    ghost rested = { λ b. b.rested };
-
-    ghost behind = { λ b. b.behind };
+    ghost calls = { λ b. b.calls };
 
     fn is_over(&mut self) -> bool {
-        self.over = self.serving.is_over();
-        self.over
+        let over = self.serving.is_over();
+        self.calls.note(Call::IsOver(over));
+        over
     }
 
     fn is_idle(&mut self) -> bool {
-        self.idle = self.serving.is_idle();
-        self.idle
+        let idle = self.serving.is_idle();
+        self.calls.note(Call::IsIdle(idle));
+        idle
     }
 
     fn rest(&mut self, milliseconds: u64) {
         thread::sleep(self.clock, Duration::from_millis(milliseconds));
-        self.rested = milliseconds;
+        self.calls.note(Call::Rest(milliseconds));
     }
 
     fn tell_behind(&mut self, is_behind: bool) {
         self.serving.set_behind(is_behind);
-        self.behind = is_behind;
+        self.calls.note(Call::TellBehind(is_behind));
     }
 }
 
@@ -75,10 +68,7 @@ pub fn work_in_background<R: Clock + Wait, D: Device>(
     let mut beside = Beside {
         clock: rt,
         serving,
-        over: false,
-        idle: false,
-        rested: 0,
-        behind: false,
+        calls: Calls::new(),
     };
     keep_up(rt, &mut site, &mut beside, &mut chores);
 }

@@ -17,7 +17,7 @@ use std::rt::Clock;
 use std::sync::Wait;
 use std::sync::atomic::{AtomicU64, Ordering};
 use std::time::Duration;
-use upkeep::{Chores, Duty, Surroundings, keep_up, round};
+use upkeep::{Call, Calls, Chores, Duty, Surroundings, keep_up, round};
 use words::limits::{FRAMES_MIN, KEY_BYTES_MAX, Limits, VALUE_BYTES_MAX};
 use words::word::Word;
 
@@ -197,10 +197,7 @@ fn a_round_works_at_each_stripe(rt: HostRuntime) {
 struct Hours {
     asked: u8,
     rests: u8,
-    over: bool,
-    idle: bool,
-    rested: u64,
-    behind: bool,
+    calls: Calls,
     /// How many milliseconds went by.
     time: u64,
 }
@@ -211,43 +208,36 @@ impl Hours {
         Hours {
             asked: 0,
             rests: 0,
-            over: false,
-            idle: false,
-            rested: 0,
-            behind: false,
+            calls: Calls::new(),
             time: 0,
         }
     }
 }
 
 impl Surroundings for Hours {
-    ghost over = { λ h. h.over };
-
-    ghost idle = { λ h. h.idle };
-
-    ghost rested = { λ h. h.rested };
-
-    ghost behind = { λ h. h.behind };
+    ghost calls = { λ h. h.calls };
 
     fn is_over(&mut self) -> bool {
         self.asked = self.asked.saturating_add(1);
-        self.over = self.asked > 5;
-        self.over
+        let over = self.asked > 5;
+        self.calls.note(Call::IsOver(over));
+        over
     }
 
     fn is_idle(&mut self) -> bool {
-        self.idle = self.rests >= 2;
-        self.idle
+        let idle = self.rests >= 2;
+        self.calls.note(Call::IsIdle(idle));
+        idle
     }
 
     fn rest(&mut self, milliseconds: u64) {
         self.rests = self.rests.saturating_add(1);
         self.time = self.time.saturating_add(milliseconds);
-        self.rested = milliseconds;
+        self.calls.note(Call::Rest(milliseconds));
     }
 
     fn tell_behind(&mut self, is_behind: bool) {
-        self.behind = is_behind;
+        self.calls.note(Call::TellBehind(is_behind));
     }
 }
 

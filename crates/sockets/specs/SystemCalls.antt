@@ -1,5 +1,5 @@
 -- What the system was asked for the stream to or from a client, and what came of it.
-use Rattle.std.specs.Prelude.{ℕ, ◌≡◌, ◌<◌, ◌⊎◌, ⊤, Bool, true, List, [], ◌∷◌, ◌++◌, take, Result, Ok, Err, Option, Some, None, All}
+use Rattle.std.specs.Prelude.{ℕ, zero, suc, ◌≡◌, ◌<◌, ◌⊎◌, ⊤, Bool, true, false, List, [], ◌∷◌, take, Result, Ok, Err, Option, Some, None}
 use Rattle.std.specs.Io.KnownBytes.{Keeps, Consumes}
 use Rattle.std.specs.IoError.{error_kind}
 use Rattle.std.specs.declared.io.Error.{Error}
@@ -18,66 +18,84 @@ calls_in Nothing = []
 calls_in (Asked' size answer snapshot earlier) = Call size.value answer.value ∷ calls_in earlier
 calls_in (Set' waits answer snapshot earlier) = SetWaiting waits.value answer.value ∷ calls_in earlier
 
--- After this call the system may be asked for so many bytes again: it gave or took none, and said at most that it would block or was
--- interrupted.
-abbrev pub WasPutOff : ℕ → SystemCall → Type 0
-WasPutOff size (Call asked (Ok count)) = (asked ≡ size) × (count ≡ 0)
-WasPutOff size (Call asked (Err error)) = (asked ≡ size) × ((error_kind error ≡ WouldBlock) ⊎ (error_kind error ≡ Interrupted))
-WasPutOff size (SetWaiting waits answer) = ⊤
+-- One call for so many bytes, right behind its mode: the system was asked to have calls wait, or not, and agreed.
+abbrev pub HasAsked : (waits : Bool) → (size : ℕ) → (answer : Result ℕ Error) → (old new : List SystemCall) → Type 0
+HasAsked waits size answer old new = new ≡ Call size answer ∷ (SetWaiting waits (Ok tt) ∷ old)
+
+-- The system refused this mode, and was asked for nothing.
+abbrev pub WasRefused : (waits : Bool) → Error → (old new : List SystemCall) → Type 0
+WasRefused waits error old new = new ≡ SetWaiting waits (Err error) ∷ old
+
+-- no failure of the stream: the call would have blocked or was interrupted
+abbrev pub IsPassing : ErrorKind → Type 0
+IsPassing kind = (kind ≡ WouldBlock) ⊎ (kind ≡ Interrupted)
 
 -- the failure that is kept after a call that ended so: none where it would have blocked or was interrupted
 abbrev pub IsKept : ErrorKind → Option ErrorKind → Type 0
-IsKept kind None = (kind ≡ WouldBlock) ⊎ (kind ≡ Interrupted)
-IsKept kind (Some kept) = kept ≡ kind
+IsKept kind None = IsPassing kind
+IsKept kind (Some kept) = (kept ≡ kind) × (IsPassing kind → ⊥)
 
--- After the old calls there were none but those that were put off.
-pub record WerePutOff (size : ℕ) (old new : List SystemCall) : Type 0 where
-  pub made : List SystemCall
-  pub are : new ≡ made ++ old
-  pub off : All (WasPutOff size) made
+-- an answer that gave no byte and is no failure of the stream
+abbrev pub GaveNothing : Result ℕ Error → Type 0
+GaveNothing (Ok count) = count ≡ 0
+GaveNothing (Err error) = IsPassing (error_kind error)
 
--- The last call was this one, and there were none between the old calls and it but those that were put off.
-pub record IsLast (size : ℕ) (last : SystemCall) (old new : List SystemCall) : Type 0 where
-  pub before : List SystemCall
-  pub are : new ≡ last ∷ (before ++ old)
-  pub off : All (WasPutOff size) before
+-- A look that was put off: the system refused to have calls not wait, or one call that did not wait gave nothing.
+abbrev pub WasPutOff : ℕ → (old new : List SystemCall) → Type 0
+WasPutOff size old new =
+    ((error : Error) × WasRefused false error old new)
+    ⊎ ((answer : Result ℕ Error) × GaveNothing answer × HasAsked false size answer old new)
 
--- the last call failed so
-abbrev pub LastFailed : ℕ → ErrorKind → (old new : List SystemCall) → Type 0
-LastFailed size kind old new = (error : Error) × (error_kind error ≡ kind) × IsLast size (Call size (Err error)) old new
+-- so many looks that were put off, one after the other, and no other call
+unfoldable pub ArePutOff : (looks size : ℕ) → (old new : List SystemCall) → Type 0
+ArePutOff zero size old new = new ≡ old
+ArePutOff (suc looks) size old new = (between : List SystemCall) × ArePutOff looks size old between × WasPutOff size between new
+
+-- any number of them
+abbrev pub WerePutOff : ℕ → (old new : List SystemCall) → Type 0
+WerePutOff size old new = (looks : ℕ) × ArePutOff looks size old new
+
+-- After looks that were put off, a call that did not wait got this answer.
+abbrev pub HasGot : ℕ → (answer : Result ℕ Error) → (old new : List SystemCall) → Type 0
+HasGot size answer old new = (between : List SystemCall) × WerePutOff size old between × HasAsked false size answer between new
 
 -- What a look at what is there came to, by the failure that was kept before it and the one that is kept after it: some bytes, which one call
 -- gave; or nothing, and where a failure is kept, the last call failed so. Where one was kept before, the system was not asked.
 abbrev pub HasLooked : ℕ → (kept keeps : Option ErrorKind) → Option ℕ → (old new : List SystemCall) → Type 0
 HasLooked size (Some kind) keeps result old new = (keeps ≡ Some kind) × (result ≡ None) × (new ≡ old)
-HasLooked size None None (Some count) old new = IsLast size (Call size (Ok count)) old new
+HasLooked size None None (Some count) old new = (0 < count) × HasGot size (Ok count) old new
 HasLooked size None None None old new = WerePutOff size old new
 HasLooked size None (Some kind) (Some count) old new = ⊥
-HasLooked size None (Some kind) None old new = LastFailed size kind old new
+HasLooked size None (Some kind) None old new = (error : Error) × IsKept (error_kind error) (Some kind) × HasGot size (Err error) old new
 
--- What a read came to, by the failure that was kept before it: a failure that was kept is told, and the system not asked; else the last call
--- said what is told, or the system refused to have calls wait.
+-- What a wait came to: the system was asked to have calls wait, and what one call right behind that said is told; or it refused, and that
+-- is told.
+abbrev pub HasWaited : ℕ → Result ℕ Error → (old new : List SystemCall) → Type 0
+HasWaited size result old new = HasAsked true size result old new ⊎ ((error : Error) × (result ≡ Err error) × WasRefused true error old new)
+
+-- What a read tells where a look gave no bytes: the failure that is kept, and the system is not asked; where none is, what a wait came to.
+abbrev pub HasTold : ℕ → (kept : Option ErrorKind) → Result ℕ Error → (old new : List SystemCall) → Type 0
+HasTold size (Some kind) (Ok count) old new = ⊥
+HasTold size (Some kind) (Err error) old new = (error_kind error ≡ kind) × (new ≡ old)
+HasTold size None result old new = HasWaited size result old new
+
+-- What a read came to, by the failure that was kept before it: the bytes that a look gave; or the look gave none, and then what is told.
 abbrev pub HasRead : ℕ → (kept : Option ErrorKind) → Result ℕ Error → (old new : List SystemCall) → Type 0
-HasRead size (Some kind) (Ok count) old new = ⊥
-HasRead size (Some kind) (Err error) old new = (error_kind error ≡ kind) × (new ≡ old)
-HasRead size None (Ok count) old new = IsLast size (Call size (Ok count)) old new
-HasRead size None (Err error) old new = LastFailed size (error_kind error) old new ⊎ IsLast size (SetWaiting true (Err error)) old new
+HasRead size kept result old new =
+    ((count : ℕ) × (result ≡ Ok count) × HasLooked size kept None (Some count) old new)
+    ⊎ ((keeps : Option ErrorKind) × (between : List SystemCall)
+    × HasLooked size kept keeps None old between × HasTold size keeps result between new)
 
 -- a call would have blocked
 abbrev pub WouldHaveBlocked : {T : Type 0} → Result T Error → Type 0
 WouldHaveBlocked (Ok done) = ⊥
 WouldHaveBlocked (Err error) = error_kind error ≡ WouldBlock
 
--- A call would have blocked, so the system was asked to have calls wait. Where it refused, that is told, and else what one more call said.
-pub record HasWaited (size : ℕ) (result : Result ℕ Error) (old new : List SystemCall) : Type 0 where
-  pub first : Result ℕ Error
-  pub blocked : WouldHaveBlocked first
-  pub then : (new ≡ Call size result ∷ SetWaiting true (Ok tt) ∷ Call size first ∷ old)
-      ⊎ ((error : Error) × (result ≡ Err error) × (new ≡ SetWaiting true (Err error) ∷ Call size first ∷ old))
-
--- What a write came to: one call said what is told, unless it would have blocked.
+-- What a write came to: one call said what is told; or it would have blocked, and then what a wait came to.
 abbrev pub HasWritten : ℕ → Result ℕ Error → (old new : List SystemCall) → Type 0
-HasWritten size result old new = ((new ≡ Call size result ∷ old) × (WouldHaveBlocked result → ⊥)) ⊎ HasWaited size result old new
+HasWritten size result old new =
+    ((new ≡ Call size result ∷ old) × (WouldHaveBlocked result → ⊥))
+    ⊎ ((first : Result ℕ Error) × WouldHaveBlocked first × HasWaited size result (Call size first ∷ old) new)
 
 -- the bytes that a look gave, where those that the stream has left are known: none, or so many of the buffer
 abbrev pub GivesBytes : (old new : Option (List ℕ)) → (buffer : List ℕ) → Option ℕ → Type 0

@@ -21,7 +21,7 @@ ghost use Rattle.std.specs.Io.KnownBytes.{Keeps, ReadConsumes, WriteAppends};
 ghost use Rattle.streams.specs.Streams.{IsReadReady};
 ghost use Rattle.sockets.specs.Pausing.{HasPaused};
 ghost use Rattle.sockets.specs.Sockets.{source_of, asked_of, kept_in, pauses_in, sink_of, handed_of};
-ghost use Rattle.sockets.specs.SystemCalls.{GivesBytes, HasLooked, HasRead, HasWritten, IsKept};
+ghost use Rattle.sockets.specs.SystemCalls.{GivesBytes, HasLooked, HasRead, HasTold, HasWritten, IsKept};
 
 use crate::line::Line;
 use crate::pausing::{Cleaner, pause};
@@ -159,7 +159,7 @@ impl<C: Clock, S: Read> Reading<'_, C, S> {
     fn wait(&mut self, buffer: &mut [u8]) -> io::Result<usize>
         ensures bound { ReadsAtMost result buffer.new }
         ensures bytes { ReadConsumes (S.remaining (source_of self.old)) (S.remaining (source_of self.new)) result buffer.new }
-        ensures calls { HasRead (length buffer.new) (kept_in self.old) result (asked_of self.old) (asked_of self.new) }
+        ensures calls { HasTold (length buffer.new) (kept_in self.old) result (asked_of self.old) (asked_of self.new) }
         ensures kept { kept_in self.new ≡ None }
         ensures cleaner { self.new.cleaner ≡ self.old.cleaner }
     {

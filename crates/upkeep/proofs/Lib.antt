@@ -1,4 +1,5 @@
 pub mod Counted
 pub mod Fair
 pub mod LapRows
+pub mod Turns
 pub mod Visited

@@ -6,6 +6,7 @@
 //! it moves.
 #![tactic(auto)]
 
+mod calls;
 mod chores;
 mod laps;
 mod rounds;
@@ -13,6 +14,7 @@ mod steps;
 mod stripes;
 mod surroundings;
 
+pub use calls::{Call, Calls};
 pub use chores::{Background, Chores};
 pub use laps::{Choice, Laps, Seen};
 pub use rounds::{keep_up, rest_after, round};

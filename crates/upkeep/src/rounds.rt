@@ -1,9 +1,9 @@
 //! Rounds over all stripes, the rests between them, and when they end.
 
-ghost use Rattle.std.specs.Prelude.{◌≡◌, ◌≢◌, ◌<◌, ◌≤◌, ◌+◌, ℕ, true, false, length};
+ghost use Rattle.std.specs.Prelude.{◌≡◌, ◌<◌, ◌≤◌, ◌+◌, ◌++◌, ℕ, true, false, length};
 ghost use Rattle.std.specs.List.{list_any};
 ghost use Rattle.upkeep.specs.Events.{missed, steps_done, times_told};
-ghost use Rattle.upkeep.specs.Rounds.{rest_by, laps_of, duty_of, places_of};
+ghost use Rattle.upkeep.specs.Rounds.{HasKeptUp, HasRested, WasToldOver, course, duty_of, laps_of, places_of, rest_by, told_after};
 ghost use Rattle.upkeep.specs.Steps.{HasVisitedOne, HaveVisited};
 
 use crate::chores::Chores;
@@ -33,12 +33,19 @@ pub fn keep_up<W: Wait, S: Stripes, B: Surroundings>(
     // At least one round is made before it ends.
     ensures fair { missed (S.count stripes.old) (S.events stripes.old) (S.events stripes.new)
         + S.failures stripes.old ≤ S.failures stripes.new }
-    ensures over { B.over beside.new ≡ true }
+    ensures over { WasToldOver (B.calls beside.new) }
+    // Turn by turn: a round, what is told after it, the rest, and the question whether serving is over, each once and nothing else.
+    ensures rounds { HasKeptUp (S.count stripes.old) (duty_of chores.old) (places_of chores.old)
+        (course (S.events stripes.old) (S.failures stripes.old) (laps_of chores.old) (B.calls beside.old))
+        (course (S.events stripes.new) (S.failures stripes.new) (laps_of chores.new) (B.calls beside.new)) }
+    ensures duty { duty_of chores.new ≡ duty_of chores.old }
+    ensures places { places_of chores.new ≡ places_of chores.old }
 {
     for _ in rt.forever() {
         let done = round(stripes, chores);
         tell(beside, chores);
-        if has_ended(beside, done) {
+        take_rest(beside, done);
+        if beside.is_over() {
             return;
         }
     }
@@ -99,13 +106,11 @@ fn visit_one<S: Stripes>(stripes: &mut S, chores: &mut Chores, stripe: usize) ->
 
 /// The cleaner says whether it is behind at any stripe. Others say nothing.
 fn tell<B: Surroundings>(beside: &mut B, chores: &Chores)
-    ensures cleaner { duty_of chores.now ≡ Duty.Clean → B.behind beside.new ≡ list_any (λ laps. laps.behind) (laps_of chores.now) }
-    ensures others { duty_of chores.now ≢ Duty.Clean → B.behind beside.new ≡ B.behind beside.old }
-    ensures rested { B.rested beside.new ≡ B.rested beside.old }
+    ensures { B.calls beside.new ≡ told_after (duty_of chores.now) (laps_of chores.now) ++ B.calls beside.old }
 {
-    if chores.duty == Duty::Clean {
-        let behind = is_behind_anywhere(&chores.laps);
-        beside.tell_behind(behind);
+    match chores.duty {
+        Duty::Flush | Duty::Evict => {}
+        Duty::Clean => beside.tell_behind(is_behind_anywhere(&chores.laps)),
     }
 }
 
@@ -116,18 +121,14 @@ fn is_behind_anywhere(laps: &[Laps]) -> bool
     laps.iter().any(|laps| laps.behind)
 }
 
-/// Whether serving is over. Where there was nothing to do, it rests before.
-fn has_ended<B: Surroundings>(beside: &mut B, done: bool) -> bool
-    ensures over { B.over beside.new ≡ result }
-    ensures busy { done ≡ true → B.rested beside.new ≡ B.rested beside.old }
-    ensures rest { done ≡ false → B.rested beside.new ≡ rest_by (B.idle beside.new) }
-    ensures behind { B.behind beside.new ≡ B.behind beside.old }
+/// Rests after a round, where it found nothing to do.
+fn take_rest<B: Surroundings>(beside: &mut B, done: bool)
+    ensures { HasRested done (B.calls beside.old) (B.calls beside.new) }
 {
     if !done {
-        let rest = rest_after(beside.is_idle());
-        beside.rest(rest);
+        let idle = beside.is_idle();
+        beside.rest(rest_after(idle));
     }
-    beside.is_over()
 }
 
 /// For how many milliseconds a thread rests that found nothing to do.

@@ -1,6 +1,17 @@
-use Rattle.std.proofs.Common.{◌∙◌}
-use Rattle.sockets.proofs.Asked.{look-along, off-along, is_none, Keeps-then}
+use Rattle.std.proofs.Common.{◌∙◌, refl}
+use Rattle.sockets.proofs.Asked.{look-along, looked-none, off-along, off-none, is_none, Keeps-self, Keeps-then}
 use Rattle.sockets.proofs.socket.Reading.look.Goals as goal
+
+pub returns-in_default-clause-calls : goal.returns-in_default-clause-calls
+returns-in_default-clause-calls g c = looked-none _ _ _
+
+pub loop-looks-init : goal.loop-looks-init
+loop-looks-init g c = record {
+  cleaner = refl;
+  well = c.requires.well;
+  bytes = Keeps-self _;
+  calls = off-none _ _;
+}
 
 pub returns-in-Some-clause-calls : goal.returns-in-Some-clause-calls
 returns-in-Some-clause-calls g c =
