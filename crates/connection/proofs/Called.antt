@@ -18,15 +18,16 @@ use Rattle.transact.specs.declared.call.Answer.{Answer}
 use Rattle.transact.specs.declared.call.Answer.TheVariants as answer
 use Rattle.transact.specs.Calls.{asked_of, call_of}
 use Rattle.transact.specs.Plans.{EndsAll}
-use Rattle.session.specs.Standings.{Standing, Wait, forget_of}
+use Rattle.session.specs.Standings.{Standing, Wait, ForAnswer, ForEnd, forget_of}
 use Rattle.session.specs.Steps.{IsSaid, IsAsked, IsOutOfMemory}
 use Rattle.session.specs.Steps as steps
 use Rattle.session.specs.Laws.{WatchesPairsOfEntry, WatchesPairsOfFault}
 use Rattle.transact.specs.Submits.{IfReply, IfFault}
 use Rattle.engine.specs.Passes.{Known}
+use Rattle.engine.specs.Got.{IsOfGets}
 use Rattle.engine.specs.Calls.{Promises, HasItsPlace, IsDone, IsUndone, IsCause, Forgot, entry_of}
 use Rattle.connection.specs.declared.client.Next.TheVariants as next
-use Rattle.connection.specs.Clients.{Progress, Stage, watched_of, turn_at, TakesOff, TakesUp, Resumes, WantsMemory, before}
+use Rattle.connection.specs.Clients.{Progress, Stage, watched_of, turn_at, TakesOff, TakesUp, Resumes, ResumesSaid, WantsMemory, before}
 use Rattle.connection.specs.Conversations.{Went}
 use Rattle.connection.specs.Served.{IsFaulty, Turned, Spares, Attends}
 use Rattle.connection.proofs.Turns.{answers_said, answers_want, answers_done, answers_undone, answers_forgot, asked_of_call, some_is, taken_still, no_pairs}
@@ -196,6 +197,28 @@ says_fault (Stage.Called w) new f asked call (Forgets said then) watched wait re
 says_fault (Stage.Called w) new f asked call (Calls wanted done faulty) watched wait reply stands is asks resumes =
     let same : w ≡ wait = cc stands in
     (rw (same, is.1) at resumes.2).0
+
+-- a session that waits goes on in the same way, whichever reply its call is answered with
+pub resumes_any : (old new : Stage) (first said : Reply) → Resumes old (answer.Reply first) said new → ResumesSaid old new
+resumes_any (Stage.Ready s) new first said is = absurd is
+resumes_any Stage.Stepping new first said is = absurd is
+resumes_any (Stage.Called (ForAnswer done faulty)) new first said is = λ given. (given, (is.0, is.1, (refl, is.2.1)))
+resumes_any (Stage.Called (ForEnd told after)) new first said is = λ given. (told, (is.0, is.1, (refl, is.2.1)))
+
+-- a session that waits for a transaction of GETs says the reply that it is answered with
+pub says_given : (stage new : Stage) (given : Reply) (call : Call) (t : Turn) (watched : List Bytes) (wait : Wait) → stage ≡ Stage.Called wait → IsAsked t watched call wait
+    → IsOfGets call → ResumesSaid stage new → Resumes stage (answer.Reply given) given new
+says_given (Stage.Ready s) new given call t watched wait stands is gets resumes = absurd (cc stands)
+says_given Stage.Stepping new given call t watched wait stands is gets resumes = absurd (cc stands)
+says_given (Stage.Called w) new given call (Says said then) watched wait stands is gets resumes = absurd is
+says_given (Stage.Called w) new given call (Tries said done faulty) watched wait stands is gets resumes = absurd is
+says_given (Stage.Called w) new given call Never watched wait stands is gets resumes = absurd is
+says_given (Stage.Called w) new given call (Forgets said then) watched wait stands is gets resumes = absurd (subst IsOfGets is.1 gets)
+says_given (Stage.Called w) new given call (Calls wanted done faulty) watched wait stands is gets resumes =
+    let same : w ≡ wait = cc stands in
+    let told = resumes given in
+    let own : told.0 ≡ given = (rw (same, is.1) at told.1.2).0 in
+    subst (λ (r : Reply). Resumes (Stage.Called w) (answer.Reply given) r new) own told.1
 
 -- a turn whose call was answered with a reply
 turned_done : {promises : Promises} (was now : Known) (stripes : List ℕ) (call : Call) (given reply : Reply) (old called new : Progress) (a : Option Asked)

@@ -9,6 +9,7 @@ use Rattle.words.specs.Commands.{command_of, AsksNoMemory}
 use Rattle.words.specs.Session.{Mode, Idle, Queueing, Spoiled, Closed, Turn, turn}
 use Rattle.resp_read.specs.Memory.{FitInline}
 use Rattle.transact.specs.declared.call.Answer.{Answer}
+use Rattle.transact.specs.declared.call.Answer.TheVariants as answer
 use Rattle.session.specs.Standings.{Standing, Wait, stands, standing_of, closed_of, wait_of, start}
 use Rattle.session.specs.Standings as standings
 use Rattle.session.specs.Steps.{IsSaid, IsAsked, IsOutOfMemory, HasItsPlace}
@@ -151,3 +152,7 @@ abbrev pub Resumes : Stage → Answer → Reply → Stage → Type 0
 Resumes (Ready stands) answer reply new = ⊥
 Resumes (Called wait) answer reply new = (after : Standing) × (new ≡ Ready after) × standings.Resumes wait answer reply after
 Resumes Stepping answer reply new = ⊥
+
+-- the session goes on behind its call as it does whichever reply it is answered with
+abbrev pub ResumesSaid : Stage → Stage → Type 0
+ResumesSaid old new = (given : Reply) → (said : Reply) × Resumes old (answer.Reply given) said new

@@ -22,7 +22,7 @@ use crate::output::{flush, go_on_behind, say_line, say_spent, say_value, say_val
 use crate::reading::{MORE_PIECES, Waiting, take_waiting};
 use crate::serving::{Ended, Talk};
 use device::Device;
-use engine::{Gathered, Got, GotAll, Pass, Spoken};
+use engine::{Came, Gathered, Got, GotAll, Pass, Spoken};
 use gates::Latch;
 use session::watches_follow_entries;
 use std::io::Write;
@@ -46,7 +46,7 @@ pub(crate) enum Due {
     Values(Bulks),
     /// A GET is answered with what it found.
     Value(Option<Word>),
-    /// A GET or an MGET was answered with this: the output buffer has its reply.
+    /// A GET, an MGET or a transaction of GETs was answered with this: the output buffer has its reply.
     Said(Spoken),
     /// No whole request is left.
     Input,
@@ -235,7 +235,7 @@ pub(crate) fn answer_piece<T: Wait, L: Latch, R: ReadReady, W: Write, D: Device>
     conclude::<W, D>(paused, &mut talk.out, writer)
 }
 
-/// Answers the client's next request, if there is a whole one. It is taken up into these words. What a GET or an MGET
+/// Answers the client's next request, if there is a whole one. It is taken up into these words. What a GET, an MGET or a transaction of GETs
 /// found may be said at once, into the output buffer.
 #[inline]
 fn answer_next<'s, T: Wait, L: Latch, W, D: Device>(
@@ -261,7 +261,7 @@ fn answer_next<'s, T: Wait, L: Latch, W, D: Device>(
             if client.is_idle() {
                 answer_idle(&store, client, words, out, pass)
             } else {
-                answer_obeyed(&store, client, words, pass)
+                answer_obeyed(&store, client, words, out, pass)
             }
         }
         Front::Input => Due::Input,
@@ -305,7 +305,7 @@ fn answer_idle<T: Wait, L: Latch, D: Device>(
         Brief::Values => answer_values(store, words, out, pass),
         Brief::Settings => answer_settings(store, words, pass),
         Brief::Ping => Due::Line(Line::Pong),
-        Brief::Other => answer_command(store, client, words, pass),
+        Brief::Other => answer_command(store, client, words, out, pass),
     }
 }
 
@@ -447,6 +447,7 @@ fn answer_command<T: Wait, L: Latch, D: Device>(
     store: &OpenStore<T, L, D>,
     client: &mut Client,
     words: &Words,
+    out: &mut Vec<u8>,
     pass: &mut Pass<D>,
 ) -> Due
     requires rests { Rests D.Receipt.is_steady store.now.engine.now pass.old }
@@ -459,7 +460,7 @@ fn answer_command<T: Wait, L: Latch, D: Device>(
 
     ensures rests { Rests D.Receipt.is_steady store.now.engine.now pass.new }
     ensures attends { Attends (knows D.failures pass.new) client.new }
-    ensures unsaid { due_text result ≡ [] }
+    ensures said { out.new.items ≡ out.old.items ++ due_text result }
 {
     match client.command_of(words) {
         Ok(Ok(command)) if names_key(&command) => {
@@ -468,7 +469,7 @@ fn answer_command<T: Wait, L: Latch, D: Device>(
             let answer = store.engine.submit_with(store.rt, pass, call, store.latch);
             Due::Reply(answer.into_reply())
         }
-        Ok(made) => answer_step(store, client, words, made, pass),
+        Ok(made) => answer_step(store, client, words, made, out, pass),
         Err(_) => Due::NoMemory,
     }
 }
@@ -499,6 +500,7 @@ fn answer_obeyed<T: Wait, L: Latch, D: Device>(
     store: &OpenStore<T, L, D>,
     client: &mut Client,
     words: &Words,
+    out: &mut Vec<u8>,
     pass: &mut Pass<D>,
 ) -> Due
     requires rests { Rests D.Receipt.is_steady store.now.engine.now pass.old }
@@ -509,21 +511,23 @@ fn answer_obeyed<T: Wait, L: Latch, D: Device>(
     ensures due { IsDue (promises_of D.Receipt.is_steady D.Receipt.lends (stripe_count store.now.engine.now)) (knows D.failures pass.old) (knows D.failures pass.new) (before words.now client.old) result client.new }
     ensures rests { Rests D.Receipt.is_steady store.now.engine.now pass.new }
     ensures attends { Attends (knows D.failures pass.new) client.new }
-    ensures unsaid { due_text result ≡ [] }
+    ensures said { out.new.items ≡ out.old.items ++ due_text result }
 {
     match client.command_of(words) {
-        Ok(command) => answer_step(store, client, words, command, pass),
+        Ok(command) => answer_step(store, client, words, command, out, pass),
         Err(_) => Due::NoMemory,
     }
 }
 
-/// Answers the request of these words, which was taken off and makes this command.
+/// Answers the request of these words, which was taken off and makes this command. What a transaction of GETs found may be said at once,
+/// into the output buffer.
 #[inline(never)]
 fn answer_step<T: Wait, L: Latch, D: Device>(
     store: &OpenStore<T, L, D>,
     client: &mut Client,
     words: &Words,
     command: Result<Command, Refusal>,
+    out: &mut Vec<u8>,
     pass: &mut Pass<D>,
 ) -> Due
     requires rests { Rests D.Receipt.is_steady store.now.engine.now pass.old }
@@ -538,7 +542,7 @@ fn answer_step<T: Wait, L: Latch, D: Device>(
 
     ensures rests { Rests D.Receipt.is_steady store.now.engine.now pass.new }
     ensures attends { Attends (knows D.failures pass.new) client.new }
-    ensures unsaid { due_text result ≡ [] }
+    ensures said { out.new.items ≡ out.old.items ++ due_text result }
 {
     match client.step(words, command) {
         Next::Input => Due::Input,
@@ -546,8 +550,16 @@ fn answer_step<T: Wait, L: Latch, D: Device>(
         Next::SaysOutOfMemory => Due::Reply(Reply::line(Line::Faulty(Fault::OutOfMemory))),
         Next::Calls(call) => {
             watches_follow_entries();
-            let answer = store.engine.submit_with(store.rt, pass, call, store.latch);
-            Due::Reply(client.resume(answer))
+            match store
+                .engine
+                .submit_saying(store.rt, pass, call, out, store.latch)
+            {
+                Came::Answered(answer) => Due::Reply(client.resume(answer)),
+                Came::Said(said) => {
+                    client.resume_said();
+                    Due::Said(said)
+                }
+            }
         }
         Next::Malformed(fault) => Due::Malformed(fault),
         Next::OutOfMemory => Due::NoMemory,

@@ -71,7 +71,7 @@ impl Client {
     ghost use Rattle.words.specs.Commands.{command_of, AsksNoMemory};
     ghost use Rattle.words.specs.Spelling.{IsRequest};
     ghost use Rattle.words.specs.Session.{Closed};
-    ghost use Rattle.connection.specs.Clients.{Progress, beginning, before, IsReady, IsCalled, IsIdle, IsOpen, Gives, Resumes, Stands, mode_of, watched_of};
+    ghost use Rattle.connection.specs.Clients.{Progress, beginning, before, IsReady, IsCalled, IsIdle, IsOpen, Gives, Resumes, ResumesSaid, Stands, mode_of, watched_of};
 
     /// A client that was fed nothing. It takes no memory.
     pub fn new(alloc: Global) -> Client
@@ -210,6 +210,16 @@ impl Client {
         ensures resumes { Resumes self.old.stage answer result self.new.stage }
     {
         self.state.resume(answer)
+    }
+
+    /// Goes on behind the open call, whose reply was said already as it came. It takes no memory.
+    pub(crate) fn resume_said(&mut self)
+        requires { IsCalled self.old.stage }
+        ensures unread { self.new.unread ≡ self.old.unread }
+        ensures resumes { ResumesSaid self.old.stage self.new.stage }
+    {
+        // Any reply does: the session goes on in the same way, and what it says to it is let go.
+        drop(self.resume(Answer::Reply(Reply::NullArray)));
     }
 
     /// Ends the client: the call that forgets what its session watches, exactly where it watches

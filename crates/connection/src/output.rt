@@ -34,7 +34,7 @@ pub(crate) fn flush<W: Write>(out: &mut Vec<u8>, writer: &mut Noted<W>) -> Resul
     Ok(())
 }
 
-/// The most bytes that the output buffer holds behind a reply that the engine put into it, to a GET or an MGET. Behind a reply that is
+/// The most bytes that the output buffer holds behind a reply that the engine put into it, to a GET, an MGET or a transaction of GETs. Behind a reply that is
 /// said it may be full.
 pub(crate) const HELD_BYTES: usize = 65_536;
 

@@ -128,6 +128,22 @@ fn a_get_whose_read_fails(rt: HostRuntime) {
     check_failing(&rt, alloc, GET_FIRST, DEVICE_FAULT, &value(&rt, alloc, 0));
 }
 
+/// A transaction of one GET whose read fails, and one that finds the value.
+#[test]
+fn a_transaction_of_a_get_whose_read_fails(rt: HostRuntime) {
+    let alloc = rt.alloc();
+    let get = b"*1\r\n$5\r\nMULTI\r\n*2\r\n$3\r\nGET\r\n$4\r\n1000\r\n*1\r\n$4\r\nEXEC\r\n";
+    let first = b"+OK\r\n+QUEUED\r\n-IOERR device fault\r\n";
+    let value = value(&rt, alloc, 0);
+    let second = repeated(alloc, b"+OK\r\n+QUEUED\r\n*1\r\n", 1, &value).expect(
+        &rt,
+        "memory for a text",
+    );
+    check_failing(&rt, alloc, get, first, &second);
+    drop(second);
+    drop(value);
+}
+
 /// A SET with an option, which has to know whether its key is there.
 #[test]
 fn a_set_whose_read_fails(rt: HostRuntime) {

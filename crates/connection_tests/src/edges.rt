@@ -69,6 +69,51 @@ fn words_at_the_limits(rt: HostRuntime) {
     drop(input);
 }
 
+/// The longest key and value under conditions: where the key is missing, where it is there, and over a short value where it lies; and over
+/// one of another key that has no room for it. Then a transaction of GETs of both.
+const LONG_CONDITIONS: &[(&[u8], usize)] = &[
+    (b"*4\r\n$3\r\nSET\r\n$512\r\n", 512),
+    (b"\r\n$32768\r\n", 32_768),
+    (b"\r\n$2\r\nXX\r\n*4\r\n$3\r\nSET\r\n$512\r\n", 512),
+    (b"\r\n$32768\r\n", 32_768),
+    (b"\r\n$2\r\nNX\r\n*4\r\n$3\r\nSET\r\n$512\r\n", 512),
+    (b"\r\n$32768\r\n", 32_768),
+    (b"\r\n$2\r\nNX\r\n*4\r\n$3\r\nSET\r\n$512\r\n", 512),
+    (
+        b"\r\n$1\r\nv\r\n$2\r\nXX\r\n*4\r\n$3\r\nSET\r\n$512\r\n",
+        512,
+    ),
+    (b"\r\n$32768\r\n", 32_768),
+    (b"\r\n$2\r\nXX\r\n*4\r\n$3\r\nSET\r\n$512\r\na", 511),
+    (
+        b"\r\n$1\r\nv\r\n$2\r\nNX\r\n*4\r\n$3\r\nSET\r\n$512\r\na",
+        511,
+    ),
+    (b"\r\n$32768\r\n", 32_768),
+    (
+        b"\r\n$2\r\nXX\r\n*1\r\n$5\r\nMULTI\r\n*2\r\n$3\r\nGET\r\n$512\r\n",
+        512,
+    ),
+    (b"\r\n*2\r\n$3\r\nGET\r\n$512\r\na", 511),
+    (b"\r\n*1\r\n$4\r\nEXEC\r\n", 0),
+];
+
+#[test]
+fn the_longest_key_and_value_under_conditions(rt: HostRuntime) {
+    let alloc = rt.alloc();
+    let input = filled(alloc, LONG_CONDITIONS).expect(&rt, "memory for a text");
+    let before =
+        b"$-1\r\n+OK\r\n$-1\r\n+OK\r\n+OK\r\n+OK\r\n+OK\r\n+OK\r\n+QUEUED\r\n+QUEUED\r\n*2\r\n";
+    let text = long_replies(&rt, alloc, before, 2);
+    let streams = (
+        Source::new(&input, 16_384),
+        Sink::new(alloc, 100_000).expect(&rt, "memory for a sink"),
+    );
+    check_run(&rt, alloc, streams, &text, Ended::EndOfInput);
+    drop(text);
+    drop(input);
+}
+
 /// Four words of 32,768 bytes and one byte more. The spelling of a word is that of a reply.
 #[test]
 fn a_request_that_is_too_large(rt: HostRuntime) {

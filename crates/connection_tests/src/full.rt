@@ -56,6 +56,7 @@ const ASKED: &[Row] = &[
     ("APPEND t #", "-FULL store is full"),
     ("GET t", "$4,text"),
     ("GETSET g #", "-FULL store is full"),
+    ("SET g # XX", "-FULL store is full"),
     ("GET g", "$3,old"),
     ("APPEND 1000 x", "-FULL store is full"),
     ("STRLEN 1000", ":1000"),
@@ -65,7 +66,8 @@ const ASKED: &[Row] = &[
     ("INCR n", ":100"),
     ("DECRBY n 110", ":-10"),
     ("APPEND t ,more", ":9"),
-    ("GETSET g new", "$3,old"),
+    ("SET g six XX", "+OK"),
+    ("GETSET g new", "$3,six"),
     ("MGET n g", "*2,$3,-10,$3,new"),
     // So is a transaction of nothing else.
     ("MULTI", "+OK"),

@@ -16,6 +16,8 @@ mod followed;
 #[cfg(test)]
 mod full;
 #[cfg(test)]
+mod gets;
+#[cfg(test)]
 mod hostile;
 #[cfg(test)]
 mod keys;

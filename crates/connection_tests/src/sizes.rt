@@ -1,4 +1,4 @@
-//! Values of the most bytes, and of one more, by each command that can make one.
+//! Values of the most bytes, and of one more, by each command that can make one; and keys, by conditions and transactions of GETs.
 
 use crate::requests::{add_reply, add_request, add_word};
 use crate::talks::{Source, run, run_two};
@@ -213,4 +213,63 @@ fn six_values_of_eight_thousand_bytes_at_once(rt: HostRuntime) {
     }
     add_request(alloc, &mut input, "EXISTS a f", 0).expect(&rt, "memory for a text");
     run(&rt, alloc, Source::new(&input)).check(&rt, b"+OK\r\n:2\r\n", Ended::EndOfInput);
+}
+
+/// A key of the most bytes that is set under conditions, and read by transactions of GETs.
+const LONG_KEY: &[Row] = &[
+    ("SET # x XX", "$-1"),
+    ("EXISTS #", ":0"),
+    ("SET # v NX", "+OK"),
+    ("SET # x NX", "$-1"),
+    ("GET #", "$1,v"),
+    ("MULTI", "+OK"),
+    ("GET #", "+QUEUED"),
+    ("GET a", "+QUEUED"),
+    ("GET #", "+QUEUED"),
+    ("EXEC", "*3,$1,v,$-1,$1,v"),
+    ("SET # # XX", "+OK"),
+    ("SET # x NX GET", "$#"),
+    ("WATCH #", "+OK"),
+    ("MULTI", "+OK"),
+    ("GET #", "+QUEUED"),
+    ("EXEC", "*1,$#"),
+    ("WATCH #", "+OK"),
+    ("SET # v XX", "+OK"),
+    ("MULTI", "+OK"),
+    ("GET #", "+QUEUED"),
+    ("EXEC", "*-1"),
+    ("SET # x XX GET", "$1,v"),
+    ("DEL #", ":1"),
+    ("SET # x XX", "$-1"),
+    ("SET # # NX", "+OK"),
+    ("MULTI", "+OK"),
+    ("GET #", "+QUEUED"),
+    ("EXEC", "*1,$#"),
+];
+
+#[test]
+fn a_key_of_the_most_bytes_goes_by_conditions(rt: HostRuntime) {
+    for size in [511, 512] {
+        check(&rt, rt.alloc(), LONG_KEY, size);
+    }
+}
+
+/// A key of one byte more is refused by each of these, and a transaction of GETs has its line.
+const LONGER_KEY: &[Row] = &[
+    ("SET # v NX", "-ERR key is too long"),
+    ("SET # v XX", "-ERR key is too long"),
+    ("MULTI", "+OK"),
+    ("SET # v NX", "+QUEUED"),
+    ("GET #", "+QUEUED"),
+    ("GET a", "+QUEUED"),
+    ("EXEC", "*3,-ERR key is too long,-ERR key is too long,$-1"),
+    ("MULTI", "+OK"),
+    ("GET a", "+QUEUED"),
+    ("GET #", "+QUEUED"),
+    ("EXEC", "*2,$-1,-ERR key is too long"),
+];
+
+#[test]
+fn a_key_of_one_byte_more_is_refused_under_conditions(rt: HostRuntime) {
+    check(&rt, rt.alloc(), LONGER_KEY, 513);
 }

@@ -14,3 +14,4 @@ pub mod MemoryRows
 pub mod SizeRows
 pub mod Ones
 pub mod Settings
+pub mod Saids

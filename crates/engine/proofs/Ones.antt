@@ -1,5 +1,5 @@
 -- Commands of one key, as calls.
-use Rattle.std.proofs.Common.{◌≡◌, ◌∷◌, ℕ, [], Option, Some, None, Result, Ok, Err, IfOk, OnErr, IsSome, true, refl, sym, subst}
+use Rattle.std.proofs.Common.{◌≡◌, ◌∷◌, ℕ, [], Option, Some, None, Result, Ok, Err, IfOk, OnErr, IsSome, false, true, refl, sym, subst}
 use Rattle.words.specs.declared.command.Count.TheVariants as by
 use Rattle.words.specs.declared.command.Verb.{Verb}
 use Rattle.words.specs.declared.command.Verb.TheVariants as verb
@@ -12,7 +12,9 @@ use Rattle.shards.specs.Shards.{shard_meaning}
 use Rattle.plans.specs.Memory.{IsBriefOn, NeedsNoMemoryOn}
 use Rattle.plans.specs.Settling.{IsSettled}
 use Rattle.plans.specs.declared.settling.Settled.{Settled}
-use Rattle.engine.specs.Entering.{IsPlanned}
+use Rattle.engine.specs.Entering.{IsPlanned, command_by}
+use Rattle.engine.specs.declared.one.Does.{Does}
+use Rattle.engine.specs.declared.one.Does.TheVariants as does
 use Rattle.engine.specs.Memory.{one_call}
 
 -- one reads and writes its key
@@ -38,6 +40,17 @@ one_names verb.GetDel key value = refl
 one_names verb.StrLen key value = refl
 one_names verb.Exists key value = refl
 one_names verb.Del key value = refl
+
+-- the same of one that is carried out
+pub done_touches : (does : Does) (key value : Bytes) → touches_keys (command_by does key value) ≡ true
+done_touches (does.Verb verb) key value = one_touches verb key value
+done_touches (does.Set when true) key value = refl
+done_touches (does.Set when false) key value = refl
+
+pub done_names : (does : Does) (key value : Bytes) → keys_of (command_by does key value) ≡ key ∷ []
+done_names (does.Verb verb) key value = one_names verb key value
+done_names (does.Set when true) key value = refl
+done_names (does.Set when false) key value = refl
 
 -- it may be planned
 pub one_planned : (verb : Verb) (key value : Bytes) → IsPlanned (one_call verb key value)

@@ -1,5 +1,5 @@
 -- Calls that are entered over the stripes that a pass holds.
-use Rattle.std.specs.Prelude.{ℕ, ◌≡◌, Bool, false, List, [], Result, Ok, Err}
+use Rattle.std.specs.Prelude.{ℕ, ◌≡◌, Bool, false, List, [], Result, Ok, Err, Some}
 use Rattle.words.specs.Briefs.{commanded, pairs_of}
 use Rattle.words.specs.Store.{Bytes}
 use Rattle.words.specs.declared.reply.Fault.{Fault}
@@ -7,6 +7,7 @@ use Rattle.words.specs.declared.reply.Line.{Line}
 use Rattle.words.specs.declared.reply.Reply.{Reply}
 use Rattle.words.specs.Session.{Asked, Run, value_reply, values_reply, watched_at_fault}
 use Rattle.words.specs.declared.command.Command.{Command}
+use Rattle.words.specs.Commands.{set_with}
 use Rattle.words.specs.declared.command.Command.TheVariants.{Get, MGet, MSet, Set}
 use Rattle.words.specs.declared.command.When.TheVariants.{Always}
 use Rattle.gates.specs.declared.held.Held.{Held}
@@ -25,6 +26,7 @@ use Rattle.hybrid.specs.Staging.{AreRight}
 use Rattle.transact.specs.declared.call.Answer.{Answer}
 use Rattle.transact.specs.declared.call.Answer.TheVariants as answer
 use Rattle.transact.specs.declared.call.Call.{Call}
+use Rattle.transact.specs.declared.call.Call.TheVariants.{One}
 use Rattle.transact.specs.Calls.{answer_of, asked_of, call_keys}
 use Rattle.transact.specs.Plans.{EndsAll, IsEntry, IsPlan}
 use Rattle.transact.specs.Submits.{asked_for, stripes_asked}
@@ -42,6 +44,9 @@ use Rattle.engine.specs.Passes.{know}
 use Rattle.engine.specs.declared.assign.Assigning.{Assigning}
 use Rattle.engine.specs.declared.enter.Stopped.{Stopped}
 use Rattle.engine.specs.declared.one.Commanding.{Commanding}
+use Rattle.engine.specs.declared.one.Does.{Does}
+use Rattle.engine.specs.declared.one.Does.TheVariants as does
+use Rattle.engine.specs.declared.one.Doing.{Doing}
 use Rattle.engine.specs.declared.get.Found.{Found}
 use Rattle.engine.specs.declared.get.Getting.{Getting}
 use Rattle.engine.specs.declared.set.Setting.{Setting}
@@ -74,13 +79,26 @@ getting_call getting = get_call getting.key.now
 abbrev pub command_asked : Commanding → Command
 command_asked asks = commanded asks.verb asks.key.now asks.value.now
 
--- what it asks
-abbrev pub one_asked : Commanding → Asked
-one_asked asks = Run (command_asked asks)
-
 -- the call that it stands for
 abbrev pub one_call_of : Commanding → Call
 one_call_of asks = one_call asks.verb asks.key.now asks.value.now
+
+-- the command that does so to a key, where it is given this value
+abbrev pub command_by : Does → (key value : Bytes) → Command
+command_by (does.Verb verb) key value = commanded verb key value
+command_by (does.Set when gets) key value = set_with key value (Some (when, gets))
+
+-- the command of one key that is carried out
+abbrev pub command_done : Doing → Command
+command_done doing = command_by doing.does doing.key.now doing.value.now
+
+-- what it asks
+abbrev pub doing_asked : Doing → Asked
+doing_asked doing = Run (command_done doing)
+
+-- the call that it stands for
+abbrev pub doing_call : Doing → Call
+doing_call doing = One (command_done doing)
 
 -- what a call came to that was answered so, or by a fault
 abbrev pub came_to : Reply → Result (Unit {0}) Stopped → Entered Answer

@@ -16,6 +16,7 @@ ghost use Rattle.plans.specs.Stops.{IfCold};
 ghost use Rattle.plans.specs.declared.reading.WhenCold.TheVariants.{Stops};
 
 use crate::set::enter_set;
+use crate::set_if::enter_set_if;
 use crate::site::Site;
 use device::{Device, Shows};
 use gates::{Held, Latch, Point, Refused, Report};
@@ -93,6 +94,9 @@ pub(crate) fn enter_call<L: Latch, R: Shows, D: Device<Receipt = R>, S: Retires>
                 ends: false,
                 report,
             })
+        }
+        Call::One(Command::Set(_, _, _) | Command::SetGet(_, _, _)) => {
+            enter_set_if(site, held, device, hands, call, cold)
         }
         _ => enter(site, held, device, hands, call, cold),
     }

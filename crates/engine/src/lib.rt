@@ -9,7 +9,8 @@
 //!
 //! GET, MGET, a SET without an option, MSET and other commands of one key have ways of their own ([`Engine::say`], [`Engine::say_values`],
 //! [`Engine::set`], [`Engine::set_all`], [`Engine::one`]). No plan is made there, unless a value does not lie near or the writes may weigh too
-//! much.
+//! much. Nor is one made for a SET with options that is submitted, where its key lies near, and for a transaction of GETs that says its
+//! reply ([`Engine::submit_saying`]).
 //! Background threads make their steps by a [`Pass`] too.
 #![tactic(auto)]
 
@@ -25,7 +26,7 @@ ghost use Rattle.transact.specs.Plans.{EndsAll};
 ghost use Rattle.transact.specs.Submits.{stripes_asked};
 ghost use Rattle.shards.specs.Logs.{counted_alone, log_by};
 ghost use Rattle.shards.specs.Shards.{shard_counted, shard_meaning};
-ghost use Rattle.engine.specs.Got.{got_all_answer, got_all_text, got_answer, got_text};
+ghost use Rattle.engine.specs.Got.{IfSaid, IsOfGets, came_answer, came_text, got_all_answer, got_all_text, got_answer, got_text};
 ghost use Rattle.engine.specs.Memory.{get_call, one_call, set_call, settings_call, values_call};
 ghost use Rattle.engine.specs.Passes.{AreOf, knows, Rests, stripe_count};
 ghost use Rattle.engine.specs.Answers.{ComesTo, WaitsAndComesTo};
@@ -35,6 +36,7 @@ ghost use Rattle.engine.specs.Stops.{HasHeardBy};
 use crate::assign::submit_settings;
 use crate::call::{submit, try_submit};
 use crate::deal::deal;
+use crate::exec::submit_saying;
 use crate::gather::submit_values;
 use crate::get::{submit_get, submit_say};
 use crate::one::{Commanding, submit_one};
@@ -58,6 +60,7 @@ mod assign;
 mod call;
 mod deal;
 mod enter;
+mod exec;
 mod gather;
 mod get;
 mod one;
@@ -65,10 +68,12 @@ mod pass;
 mod rounds;
 mod say;
 mod set;
+mod set_if;
 mod site;
 mod steps;
 mod visit;
 
+pub use exec::Came;
 pub use gather::{Gathered, GotAll};
 pub use get::Got;
 pub use pass::Pass;
@@ -181,6 +186,47 @@ impl<D: Device> Engine<D> {
         );
         latch.at(number, Point::After);
         answer
+    }
+
+    /// The same as [`submit_with`](Engine::submit_with), of a call that may be answered in the buffer of its caller: where it is a
+    /// transaction of GETs, none of its session's watched keys was written, what it reads lies near and the buffer has room for the reply,
+    /// the reply is appended, and each value is copied once, from where it lies; else nothing is. It takes no memory for the buffer.
+    pub fn submit_saying<T: Wait, L: Latch>(
+        &self,
+        rt: &T,
+        pass: &mut Pass<D>,
+        call: Call,
+        out: &mut Vec<u8>,
+        latch: &L,
+    ) -> Came
+        requires rests { Rests D.Receipt.is_steady self.now pass.old }
+        requires place { HasItsPlace (knows D.failures pass.old).watched (asked_of call) }
+        requires watching { EndsAll call (knows D.failures pass.old).watched }
+        ensures rests { Rests D.Receipt.is_steady self.now pass.new }
+        ensures heard { HasHeardBy pass.old pass.new }
+        ensures answered { WaitsAndComesTo D.Receipt.is_steady D.Receipt.lends D.failures self.now call (came_answer result) pass.old pass.new }
+        ensures said { out.new.items ≡ out.old.items ++ came_text result }
+        ensures within { vec_len out.new ≤ vec_capacity out.old }
+        ensures gets { IfSaid result (IsOfGets call) }
+    {
+        let number = pass.gates.number();
+        latch.at(number, Point::Before);
+        let site = Site {
+            gates: &self.gates,
+            epochs: &self.epochs,
+            latch,
+        };
+        let came = submit_saying(
+            rt,
+            &site,
+            &mut pass.gates,
+            &mut pass.device,
+            &mut pass.hands,
+            call,
+            out,
+        );
+        latch.at(number, Point::After);
+        came
     }
 
     /// The same as [`submit_with`](Engine::submit_with) of a GET, whose key stays the caller's. It is

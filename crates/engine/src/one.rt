@@ -18,7 +18,7 @@ ghost use Rattle.plans.specs.Settling.{IsSettled, IsSpot, changes};
 ghost use Rattle.plans.specs.declared.reading.WhenCold.TheVariants.{Stops};
 ghost use Rattle.engine.specs.Answers.{IsAnswered};
 ghost use Rattle.engine.specs.Calls.{promises_of};
-ghost use Rattle.engine.specs.Entering.{AreReady, HasEntered, MayBegin, WasCold, came_to, command_asked, one_call_of, own_answer};
+ghost use Rattle.engine.specs.Entering.{AreReady, HasEntered, MayBegin, WasCold, came_to, command_asked, command_done, doing_call, one_call_of, own_answer};
 ghost use Rattle.engine.specs.Memory.{AsksNoMemory, one_call};
 ghost use Rattle.engine.specs.Passes.{HasHands, OfSeats, know};
 ghost use Rattle.engine.specs.Stops.{HasHeardFor, HasHeardIn, HasHeardWith, IfLacking, worn_out};
@@ -37,14 +37,14 @@ use plans::hashed::{HashedCall, key_of};
 use plans::laws::writes_install_a_command;
 use plans::reading::WhenCold;
 use plans::settling::{Change, Settled, settle};
-use plans::short::{install_at, install_put};
+use plans::short::{install_at, install_looked_up};
 use plans::stop::Receipts;
 use shards::retires::Retires;
 use shards::shard::Shard;
 use std::sync::Wait;
 use transact::call::{Answer, Call};
 use transact::stripes::stripe_of_key;
-use words::command::Verb;
+use words::command::{Verb, When};
 use words::hash::Hashed;
 use words::reply::{Fault, Reply};
 use words::word::Word;
@@ -57,10 +57,27 @@ pub(crate) struct Commanding<'a> {
     pub(crate) value: &'a Word,
 }
 
-impl Asks for Commanding<'_> {
-    ghost use Rattle.engine.specs.Entering.{one_asked};
+/// A command of one key whose key was looked up, as it is committed.
+#[derive(Drop)]
+pub(crate) struct Doing<'a> {
+    pub(crate) key: &'a Hashed<'a>,
+    pub(crate) value: &'a Word,
+    pub(crate) does: Does,
+}
 
-    ghost asked = { one_asked };
+/// What such a command does.
+#[derive(Clone, Copy, Debug)]
+pub(crate) enum Does {
+    /// What the verb says.
+    Verb(Verb),
+    /// It gives the key the value, where the condition is met, and answers the old value where this is true.
+    Set(When, bool),
+}
+
+impl Asks for Doing<'_> {
+    ghost use Rattle.engine.specs.Entering.{doing_asked};
+
+    ghost asked = { doing_asked };
 }
 
 impl Enters<Answer> for Commanding<'_> {
@@ -156,7 +173,12 @@ fn enter_one<L: Latch, R: Shows, D: Device<Receipt = R>, S: Retires>(
     ) {
         Some(settled) => {
             let own = &mut hands.own;
-            Ok(enter_settled(site, held, device, own, asks, settled))
+            let doing = Doing {
+                key: asks.key,
+                value: asks.value,
+                does: Does::Verb(asks.verb),
+            };
+            Ok(enter_settled(site, held, device, own, &doing, settled))
         }
         None => enter_planned(site, held, device, hands, asks, cold),
     }
@@ -206,21 +228,21 @@ fn enter_planned<L: Latch, R: Shows, D: Device<Receipt = R>, S: Retires>(
 
 /// Runs a command of one key that comes to this over the parts that are held: makes room for what it writes, if it is not written in
 /// place, commits its one entry, and copies what it writes into the page. It takes no memory.
-fn enter_settled<L: Latch, R: Shows, D: Device<Receipt = R>, S: Retires>(
+pub(crate) fn enter_settled<L: Latch, R: Shows, D: Device<Receipt = R>, S: Retires>(
     site: &Site<L, R>,
     held: &mut Held<'_, Shard<R>>,
     device: &mut D,
     own: &mut S,
-    asks: &Commanding,
+    asks: &Doing,
     settled: Settled,
 ) -> Entered<Answer>
-    requires begin { MayBegin R.is_steady (one_call_of asks.now) held.old }
+    requires begin { MayBegin R.is_steady (doing_call asks.now) held.old }
     requires is { S.is_of site.now.epochs.now own.old }
     requires settled { IsSettled R.is_steady (shard_meaning R.is_steady) (held_stripes held.old) (part_at (held_parts held.old))
-        asks.now.key.now asks.now.value.now (command_asked asks.now) settled }
+        asks.now.key.now asks.now.value.now (command_done asks.now) settled }
     ensures is { S.is_of site.now.epochs.now own.new }
     ensures heard { HasHeardFor own_answer result (S.knows own.old) (S.knows own.new) }
-    ensures entered { HasEntered (promises_of R.is_steady R.lends (held_stripes held.old)) (one_call_of asks.now) own_answer
+    ensures entered { HasEntered (promises_of R.is_steady R.lends (held_stripes held.old)) (doing_call asks.now) own_answer
         (held.old, D.failures device.old) (held.new, D.failures device.new) result }
 {
     let done = carry_out(site, held, device, own, asks, &settled);
@@ -243,16 +265,16 @@ fn carry_out<L: Latch, R: Shows, D: Device<Receipt = R>, S: Retires>(
     held: &mut Held<'_, Shard<R>>,
     device: &mut D,
     own: &mut S,
-    asks: &Commanding,
+    asks: &Doing,
     settled: &Settled,
 ) -> Result<(), Stopped>
-    requires begin { MayBegin R.is_steady (one_call_of asks.now) held.old }
+    requires begin { MayBegin R.is_steady (doing_call asks.now) held.old }
     requires is { S.is_of site.now.epochs.now own.old }
     requires settled { IsSettled R.is_steady (shard_meaning R.is_steady) (held_stripes held.old) (part_at (held_parts held.old))
-        asks.now.key.now asks.now.value.now (command_asked asks.now) settled.now }
+        asks.now.key.now asks.now.value.now (command_done asks.now) settled.now }
     ensures is { S.is_of site.now.epochs.now own.new }
     ensures heard { HasHeardFor own_answer (came_to settled.now.reply result) (S.knows own.old) (S.knows own.new) }
-    ensures entered { HasEntered (promises_of R.is_steady R.lends (held_stripes held.old)) (one_call_of asks.now) own_answer
+    ensures entered { HasEntered (promises_of R.is_steady R.lends (held_stripes held.old)) (doing_call asks.now) own_answer
         (held.old, D.failures device.old) (held.new, D.failures device.new) (came_to settled.now.reply result) }
 {
     let reply = &settled.reply;
@@ -278,13 +300,13 @@ fn carry_out<L: Latch, R: Shows, D: Device<Receipt = R>, S: Retires>(
 fn enter_reply<L: Latch, R: Shows>(
     site: &Site<L, R>,
     held: &mut Held<'_, Shard<R>>,
-    asks: &Commanding,
+    asks: &Doing,
     reply: &Reply,
 ) -> Result<(), Stopped>
-    requires begin { MayBegin R.is_steady (one_call_of asks.now) held.old }
-    requires due { R.is_steady → IsPlan (known_to held.old).seen (Run (command_asked asks.now))
+    requires begin { MayBegin R.is_steady (doing_call asks.now) held.old }
+    requires due { R.is_steady → IsPlan (known_to held.old).seen (Run (command_done asks.now))
         reply.now [] }
-    ensures entered { (failures : ℕ) → HasEntered (promises_of R.is_steady R.lends (held_stripes held.old)) (one_call_of asks.now)
+    ensures entered { (failures : ℕ) → HasEntered (promises_of R.is_steady R.lends (held_stripes held.old)) (doing_call asks.now)
         own_answer (held.old, failures) (held.new, failures) (came_to reply.now result) }
     ensures worn { IfErr result (λ stopped. stopped ≡ worn_out) }
 {
@@ -308,17 +330,17 @@ fn enter_reply<L: Latch, R: Shows>(
 fn enter_in_place<L: Latch, R: Shows>(
     site: &Site<L, R>,
     held: &mut Held<'_, Shard<R>>,
-    asks: &Commanding,
+    asks: &Doing,
     reply: &Reply,
     text: &Word,
     spot: Spot,
 ) -> Result<(), Stopped>
-    requires begin { MayBegin R.is_steady (one_call_of asks.now) held.old }
-    requires due { R.is_steady → IsPlan (known_to held.old).seen (Run (command_asked asks.now))
+    requires begin { MayBegin R.is_steady (doing_call asks.now) held.old }
+    requires due { R.is_steady → IsPlan (known_to held.old).seen (Run (command_done asks.now))
         reply.now ((asks.now.key.now, Some text.now) ∷ []) }
     requires fits { Fits asks.now.key.now (Some text.now) }
     requires spot { IsSpot (held_stripes held.old) (logs_of (part_at (held_parts held.old))) asks.now.key.now text.now spot }
-    ensures entered { (failures : ℕ) → HasEntered (promises_of R.is_steady R.lends (held_stripes held.old)) (one_call_of asks.now)
+    ensures entered { (failures : ℕ) → HasEntered (promises_of R.is_steady R.lends (held_stripes held.old)) (doing_call asks.now)
         own_answer (held.old, failures) (held.new, failures) (came_to reply.now result) }
     ensures worn { IfErr result (λ stopped. stopped ≡ worn_out) }
 {
@@ -347,12 +369,12 @@ fn enter_put<L: Latch, R: Shows, D: Device<Receipt = R>, S: Retires>(
     held: &mut Held<'_, Shard<R>>,
     device: &mut D,
     own: &mut S,
-    asks: &Commanding,
+    asks: &Doing,
     reply: &Reply,
     value: Option<&Word>,
 ) -> Result<(), Stopped>
-    requires begin { MayBegin R.is_steady (one_call_of asks.now) held.old }
-    requires due { R.is_steady → IsPlan (known_to held.old).seen (Run (command_asked asks.now))
+    requires begin { MayBegin R.is_steady (doing_call asks.now) held.old }
+    requires due { R.is_steady → IsPlan (known_to held.old).seen (Run (command_done asks.now))
         reply.now ((asks.now.key.now, option_copied value) ∷ []) }
     requires light { weigh (asks.now.key.now, option_copied value) ≤ WEIGHT_MAX }
     requires fits { Fits asks.now.key.now (option_copied value) }
@@ -361,7 +383,7 @@ fn enter_put<L: Latch, R: Shows, D: Device<Receipt = R>, S: Retires>(
     ensures heard { HasHeardFor own_answer (came_to reply.now result) (S.knows own.old) (S.knows own.new) }
     ensures lacks { IfErr result (λ stopped. IfLacking stopped.fault (LacksRoomToPut (held_stripes held.old)
         (asks.now.key.now, option_copied value.entry) (part_at (held_parts held.old)) (part_at (held_parts held.new)))) }
-    ensures entered { HasEntered (promises_of R.is_steady R.lends (held_stripes held.old)) (one_call_of asks.now) own_answer
+    ensures entered { HasEntered (promises_of R.is_steady R.lends (held_stripes held.old)) (doing_call asks.now) own_answer
         (held.old, D.failures device.old) (held.new, D.failures device.new) (came_to reply.now result) }
 {
     writes_install_a_command::<R>();
@@ -372,7 +394,7 @@ fn enter_put<L: Latch, R: Shows, D: Device<Receipt = R>, S: Retires>(
     site.latch.at(held.number(), Point::Holding);
     match held.commit(asks, reply) {
         Ok(_) => {
-            install_put(held, key, value);
+            install_looked_up(held, key, value);
             Ok(())
         }
         Err(_) => Err(Stopped {

@@ -38,6 +38,8 @@ pub enum Spoken {
     Value(Said),
     /// That to an MGET.
     Values(SaidAll),
+    /// That to a transaction of GETs.
+    Gets(SaidAll),
 }
 
 /// A call that only reads.
@@ -57,8 +59,8 @@ impl Asks for Speaking<'_> {
 
 /// What such a call has said.
 #[derive(Drop)]
-struct Saying<'a> {
-    spoken: &'a Spoken,
+pub(crate) struct Saying<'a> {
+    pub(crate) spoken: &'a Spoken,
 }
 
 impl Says for Saying<'_> {

@@ -113,6 +113,42 @@ fn exec_goes_by_what_another_pass_renamed(rt: HostRuntime) {
     }
 }
 
+/// What a SET under a condition is answered. It writes the key `k`, where the condition is met.
+const SETS: &[Row] = &[
+    Row {
+        before: "EXISTS k -> :0",
+        then: "SET k value NX -> +OK",
+        exec: Exec::Null,
+    },
+    Row {
+        before: "SET k value -> +OK",
+        then: "SET k other XX -> +OK",
+        exec: Exec::Null,
+    },
+    Row {
+        before: "SET k value -> +OK",
+        then: "SET k a-value-that-is-longer-than-the-room-of-the-one-before XX -> +OK",
+        exec: Exec::Null,
+    },
+    Row {
+        before: "SET k value -> +OK",
+        then: "SET k other NX -> null",
+        exec: Exec::Ran,
+    },
+    Row {
+        before: "EXISTS k -> :0",
+        then: "SET k value XX -> null",
+        exec: Exec::Ran,
+    },
+];
+
+#[test]
+fn exec_goes_by_whether_another_pass_set_the_watched_key_under_a_condition(rt: HostRuntime) {
+    for row in SETS {
+        check(&rt, rt.alloc(), row);
+    }
+}
+
 /// The key is missing, and deleted.
 const DELETED: &Row = &Row {
     before: "EXISTS k -> :0",

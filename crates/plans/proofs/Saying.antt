@@ -1,13 +1,19 @@
 -- What is said to an MGET, value by value.
-use Rattle.std.proofs.Common.{ℕ, suc, ◌≡◌, ◌∙◌, ◌+◌, ◌≤◌, List, [], ◌∷◌, ◌++◌, Option, length, arith, length-append, append_assoc, append-nil, refl, sym, ap}
+use Rattle.std.proofs.Common.{ℕ, suc, ◌≡◌, ◌∙◌, ◌+◌, ◌≤◌, List, [], ◌∷◌, ◌++◌, Option, length, map, arith, length-append, append_assoc, append-nil, refl, sym, ap}
 use Rattle.std.proofs.lemmas.Grind.{flat_map-append}
+use Rattle.std.proofs.lemmas.List.{length-map}
 use Rattle.std.specs.List.{flat_map}
 use Rattle.words.specs.declared.reply.Item.{Item}
-use Rattle.words.specs.Answers.{item_of, items_of}
+use Rattle.words.specs.declared.command.Command.{Command}
+use Rattle.words.specs.declared.command.Command.TheVariants.{Get}
+use Rattle.words.specs.declared.reply.CommandReply.TheVariants.{One}
+use Rattle.words.specs.Answers.{answers, item_of, items_of}
+use Rattle.words.specs.Commands.{keys_of_all}
 use Rattle.words.specs.Encoding.{encoding, command_reply_encoding, item_encoding}
 use Rattle.words.specs.Session.{value_reply, values_reply}
 use Rattle.words.specs.Spelling.{header}
 use Rattle.words.specs.Store.{Bytes, Store}
+use Rattle.plans.specs.Telling.{AreGets, gets_reply}
 
 pub value_text : (value : Option Bytes) → encoding (value_reply value) ≡ item_encoding (item_of value)
 unfolding encoding command_reply_encoding
@@ -57,3 +63,26 @@ next_fits store keys others first said held before limit are is fits =
     let value : length (encoding (value_reply (store first))) ≡ length (item_encoding item) = ap length (value_text (store first)) in
     let behind = length-append start (flat_map item_encoding said) in
     omega (arith, whole, parts, last, value, behind, is, fits)
+
+-- The reply to GETs of a transaction is spelled as that to an MGET.
+gets_flat : (items : List Item) → flat_map command_reply_encoding (map One items) ≡ flat_map item_encoding items
+unfolding command_reply_encoding
+gets_flat [] = refl
+gets_flat (item ∷ items) = ap (λ (l : Bytes). item_encoding item ++ l) (gets_flat items)
+
+pub gets_text : (items : List Item) → encoding (gets_reply items) ≡ encoding (values_reply items)
+unfolding encoding command_reply_encoding
+gets_text items = λ i. header 42 (length-map items One i) ++ gets_flat items i
+
+-- GETs answer what their keys have, and write nothing
+pub gets_answers : (store : Store) (commands : List Command) → AreGets commands → answers store commands ≡ (map One (items_of store (keys_of_all commands)), [])
+gets_answers store [] gets = refl
+gets_answers store (Get key ∷ commands) gets =
+    let more = gets_answers store commands gets.1 in λ i. (One (item_of (store key)) ∷ (more i).0, (more i).1)
+gets_answers store (_ ∷ commands) gets = absurd (cc gets.0)
+
+-- each has one key
+pub gets_count : (commands : List Command) → AreGets commands → length (keys_of_all commands) ≡ length commands
+gets_count [] gets = refl
+gets_count (Get key ∷ commands) gets = ap suc (gets_count commands gets.1)
+gets_count (_ ∷ commands) gets = absurd (cc gets.0)

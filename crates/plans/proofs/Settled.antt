@@ -1,5 +1,5 @@
 -- What a command of one key comes to is due to it.
-use Rattle.std.proofs.Common.{◌≡◌, ◌≤◌, ◌∙◌, ℕ, true, false, [], ◌∷◌, List, Option, Some, None, cond, nat_lt, length, refl, sym, ap, subst, arith}
+use Rattle.std.proofs.Common.{◌≡◌, ◌≤◌, ◌∙◌, ℕ, Bool, true, false, [], ◌∷◌, List, Option, Some, None, cond, nat_lt, length, refl, sym, ap, subst, arith}
 use Rattle.std.proofs.lemmas.Bool.{le-ltb}
 use Rattle.std.proofs.Math.Nat.{add-zero}
 use Rattle.std.specs.Prelude.{IfSome}
@@ -7,13 +7,14 @@ use Rattle.words.specs.declared.limits.TheConstants.{KEY_BYTES_MAX, VALUE_BYTES_
 use Rattle.words.specs.declared.command.Command.{Command}
 use Rattle.words.specs.declared.command.Count.TheVariants as by
 use Rattle.words.specs.declared.command.Verb.{Verb}
+use Rattle.words.specs.declared.command.When.{When}
 use Rattle.words.specs.declared.command.Verb.TheVariants as verb
 use Rattle.words.specs.declared.history.Operation.TheVariants.{Run}
 use Rattle.words.specs.declared.reply.Reply.{Reply}
 use Rattle.words.specs.Answers.{Answer, answer}
 use Rattle.words.specs.Bounds.{AreKeysBounded, IsBounded}
 use Rattle.words.specs.Briefs.{commanded}
-use Rattle.words.specs.Commands.{keys_of, touches_keys}
+use Rattle.words.specs.Commands.{keys_of, set_with, touches_keys}
 use Rattle.words.specs.History.{outcome, too_much}
 use Rattle.words.specs.Locality.{AreSameAt}
 use Rattle.words.specs.Store.{Bytes, Store, Write, empty, weight, written}
@@ -59,6 +60,19 @@ one_names verb.StrLen key value = refl
 one_names verb.Exists key value = refl
 one_names verb.Del key value = refl
 
+-- so it is with a SET, whatever its options
+pub set_touches : (key value : Bytes) (when : When) (gets : Bool) → touches_keys (set_with key value (Some (when, gets))) ≡ true
+set_touches key value when true = refl
+set_touches key value when false = refl
+
+pub set_names : (key value : Bytes) (when : When) (gets : Bool) → keys_of (set_with key value (Some (when, gets))) ≡ key ∷ []
+set_names key value when true = refl
+set_names key value when false = refl
+
+pub set_short : (key value : Bytes) (when : When) (gets : Bool) → IsBounded (set_with key value (Some (when, gets))) → length value ≤ VALUE_BYTES_MAX
+set_short key value when true bounded = bounded.values.0
+set_short key value when false bounded = bounded.values.0
+
 -- what is said of the text that the key gets, said otherwise
 pub gives_then : (change : Change) (value : Bytes) (P Q : Bytes → Type 0) → ((text : Bytes) → P text → Q text) → IfGives change value P → IfGives change value Q
 gives_then change.Nothing value P Q turn has = tt
@@ -86,8 +100,8 @@ light_change change.Deleted key value few short = light_one (key, None) (light_a
 some_log : (a b : HybridLog) → Some a ≡ Some b → a ≡ b
 some_log a b e = cc e
 
-key_bounded : (verb : Verb) (key value : Bytes) → IsBounded (commanded verb key value) → length key ≤ KEY_BYTES_MAX
-key_bounded verb key value bounded = (subst AreKeysBounded (one_names verb key value) bounded.keys).0
+key_bounded : (key : Bytes) (command : Command) → keys_of command ≡ key ∷ [] → IsBounded command → length key ≤ KEY_BYTES_MAX
+key_bounded key command names bounded = (subst AreKeysBounded names bounded.keys).0
 
 module _ {R : Type 0} (n : ℕ) (parts : ℕ → Option (Shard R)) (key : Bytes) (part : Shard R) (there : parts (stripe_of n key) ≡ Some part) where
   -- a spot in the part of the key's stripe is one in the parts
@@ -101,23 +115,22 @@ module _ {R : Type 0} (n : ℕ) (parts : ℕ → Option (Shard R)) (key : Bytes)
   spot_there change value (Some spot) has =
       gives_then change value (λ text. IsInPlace (shard_log part) key (length text) spot.address) (λ text. IsSpot n (logs_of parts) key text spot) (λ text. spot_at text spot) has
 
-  module _ (law : Depends) (contents : Meaning (Shard R)) (verb : Verb) (value : Bytes) (Right : Type 0) where
-    settled_by : (settled : Settled) → AreThere n parts (key ∷ []) → IsBounded (commanded verb key value)
-        → SettlesAs Right (joined contents n parts key) verb key value settled
+  module _ (law : Depends) (contents : Meaning (Shard R)) (command : Command) (value : Bytes) (Right : Type 0) (touches : touches_keys command ≡ true) (names : keys_of command ≡ key ∷ []) where
+    settled_by : (settled : Settled) → AreThere n parts (key ∷ []) → IsBounded command
+        → SettlesAs Right (joined contents n parts key) command key value settled
         → IfGives settled.change value (λ text. length text ≤ VALUE_BYTES_MAX)
         → IfSome settled.spot (λ spot. IfGives settled.change value (λ text. IsInPlace (shard_log part) key (length text) spot.address))
-        → IsSettled Right contents n parts key value (commanded verb key value) settled
+        → IsSettled Right contents n parts key value command settled
     settled_by settled held bounded is short spot =
-        let command : Command = commanded verb key value in
-        let few : length key ≤ KEY_BYTES_MAX = key_bounded verb key value bounded in
+        let few : length key ≤ KEY_BYTES_MAX = key_bounded key command names bounded in
         let done : Answer = answer (joined contents n parts) command in
         let light : nat_lt WEIGHT_MAX (weight (changes settled.change key value)) ≡ false = light_change settled.change key value few short in
         record {
           due = λ right seen reads.
               let writes : done.1 ≡ changes settled.change key value = ap (λ (o : Reply × List Write). o.1) (is right (joined contents n parts) refl) in
               let heavy : nat_lt WEIGHT_MAX (weight done.1) ≡ false = ap (λ (ws : List Write). nat_lt WEIGHT_MAX (weight ws)) writes ∙ light in
-              plan_of_answer contents n parts law seen command done settled.reply (changes settled.change key value) (one_touches verb key value) refl reads
-              (subst (AreThere n parts) (sym (one_names verb key value)) held)
+              plan_of_answer contents n parts law seen command done settled.reply (changes settled.change key value) touches refl reads
+              (subst (AreThere n parts) (sym names) held)
               (sym (ap (λ (o : Reply × List Write). o.0) (is right (joined contents n parts) refl)) ∙ sym (ap (λ b. cond b too_much (outcome (joined contents n parts) (Run command)).0) heavy))
               (sym writes ∙ sym (ap (λ b. cond b [] done.1) heavy));
           light = gives_then settled.change value (λ text. length text ≤ VALUE_BYTES_MAX) (λ text. weigh (key, Some text) ≤ WEIGHT_MAX) (λ text. light_text key text few) short;
@@ -126,11 +139,11 @@ module _ {R : Type 0} (n : ℕ) (parts : ℕ → Option (Shard R)) (key : Bytes)
         }
 
     -- what was settled on the part of the key's stripe is settled on the parts
-    pub some_settled : (settled : Option Settled) → AreThere n parts (key ∷ []) → IsBounded (commanded verb key value)
-        → IfSome settled (SettlesAs Right (joined contents n parts key) verb key value)
+    pub some_settled : (settled : Option Settled) → AreThere n parts (key ∷ []) → IsBounded command
+        → IfSome settled (SettlesAs Right (joined contents n parts key) command key value)
         → IfSome settled (λ s. IfGives s.change value (λ text. length text ≤ VALUE_BYTES_MAX))
         → IfSome settled (λ s. IfSome s.spot (λ spot. IfGives s.change value (λ text. IsInPlace (shard_log part) key (length text) spot.address)))
-        → IfSome settled (IsSettled Right contents n parts key value (commanded verb key value))
+        → IfSome settled (IsSettled Right contents n parts key value command)
     some_settled None held bounded is short spot = tt
     some_settled (Some settled) held bounded is short spot = settled_by settled held bounded is short spot
 

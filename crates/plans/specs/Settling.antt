@@ -1,11 +1,9 @@
 -- Commands of one key, settled on what the key has.
 use Rattle.std.specs.Prelude.{ℕ, ◌≡◌, ◌≤◌, ◌∷◌, [], List, length, IfSome, None, Option, Some}
 use Rattle.words.specs.declared.command.Command.{Command}
-use Rattle.words.specs.declared.command.Verb.{Verb}
 use Rattle.words.specs.declared.history.Operation.TheVariants.{Run}
 use Rattle.words.specs.declared.limits.TheConstants.{VALUE_BYTES_MAX, WEIGHT_MAX}
 use Rattle.words.specs.Answers.{answer}
-use Rattle.words.specs.Briefs.{commanded}
 use Rattle.words.specs.History.{History, after, outcome}
 use Rattle.words.specs.Store.{Bytes, Store, Write}
 use Rattle.words.specs.Stripes.{stripe_of}
@@ -41,9 +39,9 @@ abbrev pub IsSpot : (n : ℕ) → (logs : ℕ → Option HybridLog) → (key tex
 IsSpot n logs key text spot = (log : HybridLog) → logs (stripe_of n key) ≡ Some log → IsInPlace log key (length text) spot.address
 
 -- What was settled is what the command answers and writes where its key has this and it was given this value: on each store that has so.
-abbrev pub SettlesAs : (Right : Type 0) (has : Option Bytes) → Verb → (key value : Bytes) → Settled → Type 0
-SettlesAs Right has verb key value done =
-    Right → (store : Store) → store key ≡ has → outcome store (Run (commanded verb key value)) ≡ (done.reply, changes done.change key value)
+abbrev pub SettlesAs : (Right : Type 0) (has : Option Bytes) → Command → (key value : Bytes) → Settled → Type 0
+SettlesAs Right has command key value done =
+    Right → (store : Store) → store key ≡ has → outcome store (Run command) ≡ (done.reply, changes done.change key value)
 
 -- what a command answers and writes on a store is held without an allocation
 pub record IsInlineOn (store : Store) (command : Command) : Type 0 where

@@ -1,8 +1,12 @@
 -- What keys have, as a reply tells it.
-use Rattle.std.specs.Prelude.{ℕ, [], List, Option}
-use Rattle.words.specs.declared.command.Command.TheVariants.{MGet}
+use Rattle.std.specs.Prelude.{ℕ, [], ◌∷◌, Bool, true, false, IsTrue, List, Option, map}
+use Rattle.words.specs.declared.command.Command.{Command}
+use Rattle.words.specs.declared.command.Command.TheVariants.{Get, MGet}
 use Rattle.words.specs.declared.history.Operation.TheVariants.{Run}
+use Rattle.words.specs.declared.reply.CommandReply.TheVariants.{One}
 use Rattle.words.specs.declared.reply.Item.{Item}
+use Rattle.words.specs.declared.reply.Reply.{Reply}
+use Rattle.words.specs.declared.reply.Reply.TheVariants as reply
 use Rattle.words.specs.History.{History, after}
 use Rattle.words.specs.Session.{values_reply}
 use Rattle.words.specs.Store.{Bytes}
@@ -11,6 +15,20 @@ use Rattle.transact.specs.Plans.{IsPlan}
 use Rattle.transact.specs.Tables.{AllRead}
 use Rattle.shards.specs.declared.shard.Shard.{Shard}
 use Rattle.shards.specs.Shards.{shard_meaning}
+
+-- whether a command is a GET
+abbrev pub is_get : Command → Bool
+is_get (Get key) = true
+is_get _ = false
+
+-- each of the commands is one
+abbrev pub AreGets : List Command → Type 0
+AreGets [] = Unit {0}
+AreGets (command ∷ commands) = IsTrue (is_get command) × AreGets commands
+
+-- the reply to a transaction of GETs that found these (Redis transactions page: an array of what its commands are answered)
+abbrev pub gets_reply : List Item → Reply
+gets_reply items = reply.Array (map One items)
 
 module _ {R : Type 0} where
   -- The items that an MGET of these keys is due to be answered, after each history whose store the parts have.

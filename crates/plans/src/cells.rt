@@ -267,6 +267,20 @@ pub(crate) fn set<R: Shows, P: Parts<Shard<R>>>(parts: &mut P, key: &Hashed, val
     parts.part(stripe).set(key, value);
 }
 
+/// Gives a key, for which there is room, a value in a record at the tail.
+pub(crate) fn append<R: Shows, P: Parts<Shard<R>>>(parts: &mut P, key: &Hashed, value: &Word)
+    requires open { P.is_open parts.old }
+    requires room { IsRoomyFor (P.stripes_of parts.old) (P.part_of parts.old) (key.now, Some value.now) }
+    requires fits { Fits key.now (Some value.now) }
+    ensures became { BecomesWritten R.is_steady P.stripes_of P.part_of parts.old parts.new ((key.now, Some value.now) ∷ []) }
+    ensures grown { GrowsBy (P.stripes_of parts.old) (key.now, Some value.now) (P.part_of parts.old) (P.part_of parts.new) }
+    ensures waits { SameWaits (P.part_of parts.old) (P.part_of parts.new) }
+    ensures held { IsStillHeld P.is_open P.keeps parts.old parts.new }
+{
+    let stripe = stripe_at(&*parts, key);
+    parts.part(stripe).append(key, value);
+}
+
 /// Deletes a key, for which there is room.
 pub(crate) fn delete<R: Shows, P: Parts<Shard<R>>>(parts: &mut P, key: &Hashed)
     requires open { P.is_open parts.old }

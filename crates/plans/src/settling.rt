@@ -1,7 +1,7 @@
 //! Commands of one key, on what the key has where it lies: nothing is copied but a value that is answered, and one that the command
 //! makes.
 
-ghost use Rattle.std.specs.Prelude.{◌≡◌, ◌≤◌, ◌∷◌, ◌++◌, [], length, if◌then◌else◌, IfOk, IfSome, IsOk, IsSome, MatchOption, MatchResult, Some};
+ghost use Rattle.std.specs.Prelude.{◌≡◌, ◌≤◌, ◌∷◌, ◌++◌, [], length, if◌then◌else◌, IfOk, IfSome, IsOk, IsSome, MatchOption, MatchResult, Some, false};
 ghost use Rattle.std.specs.Fmt.{signed_decimal};
 ghost use Rattle.std.specs.Option.{option_copied};
 ghost use Rattle.words.specs.declared.limits.TheConstants.{VALUE_BYTES_MAX, WEIGHT_MAX};
@@ -13,7 +13,7 @@ ghost use Rattle.words.specs.Answers as answering;
 ghost use Rattle.words.specs.Answers.{answer, item_of, value_of};
 ghost use Rattle.words.specs.Bounds.{IsBounded};
 ghost use Rattle.words.specs.Briefs.{commanded, counting};
-ghost use Rattle.words.specs.Commands.{IsInline};
+ghost use Rattle.words.specs.Commands.{IsInline, set_with};
 ghost use Rattle.words.specs.Store.{Bytes, Store};
 ghost use Rattle.hybrid.specs.Lookups.{IsInPlace};
 ghost use Rattle.hybrid.specs.Staging.{AreRight};
@@ -32,7 +32,7 @@ use itoa::Buffer;
 use shards::shard::Shard;
 use smallvec::SmallVec;
 use std::alloc::Global;
-use words::command::{Count, Verb};
+use words::command::{Count, Verb, When};
 use words::hash::Hashed;
 use words::limits::VALUE_BYTES_MAX;
 use words::locality::depends_on_named_keys;
@@ -101,7 +101,8 @@ fn settle_at<R: Shows>(
     value: &Word,
     staged: &Staged<R>,
 ) -> Option<Settled>
-    ensures answer { IfSome result (SettlesAs (R.is_honest × AreRight staged.now) (shard_store part.now key.now) verb key.now value.now) }
+    ensures answer { IfSome result (SettlesAs (R.is_honest × AreRight staged.now) (shard_store part.now key.now)
+        (commanded verb key.now value.now) key.now value.now) }
     ensures memory { (store : Store) → store key.now ≡ shard_store part.now key.now → R.lends → R.is_honest × AreRight staged.now
         → IsInlineOn store (commanded verb key.now value.now) → IsSome result }
     ensures short { IsBounded (commanded verb key.now value.now)
@@ -117,6 +118,96 @@ fn settle_at<R: Shows>(
         change,
         spot,
     })
+}
+
+/// What a SET of this key and value comes to that is done under this condition, and answers the old value if it has the option for that.
+/// The key is looked up once. It takes no memory, but for the old value where that is answered. `None` where a page is wanted, which
+/// receipts do not lend, or memory.
+pub fn settle_set<R: Shows, P: Parts<Shard<R>>>(
+    alloc: Global,
+    parts: &mut P,
+    key: &Hashed,
+    value: &Word,
+    when: When,
+    gets: bool,
+    staged: &Staged<R>,
+) -> Option<Settled>
+    requires may { MayLookUp (P.is_open parts.old) (P.stripes_of parts.old) (P.part_of parts.old) (key.now ∷ []) }
+    requires bounded { IsBounded (set_with key.now value.now (Some (when, gets))) }
+    ensures settled { IfSome result (IsSettledIn R.is_steady P.stripes_of P.part_of parts.old
+        (R.is_honest × AreRight staged.now) key.now value.now (set_with key.now value.now (Some (when, gets)))) }
+    ensures lent { R.lends → gets ≡ false → IsSome result }
+    ensures same { P.part_of parts.new ≡ P.part_of parts.old }
+    ensures held { IsStillHeld P.is_open P.keeps parts.old parts.new }
+{
+    depends_on_named_keys();
+    let stripe = stripe_at(&*parts, key);
+    settle_set_at(alloc, parts.part(stripe), key, value, when, gets, staged)
+}
+
+/// What a SET under a condition comes to, on the part of its key's stripe.
+fn settle_set_at<R: Shows>(
+    alloc: Global,
+    part: &Shard<R>,
+    key: &Hashed,
+    value: &Word,
+    when: When,
+    gets: bool,
+    staged: &Staged<R>,
+) -> Option<Settled>
+    ensures answer { IfSome result (SettlesAs (R.is_honest × AreRight staged.now) (shard_store part.now key.now)
+        (set_with key.now value.now (Some (when, gets))) key.now value.now) }
+    ensures lent { R.lends → gets ≡ false → IsSome result }
+    ensures short { length value.now ≤ VALUE_BYTES_MAX
+        → IfSome result (λ settled. IfGives settled.change value.now (λ text. length text ≤ VALUE_BYTES_MAX)) }
+    ensures spot { IfSome result (λ settled. IfSome settled.spot (λ spot. IfGives settled.change value.now (λ text.
+        IsInPlace (shard_log part.now) key.now (length text) spot.address))) }
+{
+    let (found, spot) = look_at(part, key, staged)?;
+    let (reply, change) = set_on(alloc, when, gets, found)?;
+    let spot = fitting(&change, value, spot);
+    Some(Settled {
+        reply: Reply::Single(reply),
+        change,
+        spot,
+    })
+}
+
+/// What a SET answers and does under this condition, where its key has this. `None` where it answers the old value, and there is no memory
+/// for a copy.
+fn set_on(
+    alloc: Global,
+    when: When,
+    gets: bool,
+    found: Option<&[u8]>,
+) -> Option<(CommandReply, Change)>
+    ensures answer { (key value : Bytes) (store : Store) → store key ≡ option_copied found.entry → IfSome result (λ done.
+        answer store (set_with key value (Some (when, gets))) ≡ (done.0, changes done.1 key value)) }
+    ensures gives { (value : Bytes) → length value ≤ VALUE_BYTES_MAX
+        → IfSome result (λ done. IfGives done.1 value (λ text. length text ≤ VALUE_BYTES_MAX)) }
+    ensures memory { gets ≡ false → IsSome result }
+{
+    let done = allows(when, found);
+    let change = if done { Change::Given } else { Change::Nothing };
+    let reply = if gets {
+        value_reply(alloc, found)?
+    } else if done {
+        CommandReply::line(Line::Done)
+    } else {
+        CommandReply::bulk(None)
+    };
+    Some((reply, change))
+}
+
+/// Whether a SET is done under this condition, where its key has this.
+fn allows(when: When, found: Option<&[u8]>) -> bool
+    ensures { result ≡ answering.allows when (option_copied found.entry) }
+{
+    match when {
+        When::Always => true,
+        When::IfMissing => found.is_none(),
+        When::IfPresent => found.is_some(),
+    }
 }
 
 /// What a key has, where it lies, and where its newest record stands, if it may be written in place. `None` where a page is wanted,

@@ -17,7 +17,7 @@ ghost use Rattle.plans.specs.Planning.{HasMissedIn, HaveFailed, IsStillHeld, IsV
 ghost use Rattle.plans.specs.Reserving.{GrowsBy, HasNoRoomToPut, HasRoomToPut, HasShedAt, IsRoomyFor, ReservesToPut};
 ghost use Rattle.plans.specs.Holding.{BecomesWritten};
 
-use crate::cells::{copy_of, delete, reserve_at, set, set_at, stripe_at};
+use crate::cells::{append, copy_of, delete, reserve_at, set, set_at, stripe_at};
 use crate::stop::Stop;
 use device::{Device, Shows};
 use gates::Parts;
@@ -113,6 +113,27 @@ pub fn install_put<R: Shows, P: Parts<Shard<R>>>(parts: &mut P, key: &Hashed, va
 {
     match value {
         Some(value) => set(parts, key, value),
+        None => delete(parts, key),
+    }
+}
+
+/// Does to a key that was looked up, and has no record that may be written in place, what [`install_put`] does: it looks for no such record
+/// where the key gets a value.
+pub fn install_looked_up<R: Shows, P: Parts<Shard<R>>>(
+    parts: &mut P,
+    key: &Hashed,
+    value: Option<&Word>,
+)
+    requires open { P.is_open parts.old }
+    requires room { IsRoomyFor (P.stripes_of parts.old) (P.part_of parts.old) (key.now, option_copied value) }
+    requires fits { Fits key.now (option_copied value) }
+    ensures became { BecomesWritten R.is_steady P.stripes_of P.part_of parts.old parts.new ((key.now, option_copied value.entry) ∷ []) }
+    ensures grown { GrowsBy (P.stripes_of parts.old) (key.now, option_copied value.entry) (P.part_of parts.old) (P.part_of parts.new) }
+    ensures waits { SameWaits (P.part_of parts.old) (P.part_of parts.new) }
+    ensures held { IsStillHeld P.is_open P.keeps parts.old parts.new }
+{
+    match value {
+        Some(value) => append(parts, key, value),
         None => delete(parts, key),
     }
 }

@@ -1,17 +1,21 @@
 //! What keys have, told as a reply spells it: each value is copied once, from where it lies.
 
-ghost use Rattle.std.specs.Prelude.{◌≡◌, ◌+◌, ◌≤◌, ◌++◌, ◌∷◌, [], length, IfNone, IfSome, IsSome, vec_len, vec_capacity};
+ghost use Rattle.std.specs.Prelude.{◌≡◌, ◌+◌, ◌≤◌, ◌++◌, ◌∷◌, ◌↔◌, [], false, length, IfNone, IfSome, IsSome, IsTrue, vec_len, vec_capacity};
 ghost use Rattle.std.specs.Bool.{OnTrue};
 ghost use Rattle.words.specs.Answers.{item_of, items_of};
+ghost use Rattle.words.specs.Commands.{keys_of_all};
 ghost use Rattle.words.specs.Encoding.{encoding};
 ghost use Rattle.words.specs.Session.{value_reply, values_reply};
 ghost use Rattle.hybrid.specs.Staging.{AreRight};
-ghost use Rattle.transact.specs.Tables.{joined};
+ghost use Rattle.transact.specs.Tables as tables;
+ghost use Rattle.transact.specs.Tables.{AreThere, joined};
 ghost use Rattle.shards.specs.Shards.{shard_meaning, shard_store};
-ghost use Rattle.plans.specs.Planning.{IsStillHeld, IsValueIn, MayLookUp};
-ghost use Rattle.plans.specs.Telling.{AreValuesIn};
+ghost use Rattle.plans.specs.Holding.{marks_of};
+ghost use Rattle.plans.specs.Planning.{AreDue, IsStillHeld, IsValueIn, MayLookUp, asks_exec};
+ghost use Rattle.plans.specs.Telling.{AreGets, AreValuesIn, gets_reply, is_get};
 
 use crate::cells::stripe_at;
+use crate::marks::any_marked;
 use crate::running::value_at;
 use device::Shows;
 use gates::Parts;
@@ -20,7 +24,9 @@ use resp_write::{Said, SaidAll, say_up_to};
 use shards::shard::Shard;
 use std::alloc::Global;
 use words::bulks::Bulks;
+use words::command::Command;
 use words::hash::Hashed;
+use words::locality::depends_on_named_keys;
 use words::word::Word;
 
 /// The bytes for which room is made for each value, before it is known how long they are.
@@ -182,6 +188,100 @@ pub fn say_values<R: Shows, P: Parts<Shard<R>>>(
     while let Some((first, others)) = left.split_first() {
         let Some(value) = say_up_to_limit(parts, &Hashed::new(first), staged, limit, out) else {
             out.truncate(before);
+            return None;
+        };
+        said.push(value);
+        left = others;
+    }
+    Some(said)
+}
+
+/// Whether a command is a GET.
+fn is_get(command: &Command) -> bool
+    ensures { result ≡ is_get command.now }
+{
+    matches!(command, Command::Get(_))
+}
+
+/// Whether each of these commands is a GET.
+pub fn are_gets(commands: &[Command]) -> bool
+    ensures { IsTrue result ↔ AreGets commands.now }
+{
+    let mut left = commands;
+    while let Some((first, others)) = left.split_first() {
+        if !is_get(first) {
+            return false;
+        }
+        left = others;
+    }
+    true
+}
+
+/// Says what a transaction of these GETs is due to be answered, of a session that watches these keys: each value is copied once, from where
+/// it lies to the end of the buffer. `None` where a watched key was written, a page is wanted, or the buffer has no room for all: it takes
+/// no memory.
+pub fn say_gets<R: Shows, P: Parts<Shard<R>>>(
+    parts: &mut P,
+    commands: &[Command],
+    watching: &[Word],
+    staged: &Staged<R>,
+    out: &mut Vec<u8>,
+) -> Option<SaidAll>
+    requires may { MayLookUp (P.is_open parts.old) (P.stripes_of parts.old) (P.part_of parts.old) (keys_of_all commands.now) }
+    requires gets { AreGets commands.now }
+    requires watching { AreThere (P.stripes_of parts.old) (P.part_of parts.old) watching.now }
+    ensures due { IfSome result (λ items. AreDue (R.is_honest × AreRight staged.now)
+        (asks_exec R.is_steady P.stripes_of P.holder_of P.part_of parts.old watching.now commands.now) (gets_reply items) []) }
+    ensures said { IfSome result (λ items. out.new.items ≡ out.old.items ++ encoding (gets_reply items)) }
+    ensures within { IsSome result → vec_len out.new ≤ vec_capacity out.old }
+    ensures unsaid { IfNone result (out.new.items ≡ out.old.items) }
+    ensures room { tables.any_marked (marks_of R.is_steady P.stripes_of P.part_of parts.old) (P.holder_of parts.old) watching.now ≡ false
+        → R.lends → R.is_honest × AreRight staged.now → vec_len out.old + length (encoding (gets_reply
+        (items_of (joined (shard_meaning R.is_steady) (P.stripes_of parts.old) (P.part_of parts.old)) (keys_of_all commands.now))))
+        ≤ vec_capacity out.old → IsSome result }
+    ensures capacity { vec_capacity out.old ≤ vec_capacity out.new }
+    ensures same { P.part_of parts.new ≡ P.part_of parts.old }
+    ensures held { IsStillHeld P.is_open P.keeps parts.old parts.new }
+{
+    depends_on_named_keys();
+    if any_marked(parts, watching) {
+        return None;
+    }
+    say_each(parts, commands, staged, out)
+}
+
+/// Says what these GETs find, one after the other, as [`say_gets`] does.
+fn say_each<R: Shows, P: Parts<Shard<R>>>(
+    parts: &mut P,
+    commands: &[Command],
+    staged: &Staged<R>,
+    out: &mut Vec<u8>,
+) -> Option<SaidAll>
+    requires may { MayLookUp (P.is_open parts.old) (P.stripes_of parts.old) (P.part_of parts.old) (keys_of_all commands.now) }
+    requires gets { AreGets commands.now }
+    ensures values { IfSome result (λ items. R.is_honest × AreRight staged.now → items
+        ≡ items_of (joined (shard_meaning R.is_steady) (P.stripes_of parts.old) (P.part_of parts.old)) (keys_of_all commands.now)) }
+    ensures said { IfSome result (λ items. out.new.items ≡ out.old.items ++ encoding (values_reply items)) }
+    ensures within { IsSome result → vec_len out.new ≤ vec_capacity out.old }
+    ensures unsaid { IfNone result (out.new.items ≡ out.old.items) }
+    ensures room { R.lends → R.is_honest × AreRight staged.now → vec_len out.old + length (encoding (values_reply
+        (items_of (joined (shard_meaning R.is_steady) (P.stripes_of parts.old) (P.part_of parts.old)) (keys_of_all commands.now))))
+        ≤ vec_capacity out.old → IsSome result }
+    ensures capacity { vec_capacity out.old ≤ vec_capacity out.new }
+    ensures same { P.part_of parts.new ≡ P.part_of parts.old }
+    ensures held { IsStillHeld P.is_open P.keeps parts.old parts.new }
+{
+    let (start, limit) = (out.len(), out.capacity());
+    let Some(mut said) = SaidAll::begin(commands.len(), limit, out) else {
+        return None;
+    };
+    let mut left = commands;
+    while let Some((first, others)) = left.split_first() {
+        let Command::Get(key) = first else {
+            unreachable!()
+        };
+        let Some(value) = say_up_to_limit(parts, &Hashed::new(key), staged, limit, out) else {
+            out.truncate(start);
             return None;
         };
         said.push(value);

@@ -30,8 +30,8 @@ impl Model for Said {
     ghost view = { λ said. value_said said.is_there said.before.value.items said.after.value.items };
 }
 
-/// What the keys of an MGET have, whose bulk strings were appended to a buffer, one after the other. It holds none of their bytes:
-/// contracts see the items.
+/// The items of a reply, as what the keys of an MGET have, whose bulk strings were appended to a buffer, one after the other. It holds none
+/// of their bytes: contracts see the items.
 #[derive(Drop)]
 pub struct SaidAll {
     told: Told,
@@ -56,8 +56,8 @@ impl Model for SaidAll {
 }
 
 impl SaidAll {
-    /// Begins the reply to an MGET of so many keys: appends the header of an array, if the buffer then holds at most `limit` bytes. It
-    /// takes no memory.
+    /// Begins a reply of so many items: appends the header of an array, if the buffer then holds at most `limit` bytes. It takes no
+    /// memory.
     #[inline]
     #[tactic(auto, using(crate::proofs::SaidLengths::header_len))]
     pub fn begin(count: usize, limit: usize, out: &mut Vec<u8>) -> Option<SaidAll>

@@ -1,10 +1,11 @@
 //! Spelling an event, as a line of a schedule has it.
 
-ghost use Rattle.std.specs.Prelude.{◌≡◌, ◌++◌, ◌∷◌, [], OnOk, decimal};
+ghost use Rattle.std.specs.Prelude.{◌≡◌, ◌++◌, ◌∷◌, [], take, OnOk, decimal};
 ghost use Rattle.hex.specs.Hex.{encode_lower};
 ghost use Rattle.schedules.specs.Schedules.{spaced, words_of};
 
 use itoa::Buffer;
+use records::Page;
 use std::alloc::Global;
 use words::word::OutOfMemory;
 use world_model::Event;
@@ -82,8 +83,20 @@ pub(crate) fn add_event(alloc: Global, text: &mut Vec<u8>, event: &Event) -> Res
         Event::Drain(stripe) => add_named(text, b"drain", *stripe),
         Event::Release(stripe, page) => {
             // The first byte of the page stands for all.
-            let first = &page.page().bytes()[..1];
+            let first = first_of(page.page());
             add_with_bytes(alloc, text, b"release", *stripe, first)
         }
+    }
+}
+
+/// The first byte of a page.
+fn first_of(page: &Page) -> &[u8]
+    ensures { result.now ≡ take 1 page.now }
+{
+    let (bytes, zeros) = page.parts();
+    if bytes.is_empty() {
+        &zeros[..1]
+    } else {
+        &bytes[..1]
     }
 }

@@ -9,7 +9,7 @@ ghost use Rattle.hybrid.specs.HybridLog.{HasRoom, IsGrown, IsHybridLog, log_of, 
 ghost use Rattle.hybrid.specs.Log.{Fits, contents};
 ghost use Rattle.hybrid.specs.Lookups.{IsInPlace};
 ghost use Rattle.hybrid.specs.Reserving.{IsFull};
-ghost use Rattle.hybrid.specs.Writing.{IsWritten, write_weight};
+ghost use Rattle.hybrid.specs.Writing.{IsAdded, IsWritten, write_weight};
 ghost use Rattle.hybrid.specs.Staging.{AreRight, IsMissing};
 ghost use Rattle.gates.specs.Pages.{total};
 ghost use Rattle.shards.specs.Counted.{HasLanded, HasReleased, HasTaken, HasTurned, HasUnlinked, IsCounted, MatchBegun, MatchCleaning};
@@ -193,6 +193,21 @@ impl<R: Shows> CountedLog<R> {
         ensures waits { waiting_of self.new ≡ waiting_of self.old }
     {
         self.stripe.install_one_hashed(hash, write);
+    }
+
+    /// Makes one write at the tail, for which there is room, by the hash of its key. It takes no memory.
+    #[inline]
+    pub fn append_one<W: Write>(&mut self, hash: u64, write: &W)
+        requires hash { hash ≡ hash_of (W.key write.now) }
+        requires room { HasRoom self.old.log (write_weight (W.key write.now) (W.value write.now)) }
+        requires fits { Fits (W.key write.now) (W.value write.now) }
+        ensures added { (address : ℕ) × IsAdded self.old.log self.new.log address (W.key write.now) (W.value write.now) }
+        ensures contents { SetsKey (W.key write.now) (W.value write.now) self.old.log self.new.log }
+        ensures room { TakesRoom (write_weight (W.key write.now) (W.value write.now)) self.old.log self.new.log }
+        ensures grown { IsGrown self.old.log self.new.log (write_weight (W.key write.now) (W.value write.now)) }
+        ensures waits { waiting_of self.new ≡ waiting_of self.old }
+    {
+        self.stripe.append_one(hash, write);
     }
 
     /// Gives a key another value in place, where its newest record has room for it. It takes no memory and no room.

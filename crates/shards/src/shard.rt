@@ -22,7 +22,7 @@ ghost use Rattle.hybrid.specs.Lookups.{IsInPlace, MatchLookup, Tells};
 ghost use Rattle.hybrid.specs.Reserving.{IsFull};
 ghost use Rattle.hybrid.specs.Staging.{AreRight, IsMissing};
 ghost use Rattle.hybrid.specs.Log.{Fits};
-ghost use Rattle.hybrid.specs.Writing.{IsWritten};
+ghost use Rattle.hybrid.specs.Writing.{IsAdded, IsWritten};
 ghost use Rattle.shards.specs.Devices.{StillServes};
 ghost use Rattle.shards.specs.Counted.{HasLanded, MatchBegun, MatchMoved, claimed, without_flight};
 ghost use Rattle.epoch.specs.Seats.{IsOutside, known};
@@ -228,6 +228,26 @@ impl<R: Shows> Shard<R> {
             value: Some(value),
         };
         self.log.install_one(key.hash(), &put);
+        self.marks.touch(put.key);
+    }
+
+    /// Gives a key, for which there is room, a value in a record at the tail, and touches its marks: a key that was looked up, and has no
+    /// record that may be written in place. It takes no memory.
+    pub fn append(&mut self, key: &Hashed, value: &Word)
+        requires room { HasRoom (shard_log self.old) (weigh (key.now, Some value.now)) }
+        requires fits { Fits key.now (Some value.now) }
+        ensures added { (address : ℕ) × IsAdded (shard_log self.old) (shard_log self.new) address key.now (Some value.now) }
+        ensures waits { shard_waiting self.new ≡ shard_waiting self.old }
+        ensures value { (k : List ℕ) → shard_store self.new k ≡ update bytes_eq (shard_store self.old) key.now (Some value.now) k }
+        ensures marks { TouchesKey key.now self.old self.new }
+        ensures room { TakesRoom (weigh (key.now, Some value.now)) (shard_log self.old) (shard_log self.new) }
+        ensures grown { IsGrown (shard_log self.old) (shard_log self.new) (weigh (key.now, Some value.now)) }
+    {
+        let put = Put {
+            key: key.key(),
+            value: Some(value),
+        };
+        self.log.append_one(key.hash(), &put);
         self.marks.touch(put.key);
     }
 

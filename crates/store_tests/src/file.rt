@@ -7,7 +7,7 @@ use crate::full::FullDisk;
 use crate::memory::new_page;
 use device::{Device, DeviceFault, FileDevice, OpenFault, Releasable, Shows};
 use epoch::{EpochSeat, Epochs};
-use records::{HEADER_SIZE, PAGE_SIZE, Page};
+use records::{HEADER_SIZE, PAGE_SIZE, Page, Whole};
 use std::alloc::Global;
 use std::fs;
 use std::fs::{File, Files, OpenFile};
@@ -427,7 +427,7 @@ fn other_bytes_are_a_fault_or_another_page(rt: HostRuntime) {
     let (ones, five) = ([255; PAGE_SIZE], [5, 0, 0, 0, 0, 0, 0, 0, 255]);
     assert!(rt; number_after(&rt, rt.alloc(), path, &five, SIZE) == Some(5));
     assert!(rt; number_after(&rt, rt.alloc(), path, &ones, SIZE).is_none());
-    let other = new_page(&rt, rt.alloc(), 6);
+    let other = Whole::of(new_page(&rt, rt.alloc(), 6));
     assert!(rt; number_after(&rt, rt.alloc(), path, other.bytes(), SIZE).is_none());
     drop(other);
     fs::remove_file(&rt, path).expect(&rt, "the file removed");

@@ -7,6 +7,7 @@ ghost use Rattle.hybrid.specs.Staging.{AreRight};
 
 use crate::file::written;
 use crate::memory::{new_page, one_opening};
+use crate::pages::byte_of;
 use device::{Device, Faulty, FaultyReceipt, MemoryDevice, MemoryReceipt, Shows};
 use hybrid::{Cleaned, Fault, Lookup, Purpose, Room, Staged, Stripe, Weighed, Write};
 use records::{KEY_BYTES_MAX, Page, Record, record_at};
@@ -101,6 +102,20 @@ impl Shelf {
             .stripe
             .reserve(weight, Purpose::Clean, &mut self.device)?;
         self.stripe.install_one(&OneWrite { key, value });
+        Ok(())
+    }
+
+    // Gives a key a value, or none, in a record at the tail.
+    fn append(&mut self, key: &[u8], value: Option<&[u8]>) -> Result<(), Fault> {
+        if key.len() > KEY_BYTES_MAX || length_of(value) > VALUE_BYTES_MAX {
+            return Err(Fault::StoreFull);
+        }
+        let weight = WEIGHT_OF_KEY + key.len() + length_of(value);
+        let _room = self
+            .stripe
+            .reserve(weight, Purpose::Clean, &mut self.device)?;
+        self.stripe
+            .append_one(hash_of(key), &OneWrite { key, value });
         Ok(())
     }
 }
@@ -303,10 +318,27 @@ fn writes_at_the_tail(shelf: &mut Shelf, rt: &impl Abort) {
     assert!(rt; shows(&shelf.stripe, 48, 16, 11, b"12345678"));
 }
 
+#[test]
+fn a_record_that_is_appended_hides_the_old_one(rt: HostRuntime) {
+    let mut shelf = new_shelf(&rt, rt.alloc(), 4096, 64);
+    appends(&mut shelf, rt.alloc(), &rt);
+    drop(shelf);
+}
+
+fn appends(shelf: &mut Shelf, alloc: Global, rt: &impl Abort) {
+    puts(rt, shelf, b"a", Some(b"1"));
+    assert!(rt; shelf.append(b"a", Some(b"123")).is_ok());
+    assert!(rt; ends_at(&shelf.stripe, 80));
+    assert!(rt; shows(&shelf.stripe, 48, 16, 3, b"123"));
+    has(rt, shelf, alloc, b"a", Some(b"123"));
+    assert!(rt; shelf.append(b"a", None).is_ok());
+    has(rt, shelf, alloc, b"a", None);
+}
+
 // Whether the record at offset 48 of page 0 is of this kind.
 fn is_kind(stripe: &Stripe<Receipt>, kind: u8) -> bool {
     match stripe.page(0) {
-        Some(page) => page.bytes()[66] == kind,
+        Some(page) => byte_of(page, 66) == Some(kind),
         None => false,
     }
 }
@@ -732,12 +764,12 @@ fn reads_once(shelf: &mut Shelf, alloc: Global, rt: &impl Abort) {
     is_read(rt, shelf, &mut staged, &key, &value, 1);
     is_read(rt, shelf, &mut staged, &key, &value, 0);
     staged.clear();
-    assert!(rt; is_cold(&shelf.stripe, &staged, 0));
+    assert!(rt; is_cold(&shelf.stripe, &staged, 0) && staged.rooms() == 1);
     is_read(rt, shelf, &mut staged, &key, &value, 1);
     drop(staged);
 }
 
-// Pages that are read one after the other take the memory of one.
+// Pages that are read one after the other take the memory of one. It stays where they are let go, and is that of two once two were read.
 #[test]
 fn cold_reads_take_the_memory_of_those_at_once(rt: HostRuntime) {
     let mut shelf = new_shelf(&rt, rt.alloc(), 4096, 64);
@@ -749,11 +781,15 @@ fn takes_no_more(shelf: &mut Shelf, alloc: Global, rt: &impl Abort) {
     let mut staged = Staged::new(alloc);
     fills(rt, shelf, 1260);
     for _ in 0..100 {
-        staged.clear();
         stages(rt, shelf, &mut staged, 0);
         assert!(rt; staged.rooms() == 1);
+        staged.clear();
+        assert!(rt; staged.rooms() == 1);
     }
+    stages(rt, shelf, &mut staged, 0);
     stages(rt, shelf, &mut staged, 1);
+    assert!(rt; staged.rooms() == 2);
+    staged.clear();
     assert!(rt; staged.rooms() == 2);
     drop(staged);
 }

@@ -5,7 +5,8 @@ ghost use Rattle.records.specs.Records.{IsLaidOut};
 
 use crate::memory::new_page;
 use records::{
-    KEY_BYTES_MAX, NoRoom, PAGE_SIZE, Page, overwrite, put_record, record_at, record_size,
+    KEY_BYTES_MAX, NoRoom, PAGE_SIZE, Page, Whole, overwrite, put_record, record_at, record_size,
+    record_there,
 };
 use std::alloc::Global;
 use std::process::Abort;
@@ -32,6 +33,26 @@ pub(crate) fn patched(rt: &impl Abort, alloc: Global, places: &[(usize, u8)]) ->
         }
     }
     page
+}
+
+/// The byte of a page at a place.
+pub(crate) fn byte_of(page: &Page, at: usize) -> Option<u8> {
+    let (bytes, zeros) = page.parts();
+    let byte = match bytes.get(at) {
+        Some(byte) => byte,
+        None => zeros.get(at - bytes.len())?,
+    };
+    Some(*byte)
+}
+
+/// A copy of a page, of which each part can be lent.
+pub(crate) fn copy_of(rt: &impl Abort, alloc: Global, page: &Page) -> Whole {
+    Whole::of(page.try_clone(alloc).expect(rt, "memory for a page"))
+}
+
+/// How many bytes of a page lie in its memory.
+pub(crate) fn held(page: &Page) -> usize {
+    page.parts().0.len()
 }
 
 /// Whether the page is the example, but for other bytes at some places.
@@ -97,7 +118,7 @@ fn is_empty_page(rt: &impl Abort, alloc: Global, page: &Page, number: u64) {
 #[test]
 fn a_page_in_place(rt: HostRuntime) {
     let mut page = new_page(&rt, rt.alloc(), 0x0102_0304_0506_0708);
-    assert!(rt; page.number() == 0x0102_0304_0506_0708 && page.bytes()[0] == 8);
+    assert!(rt; page.number() == 0x0102_0304_0506_0708 && byte_of(&page, 0) == Some(8));
     let example = patched(&rt, rt.alloc(), &[]);
     page.copy_from(&example);
     assert!(rt; page == example);
@@ -302,5 +323,89 @@ fn a_value_in_place_of_a_tombstone(rt: HostRuntime) {
     let next = put_record(&mut page, 16, 9, b"b", Some(b"next"));
     overwrite(&mut page, 16, Some(b"123"));
     assert!(rt; is_put_at(next, 48) && holds_the_next(&page));
+    drop(page);
+}
+
+/// A value of no bytes is none of a tombstone, also where its record has no room for another value.
+#[test]
+fn a_value_of_no_bytes(rt: HostRuntime) {
+    let mut page = Page::new(rt.alloc(), 0).expect(&rt, "memory for a page");
+    let put = put_record(&mut page, 0, HASH, b"a", Some(b""));
+    assert!(rt; is_put_at(put, 16) && is_patched(&rt, rt.alloc(), &page, &[(36, 0), (45, 0)]));
+    puts_at(&rt, &mut page, 16, b"four", b"", 48, 80);
+    assert!(rt; holds_at(&page, 16, b"", 3) && holds_at(&page, 48, b"", 0));
+    drop(page);
+}
+
+/// Whether the record at offset 16 of a page that it fills has this value, and the page this last byte. None is read at the page's end.
+fn is_there(page: &Page, value: Option<&[u8]>, last: u8) -> bool {
+    let Ok(record) = record_there(page, 16) else {
+        return false;
+    };
+    let is_so = record.value == value && record.capacity == 65_491;
+    let is_alone = record_there(page, 65_528).is_err() && record_there(page, PAGE_SIZE).is_err();
+    is_so && is_alone && byte_of(page, PAGE_SIZE - 1) == Some(last)
+}
+
+/// A record that fills its page takes a shorter value, and none.
+#[test]
+fn a_record_that_fills_its_page_is_overwritten(rt: HostRuntime) {
+    let mut page = Page::new(rt.alloc(), 0).expect(&rt, "memory for a page");
+    let value = [b'x'; 65_491];
+    let put = put_record(&mut page, 0, HASH, b"a", Some(&value));
+    assert!(rt; is_put_at(put, 16) && page.used_end() == 65_536 && held(&page) == PAGE_SIZE);
+    assert!(rt; is_there(&page, Some(&value), b'x'));
+    overwrite(&mut page, 16, Some(b"1"));
+    assert!(rt; is_there(&page, Some(b"1"), 0));
+    overwrite(&mut page, 16, None);
+    assert!(rt; is_there(&page, None, 0));
+    drop(page);
+}
+
+/// It takes another value up to the page's last byte.
+#[test]
+fn a_record_that_fills_its_page_takes_another_as_long(rt: HostRuntime) {
+    let mut page = Page::new(rt.alloc(), 0).expect(&rt, "memory for a page");
+    let (value, other) = ([b'x'; 65_491], [b'y'; 65_491]);
+    let put = put_record(&mut page, 0, HASH, b"a", Some(&value));
+    assert!(rt; is_put_at(put, 16));
+    overwrite(&mut page, 16, Some(&other));
+    assert!(rt; is_there(&page, Some(&other), b'y'));
+    drop(page);
+}
+
+/// A page touches its memory up to the end of its used part, until all of it is asked for.
+#[test]
+fn a_page_holds_its_used_part(rt: HostRuntime) {
+    let mut page = Page::new(rt.alloc(), 0).expect(&rt, "memory for a page");
+    assert!(rt; held(&page) == 16);
+    let put = put_record(&mut page, 0, HASH, b"a", Some(b"1"));
+    assert!(rt; is_put_at(put, 16) && held(&page) == 48);
+    assert!(rt; is_patched(&rt, rt.alloc(), &page, &[]));
+    assert!(rt; byte_of(&page, 47) == Some(0) && byte_of(&page, PAGE_SIZE - 1) == Some(0));
+    assert!(rt; byte_of(&page, PAGE_SIZE).is_none());
+    assert!(rt; record_there(&page, 16).is_ok() && record_there(&page, 48).is_err());
+    let copy = copy_of(&rt, rt.alloc(), &page);
+    assert!(rt; copy.bytes()[32] == 1 && copy.bytes()[44] == 0x61);
+    drop(copy);
+    page.reset(1);
+    assert!(rt; held(&page) == 16 && byte_of(&page, 44) == Some(0));
+    page.bytes_mut()[44] = 7;
+    assert!(rt; held(&page) == PAGE_SIZE && byte_of(&page, 44) == Some(7));
+    drop(page);
+}
+
+/// A page that holds all of its bytes is filled as one that holds its used part alone.
+#[test]
+fn a_page_that_holds_all_its_bytes_is_filled_as_another(rt: HostRuntime) {
+    let mut page = Page::new(rt.alloc(), 0).expect(&rt, "memory for a page");
+    let mut whole = new_page(&rt, rt.alloc(), 5);
+    whole.copy_from(&page);
+    assert!(rt; held(&page) == 16 && held(&whole) == PAGE_SIZE);
+    let put = put_record(&mut page, 0, HASH, b"key", Some(b"a value"));
+    let other = put_record(&mut whole, 0, HASH, b"key", Some(b"a value"));
+    assert!(rt; is_put_at(put, 16) && is_put_at(other, 16));
+    assert!(rt; page == whole && held(&page) == 56 && held(&whole) == PAGE_SIZE);
+    drop(whole);
     drop(page);
 }

@@ -3,12 +3,13 @@
 ghost use Rattle.std.specs.Prelude.{◌≡◌, ◌<◌, ◌≤◌, ◌+◌, OnErr, OnOk};
 ghost use Rattle.records.specs.Page.{SameWithin};
 
+use crate::exchanged::{page_with, written_over};
 use crate::faulty::failing_at;
 use crate::file::{change, filled_page, has_length, opened, written};
 use crate::memory::{new_page, one_opening};
-use crate::pages::{HASH, TOMBSTONE, patched, puts_at};
+use crate::pages::{HASH, TOMBSTONE, copy_of, held, patched, puts_at};
 use device::{Device, DeviceFault, Faulty};
-use records::{PAGE_SIZE, Page, record_before};
+use records::{PAGE_SIZE, Page, Whole, record_before};
 use std::alloc::Global;
 use std::fs;
 use std::fs::{File, Files};
@@ -16,14 +17,16 @@ use std::process::Abort;
 use std::sync::Wait;
 
 /// A page that has the bytes of another one from a place up to an end, and 255 everywhere else.
-fn piece_of(rt: &impl Abort, alloc: Global, page: &Page, from: usize, to: usize) -> Page {
+fn piece_of(rt: &impl Abort, alloc: Global, page: &Page, from: usize, to: usize) -> Whole {
     let mut piece = new_page(rt, alloc, 99);
     let bytes = piece.bytes_mut();
     bytes.fill(255);
     if from <= to && to <= PAGE_SIZE {
-        bytes[from..to].copy_from_slice(&page.bytes()[from..to]);
+        let whole = copy_of(rt, alloc, page);
+        bytes[from..to].copy_from_slice(&whole.bytes()[from..to]);
+        drop(whole);
     }
-    piece
+    Whole::of(piece)
 }
 
 /// Whether a record is read at an offset of a page of which the bytes from there up to an end are known, and no other ones.
@@ -36,7 +39,7 @@ fn is_read(rt: &impl Abort, alloc: Global, page: &Page, end: usize, offset: usiz
 
 /// Whether the record at an offset of a piece has this value, of which so many bytes may take its place.
 fn holds_before(
-    piece: &Page,
+    piece: &Whole,
     end: usize,
     offset: usize,
     value: Option<&[u8]>,
@@ -68,7 +71,7 @@ fn is_read_to(
 }
 
 /// Whether the piece's record at offset 16 is the example's.
-fn holds_the_example(piece: &Page) -> bool {
+fn holds_the_example(piece: &Whole) -> bool {
     let Ok(record) = record_before(piece, 48, 16) else {
         return false;
     };
@@ -141,7 +144,7 @@ const REFUSED: [Row; 11] = [
 ];
 
 /// No record is read of a page without a part that is not known, for each of these reasons.
-fn are_refused(rt: &impl Abort, page: &Page, rows: &[Row]) {
+fn are_refused(rt: &impl Abort, page: &Whole, rows: &[Row]) {
     for (why, end, offset) in rows {
         assert!(rt; record_before(page, *end, *offset).is_err(), "{why}");
     }
@@ -149,7 +152,7 @@ fn are_refused(rt: &impl Abort, page: &Page, rows: &[Row]) {
 
 #[test]
 fn each_reason_to_refuse_in_a_piece(rt: HostRuntime) {
-    let page = patched(&rt, rt.alloc(), &[]);
+    let page = Whole::of(patched(&rt, rt.alloc(), &[]));
     are_refused(&rt, &page, &REFUSED);
     drop(page);
 }
@@ -180,18 +183,18 @@ fn write_and_read_piece<D: Device>(
 type Case = (usize, usize, Result<bool, DeviceFault>);
 
 /// Whether two pages have the same bytes from a place up to an end.
-fn have_the_same(page: &Page, other: &Page, from: usize, to: usize) -> bool
+fn have_the_same(page: &mut Page, other: &Whole, from: usize, to: usize) -> bool
     requires in_order { from ≤ to }
     requires in_page { to ≤ PAGE_SIZE }
 {
-    page.bytes()[from..to] == other.bytes()[from..to]
+    page.bytes_mut()[from..to] == other.bytes()[from..to]
 }
 
 /// Whether the bytes that a device gives of a page are those of the page.
 fn read_of<D: Device>(
     device: &mut D,
     receipt: &D::Receipt,
-    page: &Page,
+    page: &Whole,
     seen: &mut Page,
     from: usize,
     to: usize,
@@ -214,12 +217,14 @@ fn are_read<D: Device>(
     cases: &[Case],
 ) {
     let mut seen = new_page(rt, alloc, 99);
+    let whole = copy_of(rt, alloc, page);
     for (from, to, came) in cases {
         assert!(rt;
-            read_of(device, receipt, page, &mut seen, *from, *to) == *came,
+            read_of(device, receipt, &whole, &mut seen, *from, *to) == *came,
             "{from} to {to}"
         );
     }
+    drop(whole);
     drop(seen);
 }
 
@@ -273,6 +278,32 @@ fn each_piece_is_given(rt: HostRuntime) {
     fs::remove_file(&rt, path).expect(&rt, "the file removed");
 }
 
+/// Pieces on both sides of byte 48, behind which a page has zeros alone.
+const AROUND: [Case; 7] = [
+    (47, 49, Ok(true)),
+    (16, 4_112, Ok(true)),
+    (40, 65_536, Ok(true)),
+    (0, 65_536, Ok(true)),
+    (0, 48, Ok(true)),
+    (48, 49, Ok(true)),
+    (48, 65_536, Ok(true)),
+];
+
+/// A page whose memory holds 48 bytes is given in pieces, where it was written over a full one.
+#[test]
+fn pieces_reach_from_what_a_page_held_into_its_zeros(rt: HostRuntime) {
+    let path = "around.pages";
+    let page = page_with(&rt, rt.alloc(), 7, b"123");
+    assert!(rt; held(&page) == 48);
+    let mut device = opened(&rt, &rt, rt.alloc(), path);
+    let receipt = written_over(&rt, rt.alloc(), &mut device, &page);
+    are_read(&rt, rt.alloc(), &mut device, &receipt, &page, &AROUND);
+    drop(receipt);
+    drop(device);
+    drop(page);
+    fs::remove_file(&rt, path).expect(&rt, "the file removed");
+}
+
 /// Where one call of a device in memory fails, a piece is read so, as it was written or not, after so many calls.
 fn read_where(
     rt: &impl Abort,
@@ -286,9 +317,10 @@ fn read_where(
     let page = filled_page(rt, alloc, 5, 0);
     let mut seen = new_page(rt, alloc, 99);
     let result = write_and_read_piece(&mut device, &page, 100, 5_000, &mut seen);
-    assert!(rt; have_the_same(&seen, &page, 100, 5_000) == is_same);
+    let whole = Whole::of(page);
+    assert!(rt; have_the_same(&mut seen, &whole, 100, 5_000) == is_same);
     drop(seen);
-    drop(page);
+    drop(whole);
     assert!(rt; result == read && device.calls() == calls);
     drop(device);
 }

@@ -302,7 +302,8 @@ pub(crate) fn world_with(
 
 /// Whether this is a page, each of whose bytes is this.
 fn is_of(page: &Page, byte: u8) -> bool {
-    page.bytes().iter().all(|shown| *shown == byte)
+    let (bytes, zeros) = page.parts();
+    bytes.iter().all(|shown| *shown == byte) && (byte == 0 || zeros.is_empty())
 }
 
 /// A page of a byte that is shown.

@@ -53,3 +53,36 @@ fn commands_of_one_key_are_answered_on_what_it_has(rt: HostRuntime) {
         STRLEN k -> :19";
     assert!(rt; are_due_in_turn(&rt, rt.alloc(), lines));
 }
+
+/// The key is missing, there, deleted where its record stands in place, and there again. The value is as long as the one before it,
+/// longer, shorter and empty.
+#[test]
+fn a_set_under_a_condition_goes_by_what_its_key_has(rt: HostRuntime) {
+    let lines = "SET k first XX -> null\n\
+        EXISTS k -> :0\n\
+        SET k first NX -> +OK\n\
+        GET k -> $first\n\
+        SET k other NX -> null\n\
+        GET k -> $first\n\
+        SET k third XX -> +OK\n\
+        GET k -> $third\n\
+        SET k a-value-that-is-longer-than-the-room-of-the-one-before XX -> +OK\n\
+        GET k -> $a-value-that-is-longer-than-the-room-of-the-one-before\n\
+        SET k  XX -> +OK\n\
+        GET k -> $\n\
+        SET k x NX -> null\n\
+        STRLEN k -> :0\n\
+        SET k a-value-that-has-room-once-more XX -> +OK\n\
+        SET other x NX -> +OK\n\
+        GET k -> $a-value-that-has-room-once-more\n\
+        DEL k -> :1\n\
+        SET k y XX -> null\n\
+        EXISTS k -> :0\n\
+        SET k y NX -> +OK\n\
+        GET k -> $y\n\
+        GET other -> $x\n\
+        SET  empty NX -> +OK\n\
+        SET  key XX -> +OK\n\
+        GET  -> $key";
+    assert!(rt; are_due_in_turn(&rt, rt.alloc(), lines));
+}

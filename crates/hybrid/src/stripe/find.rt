@@ -13,10 +13,10 @@ ghost use Rattle.hybrid.specs.Staging.{AreRight, IsMissing};
 ghost use Rattle.hybrid.specs.Ways.{AreNear, GoesNear, IsFirstFar, IsNear, way_of};
 
 use crate::address::Address;
-use crate::staged::{Staged, record_of};
+use crate::staged::Staged;
 use crate::stripe::Stripe;
 use device::Shows;
-use records::{HEADER_SIZE, NotARecord, PAGE_SIZE, Record};
+use records::{HEADER_SIZE, NotARecord, PAGE_SIZE, Record, record_there};
 use words::hash::hash_of;
 use words::limits::VALUE_BYTES_MAX;
 
@@ -216,7 +216,7 @@ impl<R: Shows> Stripe<R> {
             let Some(page) = self.frames.page(number) else {
                 unreachable!()
             };
-            return Some(record_of(page, address.offset()));
+            return Some(record_there(page, address.offset()));
         }
         match self.receipt(number) {
             Some(receipt) => staged.record(receipt, address.offset()),
@@ -267,7 +267,7 @@ impl<R: Shows> Stripe<R> {
         ensures { (r : Stored) → IsResidentAt self.now address r → IsSomeAnd result (λ x. shown x ≡ r) }
     {
         match self.frames.page(address.page()) {
-            Some(page) => record_of(page, address.offset()).ok(),
+            Some(page) => record_there(page, address.offset()).ok(),
             None => None,
         }
     }

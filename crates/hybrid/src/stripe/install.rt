@@ -54,6 +54,26 @@ impl<R: Shows> Stripe<R> {
         let _oldest = self.oldest();
     }
 
+    /// Makes one write at the tail, by the hash of its key: of a key that was looked up, and has no record in the mutable part with room
+    /// for the write. It looks for none.
+    pub fn append_one<W: Write>(&mut self, hash: u64, write: &W)
+        requires hash { hash ≡ hash_of (W.key write.now) }
+        requires room { HasRoom self.old (write_weight (W.key write.now) (W.value write.now)) }
+        requires fits { Fits (W.key write.now) (W.value write.now) }
+        ensures added { (address : ℕ) × IsAdded self.old self.new address (W.key write.now) (W.value write.now) }
+        ensures contents { (other : List ℕ) → contents (log_of self.new) other
+            ≡ update bytes_eq (contents (log_of self.old)) (W.key write.now) (W.value write.now) other }
+        ensures room { (more : ℕ) → write_weight (W.key write.now) (W.value write.now) ≤ more → HasRoom self.old more
+            → HasRoom self.new (more - write_weight (W.key write.now) (W.value write.now)) }
+        ensures grown { IsGrown self.old self.new (write_weight (W.key write.now) (W.value write.now)) }
+    {
+        let key = write.key();
+        let value = write.value();
+        let weight = WEIGHT_OF_KEY + key.len() + length_of(value);
+        self.append(hash, key, value, weight);
+        let _oldest = self.oldest();
+    }
+
     /// Gives a key another value in place, where its newest record stands in the mutable part and has room
     /// for it. It takes no memory and no room.
     pub fn overwrite_at(&mut self, key: &[u8], spot: Spot, value: &[u8])

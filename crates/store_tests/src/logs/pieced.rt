@@ -126,5 +126,7 @@ fn reads_after_a_fault(shelf: &mut Shelf, alloc: Global, rt: &impl Abort) {
     );
     assert!(rt; staged.rooms() == 2);
     is_read(rt, shelf, &mut staged, b"a3", &value, 1);
+    staged.clear();
+    assert!(rt; staged.rooms() == 2);
     drop(staged);
 }

@@ -17,8 +17,8 @@ use Rattle.shards.specs.declared.shard.Shard.{Shard}
 use Rattle.shards.specs.Shards.{logs_of, shard_meaning}
 use Rattle.plans.specs.Settling.{IsSpot}
 use Rattle.engine.specs.Calls.{promises_of}
-use Rattle.engine.specs.Entering.{command_asked, one_call_of}
-use Rattle.engine.proofs.Ones.{one_names, one_touches}
+use Rattle.engine.specs.Entering.{command_done, doing_call}
+use Rattle.engine.proofs.Ones.{done_names, done_touches}
 use Rattle.engine.proofs.Parts.{became_same}
 use Rattle.engine.proofs.Entering.{WasCommitted, counted, done_by, fit_installed, fit_undone, given_still, named_held, parts_of, placed, reply_due, stands, was_worn}
 use Rattle.engine.proofs.one.enter_in_place.Goals as goal
@@ -27,7 +27,7 @@ pub commit-requires-clause-due : goal.commit-requires-clause-due
 commit-requires-clause-due g c =
     let s : Type 0 = g.R.Shows.is_steady in
     let start : Held (Shard _) = c.args.held.now in
-    let command : Command = command_asked c.args.asks.now in
+    let command : Command = command_done c.args.asks.now in
     let reply : Reply = c.args.reply.now in
     let w : Write = (c.args.asks.now.key.now, Some c.args.text.now) in
     reply_due s start start (asked.Run command) reply (w ∷ []) (same_as_it start)
@@ -35,18 +35,18 @@ commit-requires-clause-due g c =
 
 pub commit-requires-clause-keys : goal.commit-requires-clause-keys
 commit-requires-clause-keys g c =
-    named_held g.R.Shows.is_steady (held_stripes c.args.held.now) c.args.held.now c.args.held.now (one_call_of c.args.asks.now) (same_as_it c.args.held.now) refl (one_touches c.args.asks.now.verb c.args.asks.now.key.now c.args.asks.now.value.now) c.requires.begin.ends
+    named_held g.R.Shows.is_steady (held_stripes c.args.held.now) c.args.held.now c.args.held.now (doing_call c.args.asks.now) (same_as_it c.args.held.now) refl (done_touches c.args.asks.now.does c.args.asks.now.key.now c.args.asks.now.value.now) c.requires.begin.ends
     c.requires.begin.may.there
 
 pub commit-requires-clause-place : goal.commit-requires-clause-place
-commit-requires-clause-place g c = placed (one_call_of c.args.asks.now) (known_to c.args.held.now).watched (one_touches c.args.asks.now.verb c.args.asks.now.key.now c.args.asks.now.value.now) c.requires.begin.place
+commit-requires-clause-place g c = placed (doing_call c.args.asks.now) (known_to c.args.held.now).watched (done_touches c.args.asks.now.does c.args.asks.now.key.now c.args.asks.now.value.now) c.requires.begin.place
 
 pub install_at-requires-clause-there : goal.install_at-requires-clause-there
 install_at-requires-clause-there g c =
     let s : Type 0 = g.R.Shows.is_steady in
     let start : Held (Shard _) = c.args.held.now in
     let done : Held (Shard _) = c.commit.new.self in
-    let there = subst (λ (l : List Bytes). AreThere (held_stripes start) (parts_of s start) l) (one_names c.args.asks.now.verb c.args.asks.now.key.now c.args.asks.now.value.now) c.requires.begin.may.there in
+    let there = subst (λ (l : List Bytes). AreThere (held_stripes start) (parts_of s start) l) (done_names c.args.asks.now.does c.args.asks.now.key.now c.args.asks.now.value.now) c.requires.begin.may.there in
     subst (λ (m : ℕ). IsSome (parts_of s done (stripe_of m c.args.asks.now.key.now))) (sym (counted s start done c.commit.ensures.gates))
     (subst (λ (l : List (ℕ × Shard _)). IsSome (part_at l (stripe_of (held_stripes start) c.args.asks.now.key.now))) (sym c.commit.ensures.parts) there.0)
 
@@ -67,7 +67,7 @@ returns-in-Ok g c = record {
       let done : Held (Shard _) = c.commit.new.self in
       let last : Held (Shard _) = c.install_at.new.parts in
       let same = same_as_it start in
-      let command : Command = command_asked c.args.asks.now in
+      let command : Command = command_done c.args.asks.now in
       let reply : Reply = c.args.reply.now in
       let w : Write = (c.args.asks.now.key.now, Some c.args.text.now) in
       let count = counted s start done c.commit.ensures.gates in
@@ -89,7 +89,7 @@ returns-in-Ok g c = record {
         answered = record {
           done =
               done_by (call.One command) reply _ c.in-Ok.field-0 _ (known_to start) (known_to start) (known_to done) (known_to last) failures failures
-              (one_touches c.args.asks.now.verb c.args.asks.now.key.now c.args.asks.now.value.now) refl c.install_at.ensures.held.kept.known did refl;
+              (done_touches c.args.asks.now.does c.args.asks.now.key.now c.args.asks.now.value.now) refl c.install_at.ensures.held.kept.known did refl;
           undone = tt;
         };
       };
@@ -104,7 +104,7 @@ returns-in-Err g c = record {
       let start : Held (Shard _) = c.args.held.now in
       let last : Held (Shard _) = c.commit.new.self in
       let same = same_as_it start in
-      let command : Command = command_asked c.args.asks.now in
+      let command : Command = command_done c.args.asks.now in
       record {
         back =
             given_still s Nothing start last c.commit.ensures.open_still tt c.commit.ensures.gates c.commit.ensures.pass
@@ -114,7 +114,7 @@ returns-in-Err g c = record {
           done = tt;
           undone =
               was_worn (promises_of s g.R.Shows.lends n) (call.One command) (known_to start) (known_to start) (known_to last) (known_to last) (known_to last) failures failures
-              (one_touches c.args.asks.now.verb c.args.asks.now.key.now c.args.asks.now.value.now) refl refl refl c.in-Err.ensures.worn refl;
+              (done_touches c.args.asks.now.does c.args.asks.now.key.now c.args.asks.now.value.now) refl refl refl c.in-Err.ensures.worn refl;
         };
       };
   worn = refl;

@@ -28,10 +28,10 @@ use Rattle.shards.specs.Shards.{logs_of, shard_meaning, weigh}
 use Rattle.engine.specs.Calls.{IsUndone, promises_of}
 use Rattle.engine.specs.Entering.{came_to, given}
 use Rattle.transact.specs.declared.call.Answer.TheVariants as answer
-use Rattle.engine.specs.Entering.{command_asked, one_call_of}
+use Rattle.engine.specs.Entering.{command_done, doing_call}
 use Rattle.engine.specs.Passes.{know}
 use Rattle.engine.specs.Stops.{fault_of}
-use Rattle.engine.proofs.Ones.{one_names, one_touches}
+use Rattle.engine.proofs.Ones.{done_names, done_touches}
 use Rattle.engine.proofs.Parts.{there_after}
 use Rattle.engine.proofs.Stopped.{cold_in, full_in, full_then, memory_in, put_stopped}
 use Rattle.engine.proofs.Entering.{WasCommitted, counted, done_by, fit_installed, fit_kept, fit_undone, given_still, heard_stop, named_held, parts_of, placed, reply_due, stands, told_stop, was_worn}
@@ -42,7 +42,7 @@ pub reserve_freeing-requires-clause-may : goal.reserve_freeing-requires-clause-m
 reserve_freeing-requires-clause-may g c = record {
   may = record {
     can_lend = c.requires.begin.may.is_open;
-    there = subst (λ (l : List Bytes). AreThere (held_stripes c.args.held.now) (parts_of g.R.Shows.is_steady c.args.held.now) l) (one_names c.args.asks.now.verb c.args.asks.now.key.now c.args.asks.now.value.now) c.requires.begin.may.there;
+    there = subst (λ (l : List Bytes). AreThere (held_stripes c.args.held.now) (parts_of g.R.Shows.is_steady c.args.held.now) l) (done_names c.args.asks.now.does c.args.asks.now.key.now c.args.asks.now.value.now) c.requires.begin.may.there;
   };
   light = c.requires.light;
 }
@@ -56,7 +56,7 @@ returns-in-Err-clause-entered g c =
     let start : Held (Shard _) = c.args.held.now in
     let mid : Held (Shard _) = c.reserve_freeing.new.parts in
     let same = c.reserve_freeing.ensures.held.kept in
-    let command : Command = command_asked c.args.asks.now in
+    let command : Command = command_done c.args.asks.now in
     let f0 : ℕ = g.D.Device.failures c.args.device.now in
     let f1 : ℕ = g.D.Device.failures c.reserve_freeing.new.device in
     let P : Fault → Report → Type 0 = λ f r. IsUndone (promises_of s g.R.Shows.lends (held_stripes start)) [] (asked_of (call.One command)) f (know (known_to start) f0) (know (given false r (known_to mid)) f1) in
@@ -74,7 +74,7 @@ returns-in-Err-clause-entered g c =
             subst (λ (f : Fault). P f c.told_of.result.report) (sym c.told_of.ensures.fault)
             (subst (λ (r : Report). P (fault_of c.in-Err.halt.stop) r) (sym c.told_of.ensures.report)
             (put_stopped (promises_of s g.R.Shows.lends (held_stripes start)) command c.args.asks.now.key.now (option_copied c.args.value) c.args.reply.now c.in-Err.halt.stop c.in-Err.halt.refused (known_to start) (known_to mid) f0 f1
-            (one_touches c.args.asks.now.verb c.args.asks.now.key.now c.args.asks.now.value.now) same.known (cold_in c.in-Err.halt.stop _ _ _ _ c.in-Err.ensures.halted) (memory_in c.in-Err.halt.stop _ _ _ _ c.in-Err.ensures.halted (λ never. never))
+            (done_touches c.args.asks.now.does c.args.asks.now.key.now c.args.asks.now.value.now) same.known (cold_in c.in-Err.halt.stop _ _ _ _ c.in-Err.ensures.halted) (memory_in c.in-Err.halt.stop _ _ _ _ c.in-Err.ensures.halted (λ never. never))
             c.in-Err.ensures.failed (full_in c.in-Err.halt.stop _ _ _ _ c.in-Err.ensures.halted) c.requires.due));
       };
     }
@@ -86,7 +86,7 @@ returns-in-Err-clause-heard g c =
 pub commit-requires-clause-due : goal.commit-requires-clause-due
 commit-requires-clause-due g c =
     let s : Type 0 = g.R.Shows.is_steady in
-    let command : Command = command_asked c.args.asks.now in
+    let command : Command = command_done c.args.asks.now in
     let reply : Reply = c.args.reply.now in
     reply_due s c.args.held.now c.reserve_freeing.new.parts (asked.Run command) reply ((c.args.asks.now.key.now, option_copied c.args.value) ∷ []) c.reserve_freeing.ensures.held.kept
     c.requires.due
@@ -94,16 +94,16 @@ commit-requires-clause-due g c =
 pub commit-requires-clause-keys : goal.commit-requires-clause-keys
 commit-requires-clause-keys g c =
     let s : Type 0 = g.R.Shows.is_steady in
-    named_held s (held_stripes c.args.held.now) c.args.held.now c.reserve_freeing.new.parts (one_call_of c.args.asks.now) c.reserve_freeing.ensures.held.kept refl (one_touches c.args.asks.now.verb c.args.asks.now.key.now c.args.asks.now.value.now) c.requires.begin.ends
-    (there_after (held_stripes c.args.held.now) (call_keys (one_call_of c.args.asks.now)) (parts_of s c.args.held.now) (parts_of s c.reserve_freeing.new.parts) c.reserve_freeing.ensures.became.there c.requires.begin.may.there)
+    named_held s (held_stripes c.args.held.now) c.args.held.now c.reserve_freeing.new.parts (doing_call c.args.asks.now) c.reserve_freeing.ensures.held.kept refl (done_touches c.args.asks.now.does c.args.asks.now.key.now c.args.asks.now.value.now) c.requires.begin.ends
+    (there_after (held_stripes c.args.held.now) (call_keys (doing_call c.args.asks.now)) (parts_of s c.args.held.now) (parts_of s c.reserve_freeing.new.parts) c.reserve_freeing.ensures.became.there c.requires.begin.may.there)
 
 pub commit-requires-clause-place : goal.commit-requires-clause-place
 commit-requires-clause-place g c =
-    subst (λ (k : Knowledge). HasPlace (operation_of k.watched (asked_for (one_call_of c.args.asks.now)))) (sym c.reserve_freeing.ensures.held.kept.known)
-    (placed (one_call_of c.args.asks.now) (known_to c.args.held.now).watched (one_touches c.args.asks.now.verb c.args.asks.now.key.now c.args.asks.now.value.now) c.requires.begin.place)
+    subst (λ (k : Knowledge). HasPlace (operation_of k.watched (asked_for (doing_call c.args.asks.now)))) (sym c.reserve_freeing.ensures.held.kept.known)
+    (placed (doing_call c.args.asks.now) (known_to c.args.held.now).watched (done_touches c.args.asks.now.does c.args.asks.now.key.now c.args.asks.now.value.now) c.requires.begin.place)
 
-pub install_put-requires-clause-room : goal.install_put-requires-clause-room
-install_put-requires-clause-room g c =
+pub install_looked_up-requires-clause-room : goal.install_looked_up-requires-clause-room
+install_looked_up-requires-clause-room g c =
     let s : Type 0 = g.R.Shows.is_steady in
     let start : Held (Shard _) = c.args.held.now in
     let done : Held (Shard _) = c.commit.new.self in
@@ -119,33 +119,33 @@ returns-in-Ok-clause-entered g c =
     let start : Held (Shard _) = c.args.held.now in
     let mid : Held (Shard _) = c.reserve_freeing.new.parts in
     let done : Held (Shard _) = c.commit.new.self in
-    let last : Held (Shard _) = c.install_put.new.parts in
+    let last : Held (Shard _) = c.install_looked_up.new.parts in
     let same = c.reserve_freeing.ensures.held.kept in
-    let command : Command = command_asked c.args.asks.now in
+    let command : Command = command_done c.args.asks.now in
     let reply : Reply = c.args.reply.now in
     let w : Write = (c.args.asks.now.key.now, option_copied c.args.value) in
     let f0 : ℕ = g.D.Device.failures c.args.device.now in
     let f1 : ℕ = g.D.Device.failures c.reserve_freeing.new.device in
     let count = counted s start done (c.commit.ensures.gates ∙ ap (λ (g : Bor (Gates (Shard _))). g.now) same.gates) in
     let did : WasCommitted s c.in-Ok.field-0 (asked.Run command) reply mid done = c.in-Ok.ensures.ok in
-    let installed = subst (λ (m : ℕ). Became (shard_meaning s) m (w ∷ []) (touches (w ∷ [])) (parts_of s done) (parts_of s last)) count c.install_put.ensures.became in
+    let installed = subst (λ (m : ℕ). Became (shard_meaning s) m (w ∷ []) (touches (w ∷ [])) (parts_of s done) (parts_of s last)) count c.install_looked_up.ensures.became in
     let reserved : Became (shard_meaning s) n [] stays (parts_of s start) (parts_of s done) =
     subst (λ (l : List (ℕ × Shard _)). Became (shard_meaning s) n [] stays (parts_of s start) (part_at l)) (sym c.commit.ensures.parts) c.reserve_freeing.ensures.became in
     record {
       back =
-          given_still s Nothing start last c.install_put.ensures.held.open_still tt
-          (ap (λ (g : Bor (Gates (Shard _))). g.now) c.install_put.ensures.held.kept.gates ∙ c.commit.ensures.gates ∙ ap (λ (g : Bor (Gates (Shard _))). g.now) same.gates)
-          (c.install_put.ensures.held.kept.pass ∙ c.commit.ensures.pass ∙ same.pass)
+          given_still s Nothing start last c.install_looked_up.ensures.held.open_still tt
+          (ap (λ (g : Bor (Gates (Shard _))). g.now) c.install_looked_up.ensures.held.kept.gates ∙ c.commit.ensures.gates ∙ ap (λ (g : Bor (Gates (Shard _))). g.now) same.gates)
+          (c.install_looked_up.ensures.held.kept.pass ∙ c.commit.ensures.pass ∙ same.pass)
           (fit_installed s n (known_to start).number c.in-Ok.field-0 (asked.Run command) reply start mid done last refl refl
           (λ t. c.writes_install_a_command.ensures n (known_to start).number command (known_to start).seen (known_to start).watched reply (w ∷ [])
           (parts_of s start) (parts_of s done) (parts_of s last)
           (c.requires.due t)
           (stands s n (known_to start).number start refl c.requires.begin.may.fit t) reserved installed)
-          c.requires.begin.may.fit same c.reserve_freeing.ensures.became.there c.commit.ensures.taken did c.install_put.ensures.held.kept);
+          c.requires.begin.may.fit same c.reserve_freeing.ensures.became.there c.commit.ensures.taken did c.install_looked_up.ensures.held.kept);
       answered = record {
         done =
             done_by (call.One command) reply _ c.in-Ok.field-0 _ (known_to start) (known_to mid) (known_to done) (known_to last) f0 f1
-            (one_touches c.args.asks.now.verb c.args.asks.now.key.now c.args.asks.now.value.now) same.known c.install_put.ensures.held.kept.known did c.in_default.ensures.failed;
+            (done_touches c.args.asks.now.does c.args.asks.now.key.now c.args.asks.now.value.now) same.known c.install_looked_up.ensures.held.kept.known did c.in_default.ensures.failed;
         undone = tt;
       };
     }
@@ -158,7 +158,7 @@ returns-in-Err-commit-clause-entered g c =
     let mid : Held (Shard _) = c.reserve_freeing.new.parts in
     let last : Held (Shard _) = c.commit.new.self in
     let same = c.reserve_freeing.ensures.held.kept in
-    let command : Command = command_asked c.args.asks.now in
+    let command : Command = command_done c.args.asks.now in
     let f0 : ℕ = g.D.Device.failures c.args.device.now in
     let f1 : ℕ = g.D.Device.failures c.reserve_freeing.new.device in
     record {
@@ -171,7 +171,7 @@ returns-in-Err-commit-clause-entered g c =
         done = tt;
         undone =
             was_worn (promises_of s g.R.Shows.lends n) (call.One command) (known_to start) (known_to mid) (known_to last) (known_to last) (known_to last) f0 f1
-            (one_touches c.args.asks.now.verb c.args.asks.now.key.now c.args.asks.now.value.now) refl refl same.known c.in-Err-commit.ensures.worn c.in_default.ensures.failed;
+            (done_touches c.args.asks.now.does c.args.asks.now.key.now c.args.asks.now.value.now) refl refl same.known c.in-Err-commit.ensures.worn c.in_default.ensures.failed;
       };
     }
 

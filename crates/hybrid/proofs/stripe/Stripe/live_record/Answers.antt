@@ -69,7 +69,7 @@ pub returns-then-oldest-number-clause-resident : goal.returns-then-oldest-number
 returns-then-oldest-number-clause-resident g c = λ r at.
     let t = resident-there c.args.self.now c.args.address r (now-is _ _ c.self.view_is c.self.invariant.0) at in
     let page = c.in-Some.ensures.bytes ∙ ap (page_of c.self.inside.frames) c.page-number.ensures ∙ ap (λ (q : HybridLog). page_of q.resident (c.args.address / PAGE_SIZE)) c.self.view_is in
-    c.record_of.ensures.found (rw page t.laid) r (rw (page, c.offset.ensures) t.listed)
+    c.record_there.ensures.found (rw page t.laid) r (rw (page, c.offset.ensures) t.listed)
 
 pub returns-clause-resident : goal.returns-clause-resident
 returns-clause-resident g c = λ r at.

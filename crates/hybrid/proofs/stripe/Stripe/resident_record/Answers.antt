@@ -19,7 +19,7 @@ pub returns-in-Some : goal.returns-in-Some
 returns-in-Some g c = λ r at.
     let t = resident-there c.args.self.now c.args.address r (now-is _ _ c.self.view_is c.self.invariant.0) at in
     let page = c.in-Some.ensures.bytes ∙ ap (page_of c.self.inside.frames) c.page.ensures ∙ ap (λ (q : HybridLog). page_of q.resident (c.args.address / PAGE_SIZE)) c.self.view_is in
-    rw c.ok.ensures.value (IsSomeAnd-ok c.record_of.result (λ (x : Record). shown x ≡ r) (c.record_of.ensures.found (rw page t.laid) r (rw (page, c.offset.ensures) t.listed)))
+    rw c.ok.ensures.value (IsSomeAnd-ok c.record_there.result (λ (x : Record). shown x ≡ r) (c.record_there.ensures.found (rw page t.laid) r (rw (page, c.offset.ensures) t.listed)))
 
 pub returns-in-None : goal.returns-in-None
 returns-in-None g c = λ r at.
