@@ -50,7 +50,7 @@ use Rattle.engine.specs.Answers.{IsAnswered}
 use Rattle.engine.specs.declared.enter.Entered.{Entered}
 use Rattle.engine.specs.Entering.{HasEntered, IsPlacedOn, MayBeGiven, MayBegin, MayEnter, MaySubmit, WasCold, at_fault, came_to, given, own_answer}
 use Rattle.plans.specs.declared.placing.Placed.{Placed}
-use Rattle.plans.specs.Placing.{AllGoThere, IsPlacedFor, spots_of, writes_of}
+use Rattle.plans.specs.Placing.{AllGoThere, IsPlacedFor, LeaveSpare, targets_of, writes_of}
 use Rattle.engine.specs.declared.enter.Stopped.{Stopped}
 use Rattle.epoch.specs.declared.view.View.{View}
 use Rattle.shards.specs.Heard.{HasHeard}
@@ -272,7 +272,7 @@ module _ {R : Type 0} (steady : Type 0) where
     ends = subst (λ (k : Knowledge). EndsAll call k.watched) (sym same.known) begin.ends;
   }
 
-  -- what a call comes to whose writes all go over values that are there, where parts are the same
+  -- what a call comes to whose writes wait for nothing, where parts are the same
   pub placed_still : (start mid : Held (Shard R)) (call : Call) (placed : Placed) (Due : Reply → List Write → Type 0) → SameHold start mid → parts_of mid ≡ parts_of start
       → (steady → (said : Reply) (writes : List Write) → Due said writes → IsPlan (known_to start).seen (operation_of (known_to start).watched (asked_for call)) said writes)
       → IsPlacedFor Due (held_stripes start) (parts_of start) placed → IsPlacedOn steady call mid placed
@@ -282,8 +282,10 @@ module _ {R : Type 0} (steady : Type 0) where
         fits = has.fits;
         there = subst (λ (m : ℕ). AreThere m (parts_of mid) (keys_written (writes_of placed.placing))) (sym count)
             (subst (λ (p : ℕ → Option (Shard R)). AreThere (held_stripes start) p (keys_written (writes_of placed.placing))) (sym parts) has.there);
-        spots = subst (λ (m : ℕ). AllGoThere m (logs_of (parts_of mid)) (writes_of placed.placing) (spots_of placed.placing)) (sym count)
-            (subst (λ (p : ℕ → Option (Shard R)). AllGoThere (held_stripes start) (logs_of p) (writes_of placed.placing) (spots_of placed.placing)) (sym parts) has.spots);
+        targets = subst (λ (m : ℕ). AllGoThere m (logs_of (parts_of mid)) (writes_of placed.placing) (targets_of placed.placing)) (sym count)
+            (subst (λ (p : ℕ → Option (Shard R)). AllGoThere (held_stripes start) (logs_of p) (writes_of placed.placing) (targets_of placed.placing)) (sym parts) has.targets);
+        left = subst (λ (m : ℕ). LeaveSpare m (logs_of (parts_of mid)) (writes_of placed.placing) (targets_of placed.placing)) (sym count)
+            (subst (λ (p : ℕ → Option (Shard R)). LeaveSpare (held_stripes start) (logs_of p) (writes_of placed.placing) (targets_of placed.placing)) (sym parts) has.left);
       }
 
   -- what a call came to, from before the last steps, in which nothing was learned

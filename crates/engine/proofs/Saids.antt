@@ -5,7 +5,6 @@ use Rattle.words.specs.Store.{Bytes}
 use Rattle.words.specs.Watches.{touched}
 use Rattle.gates.specs.Rule.{Meaning}
 use Rattle.gates.specs.declared.held.Held.{Held}
-use Rattle.gates.specs.declared.view.Knowledge.{Knowledge}
 use Rattle.gates.specs.declared.report.Report.TheVariants.{Nothing}
 use Rattle.gates.specs.Helds.{known_to}
 use Rattle.transact.specs.declared.call.Call.{Call}

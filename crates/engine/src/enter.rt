@@ -136,9 +136,9 @@ pub(crate) fn give_back<R: Shows>(held: Held<'_, Shard<R>>, ends: bool, report: 
     }
 }
 
-/// Runs a call over the parts that are held: commits its one entry, and makes what it writes. A transaction whose writes all go over
-/// values that are there looks each key up once and makes no room; else the call is planned. With a fault nothing was committed, and
-/// values are as they were.
+/// Runs a call over the parts that are held: commits its one entry, and makes what it writes. A transaction, or a command of several keys,
+/// whose writes go over what is there, or into tail pages that have room, looks each key up once and makes no room; else the call is
+/// planned. With a fault nothing was committed, and values are as they were.
 ///
 /// # Errors
 ///
@@ -169,8 +169,8 @@ pub(crate) fn enter<L: Latch, R: Shows, D: Device<Receipt = R>, S: Retires>(
     }
 }
 
-/// Runs a call whose writes all go over values that are there, over the parts that are held: commits its one entry, and makes what it
-/// writes. It takes no memory and wants no room.
+/// Runs a call whose writes wait for nothing, over the parts that are held: commits its one entry, and makes what it writes. It takes no
+/// memory and wants no room.
 fn enter_placed<L: Latch, R: Shows>(
     site: &Site<L, R>,
     held: &mut Held<'_, Shard<R>>,

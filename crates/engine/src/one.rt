@@ -3,6 +3,7 @@
 
 ghost use Rattle.std.specs.Prelude.{◌≡◌, ◌≤◌, ◌∷◌, ℕ, [], Option, IfErr, IfOk, OnErr, Some};
 ghost use Rattle.std.specs.Option.{option_copied};
+ghost use Rattle.records.specs.Records.{value_bytes};
 ghost use Rattle.words.specs.Bounds.{IsBounded};
 ghost use Rattle.words.specs.History.{after};
 ghost use Rattle.words.specs.declared.limits.TheConstants.{WEIGHT_MAX};
@@ -281,14 +282,17 @@ fn carry_out<L: Latch, R: Shows, D: Device<Receipt = R>, S: Retires>(
     match &settled.change {
         Change::Nothing => enter_reply(site, held, asks, reply),
         Change::Given => match settled.spot {
-            Some(spot) => enter_in_place(site, held, asks, reply, asks.value, spot),
+            Some(spot) => enter_in_place(site, held, asks, reply, Some(asks.value), spot),
             None => enter_put(site, held, device, own, asks, reply, Some(asks.value)),
         },
         Change::Made(text) => match settled.spot {
-            Some(spot) => enter_in_place(site, held, asks, reply, text, spot),
+            Some(spot) => enter_in_place(site, held, asks, reply, Some(text), spot),
             None => enter_put(site, held, device, own, asks, reply, Some(text)),
         },
-        Change::Deleted => enter_put(site, held, device, own, asks, reply, None),
+        Change::Deleted => match settled.spot {
+            Some(spot) => enter_in_place(site, held, asks, reply, None, spot),
+            None => enter_put(site, held, device, own, asks, reply, None),
+        },
     }
 }
 
@@ -321,8 +325,8 @@ fn enter_reply<L: Latch, R: Shows>(
     }
 }
 
-/// Runs a command that answers this, and gives its key this text, over the parts that are held: commits its one entry, and copies the
-/// text over the old one. It takes no memory.
+/// Runs a command that answers this, and gives its key this text, or deletes it where there is none, over the parts that are held: commits
+/// its one entry, and copies the text over the old one. It takes no memory.
 ///
 /// # Errors
 ///
@@ -332,14 +336,15 @@ fn enter_in_place<L: Latch, R: Shows>(
     held: &mut Held<'_, Shard<R>>,
     asks: &Doing,
     reply: &Reply,
-    text: &Word,
+    text: Option<&Word>,
     spot: Spot,
 ) -> Result<(), Stopped>
     requires begin { MayBegin R.is_steady (doing_call asks.now) held.old }
     requires due { R.is_steady → IsPlan (known_to held.old).seen (Run (command_done asks.now))
-        reply.now ((asks.now.key.now, Some text.now) ∷ []) }
-    requires fits { Fits asks.now.key.now (Some text.now) }
-    requires spot { IsSpot (held_stripes held.old) (logs_of (part_at (held_parts held.old))) asks.now.key.now text.now spot }
+        reply.now ((asks.now.key.now, option_copied text) ∷ []) }
+    requires fits { Fits asks.now.key.now (option_copied text) }
+    requires spot { IsSpot (held_stripes held.old) (logs_of (part_at (held_parts held.old))) asks.now.key.now
+        (value_bytes (option_copied text)) spot }
     ensures entered { (failures : ℕ) → HasEntered (promises_of R.is_steady R.lends (held_stripes held.old)) (doing_call asks.now)
         own_answer (held.old, failures) (held.new, failures) (came_to reply.now result) }
     ensures worn { IfErr result (λ stopped. stopped ≡ worn_out) }

@@ -1,5 +1,5 @@
 -- Staged pages.
-use Rattle.std.proofs.Common.{◌≡◌, ℕ, ◌+◌, ◌<◌, ◌≤◌, List, ◌++◌, [], ◌∷◌, Option, None, Some, false, true, length, map, set, ap, refl, sym, ◌∙◌, subst, arith, inl, inr}
+use Rattle.std.proofs.Common.{◌≡◌, ℕ, ◌+◌, ◌<◌, ◌≤◌, List, ◌++◌, [], ◌∷◌, Option, None, Some, false, true, length, map, ap, refl, sym, ◌∙◌, subst, arith, inl, inr}
 use Rattle.std.specs.Prelude.{IfNone, MatchOption, is_some, slice_index_or}
 use Rattle.records.specs.Page.{SameWithin}
 use Rattle.hybrid.specs.declared.piece.Piece.{Piece}

@@ -28,7 +28,7 @@ use Rattle.transact.specs.Tables.{AreThere, joined}
 use Rattle.shards.specs.declared.shard.Shard.{Shard}
 use Rattle.shards.specs.Shards.{logs_of, shard_log, weigh}
 use Rattle.plans.specs.Memory.{IsBriefOn}
-use Rattle.plans.specs.Settling.{IfGives, IsInlineOn, IsSettled, IsSpot, SettlesAs, changes}
+use Rattle.plans.specs.Settling.{IfGives, IfWrites, IsInlineOn, IsSettled, IsSpot, SettlesAs, changes}
 use Rattle.plans.specs.declared.settling.Change.{Change}
 use Rattle.plans.specs.declared.settling.Change.TheVariants as change
 use Rattle.plans.specs.declared.settling.Settled.{Settled}
@@ -80,6 +80,13 @@ gives_then change.Given value P Q turn has = turn value has
 gives_then (change.Made text) value P Q turn has = turn text has
 gives_then change.Deleted value P Q turn has = tt
 
+-- and of what is written
+writes_then : (change : Change) (value : Bytes) (P Q : Bytes → Type 0) → ((text : Bytes) → P text → Q text) → IfWrites change value P → IfWrites change value Q
+writes_then change.Nothing value P Q turn has = tt
+writes_then change.Given value P Q turn has = turn value has
+writes_then (change.Made text) value P Q turn has = turn text has
+writes_then change.Deleted value P Q turn has = turn [] has
+
 light_text : (key text : Bytes) → length key ≤ KEY_BYTES_MAX → length text ≤ VALUE_BYTES_MAX → weigh (key, Some text) ≤ WEIGHT_MAX
 light_text key text few short = omega (arith, few, short)
 
@@ -109,17 +116,17 @@ module _ {R : Type 0} (n : ℕ) (parts : ℕ → Option (Shard R)) (key : Bytes)
   spot_at text spot has = λ log is.
       subst (λ (l : HybridLog). IsInPlace l key (length text) spot.address) (some_log (shard_log part) log (sym (log_at parts (stripe_of n key) part there) ∙ is)) has
 
-  spot_there : (change : Change) (value : Bytes) (spot : Option Spot) → IfSome spot (λ found. IfGives change value (λ text. IsInPlace (shard_log part) key (length text) found.address))
-      → IfSome spot (λ found. IfGives change value (λ text. IsSpot n (logs_of parts) key text found))
+  spot_there : (change : Change) (value : Bytes) (spot : Option Spot) → IfSome spot (λ found. IfWrites change value (λ text. IsInPlace (shard_log part) key (length text) found.address))
+      → IfSome spot (λ found. IfWrites change value (λ text. IsSpot n (logs_of parts) key text found))
   spot_there change value None has = tt
   spot_there change value (Some spot) has =
-      gives_then change value (λ text. IsInPlace (shard_log part) key (length text) spot.address) (λ text. IsSpot n (logs_of parts) key text spot) (λ text. spot_at text spot) has
+      writes_then change value (λ text. IsInPlace (shard_log part) key (length text) spot.address) (λ text. IsSpot n (logs_of parts) key text spot) (λ text. spot_at text spot) has
 
   module _ (law : Depends) (contents : Meaning (Shard R)) (command : Command) (value : Bytes) (Right : Type 0) (touches : touches_keys command ≡ true) (names : keys_of command ≡ key ∷ []) where
     settled_by : (settled : Settled) → AreThere n parts (key ∷ []) → IsBounded command
         → SettlesAs Right (joined contents n parts key) command key value settled
         → IfGives settled.change value (λ text. length text ≤ VALUE_BYTES_MAX)
-        → IfSome settled.spot (λ spot. IfGives settled.change value (λ text. IsInPlace (shard_log part) key (length text) spot.address))
+        → IfSome settled.spot (λ spot. IfWrites settled.change value (λ text. IsInPlace (shard_log part) key (length text) spot.address))
         → IsSettled Right contents n parts key value command settled
     settled_by settled held bounded is short spot =
         let few : length key ≤ KEY_BYTES_MAX = key_bounded key command names bounded in
@@ -142,7 +149,7 @@ module _ {R : Type 0} (n : ℕ) (parts : ℕ → Option (Shard R)) (key : Bytes)
     pub some_settled : (settled : Option Settled) → AreThere n parts (key ∷ []) → IsBounded command
         → IfSome settled (SettlesAs Right (joined contents n parts key) command key value)
         → IfSome settled (λ s. IfGives s.change value (λ text. length text ≤ VALUE_BYTES_MAX))
-        → IfSome settled (λ s. IfSome s.spot (λ spot. IfGives s.change value (λ text. IsInPlace (shard_log part) key (length text) spot.address)))
+        → IfSome settled (λ s. IfSome s.spot (λ spot. IfWrites s.change value (λ text. IsInPlace (shard_log part) key (length text) spot.address)))
         → IfSome settled (IsSettled Right contents n parts key value command)
     some_settled None held bounded is short spot = tt
     some_settled (Some settled) held bounded is short spot = settled_by settled held bounded is short spot

@@ -34,6 +34,13 @@ IfGives change.Given value P = P value
 IfGives (change.Made text) value P = P text
 IfGives change.Deleted value P = Unit {0}
 
+-- this of the bytes that are then a key's value in its record, if it is changed: none where it is deleted
+abbrev pub IfWrites : Change → (value : Bytes) → (Bytes → Type 0) → Type 0
+IfWrites change.Nothing value P = Unit {0}
+IfWrites change.Given value P = P value
+IfWrites (change.Made text) value P = P text
+IfWrites change.Deleted value P = P []
+
 -- The newest record of the key stands there, in the log of its stripe, and has room for this text in place.
 abbrev pub IsSpot : (n : ℕ) → (logs : ℕ → Option HybridLog) → (key text : Bytes) → Spot → Type 0
 IsSpot n logs key text spot = (log : HybridLog) → logs (stripe_of n key) ≡ Some log → IsInPlace log key (length text) spot.address
@@ -50,12 +57,12 @@ pub record IsInlineOn (store : Store) (command : Command) : Type 0 where
 
 module _ {R : Type 0} where
   -- What a command comes to, where this value was given: what it answers and writes is due to it after each history whose store the parts have. The
-  -- text that its key gets is no longer than a value may be, and light beside the key; where a spot is told, it has room for the text.
+  -- text that its key gets is no longer than a value may be, and light beside the key; where a spot is told, it has room for what is written.
   pub record IsSettled (Right : Type 0) (contents : Meaning (Shard R)) (n : ℕ) (parts : ℕ → Option (Shard R)) (key value : Bytes) (command : Command) (settled : Settled) : Type 0 where
     pub due : Right → (seen : History) → AllRead contents n parts (after seen) → IsPlan seen (Run command) settled.reply (changes settled.change key value)
     pub light : IfGives settled.change value (λ text. weigh (key, Some text) ≤ WEIGHT_MAX)
     pub short : IfGives settled.change value (λ text. length text ≤ VALUE_BYTES_MAX)
-    pub spot : IfSome settled.spot (λ spot. IfGives settled.change value (λ text. IsSpot n (logs_of parts) key text spot))
+    pub spot : IfSome settled.spot (λ spot. IfWrites settled.change value (λ text. IsSpot n (logs_of parts) key text spot))
 
   -- The same of parts that are held, in words of what lends them.
   module _ {P : Type 0} (steady : Type 0) (stripes_of : P → ℕ) (part_of : P → ℕ → Option (Shard R)) (parts : P) where

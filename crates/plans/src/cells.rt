@@ -1,22 +1,28 @@
 //! One key, or one stripe, of the parts that are held.
 
 ghost use Rattle.std.specs.Prelude.{◌≡◌, ◌+◌, ◌-◌, ◌<◌, ◌≤◌, [], ◌∷◌, IsOk, IsSome, IfErr, IfOk, OnOk};
-ghost use Rattle.std.specs.Prelude.{OnErr, length, unwrap_or, false, is_none, None, Some};
+ghost use Rattle.std.specs.Prelude.{OnErr, IsTrue, length, unwrap_or, false, is_none, None, Some};
 ghost use Rattle.std.specs.Bool.{OnTrue};
+ghost use Rattle.std.specs.Option.{option_copied};
+ghost use Rattle.records.specs.Records.{value_bytes};
+ghost use Rattle.records.specs.declared.pages.TheConstants.{HEADER_SIZE, PAGE_SIZE};
 ghost use Rattle.words.specs.declared.limits.TheConstants.{WEIGHT_MAX};
 ghost use Rattle.words.specs.Answers as answering;
 ghost use Rattle.words.specs.Stripes as striping;
 ghost use Rattle.hybrid.specs.Staging.{AreRight, IsMissing};
-ghost use Rattle.hybrid.specs.HybridLog.{IsHybridLog};
+ghost use Rattle.hybrid.specs.HybridLog.{IsHybridLog, expected, tail_bytes};
+ghost use Rattle.hybrid.specs.Reserving.{spare};
+ghost use Rattle.hybrid.specs.declared.stripe.room.Purpose.TheVariants as purpose;
 ghost use Rattle.hybrid.specs.Log.{Fits};
 ghost use Rattle.transact.specs.Tables.{stays};
 ghost use Rattle.shards.specs.Devices.{StillServes};
 ghost use Rattle.shards.specs.Receipts.{kept_by};
-ghost use Rattle.shards.specs.Shards.{SameLogs, SameWaits, logs_of, shard_log, shard_store};
+ghost use Rattle.shards.specs.Shards.{SameLogs, SameWaits, logs_of, shard_log, shard_store, weigh};
 ghost use Rattle.plans.specs.Settling.{IsSpot, IsSpotIn};
 ghost use Rattle.hybrid.specs.declared.stripe.find.Spot.{Spot};
 ghost use Rattle.words.specs.Store.{Bytes};
 ghost use Rattle.plans.specs.Finding.{FindsInPlaceAt, FindsInPlaceIn, JoinsWanted, LooksUpAt, LooksUpIn, WantsPage};
+ghost use Rattle.plans.specs.Placing.{HasSpare, HasTail};
 ghost use Rattle.plans.specs.Planning.{IsStillHeld, MayLookUp, MissedAt};
 ghost use Rattle.plans.specs.Reserving.{FailsToReserveAt, GrowsBy, HasRoomAt, HasShedAt, IsRoomyFor, LeavesRoom, ReservesAt};
 ghost use Rattle.plans.specs.Holding.{Becomes, BecomesWritten, BeginsWatches, EndsWatches, marks_of};
@@ -267,18 +273,29 @@ pub(crate) fn set<R: Shows, P: Parts<Shard<R>>>(parts: &mut P, key: &Hashed, val
     parts.part(stripe).set(key, value);
 }
 
-/// Gives a key, for which there is room, a value in a record at the tail.
-pub(crate) fn append<R: Shows, P: Parts<Shard<R>>>(parts: &mut P, key: &Hashed, value: &Word)
+/// Gives a key, for which there is room, a value in a record at the tail, or deletes it there. Where the tail page has room for it, others may
+/// be written in place where they might.
+pub(crate) fn append<R: Shows, P: Parts<Shard<R>>>(
+    parts: &mut P,
+    stripe: usize,
+    hash: u64,
+    key: &Word,
+    value: Option<&Word>,
+)
     requires open { P.is_open parts.old }
-    requires room { IsRoomyFor (P.stripes_of parts.old) (P.part_of parts.old) (key.now, Some value.now) }
-    requires fits { Fits key.now (Some value.now) }
-    ensures became { BecomesWritten R.is_steady P.stripes_of P.part_of parts.old parts.new ((key.now, Some value.now) ∷ []) }
-    ensures grown { GrowsBy (P.stripes_of parts.old) (key.now, Some value.now) (P.part_of parts.old) (P.part_of parts.new) }
+    requires stripe { stripe ≡ striping.stripe_of (P.stripes_of parts.old) key.now }
+    requires hash { hash ≡ striping.hash_of key.now }
+    requires room { IsRoomyFor (P.stripes_of parts.old) (P.part_of parts.old) (key.now, option_copied value) }
+    requires fits { Fits key.now (option_copied value) }
+    ensures became { BecomesWritten R.is_steady P.stripes_of P.part_of parts.old parts.new ((key.now, option_copied value.entry) ∷ []) }
+    ensures grown { GrowsBy (P.stripes_of parts.old) (key.now, option_copied value.entry) (P.part_of parts.old) (P.part_of parts.new) }
+    ensures spots { HasTail (logs_of (P.part_of parts.old)) stripe (weigh (key.now, option_copied value.entry))
+        → (other text : Bytes) (at : Spot) → (other ≡ key.now → ⊥) → IsSpotIn P.stripes_of P.part_of parts.old other text at
+        → IsSpot (P.stripes_of parts.old) (logs_of (P.part_of parts.new)) other text at }
     ensures waits { SameWaits (P.part_of parts.old) (P.part_of parts.new) }
     ensures held { IsStillHeld P.is_open P.keeps parts.old parts.new }
 {
-    let stripe = stripe_at(&*parts, key);
-    parts.part(stripe).append(key, value);
+    parts.part(stripe).append(hash, key, value);
 }
 
 /// Deletes a key, for which there is room.
@@ -295,28 +312,59 @@ pub(crate) fn delete<R: Shows, P: Parts<Shard<R>>>(parts: &mut P, key: &Hashed)
     parts.part(stripe).delete(key);
 }
 
-/// Gives a key a value in place. Where others may be written in place, they still may.
-pub(crate) fn set_at<R: Shows, P: Parts<Shard<R>>>(
+/// Gives a key a value in place, or deletes it there. Where others may be written in place, they still may.
+pub(crate) fn overwrite_at<R: Shows, P: Parts<Shard<R>>>(
     parts: &mut P,
-    key: &Hashed,
+    stripe: usize,
+    key: &Word,
     spot: Spot,
-    value: &Word,
+    value: Option<&Word>,
 )
     requires open { P.is_open parts.old }
+    requires stripe { stripe ≡ striping.stripe_of (P.stripes_of parts.old) key.now }
     requires there { IsSome (P.part_of parts.old (striping.stripe_of (P.stripes_of parts.old) key.now)) }
-    requires spot { IsSpotIn P.stripes_of P.part_of parts.old key.now value.now spot }
-    requires fits { Fits key.now (Some value.now) }
-    ensures became { BecomesWritten R.is_steady P.stripes_of P.part_of parts.old parts.new ((key.now, Some value.now) ∷ []) }
-    ensures grown { GrowsBy (P.stripes_of parts.old) (key.now, Some value.now) (P.part_of parts.old) (P.part_of parts.new) }
+    requires spot { IsSpotIn P.stripes_of P.part_of parts.old key.now (value_bytes (option_copied value)) spot }
+    requires fits { Fits key.now (option_copied value) }
+    ensures became { BecomesWritten R.is_steady P.stripes_of P.part_of parts.old parts.new ((key.now, option_copied value.entry) ∷ []) }
+    ensures grown { GrowsBy (P.stripes_of parts.old) (key.now, option_copied value.entry) (P.part_of parts.old) (P.part_of parts.new) }
     ensures spots { (other text : Bytes) (at : Spot) → IsSpotIn P.stripes_of P.part_of parts.old other text at
         → IsSpot (P.stripes_of parts.old) (logs_of (P.part_of parts.new)) other text at }
     ensures waits { SameWaits (P.part_of parts.old) (P.part_of parts.new) }
     ensures held { IsStillHeld P.is_open P.keeps parts.old parts.new }
 {
-    let stripe = stripe_at(&*parts, key);
     let part = parts.part(stripe);
     is_laid_out(&*part);
-    part.set_at(key, spot, value);
+    part.overwrite_at(key, spot, value);
+}
+
+/// Whether writes of this weight go into the tail page of a part, as [`Stripe::fits_tail`].
+///
+/// [`Stripe::fits_tail`]: hybrid::Stripe::fits_tail
+#[inline]
+fn fits_tail<R: Shows>(part: &Shard<R>, weight: usize) -> bool
+    requires { weight ≤ WEIGHT_MAX }
+    ensures fits { IsTrue result → weight + tail_bytes (shard_log part.now) ≤ PAGE_SIZE - HEADER_SIZE }
+    ensures left { IsTrue result → spare purpose.Write ≤ expected (shard_log part.now) }
+{
+    part.counted().stripe().fits_tail(weight)
+}
+
+/// Whether writes of this weight go into the tail page of a stripe, so that no page is opened for them, and the frames are there that
+/// writes leave.
+pub(crate) fn has_tail<R: Shows, P: Parts<Shard<R>>>(
+    parts: &mut P,
+    stripe: usize,
+    weight: usize,
+) -> bool
+    requires open { P.is_open parts.old }
+    requires there { IsSome (P.part_of parts.old stripe) }
+    requires light { weight ≤ WEIGHT_MAX }
+    ensures room { IsTrue result → HasTail (logs_of (P.part_of parts.old)) stripe weight }
+    ensures left { IsTrue result → HasSpare (logs_of (P.part_of parts.old)) stripe }
+    ensures same { P.part_of parts.new ≡ P.part_of parts.old }
+    ensures held { IsStillHeld P.is_open P.keeps parts.old parts.new }
+{
+    fits_tail(parts.part(stripe), weight)
 }
 
 /// A session watches a key from here on. It answers whether it did not watch the key.

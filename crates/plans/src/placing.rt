@@ -1,36 +1,43 @@
-//! Transactions whose writes all go over values that are there: each key is looked up once, when its command is run, no room is made,
-//! and no write looks for its record anew.
+//! Writes of a call that wait for nothing: each goes over what its key has, in place, or into the tail page of its stripe, which has room
+//! for all that the call writes. Each key is looked up once, when its command is run; no room is made, and no write looks for its record
+//! anew.
 
-ghost use Rattle.std.specs.Prelude.{◌≡◌, [], ◌∷◌, List, IfSome, IsSome, OnSome};
-ghost use Rattle.words.specs.Commands.{keys_of, keys_of_all};
-ghost use Rattle.words.specs.Store.{Bytes};
+ghost use Rattle.std.specs.Prelude.{◌≡◌, ◌+◌, ◌≤◌, ⊤, ℕ, [], ◌∷◌, List, length, true, Option, Some, slice_get, IfNone, IfSome, IsSome, IsTrue, OnSome};
+ghost use Rattle.records.specs.Records.{value_bytes};
+ghost use Rattle.words.specs.Commands.{keys_of, keys_of_all, touches_keys};
+ghost use Rattle.words.specs.Store.{Bytes, weight};
+ghost use Rattle.words.specs.declared.limits.TheConstants.{WEIGHT_MAX};
 ghost use Rattle.words.specs.Stripes as striping;
+ghost use Rattle.hybrid.specs.HybridLog.{HybridLog};
 ghost use Rattle.hybrid.specs.Staging.{AreRight};
-ghost use Rattle.hybrid.specs.Writing.{AreFit, OneWrite};
+ghost use Rattle.hybrid.specs.Writing.{AreFit};
 ghost use Rattle.hybrid.specs.declared.stripe.find.Spot.{Spot};
 ghost use Rattle.transact.specs.Plans.{keys_begun, keys_ended};
 ghost use Rattle.transact.specs.Tables.{AreThere, keys_written, touches_and_clears};
-ghost use Rattle.shards.specs.declared.shard.Shard.{Shard};
 ghost use Rattle.shards.specs.Rooms.{HaveGrown};
-ghost use Rattle.shards.specs.Shards.{SameWaits, logs_of};
+ghost use Rattle.shards.specs.Shards.{SameWaits, logs_of, weigh};
 ghost use Rattle.plans.specs.Holding.{Becomes, BecomesFirst, BecomesWritten, GrowsFirst};
-ghost use Rattle.plans.specs.Placing.{AllGoThereIn, GoThere, GoThereIn, IsPlaceIn, IsPlacedIn, IsSpotForIn, spots_of, writes_of};
-ghost use Rattle.plans.specs.Planning.{AreDue, IsStillHeld, MayLookUp, MayPlan, asks_call, asks_exec};
-ghost use Rattle.plans.specs.Running.{HasRunIn, HaveRunIn};
-ghost use Rattle.plans.specs.Sizes.{AreSized};
+ghost use Rattle.plans.specs.Placing.{AllGoThere, AllGoThereIn, GoThereIn, GoesThereIn, HasTail, HaveTailsIn, HaveTargetsIn, IsPlacedIn, LeaveSpareIn};
+ghost use Rattle.plans.specs.Placing.{WasLookedUp, WasLookedUpIn, WereLookedUp, WereLookedUpIn, targets_of, writes_of};
+ghost use Rattle.plans.specs.Planning.{AreDue, IsStillHeld, MayLookUp, MayPlan, asks_call, asks_command, asks_exec};
+ghost use Rattle.plans.specs.Reserving.{GrowsBy};
+ghost use Rattle.plans.specs.Running.{HasRunIn, HaveRunIn, ReadsOne};
+ghost use Rattle.plans.specs.Settling.{IsSpot, IsSpotIn};
+ghost use Rattle.plans.specs.Sizes.{AreSized, IsSized};
 
-use crate::cells::{set_at, stripe_at};
+use crate::cells::{append, has_tail, overwrite_at, stripe_at};
 use crate::find::room_for;
 use crate::hashed::HashedCall;
 use crate::looks::{Looks, looks_of};
 use crate::marks::{any_marked, end_watches};
-use crate::running::{run_key, run_next};
+use crate::running::{Looked, run_key, run_next, run_present};
 use device::Shows;
 use gates::Parts;
 use hybrid::laws::growth_adds_up;
 use hybrid::{Spot, Staged};
 use shards::shard::Shard;
 use std::alloc::Global;
+use std::slice;
 use strings::writes::{Write, Writes, writes_to};
 use transact::call::Call;
 use words::bounds::writes_are_bounded;
@@ -40,7 +47,7 @@ use words::locality::{depends_on_named_keys, writes_named_keys};
 use words::reply::{CommandReplies, CommandReply, Reply};
 use words::word::Word;
 
-/// What a call comes to whose writes all go over values that are there. It borrows nothing.
+/// What a call comes to whose writes wait for nothing. It borrows nothing.
 #[derive(Drop)]
 pub struct Placed {
     /// What the call is answered.
@@ -49,20 +56,25 @@ pub struct Placed {
     pub placing: Placing,
 }
 
-/// Writes, and where they go: each over the value that its key has.
+/// Writes, and where they go.
 #[derive(Drop)]
 pub struct Placing {
     /// The writes, in order.
     pub writes: Writes,
-    /// Where the newest record of each write's key stands, in the same order.
-    pub spots: Vec<Spot>,
+    /// Where each write goes, in the same order.
+    pub targets: Vec<Target>,
 }
 
-/// A key that was looked up, and where its newest record stands, if it may be written in place.
-#[derive(Clone, Copy)]
-struct Looked<'a> {
-    key: &'a Word,
-    spot: Option<Spot>,
+/// Where a write goes: over the newest record of its key, or into the tail page of its stripe.
+#[derive(Clone, Copy, Debug)]
+pub struct Target {
+    /// The stripe of its key.
+    pub stripe: usize,
+    /// The hash of its key.
+    pub hash: u64,
+    /// Where the newest record of its key stands, if that may be written in place and has room for what is written. Else the write goes to
+    /// the tail.
+    pub spot: Option<Spot>,
 }
 
 impl Placed {
@@ -72,7 +84,7 @@ impl Placed {
     /// [`Planned::install`]: crate::planned::Planned::install
     pub fn install<R: Shows, P: Parts<Shard<R>>>(self, parts: &mut P, call: &HashedCall) -> Reply
         requires open { P.is_open parts.old }
-        requires spots { AllGoThereIn P.stripes_of P.part_of parts.old (writes_of self.placing) (spots_of self.placing) }
+        requires targets { AllGoThereIn P.stripes_of P.part_of parts.old (writes_of self.placing) (targets_of self.placing) }
         requires written { AreThere (P.stripes_of parts.old) (P.part_of parts.old) (keys_written (writes_of self.placing)) }
         requires fits { AreFit (writes_of self.placing) }
         requires there { AreThere (P.stripes_of parts.old) (P.part_of parts.old) (keys_ended call.now) }
@@ -86,16 +98,16 @@ impl Placed {
     {
         let Placed { reply, placing } = self;
         let asked = call.call();
-        place_writes(parts, placing.writes.as_slice(), &placing.spots);
+        place_writes(parts, placing.writes.as_slice(), &placing.targets);
         end_watches(parts, asked);
         drop(placing);
         reply
     }
 }
 
-/// What a call comes to whose writes all go over values that are there, as [`plan`] finds it. Nothing is changed. `None` where a write
-/// goes elsewhere, a page is wanted, or memory; where a watched key was written, or the writes weigh too much; and for each call that is
-/// no transaction.
+/// What a call comes to whose writes wait for nothing, as [`plan`] finds it: a transaction, or a command of several keys or of a part of a
+/// value that writes. Nothing is changed. `None` for each other call; where a write goes to the tail and the tail page of its stripe has no
+/// room for all that the call writes; where a page is wanted, or memory; and where a watched key was written, or the writes weigh too much.
 ///
 /// [`plan`]: crate::plan::plan
 pub fn place<R: Shows, P: Parts<Shard<R>>>(
@@ -113,11 +125,56 @@ pub fn place<R: Shows, P: Parts<Shard<R>>>(
 {
     writes_are_bounded();
     match call.call() {
+        Call::One(command) => {
+            if has_no_short_way(command) {
+                place_one(alloc, parts, command, staged)
+            } else {
+                None
+            }
+        }
         Call::Exec(commands, watching) => {
             place_exec(alloc, parts, commands.as_slice(), watching.keys(), staged)
         }
-        Call::One(_) | Call::Watch(_) | Call::Forget(_) => None,
+        Call::Watch(_) | Call::Forget(_) => None,
     }
+}
+
+/// Whether a command writes, and has no way of its own.
+fn has_no_short_way(command: &Command) -> bool
+    ensures { IsTrue result → touches_keys command.now ≡ true }
+{
+    matches!(
+        command,
+        Command::Del(_) | Command::MSetNx(_) | Command::SetRange(_, _, _) | Command::Rename(_, _)
+    )
+}
+
+/// What a command comes to, as [`place`] has it.
+fn place_one<R: Shows, P: Parts<Shard<R>>>(
+    alloc: Global,
+    parts: &mut P,
+    command: &Command,
+    staged: &Staged<R>,
+) -> Option<Placed>
+    requires may { MayLookUp (P.is_open parts.old) (P.stripes_of parts.old) (P.part_of parts.old) (keys_of command.now) }
+    requires touches { touches_keys command.now ≡ true }
+    requires sized { IsSized command.now }
+    ensures placed { IfSome result (IsPlacedIn P.stripes_of P.part_of parts.old (AreDue (R.is_honest × AreRight staged.now)
+        (asks_command R.is_steady P.stripes_of P.part_of parts.old command.now))) }
+    ensures same { P.part_of parts.new ≡ P.part_of parts.old }
+    ensures held { IsStillHeld P.is_open P.keeps parts.old parts.new }
+{
+    depends_on_named_keys();
+    writes_named_keys();
+    let mut placing = nothing_placed(alloc);
+    let reply = place_next(alloc, parts, command, staged, &mut placing)?;
+    if !have_tails(parts, &placing) {
+        return None;
+    }
+    Some(Placed {
+        reply: Reply::Single(reply),
+        placing,
+    })
 }
 
 /// What a transaction of a session comes to that watches these keys, as [`place`] has it.
@@ -141,13 +198,73 @@ fn place_exec<R: Shows, P: Parts<Shard<R>>>(
         return None;
     }
     let (replies, placing) = place_each(alloc, parts, commands, staged)?;
-    if placing.writes.weight().is_none() {
+    if !have_tails(parts, &placing) {
         return None;
     }
     Some(Placed {
         reply: Reply::Array(CommandReplies::from_vec(replies)),
         placing,
     })
+}
+
+/// No writes. It takes no memory.
+fn nothing_placed(alloc: Global) -> Placing
+    ensures writes { writes_of result ≡ [] }
+    ensures targets { targets_of result ≡ [] }
+{
+    Placing {
+        writes: Writes::new(alloc),
+        targets: Vec::new(alloc),
+    }
+}
+
+/// Whether these writes are light, and go there: those that go to the tail have room in the tail pages of their stripes, each of which has
+/// room for all, and leave there the frames that writes leave.
+fn have_tails<R: Shows, P: Parts<Shard<R>>>(parts: &mut P, placing: &Placing) -> bool
+    requires open { P.is_open parts.old }
+    requires there { AreThere (P.stripes_of parts.old) (P.part_of parts.old) (keys_written (writes_of placing.now)) }
+    requires targets { HaveTargetsIn P.stripes_of P.part_of parts.old (writes_of placing.now) (targets_of placing.now) }
+    ensures light { IsTrue result → weight (writes_of placing.now) ≤ WEIGHT_MAX }
+    ensures targets { IsTrue result → AllGoThereIn P.stripes_of P.part_of parts.old (writes_of placing.now) (targets_of placing.now) }
+    ensures left { IsTrue result → LeaveSpareIn P.stripes_of P.part_of parts.old (writes_of placing.now) (targets_of placing.now) }
+    ensures same { P.part_of parts.new ≡ P.part_of parts.old }
+    ensures held { IsStillHeld P.is_open P.keeps parts.old parts.new }
+{
+    match placing.writes.weight() {
+        Some(weight) => each_has_tail(parts, weight, placing.writes.as_slice(), &placing.targets),
+        None => false,
+    }
+}
+
+/// Whether what weighs so much has room in the tail page of the stripe of each of these writes that goes to the tail.
+fn each_has_tail<R: Shows, P: Parts<Shard<R>>>(
+    parts: &mut P,
+    weight: usize,
+    writes: &[Write],
+    targets: &[Target],
+) -> bool
+    requires open { P.is_open parts.old }
+    requires there { AreThere (P.stripes_of parts.old) (P.part_of parts.old) (keys_written writes.now) }
+    requires targets { HaveTargetsIn P.stripes_of P.part_of parts.old writes.now targets.now }
+    requires light { weight ≤ WEIGHT_MAX }
+    ensures tails { IsTrue result → HaveTailsIn P.stripes_of P.part_of parts.old weight writes.now targets.now }
+    ensures left { IsTrue result → LeaveSpareIn P.stripes_of P.part_of parts.old writes.now targets.now }
+    ensures same { P.part_of parts.new ≡ P.part_of parts.old }
+    ensures held { IsStillHeld P.is_open P.keeps parts.old parts.new }
+{
+    let mut left = writes;
+    let mut at = targets;
+    while let Some((_first, others)) = left.split_first() {
+        let Some((target, further)) = at.split_first() else {
+            unreachable!()
+        };
+        if target.spot.is_none() && !has_tail(parts, target.stripe, weight) {
+            return false;
+        }
+        left = others;
+        at = further;
+    }
+    true
 }
 
 /// What commands answer and write that run one after the other, as [`answer_each`] has it, and where each write goes.
@@ -163,16 +280,13 @@ fn place_each<R: Shows, P: Parts<Shard<R>>>(
     requires sized { AreSized commands.now }
     ensures ran { IfSome result (λ done. HaveRunIn R.is_steady P.stripes_of P.part_of parts.old
         (R.is_honest × AreRight staged.now) commands.now done.0.items (writes_of done.1)) }
-    ensures spots { IfSome result (λ done. AllGoThereIn P.stripes_of P.part_of parts.old (writes_of done.1) (spots_of done.1)) }
+    ensures targets { IfSome result (λ done. HaveTargetsIn P.stripes_of P.part_of parts.old (writes_of done.1) (targets_of done.1)) }
     ensures same { P.part_of parts.new ≡ P.part_of parts.old }
     ensures held { IsStillHeld P.is_open P.keeps parts.old parts.new }
 {
     writes_named_keys();
     let mut replies = room_for(alloc, commands.len());
-    let mut placing = Placing {
-        writes: Writes::new(alloc),
-        spots: Vec::new(alloc),
-    };
+    let mut placing = nothing_placed(alloc);
     let mut left = commands;
     while let Some((command, others)) = left.split_first() {
         let reply = place_next(alloc, parts, command, staged, &mut placing)?;
@@ -184,8 +298,8 @@ fn place_each<R: Shows, P: Parts<Shard<R>>>(
     Some((replies, placing))
 }
 
-/// What a command answers after these writes, as [`run_next`] has it, and where its own go. The value that it looks at is looked up
-/// once, for the command and for its write. `None` where a write goes elsewhere, a page is wanted, or memory: the writes are then lost.
+/// What a command answers after these writes, as [`run_next`] has it, and where its own go. What its lookups tell serves its writes. `None`
+/// where a page is wanted, or memory: the writes are then lost.
 fn place_next<R: Shows, P: Parts<Shard<R>>>(
     alloc: Global,
     parts: &mut P,
@@ -195,133 +309,225 @@ fn place_next<R: Shows, P: Parts<Shard<R>>>(
 ) -> Option<CommandReply>
     requires may { MayLookUp (P.is_open parts.old) (P.stripes_of parts.old) (P.part_of parts.old) (keys_of command.now) }
     requires written { AreThere (P.stripes_of parts.old) (P.part_of parts.old) (keys_written (writes_of placing.old)) }
-    requires spots { AllGoThereIn P.stripes_of P.part_of parts.old (writes_of placing.old) (spots_of placing.old) }
+    requires targets { HaveTargetsIn P.stripes_of P.part_of parts.old (writes_of placing.old) (targets_of placing.old) }
     ensures ran { IfSome result (HasRunIn R.is_steady P.stripes_of P.part_of parts.old
         (R.is_honest × AreRight staged.now) command.now (writes_of placing.old) (writes_of placing.new)) }
     ensures written { OnSome result (AreThere (P.stripes_of parts.old) (P.part_of parts.old) (keys_written (writes_of placing.new))) }
-    ensures spots { OnSome result (AllGoThereIn P.stripes_of P.part_of parts.old (writes_of placing.new) (spots_of placing.new)) }
+    ensures targets { OnSome result (HaveTargetsIn P.stripes_of P.part_of parts.old (writes_of placing.new) (targets_of placing.new)) }
     ensures same { P.part_of parts.new ≡ P.part_of parts.old }
     ensures held { IsStillHeld P.is_open P.keeps parts.old parts.new }
 {
     writes_named_keys();
     match looks_of(command) {
         Looks::AtValue(key) => {
-            let (reply, spot) = run_key(alloc, parts, key, command, staged, &mut placing.writes)?;
-            let looked = Looked { key, spot };
-            add_spots(
+            let (reply, looked) = run_value(
+                alloc,
+                parts,
+                key,
+                command,
+                staged,
+                &mut placing.writes,
+            )?;
+            add_targets(
                 parts,
                 placing.writes.as_slice(),
-                Some(looked),
+                slice::from_ref(&looked),
                 staged,
-                &mut placing.spots,
+                &mut placing.targets,
             )?;
             Some(reply)
         }
-        Looks::AtNothing | Looks::AtItems(_) | Looks::AtPresence => {
-            let reply = run_next(alloc, parts, command, staged, &mut placing.writes)?;
-            add_spots(
+        Looks::AtPresence => {
+            let mut looked = Vec::new(alloc);
+            let reply = run_present(
+                alloc,
+                parts,
+                command,
+                staged,
+                true,
+                &mut placing.writes,
+                &mut looked,
+            )?;
+            add_targets(
                 parts,
                 placing.writes.as_slice(),
-                None,
+                &looked,
                 staged,
-                &mut placing.spots,
+                &mut placing.targets,
+            )?;
+            drop(looked);
+            Some(reply)
+        }
+        Looks::AtNothing | Looks::AtItems(_) => {
+            let reply = run_next(alloc, parts, command, staged, &mut placing.writes)?;
+            add_targets(
+                parts,
+                placing.writes.as_slice(),
+                &[],
+                staged,
+                &mut placing.targets,
             )?;
             Some(reply)
         }
     }
 }
 
-/// Finds where these writes go, of which the first are known. `None` where one does not go over a value that is there, or memory is
-/// wanted.
-fn add_spots<R: Shows, P: Parts<Shard<R>>>(
+/// What a command that reads this key alone answers after these writes, as [`run_key`] has it, and what the lookup of the key tells.
+/// `None` where a page is wanted, or memory: the writes are then lost.
+fn run_value<'a, R: Shows, P: Parts<Shard<R>>>(
+    alloc: Global,
     parts: &mut P,
-    writes: &[Write],
-    looked: Option<Looked<'_>>,
+    key: &'a Word,
+    command: &Command,
     staged: &Staged<R>,
-    spots: &mut Vec<Spot>,
-) -> Option<()>
-    requires open { P.is_open parts.old }
-    requires there { AreThere (P.stripes_of parts.old) (P.part_of parts.old) (keys_written writes.now) }
-    requires looked { IfSome looked (λ l. IfSome l.spot (IsPlaceIn P.stripes_of P.part_of parts.old l.key.now)) }
-    requires first { GoThereIn P.stripes_of P.part_of parts.old writes.now spots.old.items }
-    ensures all { OnSome result (AllGoThereIn P.stripes_of P.part_of parts.old writes.now spots.new.items) }
+    writes: &mut Writes,
+) -> Option<(CommandReply, Looked<'a>)>
+    requires reads { ReadsOne key.now command.now }
+    requires names { slice_get (keys_of command.now) 0 ≡ Some key.now }
+    requires may { MayLookUp (P.is_open parts.old) (P.stripes_of parts.old) (P.part_of parts.old) (key.now ∷ []) }
+    ensures ran { IfSome result (λ done. HasRunIn R.is_steady P.stripes_of P.part_of parts.old
+        (R.is_honest × AreRight staged.now) command.now writes.old writes.new done.0) }
+    ensures looked { IfSome result (λ done. WasLookedUpIn P.stripes_of P.part_of parts.old done.1) }
     ensures same { P.part_of parts.new ≡ P.part_of parts.old }
     ensures held { IsStillHeld P.is_open P.keeps parts.old parts.new }
 {
-    while let Some(write) = writes.get(spots.len()) {
-        let spot = spot_for(parts, write, looked, staged)?;
-        let Ok(()) = spots.push(spot) else {
+    let hashed = Hashed::new(key);
+    let stripe = stripe_at(&*parts, &hashed);
+    let (reply, spot) = run_key(alloc, parts, &hashed, command, staged, writes)?;
+    let looked = Looked {
+        key,
+        stripe,
+        hash: hashed.hash(),
+        spot,
+    };
+    Some((reply, looked))
+}
+
+/// Finds where these writes go, of which the first are known. A key that was looked up is not looked up anew. `None` where memory is
+/// wanted.
+fn add_targets<R: Shows, P: Parts<Shard<R>>>(
+    parts: &mut P,
+    writes: &[Write],
+    looked: &[Looked<'_>],
+    staged: &Staged<R>,
+    targets: &mut Vec<Target>,
+) -> Option<()>
+    requires open { P.is_open parts.old }
+    requires there { AreThere (P.stripes_of parts.old) (P.part_of parts.old) (keys_written writes.now) }
+    requires looked { WereLookedUpIn P.stripes_of P.part_of parts.old looked.now }
+    requires first { GoThereIn P.stripes_of P.part_of parts.old writes.now targets.old.items }
+    ensures all { OnSome result (HaveTargetsIn P.stripes_of P.part_of parts.old writes.now targets.new.items) }
+    ensures same { P.part_of parts.new ≡ P.part_of parts.old }
+    ensures held { IsStillHeld P.is_open P.keeps parts.old parts.new }
+{
+    let mut from = 0;
+    while let Some(write) = writes.get(targets.len()) {
+        let (target, next) = target_for(parts, write, looked, from, staged);
+        let Ok(()) = targets.push(target) else {
             return None;
         };
+        from = next;
     }
     Some(())
 }
 
-/// Where a write goes, if it gives its key a value over the one that is there. A key that was looked up is not looked up anew.
-fn spot_for<R: Shows, P: Parts<Shard<R>>>(
+/// Where a write goes, by the first of these keys from this one on that is its own, or by a lookup, and where the keys behind that one begin.
+fn target_for<R: Shows, P: Parts<Shard<R>>>(
     parts: &mut P,
     write: &Write,
-    looked: Option<Looked<'_>>,
+    looked: &[Looked<'_>],
+    from: usize,
     staged: &Staged<R>,
-) -> Option<Spot>
+) -> (Target, usize)
     requires open { P.is_open parts.old }
     requires there { IsSome (P.part_of parts.old (striping.stripe_of (P.stripes_of parts.old) write.now.0)) }
-    requires looked { IfSome looked (λ l. IfSome l.spot (IsPlaceIn P.stripes_of P.part_of parts.old l.key.now)) }
-    ensures spot { IfSome result (IsSpotForIn P.stripes_of P.part_of parts.old write.now) }
+    requires looked { WereLookedUpIn P.stripes_of P.part_of parts.old looked.now }
+    ensures target { GoesThereIn P.stripes_of P.part_of parts.old write.now result.0 }
     ensures same { P.part_of parts.new ≡ P.part_of parts.old }
     ensures held { IsStillHeld P.is_open P.keeps parts.old parts.new }
 {
-    let size = write.value()?.len();
-    let spot = spot_by(parts, write.key(), looked, staged)?;
-    if size <= spot.capacity {
-        Some(spot)
-    } else {
-        None
+    let size = size_of(write);
+    match look_for(looked, from, write.key()) {
+        Some((found, next)) => (target_with(&found, size), next),
+        None => {
+            let found = look_up_key(parts, write.key(), staged);
+            (target_with(&found, size), from)
+        }
     }
 }
 
-/// Where the newest record of a key stands, if it may be written in place, by the key that was looked up, or by a lookup.
-fn spot_by<R: Shows, P: Parts<Shard<R>>>(
-    parts: &mut P,
-    key: &Word,
-    looked: Option<Looked<'_>>,
-    staged: &Staged<R>,
-) -> Option<Spot>
-    requires open { P.is_open parts.old }
-    requires there { IsSome (P.part_of parts.old (striping.stripe_of (P.stripes_of parts.old) key.now)) }
-    requires looked { IfSome looked (λ l. IfSome l.spot (IsPlaceIn P.stripes_of P.part_of parts.old l.key.now)) }
-    ensures place { IfSome result (IsPlaceIn P.stripes_of P.part_of parts.old key.now) }
-    ensures same { P.part_of parts.new ≡ P.part_of parts.old }
-    ensures held { IsStillHeld P.is_open P.keeps parts.old parts.new }
+/// The first of the keys that were looked up, from this one on, that is this key, and where those behind it begin.
+fn look_for<'a>(looked: &[Looked<'a>], from: usize, key: &Word) -> Option<(Looked<'a>, usize)>
+    ensures key { IfSome result (λ found. found.0.key.now ≡ key.now) }
+    ensures among { (n : ℕ) (logs : ℕ → Option HybridLog) → WereLookedUp n logs looked.now
+        → IfSome result (λ found. WasLookedUp n logs found.0) }
 {
-    match looked {
-        Some(looked) if looked.key.as_slice() == key.as_slice() => looked.spot,
-        _ => spot_of(parts, key, staged),
+    let mut at = from;
+    while let Some(found) = looked.get(at) {
+        if found.key.as_slice() == key.as_slice() {
+            return Some((*found, at + 1));
+        }
+        at += 1;
+    }
+    None
+}
+
+/// Where a write to a key that was looked up goes, which gives it a value of so many bytes.
+fn target_with(looked: &Looked<'_>, size: usize) -> Target
+    ensures stripe { result.stripe ≡ looked.now.stripe }
+    ensures hash { result.hash ≡ looked.now.hash }
+    ensures spot { IfSome result.spot (λ spot. (looked.now.spot ≡ Some spot) × (size ≤ spot.capacity)) }
+{
+    let spot = match looked.spot {
+        Some(spot) if size <= spot.capacity => Some(spot),
+        Some(_) => None,
+        None => None,
+    };
+    Target {
+        stripe: looked.stripe,
+        hash: looked.hash,
+        spot,
     }
 }
 
-/// Where the newest record of a key stands, if it may be written in place.
-fn spot_of<R: Shows, P: Parts<Shard<R>>>(
+/// Looks a key up for the spot alone.
+fn look_up_key<'a, R: Shows, P: Parts<Shard<R>>>(
     parts: &mut P,
-    key: &Word,
+    key: &'a Word,
     staged: &Staged<R>,
-) -> Option<Spot>
+) -> Looked<'a>
     requires open { P.is_open parts.old }
     requires there { IsSome (P.part_of parts.old (striping.stripe_of (P.stripes_of parts.old) key.now)) }
-    ensures place { IfSome result (IsPlaceIn P.stripes_of P.part_of parts.old key.now) }
+    ensures key { result.key.now ≡ key.entry.now }
+    ensures looked { WasLookedUpIn P.stripes_of P.part_of parts.old result }
     ensures same { P.part_of parts.new ≡ P.part_of parts.old }
     ensures held { IsStillHeld P.is_open P.keeps parts.old parts.new }
 {
-    let key = Hashed::new(key);
-    let stripe = stripe_at(&*parts, &key);
-    let (_, spot) = parts.part(stripe).look(&key, staged);
-    spot
+    let hashed = Hashed::new(key);
+    let stripe = stripe_at(&*parts, &hashed);
+    let (_, spot) = parts.part(stripe).look(&hashed, staged);
+    Looked {
+        key,
+        stripe,
+        hash: hashed.hash(),
+        spot,
+    }
+}
+
+/// How long the value is that a write gives, 0 where it deletes.
+fn size_of(write: &Write) -> usize
+    ensures { result ≡ length (value_bytes write.now.1) }
+{
+    match write.value() {
+        Some(value) => value.len(),
+        None => 0,
+    }
 }
 
 /// Makes writes that go there, in order. One that a later one hides is passed over. It takes no memory and wants no room.
-fn place_writes<R: Shows, P: Parts<Shard<R>>>(parts: &mut P, writes: &[Write], spots: &[Spot])
+fn place_writes<R: Shows, P: Parts<Shard<R>>>(parts: &mut P, writes: &[Write], targets: &[Target])
     requires open { P.is_open parts.old }
-    requires spots { AllGoThereIn P.stripes_of P.part_of parts.old writes.now spots.now }
+    requires targets { AllGoThereIn P.stripes_of P.part_of parts.old writes.now targets.now }
     requires there { AreThere (P.stripes_of parts.old) (P.part_of parts.old) (keys_written writes.now) }
     requires fits { AreFit writes.now }
     ensures became { BecomesWritten R.is_steady P.stripes_of P.part_of parts.old parts.new writes.now }
@@ -331,44 +537,70 @@ fn place_writes<R: Shows, P: Parts<Shard<R>>>(parts: &mut P, writes: &[Write], s
 {
     growth_adds_up();
     let mut left = writes;
-    let mut at = spots;
+    let mut at = targets;
     while let Some((first, others)) = left.split_first() {
-        let Some((spot, further)) = at.split_first() else {
+        let Some((target, further)) = at.split_first() else {
             unreachable!()
         };
-        place_before(parts, first, others, *spot);
+        place_before(parts, first, others, target, further);
         left = others;
         at = further;
     }
 }
 
-/// Makes a write that goes there before these others, or passes it over where one of them is to its key. Where others go, they still
-/// may.
+/// Makes a write that goes there before these others, or passes it over where one of them is to its key. The others still go where they do.
 fn place_before<R: Shows, P: Parts<Shard<R>>>(
     parts: &mut P,
     next: &Write,
     others: &[Write],
-    spot: Spot,
+    target: &Target,
+    further: &[Target],
 )
     requires open { P.is_open parts.old }
-    requires spot { IsSpotForIn P.stripes_of P.part_of parts.old next.now spot }
+    requires targets { AllGoThereIn P.stripes_of P.part_of parts.old (next.now ∷ others.now) (target.now ∷ further.now) }
     requires there { IsSome (P.part_of parts.old (striping.stripe_of (P.stripes_of parts.old) next.now.0)) }
     requires fits { AreFit (next.now ∷ []) }
     ensures became { BecomesFirst R.is_steady P.stripes_of P.part_of parts.old parts.new next.now others.now }
     ensures still { (keys : List Bytes) → AreThere (P.stripes_of parts.old) (P.part_of parts.old) keys
         → AreThere (P.stripes_of parts.old) (P.part_of parts.new) keys }
     ensures grown { GrowsFirst P.stripes_of P.part_of parts.old parts.new next.now others.now }
-    ensures spots { (writes : List OneWrite) (spots : List Spot) → GoThereIn P.stripes_of P.part_of parts.old writes spots
-        → GoThere (P.stripes_of parts.old) (logs_of (P.part_of parts.new)) writes spots }
+    ensures targets { AllGoThere (P.stripes_of parts.old) (logs_of (P.part_of parts.new)) others.now further.now }
     ensures waits { SameWaits (P.part_of parts.old) (P.part_of parts.new) }
     ensures held { IsStillHeld P.is_open P.keeps parts.old parts.new }
 {
     growth_adds_up();
+    let _ = further;
     if writes_to(others, next.key()) {
         return;
     }
-    let Some(value) = next.value() else {
-        unreachable!()
-    };
-    set_at(parts, &Hashed::new(next.key()), spot, value);
+    place_at(parts, next, target);
+}
+
+/// Makes a write that goes there. Where others go, they still do.
+fn place_at<R: Shows, P: Parts<Shard<R>>>(parts: &mut P, write: &Write, target: &Target)
+    requires open { P.is_open parts.old }
+    requires target { GoesThereIn P.stripes_of P.part_of parts.old write.now target.now }
+    requires tail { IfNone target.now.spot (HasTail (logs_of (P.part_of parts.old)) (striping.stripe_of (P.stripes_of parts.old) write.now.0)
+        (weigh write.now)) }
+    requires there { IsSome (P.part_of parts.old (striping.stripe_of (P.stripes_of parts.old) write.now.0)) }
+    requires fits { AreFit (write.now ∷ []) }
+    ensures became { BecomesWritten R.is_steady P.stripes_of P.part_of parts.old parts.new (write.now ∷ []) }
+    ensures grown { GrowsBy (P.stripes_of parts.old) write.now (P.part_of parts.old) (P.part_of parts.new) }
+    ensures spots { (other text : Bytes) (at : Spot) → (other ≡ write.now.0 → ⊥) → IsSpotIn P.stripes_of P.part_of parts.old other text at
+        → IsSpot (P.stripes_of parts.old) (logs_of (P.part_of parts.new)) other text at }
+    ensures tails { (stripe weight : ℕ) → HasTail (logs_of (P.part_of parts.old)) stripe (weigh write.now + weight)
+        → HasTail (logs_of (P.part_of parts.new)) stripe weight }
+    ensures waits { SameWaits (P.part_of parts.old) (P.part_of parts.new) }
+    ensures held { IsStillHeld P.is_open P.keeps parts.old parts.new }
+{
+    match target.spot {
+        Some(spot) => overwrite_at(parts, target.stripe, write.key(), spot, write.value()),
+        None => append(
+            parts,
+            target.stripe,
+            target.hash,
+            write.key(),
+            write.value(),
+        ),
+    }
 }

@@ -1,18 +1,19 @@
 //! What commands answer and write that run one after the other, each on what its keys have where it lies. What one wrote the
 //! next ones find.
 
-ghost use Rattle.std.specs.Prelude.{◌≡◌, [], ◌∷◌, None, Some, false, if◌then◌else◌, slice_get, IfSome, IsSome, OnSome};
+ghost use Rattle.std.specs.Prelude.{◌≡◌, ℕ, [], ◌∷◌, None, Option, Some, false, if◌then◌else◌, slice_get, IfSome, IsSome, OnSome};
 ghost use Rattle.std.specs.Option.{option_copied};
 ghost use Rattle.words.specs.Briefs.{counting};
 ghost use Rattle.words.specs.Store.{Bytes, Store, empty, written, writes_key};
 ghost use Rattle.words.specs.declared.command.Command.TheVariants.{MGet};
 ghost use Rattle.words.specs.Answers.{is_some, item_of};
 ghost use Rattle.words.specs.Commands.{keys_of, keys_of_all};
+ghost use Rattle.hybrid.specs.HybridLog.{HybridLog};
 ghost use Rattle.hybrid.specs.Lookups.{IsInPlace};
 ghost use Rattle.hybrid.specs.Staging.{AreRight};
 ghost use Rattle.transact.specs.Tables.{joined};
 ghost use Rattle.shards.specs.Shards.{shard_log, shard_meaning, shard_store};
-ghost use Rattle.plans.specs.Placing.{IsPlaceIn};
+ghost use Rattle.plans.specs.Placing.{IsPlaceIn, WasLookedUp, WasLookedUpIn, WereLookedUp, WereLookedUpIn};
 ghost use Rattle.plans.specs.Planning.{IsStillHeld, MayLookUp};
 ghost use Rattle.plans.specs.Running.{AsksPresence, HasRun, HasRunIn, HasRunOn, HasShownIn, HaveRunIn, IsFound, ReadsOne};
 ghost use Rattle.plans.specs.Sizes.{AreSized};
@@ -38,6 +39,17 @@ use words::locality::writes_named_keys;
 use words::reply::{CommandReply, Item, Line};
 use words::sequence::Sequence;
 use words::word::Word;
+
+/// A key that was looked up.
+#[derive(Clone, Copy)]
+pub(crate) struct Looked<'a> {
+    pub(crate) key: &'a Word,
+    /// Its stripe.
+    pub(crate) stripe: usize,
+    pub(crate) hash: u64,
+    /// Where its newest record stands, if that may be written in place.
+    pub(crate) spot: Option<Spot>,
+}
 
 /// What a command answers after these writes, where this was found of its keys. The writes gain its own. `None` where memory was
 /// refused: the writes are then lost.
@@ -172,7 +184,7 @@ fn run_count(
 pub(crate) fn run_key<R: Shows, P: Parts<Shard<R>>>(
     alloc: Global,
     parts: &mut P,
-    key: &Word,
+    key: &Hashed,
     command: &Command,
     staged: &Staged<R>,
     writes: &mut Writes,
@@ -186,26 +198,47 @@ pub(crate) fn run_key<R: Shows, P: Parts<Shard<R>>>(
     ensures same { P.part_of parts.new ≡ P.part_of parts.old }
     ensures held { IsStillHeld P.is_open P.keeps parts.old parts.new }
 {
-    let key = Hashed::new(key);
-    let stripe = stripe_at(&*parts, &key);
-    run_at(alloc, parts.part(stripe), &key, command, staged, writes)
+    let stripe = stripe_at(&*parts, key);
+    run_at(alloc, parts.part(stripe), key, command, staged, writes)
 }
 
-/// Whether a key is there. `None` where a page is wanted.
-fn is_there<R: Shows, P: Parts<Shard<R>>>(
-    parts: &mut P,
-    key: &Word,
+/// Whether a key is there, on the part of its stripe, and where its newest record stands, if that may be written in place. `None` where a
+/// page is wanted.
+fn presence_at<R: Shows>(
+    part: &Shard<R>,
+    key: &Hashed,
     staged: &Staged<R>,
-) -> Option<bool>
+) -> Option<(bool, Option<Spot>)>
+    ensures there { IfSome result (λ found. R.is_honest × AreRight staged.now → found.0 ≡ is_some (shard_store part.now key.now)) }
+    ensures place { IfSome result (λ found. IfSome found.1 (λ spot. IsInPlace (shard_log part.now) key.now spot.capacity spot.address)) }
+{
+    let (value, spot) = look_at(part, key, staged)?;
+    Some((value.is_some(), spot))
+}
+
+/// Whether a key is there, and what its lookup tells besides. `None` where a page is wanted.
+fn look_up<'a, R: Shows, P: Parts<Shard<R>>>(
+    parts: &mut P,
+    key: &'a Word,
+    staged: &Staged<R>,
+) -> Option<(bool, Looked<'a>)>
     requires may { MayLookUp (P.is_open parts.old) (P.stripes_of parts.old) (P.part_of parts.old) (key.now ∷ []) }
-    ensures there { IfSome result (λ there. R.is_honest × AreRight staged.now
-        → there ≡ is_some (joined (shard_meaning R.is_steady) (P.stripes_of parts.old) (P.part_of parts.old) key.now)) }
+    ensures there { IfSome result (λ found. R.is_honest × AreRight staged.now
+        → found.0 ≡ is_some (joined (shard_meaning R.is_steady) (P.stripes_of parts.old) (P.part_of parts.old) key.entry.now)) }
+    ensures looked { IfSome result (λ found. WasLookedUpIn P.stripes_of P.part_of parts.old found.1) }
     ensures same { P.part_of parts.new ≡ P.part_of parts.old }
     ensures held { IsStillHeld P.is_open P.keeps parts.old parts.new }
 {
-    let key = Hashed::new(key);
-    let stripe = stripe_at(&*parts, &key);
-    Some(value_at(parts.part(stripe), &key, staged)?.is_some())
+    let hashed = Hashed::new(key);
+    let stripe = stripe_at(&*parts, &hashed);
+    let (there, spot) = presence_at(parts.part(stripe), &hashed, staged)?;
+    let looked = Looked {
+        key,
+        stripe,
+        hash: hashed.hash(),
+        spot,
+    };
+    Some((there, looked))
 }
 
 /// An empty value, for a key that is there.
@@ -215,48 +248,73 @@ fn stand_in(there: bool) -> Option<&'static [u8]>
     if there { Some(b"") } else { None }
 }
 
-/// Shows which keys of a command are there: an empty value stands for the one that a key has. `None` where a page is wanted, or
-/// memory.
+/// Keeps what a lookup told, where this is true, and says whether there was memory for it.
+fn is_kept<'a>(keeps: bool, looked: &mut Vec<Looked<'a>>, found: Looked<'a>) -> bool
+    ensures { (n : ℕ) (logs : ℕ → Option HybridLog) → WereLookedUp n logs looked.old.items → WasLookedUp n logs found.entry
+        → WereLookedUp n logs looked.new.items }
+{
+    if !keeps {
+        return true;
+    }
+    match looked.push(found) {
+        Ok(()) => true,
+        Err(_) => false,
+    }
+}
+
+/// Shows which keys of a command are there: an empty value stands for the one that a key has. What their lookups tell besides is kept, where
+/// this is true. `None` where a page is wanted, or memory.
 fn show_present<'a, R: Shows, P: Parts<Shard<R>>>(
     parts: &mut P,
     command: &'a Command,
     staged: &Staged<R>,
+    keeps: bool,
     shown: &mut Findings<'a>,
+    looked: &mut Vec<Looked<'a>>,
 ) -> Option<()>
+    requires looked { WereLookedUpIn P.stripes_of P.part_of parts.old looked.old.items }
     requires may { MayLookUp (P.is_open parts.old) (P.stripes_of parts.old) (P.part_of parts.old) (keys_of command.now) }
     ensures shown { OnSome result (HasShownIn R.is_steady P.stripes_of P.part_of parts.old
         (R.is_honest × AreRight staged.now) (keys_of command.entry.now) shown.old shown.new) }
+    ensures looked { OnSome result (WereLookedUpIn P.stripes_of P.part_of parts.old looked.new.items) }
     ensures same { P.part_of parts.new ≡ P.part_of parts.old }
     ensures held { IsStillHeld P.is_open P.keeps parts.old parts.new }
 {
     for place in 0..key_count(command) {
         let key = key_at(command, place);
-        let there = is_there(parts, key, staged)?;
+        let (there, found) = look_up(parts, key, staged)?;
         let Ok(()) = shown.push(key.as_slice(), stand_in(there)) else {
             return None;
         };
+        if !is_kept(keeps, looked, found) {
+            return None;
+        }
     }
     Some(())
 }
 
-/// What a command answers after these writes that depends on which of its keys are there: no value is copied. `None` where a page
-/// is wanted, or memory: the writes are then lost.
-fn run_present<R: Shows, P: Parts<Shard<R>>>(
+/// What a command answers after these writes that depends on which of its keys are there: no value is copied. What their lookups tell
+/// besides is kept, where this is true. `None` where a page is wanted, or memory: the writes are then lost.
+pub(crate) fn run_present<'a, R: Shows, P: Parts<Shard<R>>>(
     alloc: Global,
     parts: &mut P,
-    command: &Command,
+    command: &'a Command,
     staged: &Staged<R>,
+    keeps: bool,
     writes: &mut Writes,
+    looked: &mut Vec<Looked<'a>>,
 ) -> Option<CommandReply>
+    requires looked { WereLookedUpIn P.stripes_of P.part_of parts.old looked.old.items }
     requires presence { AsksPresence command.now }
     requires may { MayLookUp (P.is_open parts.old) (P.stripes_of parts.old) (P.part_of parts.old) (keys_of command.now) }
     ensures ran { IfSome result (HasRunIn R.is_steady P.stripes_of P.part_of parts.old
         (R.is_honest × AreRight staged.now) command.now writes.old writes.new) }
+    ensures looked { OnSome result (WereLookedUpIn P.stripes_of P.part_of parts.old looked.new.items) }
     ensures same { P.part_of parts.new ≡ P.part_of parts.old }
     ensures held { IsStillHeld P.is_open P.keeps parts.old parts.new }
 {
     let mut shown = Findings::new(alloc);
-    show_present(parts, command, staged, &mut shown)?;
+    show_present(parts, command, staged, keeps, &mut shown, looked)?;
     run_after(alloc, shown, command, writes)
 }
 
@@ -366,12 +424,18 @@ pub(crate) fn run_next<R: Shows, P: Parts<Shard<R>>>(
 {
     match looks_of(command) {
         Looks::AtNothing => run_after(alloc, Findings::new(alloc), command, writes),
-        Looks::AtValue(key) => match run_key(alloc, parts, key, command, staged, writes) {
-            Some((reply, _spot)) => Some(reply),
-            None => None,
-        },
+        Looks::AtValue(key) => {
+            let key = Hashed::new(key);
+            match run_key(alloc, parts, &key, command, staged, writes) {
+                Some((reply, _spot)) => Some(reply),
+                None => None,
+            }
+        }
         Looks::AtItems(keys) => run_items(alloc, parts, keys, staged, writes),
-        Looks::AtPresence => run_present(alloc, parts, command, staged, writes),
+        Looks::AtPresence => {
+            let mut none = Vec::new(alloc);
+            run_present(alloc, parts, command, staged, false, writes, &mut none)
+        }
     }
 }
 

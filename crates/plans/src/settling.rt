@@ -20,7 +20,7 @@ ghost use Rattle.hybrid.specs.Staging.{AreRight};
 ghost use Rattle.transact.specs.Tables.{joined};
 ghost use Rattle.shards.specs.Shards.{shard_log, shard_meaning, shard_store, weigh};
 ghost use Rattle.plans.specs.Memory.{IsBriefOn};
-ghost use Rattle.plans.specs.Settling.{IfGives, IsInlineOn, IsSettledIn, SettlesAs, changes};
+ghost use Rattle.plans.specs.Settling.{IfGives, IfWrites, IsInlineOn, IsSettledIn, SettlesAs, changes};
 ghost use Rattle.plans.specs.Planning.{IsStillHeld, MayLookUp};
 ghost use Rattle.plans.specs.Sizes.{IsShort};
 
@@ -47,7 +47,7 @@ pub struct Settled {
     pub reply: Reply,
     /// What becomes of its key.
     pub change: Change,
-    /// Where the value that the key gets may be written in place: the newest record of the key stands there, and has room for it.
+    /// Where the key may be changed in place: its newest record stands there, and has room for the value that the key gets, if it gets one.
     pub spot: Option<Spot>,
 }
 
@@ -107,7 +107,7 @@ fn settle_at<R: Shows>(
         → IsInlineOn store (commanded verb key.now value.now) → IsSome result }
     ensures short { IsBounded (commanded verb key.now value.now)
         → IfSome result (λ settled. IfGives settled.change value.now (λ text. length text ≤ VALUE_BYTES_MAX)) }
-    ensures spot { IfSome result (λ settled. IfSome settled.spot (λ spot. IfGives settled.change value.now (λ text.
+    ensures spot { IfSome result (λ settled. IfSome settled.spot (λ spot. IfWrites settled.change value.now (λ text.
         IsInPlace (shard_log part.now) key.now (length text) spot.address))) }
 {
     let (found, spot) = look_at(part, key, staged)?;
@@ -160,7 +160,7 @@ fn settle_set_at<R: Shows>(
     ensures lent { R.lends → gets ≡ false → IsSome result }
     ensures short { length value.now ≤ VALUE_BYTES_MAX
         → IfSome result (λ settled. IfGives settled.change value.now (λ text. length text ≤ VALUE_BYTES_MAX)) }
-    ensures spot { IfSome result (λ settled. IfSome settled.spot (λ spot. IfGives settled.change value.now (λ text.
+    ensures spot { IfSome result (λ settled. IfSome settled.spot (λ spot. IfWrites settled.change value.now (λ text.
         IsInPlace (shard_log part.now) key.now (length text) spot.address))) }
 {
     let (found, spot) = look_at(part, key, staged)?;
@@ -231,15 +231,16 @@ pub(crate) fn look_at<'a, R: Shows>(
     }
 }
 
-/// The spot, if there is one, and it has room for the value that the key gets.
+/// The spot, if there is one, the key is changed, and the record there has room for that.
 fn fitting(change: &Change, value: &Word, spot: Option<Spot>) -> Option<Spot>
-    ensures { IfSome result (λ found. (spot ≡ Some found) × IfGives change.now value.now (λ text. length text ≤ found.capacity)) }
+    ensures { IfSome result (λ found. (spot ≡ Some found) × IfWrites change.now value.now (λ text. length text ≤ found.capacity)) }
 {
     let spot = spot?;
     let size = match change {
         Change::Given => value.len(),
         Change::Made(text) => text.len(),
-        Change::Nothing | Change::Deleted => return None,
+        Change::Deleted => 0,
+        Change::Nothing => return None,
     };
     if size <= spot.capacity {
         Some(spot)

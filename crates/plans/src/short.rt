@@ -4,6 +4,7 @@
 ghost use Rattle.std.specs.Prelude.{◌≡◌, ◌≤◌, [], ◌∷◌, Some, IfErr, IfOk, IsSome, OnOk};
 ghost use Rattle.words.specs.Stripes as striping;
 ghost use Rattle.std.specs.Option.{option_copied};
+ghost use Rattle.records.specs.Records.{value_bytes};
 ghost use Rattle.words.specs.declared.limits.TheConstants.{WEIGHT_MAX};
 ghost use Rattle.hybrid.specs.Log.{Fits};
 ghost use Rattle.hybrid.specs.Staging.{AreRight};
@@ -17,7 +18,7 @@ ghost use Rattle.plans.specs.Planning.{HasMissedIn, HaveFailed, IsStillHeld, IsV
 ghost use Rattle.plans.specs.Reserving.{GrowsBy, HasNoRoomToPut, HasRoomToPut, HasShedAt, IsRoomyFor, ReservesToPut};
 ghost use Rattle.plans.specs.Holding.{BecomesWritten};
 
-use crate::cells::{append, copy_of, delete, reserve_at, set, set_at, stripe_at};
+use crate::cells::{append, copy_of, delete, overwrite_at, reserve_at, set, stripe_at};
 use crate::stop::Stop;
 use device::{Device, Shows};
 use gates::Parts;
@@ -117,8 +118,7 @@ pub fn install_put<R: Shows, P: Parts<Shard<R>>>(parts: &mut P, key: &Hashed, va
     }
 }
 
-/// Does to a key that was looked up, and has no record that may be written in place, what [`install_put`] does: it looks for no such record
-/// where the key gets a value.
+/// Does to a key that was looked up, and has no record that may be written in place, what [`install_put`] does: it looks for no such record.
 pub fn install_looked_up<R: Shows, P: Parts<Shard<R>>>(
     parts: &mut P,
     key: &Hashed,
@@ -132,28 +132,27 @@ pub fn install_looked_up<R: Shows, P: Parts<Shard<R>>>(
     ensures waits { SameWaits (P.part_of parts.old) (P.part_of parts.new) }
     ensures held { IsStillHeld P.is_open P.keeps parts.old parts.new }
 {
-    match value {
-        Some(value) => append(parts, key, value),
-        None => delete(parts, key),
-    }
+    let stripe = stripe_at(&*parts, key);
+    append(parts, stripe, key.hash(), key.key(), value);
 }
 
-/// Gives a key a value in place, where its newest record stands and has room for it, and touches its marks. It takes no memory and
-/// wants no room.
+/// Gives a key a value in place, or deletes it where there is none, where its newest record stands and has room for that, and touches its
+/// marks. It takes no memory and wants no room.
 pub fn install_at<R: Shows, P: Parts<Shard<R>>>(
     parts: &mut P,
     key: &Hashed,
     spot: Spot,
-    value: &Word,
+    value: Option<&Word>,
 )
     requires open { P.is_open parts.old }
     requires there { IsSome (P.part_of parts.old (striping.stripe_of (P.stripes_of parts.old) key.now)) }
-    requires spot { IsSpotIn P.stripes_of P.part_of parts.old key.now value.now spot }
-    requires fits { Fits key.now (Some value.now) }
-    ensures became { BecomesWritten R.is_steady P.stripes_of P.part_of parts.old parts.new ((key.now, Some value.now) ∷ []) }
-    ensures grown { GrowsBy (P.stripes_of parts.old) (key.now, Some value.now) (P.part_of parts.old) (P.part_of parts.new) }
+    requires spot { IsSpotIn P.stripes_of P.part_of parts.old key.now (value_bytes (option_copied value)) spot }
+    requires fits { Fits key.now (option_copied value) }
+    ensures became { BecomesWritten R.is_steady P.stripes_of P.part_of parts.old parts.new ((key.now, option_copied value.entry) ∷ []) }
+    ensures grown { GrowsBy (P.stripes_of parts.old) (key.now, option_copied value.entry) (P.part_of parts.old) (P.part_of parts.new) }
     ensures waits { SameWaits (P.part_of parts.old) (P.part_of parts.new) }
     ensures held { IsStillHeld P.is_open P.keeps parts.old parts.new }
 {
-    set_at(parts, key, spot, value);
+    let stripe = stripe_at(&*parts, key);
+    overwrite_at(parts, stripe, key.key(), spot, value);
 }

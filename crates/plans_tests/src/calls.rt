@@ -15,6 +15,7 @@ use crate::held::Store;
 use device::Device;
 use hybrid::Staged;
 use plans::hashed::{HashedCall, key_of};
+use plans::placing::place;
 use plans::plan::plan;
 use plans::planned::Planned;
 use plans::reading::{plan_reading, read_all};
@@ -110,6 +111,26 @@ pub fn submit<D: Device>(
         Ok(planned) => Ok(planned.install(&mut store.stripes, &hashed)),
         Err(stop) => Err(stop),
     }
+}
+
+/// Runs a call whose writes wait for nothing, in one round with no page staged. `None` for each other call: nothing has changed then.
+pub fn submit_placed<D: Device>(
+    alloc: Global,
+    store: &mut Store<D>,
+    seat: u64,
+    call: &Call,
+) -> Option<Reply> {
+    store.stripes.holder = seat;
+    if !store.stripes.are_few() || !can_be_planned(call) {
+        return None;
+    }
+    let staged = Staged::new(alloc);
+    let hashed = HashedCall {
+        call,
+        key: key_of(call),
+    };
+    let placed = place(alloc, &mut store.stripes, &hashed, &staged)?;
+    Some(placed.install(&mut store.stripes, &hashed))
 }
 
 /// Runs a call in one round with no page staged, and tells its reply, or how many pages it wants.

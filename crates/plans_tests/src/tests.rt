@@ -1,6 +1,6 @@
 //! Calls over log stripes and over a plain map: the same replies, and the same at the end.
 
-use crate::calls::submit;
+use crate::calls::{submit, submit_placed};
 use crate::held::{Store, Stripes};
 use device::{Device, Faulty, MemoryDevice};
 use shards::shard::Shard;
@@ -20,6 +20,7 @@ use words::word::{Word, Words};
 mod drawn;
 mod freeing;
 mod full;
+mod placing;
 mod sizes;
 mod stops;
 
@@ -112,16 +113,19 @@ fn let_go(call: Call) {
     }
 }
 
-/// What a call is answered. `None` where it was not planned.
+/// What a call is answered, whose writes are placed where they wait for nothing, and else planned. `None` where it was not planned.
 fn answer_to<D: Device>(
     alloc: Global,
     store: &mut Store<D>,
     seat: u64,
     call: Call,
 ) -> Option<Reply> {
-    let told = submit(alloc, store, seat, &call);
+    let told = match submit_placed(alloc, store, seat, &call) {
+        Some(reply) => Some(reply),
+        None => submit(alloc, store, seat, &call).ok(),
+    };
     let_go(call);
-    told.ok()
+    told
 }
 
 /// What was found of the keys of a command is shown to it.

@@ -3,6 +3,8 @@
 ghost use Rattle.std.specs.Prelude.{◌≡◌, ◌+◌, ◌<◌, ◌≤◌, ℕ, List, [], None, Some, IsSome, IsTrue, ⊤, ◌↔◌, IfOk, IfSome, IfNone};
 ghost use Rattle.std.specs.Prelude.{OnOk, OnErr, length};
 ghost use Rattle.std.specs.Bool.{OnTrue, OnFalse};
+ghost use Rattle.std.specs.Option.{option_copied};
+ghost use Rattle.records.specs.Records.{value_bytes};
 ghost use Rattle.words.specs.Stripes.{hash_of};
 ghost use Rattle.words.specs.declared.limits.TheConstants.{WEIGHT_MAX};
 ghost use Rattle.hybrid.specs.HybridLog.{HasRoom, IsGrown, IsHybridLog, log_of, receipt_of, with_dropped};
@@ -210,14 +212,14 @@ impl<R: Shows> CountedLog<R> {
         self.stripe.append_one(hash, write);
     }
 
-    /// Gives a key another value in place, where its newest record has room for it. It takes no memory and no room.
+    /// Gives a key another value in place, or none, where its newest record has room for that. It takes no memory and no room.
     #[inline]
-    pub fn overwrite_at(&mut self, key: &[u8], spot: Spot, value: &[u8])
-        requires place { IsInPlace self.old.log key.now (length value.now) spot.address }
-        requires fits { Fits key.now (Some value.now) }
-        ensures written { IsWritten self.old.log key.now (Some value.now) self.new.log }
-        ensures contents { SetsKey key.now (Some value.now) self.old.log self.new.log }
-        ensures grown { IsGrown self.old.log self.new.log (write_weight key.now (Some value.now)) }
+    pub fn overwrite_at(&mut self, key: &[u8], spot: Spot, value: Option<&[u8]>)
+        requires place { IsInPlace self.old.log key.now (length (value_bytes (option_copied value))) spot.address }
+        requires fits { Fits key.now (option_copied value) }
+        ensures written { IsWritten self.old.log key.now (option_copied value.entry) self.new.log }
+        ensures contents { SetsKey key.now (option_copied value.entry) self.old.log self.new.log }
+        ensures grown { IsGrown self.old.log self.new.log (write_weight key.now (option_copied value.entry)) }
         ensures waits { waiting_of self.new ≡ waiting_of self.old }
     {
         self.stripe.overwrite_at(key, spot, value);

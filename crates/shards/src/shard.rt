@@ -5,6 +5,8 @@ ghost use Rattle.std.specs.Prelude.{◌↔◌, [], IfSome, IsTrue};
 ghost use Rattle.std.specs.Bool.{OnTrue, OnFalse};
 ghost use Rattle.std.specs.Borrow.{sem, Lends};
 ghost use Rattle.std.specs.Map.{update};
+ghost use Rattle.std.specs.Option.{option_copied};
+ghost use Rattle.records.specs.Records.{value_bytes};
 ghost use Rattle.shards.specs.contracts.counted.CountedLog.{the_row as log_row};
 ghost use Rattle.shards.specs.contracts.shard.Shard.{the_row};
 ghost use Rattle.std.specs.Str.{bytes_eq};
@@ -72,10 +74,18 @@ impl hybrid::Write for Put<'_> {
     }
 
     fn value(&self) -> Option<&[u8]> {
-        match self.value {
-            Some(value) => Some(value.as_slice()),
-            None => None,
-        }
+        bytes_of(self.value)
+    }
+}
+
+/// The bytes of a value, if there is one.
+#[inline]
+fn bytes_of<'a>(value: Option<&'a Word>) -> Option<&'a [u8]>
+    ensures { option_copied result ≡ option_copied value.entry }
+{
+    match value {
+        Some(value) => Some(value.as_slice()),
+        None => None,
     }
 }
 
@@ -231,23 +241,21 @@ impl<R: Shows> Shard<R> {
         self.marks.touch(put.key);
     }
 
-    /// Gives a key, for which there is room, a value in a record at the tail, and touches its marks: a key that was looked up, and has no
-    /// record that may be written in place. It takes no memory.
-    pub fn append(&mut self, key: &Hashed, value: &Word)
-        requires room { HasRoom (shard_log self.old) (weigh (key.now, Some value.now)) }
-        requires fits { Fits key.now (Some value.now) }
-        ensures added { (address : ℕ) × IsAdded (shard_log self.old) (shard_log self.new) address key.now (Some value.now) }
+    /// Gives a key, for which there is room, a value in a record at the tail, or deletes it there, and touches its marks: a key that was
+    /// looked up, and has no record that may be written in place. It takes no memory.
+    pub fn append(&mut self, hash: u64, key: &Word, value: Option<&Word>)
+        requires hash { hash ≡ hash_of key.now }
+        requires room { HasRoom (shard_log self.old) (weigh (key.now, option_copied value)) }
+        requires fits { Fits key.now (option_copied value) }
+        ensures added { (address : ℕ) × IsAdded (shard_log self.old) (shard_log self.new) address key.now (option_copied value.entry) }
         ensures waits { shard_waiting self.new ≡ shard_waiting self.old }
-        ensures value { (k : List ℕ) → shard_store self.new k ≡ update bytes_eq (shard_store self.old) key.now (Some value.now) k }
+        ensures value { (k : List ℕ) → shard_store self.new k ≡ update bytes_eq (shard_store self.old) key.now (option_copied value.entry) k }
         ensures marks { TouchesKey key.now self.old self.new }
-        ensures room { TakesRoom (weigh (key.now, Some value.now)) (shard_log self.old) (shard_log self.new) }
-        ensures grown { IsGrown (shard_log self.old) (shard_log self.new) (weigh (key.now, Some value.now)) }
+        ensures room { TakesRoom (weigh (key.now, option_copied value.entry)) (shard_log self.old) (shard_log self.new) }
+        ensures grown { IsGrown (shard_log self.old) (shard_log self.new) (weigh (key.now, option_copied value.entry)) }
     {
-        let put = Put {
-            key: key.key(),
-            value: Some(value),
-        };
-        self.log.append_one(key.hash(), &put);
+        let put = Put { key, value };
+        self.log.append_one(hash, &put);
         self.marks.touch(put.key);
     }
 
@@ -268,21 +276,19 @@ impl<R: Shows> Shard<R> {
         self.marks.touch(key.key());
     }
 
-    /// Gives a key a value in place, where its newest record has room for it, and touches its marks. It takes no memory
-    /// and no room.
-    pub fn set_at(&mut self, key: &Hashed, spot: Spot, value: &Word)
-        requires place { IsInPlace (shard_log self.old) key.now (length value.now) spot.address }
-        requires fits { Fits key.now (Some value.now) }
-        ensures written { IsWritten (shard_log self.old) key.now (Some value.now) (shard_log self.new) }
+    /// Gives a key a value in place, or deletes it there, where its newest record has room for that, and touches its marks. It takes no
+    /// memory and no room.
+    pub fn overwrite_at(&mut self, key: &Word, spot: Spot, value: Option<&Word>)
+        requires place { IsInPlace (shard_log self.old) key.now (length (value_bytes (option_copied value))) spot.address }
+        requires fits { Fits key.now (option_copied value) }
+        ensures written { IsWritten (shard_log self.old) key.now (option_copied value.entry) (shard_log self.new) }
         ensures waits { shard_waiting self.new ≡ shard_waiting self.old }
-        ensures value { (k : List ℕ) → shard_store self.new k ≡ update bytes_eq (shard_store self.old) key.now (Some value.now) k }
+        ensures value { (k : List ℕ) → shard_store self.new k ≡ update bytes_eq (shard_store self.old) key.now (option_copied value.entry) k }
         ensures marks { TouchesKey key.now self.old self.new }
-        ensures grown { IsGrown (shard_log self.old) (shard_log self.new) (weigh (key.now, Some value.now)) }
+        ensures grown { IsGrown (shard_log self.old) (shard_log self.new) (weigh (key.now, option_copied value.entry)) }
     {
-        let word = key.key();
-        self.log
-            .overwrite_at(word.as_slice(), spot, value.as_slice());
-        self.marks.touch(word);
+        self.log.overwrite_at(key.as_slice(), spot, bytes_of(value));
+        self.marks.touch(key);
     }
 
     /// The mark that a session has of a key, if it watches the key: whether the key was written since.

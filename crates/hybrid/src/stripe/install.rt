@@ -74,18 +74,18 @@ impl<R: Shows> Stripe<R> {
         let _oldest = self.oldest();
     }
 
-    /// Gives a key another value in place, where its newest record stands in the mutable part and has room
-    /// for it. It takes no memory and no room.
-    pub fn overwrite_at(&mut self, key: &[u8], spot: Spot, value: &[u8])
-        requires place { IsInPlace self.old key.now (length value.now) spot.address }
-        requires fits { length value.now ≤ VALUE_BYTES_MAX }
-        ensures written { IsWritten self.old key.now (Some value.now) self.new }
+    /// Gives a key another value in place, or none, where its newest record stands in the mutable part and has room for that. It takes no
+    /// memory and no room.
+    pub fn overwrite_at(&mut self, key: &[u8], spot: Spot, value: Option<&[u8]>)
+        requires place { IsInPlace self.old key.now (length (value_bytes (option_copied value))) spot.address }
+        requires fits { length (value_bytes (option_copied value)) ≤ VALUE_BYTES_MAX }
+        ensures written { IsWritten self.old key.now (option_copied value.entry) self.new }
         ensures contents { (other : List ℕ) → contents (log_of self.new) other
-            ≡ update bytes_eq (contents (log_of self.old)) key.now (Some value.now) other }
-        ensures grown { IsGrown self.old self.new (write_weight key.now (Some value.now)) }
+            ≡ update bytes_eq (contents (log_of self.old)) key.now (option_copied value.entry) other }
+        ensures grown { IsGrown self.old self.new (write_weight key.now (option_copied value.entry)) }
     {
         let _ = key;
-        self.overwrite(Address::from_number(spot.address), Some(value));
+        self.overwrite(Address::from_number(spot.address), value);
     }
 
     // Gives a key with this hash another value, or none.

@@ -6,6 +6,8 @@ ghost use Rattle.frames.specs.Resident.{first_mutable, next_number};
 ghost use Rattle.hybrid.specs.HybridLog.{log_of, tail_bytes, HasRoom, IsHybridLog, expected, free, pages_for, with_dropped, receipt_of};
 ghost use Rattle.hybrid.specs.Reserving.{AreNewServed, IsReserved, KeepsBack, KeepsSpare, MatchFault, IsFull, beside, frames_for, spare};
 ghost use Rattle.hybrid.specs.Shedding.{HasLeft, HasShed};
+ghost use Rattle.hybrid.specs.declared.stripe.room.Purpose.TheVariants as purpose;
+ghost use Rattle.records.specs.declared.pages.TheConstants.{HEADER_SIZE, PAGE_SIZE};
 
 use crate::stripe::{CALL_PAGES, CLEAN_PAGES, CLOSED_MIN, LAST_PAGE, Stripe};
 use device::{Device, Shows};
@@ -127,6 +129,16 @@ impl<R: Shows> Stripe<R> {
     {
         let needed = self.pages_for(weight);
         needed <= self.free() && (needed == 0 || self.next_number() <= LAST_PAGE)
+    }
+
+    /// Whether writes of this weight go into the tail page, and the frames are there that writes leave: then [`Stripe::reserve`] makes room
+    /// for them without doing anything.
+    pub fn fits_tail(&self, weight: usize) -> bool
+        requires { weight ≤ WEIGHT_MAX }
+        ensures fits { IsTrue result → weight + tail_bytes self.now ≤ PAGE_SIZE - HEADER_SIZE }
+        ensures left { IsTrue result → spare purpose.Write ≤ expected self.now }
+    {
+        self.pages_for(weight) == 0 && self.spare_for(Purpose::Write) == 0
     }
 
     /// Drops the oldest resident page from its frame, where its receipt is kept, and says whether

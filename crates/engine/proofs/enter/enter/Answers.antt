@@ -1,14 +1,11 @@
-use Rattle.std.proofs.Common.{◌≡◌, ◌∙◌, ℕ, List, refl, sym, ap, subst}
-use Rattle.std.specs.Borrow.{Bor}
-use Rattle.words.specs.History.{after}
-use Rattle.gates.specs.declared.gates.Gates.{Gates}
+use Rattle.std.proofs.Common.{◌≡◌, ℕ, refl}
 use Rattle.gates.specs.declared.held.Held.{Held}
 use Rattle.gates.specs.Helds.{held_stripes, known_to, number_of}
 use Rattle.transact.specs.Submits.{asked_for}
 use Rattle.shards.specs.declared.shard.Shard.{Shard}
 use Rattle.words.specs.Session.{operation_of}
 use Rattle.engine.specs.Entering.{own_answer}
-use Rattle.engine.proofs.Entering.{asks, begin_still, cold_behind, counted, entered_behind, placed_still, seat_is, stands}
+use Rattle.engine.proofs.Entering.{asks, begin_still, cold_behind, entered_behind, placed_still, seat_is, stands}
 use Rattle.engine.proofs.Ones.{err_then, ok_then}
 use Rattle.engine.proofs.Stopped.{is_placed}
 use Rattle.engine.proofs.Values.{all_short}

@@ -9,14 +9,14 @@ use Rattle.gates.specs.declared.report.Report.{Report}
 use Rattle.gates.specs.declared.report.Report.TheVariants.{Nothing}
 use Rattle.gates.specs.declared.view.Knowledge.{Knowledge}
 use Rattle.gates.specs.Sets.{part_at}
-use Rattle.gates.specs.Helds.{held_parts, held_stripes, known_to, number_of, same_as_it}
+use Rattle.gates.specs.Helds.{held_stripes, known_to, number_of, same_as_it}
 use Rattle.transact.specs.Calls.{asked_of}
 use Rattle.transact.specs.Plans.{keys_begun, keys_ended}
 use Rattle.transact.specs.Submits.{asked_for}
 use Rattle.transact.specs.Tables.{AreThere, Became, begins, keys_written, stays}
 use Rattle.shards.specs.declared.shard.Shard.{Shard}
 use Rattle.shards.specs.Shards.{logs_of, shard_meaning}
-use Rattle.plans.specs.Placing.{AllGoThere, spots_of, writes_of}
+use Rattle.plans.specs.Placing.{AllGoThere, targets_of, writes_of}
 use Rattle.engine.specs.Calls.{IsDone, IsUndone, promises_of}
 use Rattle.engine.specs.Entering.{given}
 use Rattle.engine.specs.Passes.{know}
@@ -35,13 +35,13 @@ pub commit-requires-clause-keys : goal.commit-requires-clause-keys
 commit-requires-clause-keys g c =
     named_held g.R.Shows.is_steady (held_stripes c.args.held.now) c.args.held.now c.args.held.now c.args.call.now (same_as_it c.args.held.now) refl c.requires.planned.entry c.requires.begin.ends c.requires.begin.may.there
 
-pub install-requires-clause-spots : goal.install-requires-clause-spots
-install-requires-clause-spots g c =
+pub install-requires-clause-targets : goal.install-requires-clause-targets
+install-requires-clause-targets g c =
     let s : Type 0 = g.R.Shows.is_steady in
     let start : Held (Shard _) = c.args.held.now in
     let done : Held (Shard _) = c.commit.new.self in
-    subst (λ (m : ℕ). AllGoThere m (logs_of (parts_of s done)) (writes_of c.args.placed.placing) (spots_of c.args.placed.placing)) (sym (counted s start done c.commit.ensures.gates))
-    (subst (λ (l : List (ℕ × Shard _)). AllGoThere (held_stripes start) (logs_of (part_at l)) (writes_of c.args.placed.placing) (spots_of c.args.placed.placing)) (sym c.commit.ensures.parts) c.requires.placed.spots)
+    subst (λ (m : ℕ). AllGoThere m (logs_of (parts_of s done)) (writes_of c.args.placed.placing) (targets_of c.args.placed.placing)) (sym (counted s start done c.commit.ensures.gates))
+    (subst (λ (l : List (ℕ × Shard _)). AllGoThere (held_stripes start) (logs_of (part_at l)) (writes_of c.args.placed.placing) (targets_of c.args.placed.placing)) (sym c.commit.ensures.parts) c.requires.placed.targets)
 
 pub install-requires-clause-written : goal.install-requires-clause-written
 install-requires-clause-written g c =

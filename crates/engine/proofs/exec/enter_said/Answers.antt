@@ -1,6 +1,5 @@
 use Rattle.std.proofs.Common.{◌≡◌, ◌∙◌, ℕ, List, [], refl, sym, ap, subst}
 use Rattle.std.specs.Borrow.{Bor}
-use Rattle.words.specs.declared.reply.Fault.TheVariants as fault
 use Rattle.words.specs.Store.{Bytes}
 use Rattle.gates.specs.declared.gates.Gates.{Gates}
 use Rattle.gates.specs.declared.held.Held.{Held}
@@ -8,20 +7,18 @@ use Rattle.gates.specs.declared.report.Report.{Report}
 use Rattle.gates.specs.declared.report.Report.TheVariants.{Nothing}
 use Rattle.gates.specs.declared.view.Knowledge.{Knowledge}
 use Rattle.gates.specs.Sets.{part_at}
-use Rattle.gates.specs.Helds.{held_parts, held_stripes, known_to, number_of, same_as_it}
-use Rattle.transact.specs.Calls.{asked_of}
+use Rattle.gates.specs.Helds.{held_stripes, known_to, number_of, same_as_it}
 use Rattle.transact.specs.Plans.{keys_begun, keys_ended}
 use Rattle.transact.specs.Submits.{asked_for}
-use Rattle.transact.specs.Tables.{AreThere, Became, begins, clears, stays, touches_and_clears}
+use Rattle.transact.specs.Tables.{AreThere, Became, begins, clears, stays}
 use Rattle.shards.specs.declared.shard.Shard.{Shard}
 use Rattle.shards.specs.Shards.{shard_meaning}
 use Rattle.engine.specs.Calls.{promises_of}
 use Rattle.engine.specs.Entering.{given}
 use Rattle.engine.specs.Got.{spoken_reply}
-use Rattle.engine.specs.Passes.{know}
 use Rattle.engine.proofs.Parts.{became_none, became_same, ended_there}
 use Rattle.engine.proofs.Saids.{ended_unwritten}
-use Rattle.engine.proofs.Entering.{asks, became_by, counted, done_by, fit_installed, fit_undone, given_behind, given_still, heard_nothing, holder_same, may_still, named_held, parts_of, placed, reply_due, seat_is, stands, was_worn}
+use Rattle.engine.proofs.Entering.{asks, became_by, counted, done_by, fit_installed, fit_undone, given_behind, given_still, holder_same, may_still, named_held, parts_of, placed, reply_due, seat_is, stands, was_worn}
 use Rattle.engine.proofs.exec.enter_said.Goals as goal
 
 pub commit-requires-clause-place : goal.commit-requires-clause-place

@@ -1,6 +1,5 @@
-use Rattle.gates.specs.Passes.{known}
 use Rattle.engine.proofs.Saids.{none_then}
-use Rattle.engine.proofs.Later.{may_submit_still, waited_none}
+use Rattle.engine.proofs.Later.{may_submit_still}
 use Rattle.engine.proofs.exec.say_call.Goals as goal
 
 pub returns-clause-may : goal.returns-clause-may

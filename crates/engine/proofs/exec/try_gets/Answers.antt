@@ -1,5 +1,4 @@
 use Rattle.gates.specs.Helds.{held_stripes}
-use Rattle.engine.specs.Got.{spoken_text}
 use Rattle.engine.proofs.Saids.{spoke_answered, spoke_back, spoke_heard, spoke_kept, spoke_none, spoke_some}
 use Rattle.engine.proofs.exec.try_gets.Goals as goal
 

@@ -35,8 +35,14 @@ enter_put-requires-in-None-spot-clause-due g c = λ t.
     let stand = stands g.R.Shows.is_steady (held_stripes start) (known_to start).number start refl c.requires.begin.may.fit t in
     rw c.in-Made.is at (c.requires.settled.due t (known_to start).seen stand.read)
 
-pub enter_put-requires-in-Deleted-clause-due : goal.enter_put-requires-in-Deleted-clause-due
-enter_put-requires-in-Deleted-clause-due g c = λ t.
+pub enter_in_place-requires-in-Some-spot-2-clause-due : goal.enter_in_place-requires-in-Some-spot-2-clause-due
+enter_in_place-requires-in-Some-spot-2-clause-due g c = λ t.
+    let start : Held (Shard _) = c.args.held.now in
+    let stand = stands g.R.Shows.is_steady (held_stripes start) (known_to start).number start refl c.requires.begin.may.fit t in
+    rw c.in-Deleted.is at (c.requires.settled.due t (known_to start).seen stand.read)
+
+pub enter_put-requires-in-None-spot-2-clause-due : goal.enter_put-requires-in-None-spot-2-clause-due
+enter_put-requires-in-None-spot-2-clause-due g c = λ t.
     let start : Held (Shard _) = c.args.held.now in
     let stand = stands g.R.Shows.is_steady (held_stripes start) (known_to start).number start refl c.requires.begin.may.fit t in
     rw c.in-Deleted.is at (c.requires.settled.due t (known_to start).seen stand.read)
@@ -58,3 +64,9 @@ returns-in-Some-clause-heard g c = heard_quietly c.args.settled.now.reply c.ente
 
 pub returns-in-Some-spot-clause-heard : goal.returns-in-Some-spot-clause-heard
 returns-in-Some-spot-clause-heard g c = heard_quietly c.args.settled.now.reply c.enter_in_place-in-Some-spot.result (g.S.Retires.knows c.args.own.now) c.enter_in_place-in-Some-spot.ensures.worn
+
+pub returns-in-Some-spot-2-clause-entered : goal.returns-in-Some-spot-2-clause-entered
+returns-in-Some-spot-2-clause-entered g c = c.enter_in_place-in-Some-spot-2.ensures.entered (g.D.Device.failures c.args.device.now)
+
+pub returns-in-Some-spot-2-clause-heard : goal.returns-in-Some-spot-2-clause-heard
+returns-in-Some-spot-2-clause-heard g c = heard_quietly c.args.settled.now.reply c.enter_in_place-in-Some-spot-2.result (g.S.Retires.knows c.args.own.now) c.enter_in_place-in-Some-spot-2.ensures.worn

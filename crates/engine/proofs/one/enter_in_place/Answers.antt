@@ -1,5 +1,7 @@
-use Rattle.std.proofs.Common.{◌∙◌, ℕ, List, [], ◌∷◌, Some, IsSome, refl, sym, ap, subst}
+use Rattle.std.proofs.Common.{◌∙◌, ℕ, List, [], ◌∷◌, IsSome, refl, sym, ap, subst}
 use Rattle.std.specs.Borrow.{Bor}
+use Rattle.std.specs.Option.{option_copied}
+use Rattle.records.specs.Records.{value_bytes}
 use Rattle.words.specs.declared.command.Command.{Command}
 use Rattle.words.specs.declared.reply.Reply.{Reply}
 use Rattle.words.specs.Session as asked
@@ -29,7 +31,7 @@ commit-requires-clause-due g c =
     let start : Held (Shard _) = c.args.held.now in
     let command : Command = command_done c.args.asks.now in
     let reply : Reply = c.args.reply.now in
-    let w : Write = (c.args.asks.now.key.now, Some c.args.text.now) in
+    let w : Write = (c.args.asks.now.key.now, option_copied c.args.text) in
     reply_due s start start (asked.Run command) reply (w ∷ []) (same_as_it start)
     c.requires.due
 
@@ -55,8 +57,8 @@ install_at-requires-clause-spot g c =
     let s : Type 0 = g.R.Shows.is_steady in
     let start : Held (Shard _) = c.args.held.now in
     let done : Held (Shard _) = c.commit.new.self in
-    subst (λ (m : ℕ). IsSpot m (logs_of (parts_of s done)) c.args.asks.now.key.now c.args.text.now c.args.spot) (sym (counted s start done c.commit.ensures.gates))
-    (subst (λ (l : List (ℕ × Shard _)). IsSpot (held_stripes start) (logs_of (part_at l)) c.args.asks.now.key.now c.args.text.now c.args.spot) (sym c.commit.ensures.parts) c.requires.spot)
+    subst (λ (m : ℕ). IsSpot m (logs_of (parts_of s done)) c.args.asks.now.key.now (value_bytes (option_copied c.args.text)) c.args.spot) (sym (counted s start done c.commit.ensures.gates))
+    (subst (λ (l : List (ℕ × Shard _)). IsSpot (held_stripes start) (logs_of (part_at l)) c.args.asks.now.key.now (value_bytes (option_copied c.args.text)) c.args.spot) (sym c.commit.ensures.parts) c.requires.spot)
 
 pub returns-in-Ok : goal.returns-in-Ok
 returns-in-Ok g c = record {
@@ -69,7 +71,7 @@ returns-in-Ok g c = record {
       let same = same_as_it start in
       let command : Command = command_done c.args.asks.now in
       let reply : Reply = c.args.reply.now in
-      let w : Write = (c.args.asks.now.key.now, Some c.args.text.now) in
+      let w : Write = (c.args.asks.now.key.now, option_copied c.args.text) in
       let count = counted s start done c.commit.ensures.gates in
       let did : WasCommitted s c.in-Ok.field-0 (asked.Run command) reply start done = c.in-Ok.ensures.ok in
       let installed = subst (λ (m : ℕ). Became (shard_meaning s) m (w ∷ []) (touches (w ∷ [])) (parts_of s done) (parts_of s last)) count c.install_at.ensures.became in

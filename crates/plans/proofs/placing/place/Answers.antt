@@ -16,7 +16,7 @@ use Rattle.plans.specs.Sizes.{AreSized, IsPlaced}
 use Rattle.plans.proofs.Keys.{there_append}
 use Rattle.plans.proofs.Questions.{execs_of}
 use Rattle.plans.proofs.Run.{some_then}
-use Rattle.plans.proofs.Sized.{sized_all}
+use Rattle.plans.proofs.Sized.{sized_all, sized_one}
 use Rattle.plans.proofs.Spots.{placed_as}
 use Rattle.plans.proofs.placing.place.Goals as goal
 
@@ -57,6 +57,16 @@ returns-in-Exec-clause-placed g c =
     (subst (λ (l : List Bytes). IfSome c.place_exec.result (IsPlacedFor (AreDue right (of_exec contents n parts seat l commands)) n parts)) c.keys.ensures
     (subst (λ (l : List Command). IfSome c.place_exec.result (IsPlacedFor (AreDue right (of_exec contents n parts seat c.keys.result.now l)) n parts)) c.as_slice.ensures
     c.place_exec.ensures.placed)))
+
+pub place_one-requires-clause-may : goal.place_one-requires-clause-may
+place_one-requires-clause-may g c = record {
+  can_lend = c.requires.may.may.can_lend;
+  there = subst (λ (x : Call). AreThere (g.P.Parts.stripes_of c.args.parts.now) (g.P.Parts.part_of c.args.parts.now) (call_keys x)) (sym c.call.ensures ∙ c.in-One.is) c.requires.may.may.there;
+}
+
+pub place_one-requires-clause-sized : goal.place_one-requires-clause-sized
+place_one-requires-clause-sized g c =
+    sized_one c.writes_are_bounded.ensures c.in-One.command (subst IsPlaced (sym c.call.ensures ∙ c.in-One.is) c.requires.may.place)
 
 on_some : {A : Type 0} (o : Option A) (P : Type 0) → P → OnSome o P
 on_some None P holds = tt

@@ -4,8 +4,8 @@ use Rattle.words.specs.Commands.{keys_of, keys_of_all}
 use Rattle.words.specs.Store.{Store, Write}
 use Rattle.hybrid.specs.Staging.{AreRight}
 use Rattle.transact.specs.Tables.{AreThere, joined}
-use Rattle.shards.specs.Shards.{logs_of, shard_meaning}
-use Rattle.plans.specs.Placing.{AllGoThere, writes_of}
+use Rattle.shards.specs.Shards.{shard_meaning}
+use Rattle.plans.specs.Placing.{writes_of}
 use Rattle.plans.specs.Running.{HasRunOn}
 use Rattle.plans.specs.Sizes.{AreSized}
 use Rattle.plans.proofs.Keys.{there_append}
@@ -50,7 +50,7 @@ loop-command-preserved g c =
       same = c.place_next.ensures.same ∙ inv.same;
       keys = each.1;
       sized = sized.1;
-      spots = rw (count, inv.same) at c.in_ok-reply.ensures.spots;
+      targets = rw (count, inv.same) at c.in_ok-reply.ensures.targets;
       fits = run_fits right store first before after c.in_ok-reply.reply on inv.fits sized.0;
       there = rw (count, inv.same) at c.in_ok-reply.ensures.written;
       replies = λ is_right. replies_next store first others c.loop-command.left.now before after c.in_ok-reply.reply c.loop-command.replies.items c.push.new.self.items

@@ -6,7 +6,7 @@ use Rattle.hybrid.specs.Staging.{AreRight}
 use Rattle.hybrid.specs.Writing.{AreFit}
 use Rattle.transact.specs.Tables.{AreThere, joined, keys_written}
 use Rattle.shards.specs.Shards.{logs_of, shard_meaning}
-use Rattle.plans.specs.Placing.{AllGoThere}
+use Rattle.plans.specs.Placing.{HaveTargets}
 use Rattle.plans.specs.Sizes.{AreSized}
 use Rattle.plans.proofs.placing.place_each.Given as goal
 
@@ -17,7 +17,7 @@ invariant-loop-command g l = record {
   same : g.P.Parts.part_of l.parts ≡ g.P.Parts.part_of l.fn.parts;
   keys : AreThere (g.P.Parts.stripes_of l.fn.parts) (g.P.Parts.part_of l.fn.parts) (keys_of_all l.left);
   sized : AreSized l.left;
-  spots : AllGoThere (g.P.Parts.stripes_of l.fn.parts) (logs_of (g.P.Parts.part_of l.fn.parts)) l.placing.writes l.placing.spots.items;
+  targets : HaveTargets (g.P.Parts.stripes_of l.fn.parts) (logs_of (g.P.Parts.part_of l.fn.parts)) l.placing.writes l.placing.targets.items;
   fits : AreFit l.placing.writes;
   there : AreThere (g.P.Parts.stripes_of l.fn.parts) (g.P.Parts.part_of l.fn.parts) (keys_written l.placing.writes);
   replies : g.R.Shows.is_honest × AreRight l.staged

@@ -1,4 +1,4 @@
-use Rattle.std.proofs.Common.{◌≡◌, ◌∙◌, ℕ, List, ap, sym, subst, cond, nat_lt, not}
+use Rattle.std.proofs.Common.{◌∙◌, ℕ, List, ap, sym, subst, cond, nat_lt}
 use Rattle.words.specs.declared.limits.TheConstants.{WEIGHT_MAX}
 use Rattle.words.specs.declared.history.Operation.{Operation}
 use Rattle.words.specs.declared.reply.Reply.{Reply}
@@ -8,11 +8,10 @@ use Rattle.words.specs.Store.{Write, weight}
 use Rattle.hybrid.specs.Staging.{AreRight}
 use Rattle.transact.specs.Plans.{IsPlan}
 use Rattle.shards.specs.Shards.{shard_meaning}
-use Rattle.plans.specs.Placing.{spots_of, writes_of}
 use Rattle.plans.specs.Planning.{AreSettled}
 use Rattle.plans.specs.Running.{HaveRun}
 use Rattle.plans.proofs.Plans.{dirty_is, plan_of_run}
-use Rattle.plans.proofs.Questions.{light_of, light_settled}
+use Rattle.plans.proofs.Questions.{light_settled}
 use Rattle.plans.proofs.placing.place_exec.Goals as goal
 
 pub returns-clause-placed : goal.returns-clause-placed
@@ -25,7 +24,7 @@ returns-clause-placed g c =
     let said : Reply = reply.Array c.from_vec.result in
     let count = g.met.P.Parts.same_stripes c.args.parts.now c.any_marked.new.parts c.any_marked.ensures.held.kept in
     let ran : HaveRun right contents n parts c.args.commands.now c.in_ok-replies.replies.items writes = rw (count, c.any_marked.ensures.same) at c.in_ok-replies.ensures.ran in
-    let settled : AreSettled said writes said writes = light_settled said writes (light_of c.weight.result (weight writes) c.weight.ensures.heavy.1 (c.is_none.ensures ∙ ap not c.if-is_none.false)) in
+    let settled : AreSettled said writes said writes = light_settled said writes (c.have_tails.ensures.light c.if-not-have_tails.false) in
     record {
       due = λ is_right seen operation asks.
           subst (λ (o : Operation). IsPlan seen o said writes) (sym asks.is)
@@ -34,5 +33,6 @@ returns-clause-placed g c =
           (ran.are is_right) asks.stand.read c.requires.may.there (settled.reply_is ∙ ap (λ l. cond (nat_lt WEIGHT_MAX (weight writes)) too_much (reply.Array l)) c.from_vec.ensures) settled.writes_are);
       fits = ran.fits;
       there = ran.there;
-      spots = rw (count, c.any_marked.ensures.same) at c.in_ok-replies.ensures.spots;
+      targets = rw (g.met.P.Parts.same_stripes c.any_marked.new.parts c.place_each.new.parts c.place_each.ensures.held.kept, c.place_each.ensures.same, count, c.any_marked.ensures.same) at (c.have_tails.ensures.targets c.if-not-have_tails.false);
+      left = rw (g.met.P.Parts.same_stripes c.any_marked.new.parts c.place_each.new.parts c.place_each.ensures.held.kept, c.place_each.ensures.same, count, c.any_marked.ensures.same) at (c.have_tails.ensures.left c.if-not-have_tails.false);
     }

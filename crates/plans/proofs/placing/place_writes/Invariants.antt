@@ -14,7 +14,7 @@ invariant-loop-first g l = record {
   is_open : g.P.Parts.is_open l.parts;
   keeps : g.P.Parts.keeps l.fn.parts l.parts;
   waits : SameWaits (g.P.Parts.part_of l.fn.parts) (g.P.Parts.part_of l.parts);
-  spots : AllGoThere (g.P.Parts.stripes_of l.fn.parts) (logs_of (g.P.Parts.part_of l.parts)) l.left l.at;
+  targets : AllGoThere (g.P.Parts.stripes_of l.fn.parts) (logs_of (g.P.Parts.part_of l.parts)) l.left l.at;
   there : AreThere (g.P.Parts.stripes_of l.fn.parts) (g.P.Parts.part_of l.parts) (keys_written l.left);
   fits : AreFit l.left;
   became : (later : ℕ → Option (Shard _)) → Became (shard_meaning g.R.Shows.is_steady) (g.P.Parts.stripes_of l.fn.parts) l.left (touches l.left) (g.P.Parts.part_of l.parts) later

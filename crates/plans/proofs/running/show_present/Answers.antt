@@ -5,15 +5,15 @@ use Rattle.words.specs.Commands.{keys_of}
 use Rattle.words.specs.Store.{Bytes, Store}
 use Rattle.hybrid.specs.Staging.{AreRight}
 use Rattle.transact.specs.Tables.{AreThere, joined}
-use Rattle.shards.specs.Shards.{shard_meaning}
+use Rattle.shards.specs.Shards.{logs_of, shard_meaning}
 use Rattle.plans.specs.Running.{HasShown}
 use Rattle.plans.specs.Sizes.{IsShort}
 use Rattle.plans.proofs.Keys.{take_more, there_at}
 use Rattle.plans.proofs.Run.{shown_more, stand_short, stands_in}
 use Rattle.plans.proofs.running.show_present.Goals as goal
 
-pub is_there-requires : goal.is_there-requires
-is_there-requires g c =
+pub look_up-requires : goal.look_up-requires
+look_up-requires g c =
     let n : ℕ = g.P.Parts.stripes_of c.args.parts.now in
     let inv = c.loop-place.invariant in
     let count = g.met.P.Parts.same_stripes c.args.parts.now c.loop-place.parts inv.keeps in
@@ -40,9 +40,10 @@ loop-place-preserved g c =
     let here = rw count at c.in_ok-there.ensures.there in
     let there : right → c.in_ok-there.there ≡ is_some (store key) = λ is_right. here is_right ∙ ap (λ p. is_some (joined contents n p key)) inv.same in
     record {
-      is_open = c.is_there.ensures.held.open_still;
-      keeps = g.met.P.Parts.keeps_both c.args.parts.now c.loop-place.parts c.is_there.new.parts inv.keeps c.is_there.ensures.held.kept;
-      same = c.is_there.ensures.same ∙ inv.same;
+      is_open = c.look_up.ensures.held.open_still;
+      keeps = g.met.P.Parts.keeps_both c.args.parts.now c.loop-place.parts c.look_up.new.parts inv.keeps c.look_up.ensures.held.kept;
+      same = c.look_up.ensures.same ∙ inv.same;
+      looked = c.is_kept.ensures n (logs_of parts) inv.looked (rw (count, inv.same) at c.in_ok-there.ensures.looked);
       shown = subst (λ (l : List Bytes). HasShown right store l c.args.shown.now c.push.new.self) (sym (take_more keys c.loop-place.place key c.key_at-key.ensures))
           (shown_more right store (take c.loop-place.place keys) key value c.args.shown.now c.loop-place.shown c.push.new.self inv.shown
           (c.in-Ok.ensures.ok ∙ ap (λ k. c.loop-place.shown ++ (k, value) ∷ []) c.as_slice.ensures)

@@ -1,17 +1,14 @@
-use Rattle.std.proofs.Common.{◌≡◌, ◌∙◌, ◌+◌, ◌≤◌, ◌++◌, ◌∷◌, [], ℕ, List, Option, Some, None, IfSome, length, map, vec_len, vec_capacity, refl, sym, ap, subst}
+use Rattle.std.proofs.Common.{◌≡◌, ◌∙◌, ◌+◌, ◌≤◌, ◌++◌, [], ℕ, List, length, map, vec_len, vec_capacity, refl, sym, ap, subst}
 use Rattle.words.specs.declared.command.Command.{Command}
 use Rattle.words.specs.declared.history.Operation.{Operation}
-use Rattle.words.specs.declared.reply.CommandReply.{CommandReply}
 use Rattle.words.specs.declared.reply.CommandReply.TheVariants.{One}
 use Rattle.words.specs.declared.reply.Item.{Item}
-use Rattle.words.specs.Answers.{answers, items_of}
+use Rattle.words.specs.Answers.{items_of}
 use Rattle.words.specs.Commands.{keys_of_all}
-use Rattle.words.specs.Store.{Bytes, Store, Write}
-use Rattle.hybrid.specs.Staging.{AreRight}
+use Rattle.words.specs.Store.{Bytes, Store}
 use Rattle.transact.specs.Plans.{IsPlan}
 use Rattle.transact.specs.Tables.{joined}
 use Rattle.shards.specs.Shards.{shard_meaning}
-use Rattle.plans.specs.Planning.{AreDue, of_exec}
 use Rattle.plans.specs.Telling.{gets_reply}
 use Rattle.plans.proofs.Plans.{dirty_is, plan_of_run}
 use Rattle.plans.proofs.Run.{some_then}

@@ -1,4 +1,4 @@
-use Rattle.std.proofs.Common.{List, ◌≡◌, ◌≤◌, ◌∙◌, map, ap, arith}
+use Rattle.std.proofs.Common.{List, ◌≡◌, ◌∙◌, map, ap, arith}
 use Rattle.hybrid.specs.declared.staged.ReadBy.{ReadBy}
 use Rattle.hybrid.specs.Reading.{staged_by}
 use Rattle.hybrid.specs.Staging.{StagedPage}

@@ -1,4 +1,4 @@
-use Rattle.std.proofs.Common.{List, ◌≡◌, ◌≤◌, ◌∙◌, None, map, ap, not, sym, arith, inr}
+use Rattle.std.proofs.Common.{List, ◌≡◌, ◌∙◌, None, map, ap, sym, inr}
 use Rattle.hybrid.specs.declared.staged.ReadBy.{ReadBy}
 use Rattle.hybrid.specs.Reading.{staged_by}
 use Rattle.hybrid.specs.Staging.{StagedPage}

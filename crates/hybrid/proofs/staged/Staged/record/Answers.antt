@@ -1,4 +1,4 @@
-use Rattle.std.proofs.Common.{List, ◌≡◌, ◌≤◌, ◌∙◌, None, inl, inr, map, ap, refl, sym, subst, arith}
+use Rattle.std.proofs.Common.{List, ◌≡◌, ◌∙◌, None, inl, inr, map, ap, refl, sym, subst, arith}
 use Rattle.std.specs.List.{Contains}
 use Rattle.std.proofs.lemmas.Bool.{false≢true}
 use Rattle.records.specs.Records.{IsLaidOut, records_of, size_of}

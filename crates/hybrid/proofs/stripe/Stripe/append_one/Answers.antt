@@ -1,9 +1,5 @@
 use Rattle.std.proofs.Common.{ℕ, List, Option, subst, arith}
-use Rattle.std.specs.Option.{option_copied}
-use Rattle.std.specs.Map.{update}
-use Rattle.std.specs.Str.{bytes_eq}
 use Rattle.hybrid.specs.HybridLog.{IsGrown, head_of, log_of}
-use Rattle.hybrid.specs.Log.{contents}
 use Rattle.hybrid.specs.Writing.{IsAdded, write_weight}
 use Rattle.hybrid.proofs.Overwriting.{contents-appended}
 use Rattle.hybrid.proofs.Tail.{room-left}
