@@ -207,7 +207,7 @@ module _ {R : Type 0} where
     pub planned : IsPlanned call
     pub no_fault : later.1 ≡ before.1
 
-  -- What a call comes to whose writes all go over values that are there is due to it, for the pass that holds.
+  -- What a call comes to whose writes wait for nothing is due to it, for the pass that holds.
   abbrev pub IsPlacedOn : (steady : Type 0) → Call → Held (Shard R) → Placed → Type 0
   IsPlacedOn steady call held placed =
       IsPlacedFor (λ said writes. steady → IsPlan (known_to held).seen (operation_asked held (asked_for call)) said writes) (held_stripes held)

@@ -136,9 +136,9 @@ pub(crate) fn give_back<R: Shows>(held: Held<'_, Shard<R>>, ends: bool, report: 
     }
 }
 
-/// Runs a call over the parts that are held: commits its one entry, and makes what it writes. A transaction, or a command of several keys,
-/// whose writes go over what is there, or into tail pages that have room, looks each key up once and makes no room; else the call is
-/// planned. With a fault nothing was committed, and values are as they were.
+/// Runs a call over the parts that are held: commits its one entry, and makes what it writes. A transaction, a `DEL`, an `MSETNX`, a `RENAME`
+/// or a `SETRANGE` whose writes go over what is there, or into tail pages that have room, makes no room; else the call is planned. With a
+/// fault nothing was committed, and values are as they were.
 ///
 /// # Errors
 ///

@@ -1,7 +1,7 @@
 //! The short way of a command of one key, whose key and value stay the caller's: where its key's value lies near, no writes are gathered
 //! and no plan is made, and where the new value fits over the old one the key is looked up once.
 
-ghost use Rattle.std.specs.Prelude.{◌≡◌, ◌≤◌, ◌∷◌, ℕ, [], Option, IfErr, IfOk, OnErr, Some};
+ghost use Rattle.std.specs.Prelude.{◌≡◌, ◌≤◌, ◌∷◌, ℕ, [], Option, IfErr, IfOk, IsSome, OnErr, Some};
 ghost use Rattle.std.specs.Option.{option_copied};
 ghost use Rattle.records.specs.Records.{value_bytes};
 ghost use Rattle.words.specs.Bounds.{IsBounded};
@@ -275,6 +275,7 @@ fn carry_out<L: Latch, R: Shows, D: Device<Receipt = R>, S: Retires>(
         asks.now.key.now asks.now.value.now (command_done asks.now) settled.now }
     ensures is { S.is_of site.now.epochs.now own.new }
     ensures heard { HasHeardFor own_answer (came_to settled.now.reply result) (S.knows own.old) (S.knows own.new) }
+    ensures worn { IsSome settled.now.spot → IfErr result (λ stopped. stopped ≡ worn_out) }
     ensures entered { HasEntered (promises_of R.is_steady R.lends (held_stripes held.old)) (doing_call asks.now) own_answer
         (held.old, D.failures device.old) (held.new, D.failures device.new) (came_to settled.now.reply result) }
 {

@@ -7,8 +7,8 @@
 //! a receipt for it, and may then leave its frame. The oldest page leaves the log once the records that
 //! still count have been copied to the tail.
 //!
-//! Only `install_one` and `overwrite_at` change what keys have. Only `Stripe::new`, `Staged` and the devices
-//! that are passed in take memory.
+//! Only `install_one`, `install_one_hashed`, `append_one` and `overwrite_at` change what keys have. Only `Stripe::new`, `Staged` and the
+//! devices that are passed in take memory.
 #![tactic(auto)]
 
 mod address;

@@ -65,7 +65,7 @@ HaveTails n logs weight (write ∷ writes) [] = Unit {0}
 HaveTails n logs weight (write ∷ writes) (target ∷ targets) =
     IfNone target.spot (HasTail logs (stripe_of n write.0) weight) × HaveTails n logs weight writes targets
 
--- the frames are expected that writes leave which fit into the tail page of the stripe
+-- as many frames are expected at the stripe as a call keeps back that gives a value which fits into the tail page
 abbrev pub HasSpare : (logs : ℕ → Option HybridLog) (stripe : ℕ) → Type 0
 HasSpare logs stripe = (log : HybridLog) → logs stripe ≡ Some log → spare purpose.Write ≤ expected log
 
@@ -90,7 +90,7 @@ targets_of placing = placing.targets.items
 
 module _ {R : Type 0} where
   -- What a call comes to whose writes wait for nothing: what it answers and writes is due, what it writes fits, there is a part for each key that it
-  -- writes, and they leave the frames that writes leave.
+  -- writes, and the frames are left that a call keeps back.
   pub record IsPlacedFor (Due : Reply → List Write → Type 0) (n : ℕ) (parts : ℕ → Option (Shard R)) (placed : Placed) : Type 0 where
     pub due : Due placed.reply (writes_of placed.placing)
     pub fits : AreFit (writes_of placed.placing)

@@ -273,8 +273,8 @@ pub(crate) fn set<R: Shows, P: Parts<Shard<R>>>(parts: &mut P, key: &Hashed, val
     parts.part(stripe).set(key, value);
 }
 
-/// Gives a key, for which there is room, a value in a record at the tail, or deletes it there. Where the tail page has room for it, others may
-/// be written in place where they might.
+/// Gives a key, for which there is room, a value in a record at the tail, or deletes it there. Where the tail page has room for it, other keys
+/// may be written in place where they could be.
 pub(crate) fn append<R: Shows, P: Parts<Shard<R>>>(
     parts: &mut P,
     stripe: usize,
@@ -349,8 +349,8 @@ fn fits_tail<R: Shows>(part: &Shard<R>, weight: usize) -> bool
     part.counted().stripe().fits_tail(weight)
 }
 
-/// Whether writes of this weight go into the tail page of a stripe, so that no page is opened for them, and the frames are there that
-/// writes leave.
+/// Whether writes of this weight go into the tail page of a stripe, so that no page is opened for them, and as many frames are expected
+/// there as a call keeps back that gives a value.
 pub(crate) fn has_tail<R: Shows, P: Parts<Shard<R>>>(
     parts: &mut P,
     stripe: usize,

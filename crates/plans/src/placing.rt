@@ -1,6 +1,6 @@
 //! Writes of a call that wait for nothing: each goes over what its key has, in place, or into the tail page of its stripe, which has room
-//! for all that the call writes. Each key is looked up once, when its command is run; no room is made, and no write looks for its record
-//! anew.
+//! for all that the call writes. Each command looks its keys up once, for what it answers and for where it writes; no room is made, and no
+//! write looks for its record anew.
 
 ghost use Rattle.std.specs.Prelude.{◌≡◌, ◌+◌, ◌≤◌, ⊤, ℕ, [], ◌∷◌, List, length, true, Option, Some, slice_get, IfNone, IfSome, IsSome, IsTrue, OnSome};
 ghost use Rattle.records.specs.Records.{value_bytes};
@@ -105,8 +105,8 @@ impl Placed {
     }
 }
 
-/// What a call comes to whose writes wait for nothing, as [`plan`] finds it: a transaction, or a command of several keys or of a part of a
-/// value that writes. Nothing is changed. `None` for each other call; where a write goes to the tail and the tail page of its stripe has no
+/// What a call comes to whose writes wait for nothing, as [`plan`] finds it: a transaction, a `DEL` of several keys, an `MSETNX`, a `RENAME` or
+/// a `SETRANGE`. Nothing is changed. `None` for each other call; where a write goes to the tail and the tail page of its stripe has no
 /// room for all that the call writes; where a page is wanted, or memory; and where a watched key was written, or the writes weigh too much.
 ///
 /// [`plan`]: crate::plan::plan
@@ -126,7 +126,7 @@ pub fn place<R: Shows, P: Parts<Shard<R>>>(
     writes_are_bounded();
     match call.call() {
         Call::One(command) => {
-            if has_no_short_way(command) {
+            if writes_by_lookups(command) {
                 place_one(alloc, parts, command, staged)
             } else {
                 None
@@ -139,14 +139,15 @@ pub fn place<R: Shows, P: Parts<Shard<R>>>(
     }
 }
 
-/// Whether a command writes, and has no way of its own.
-fn has_no_short_way(command: &Command) -> bool
+/// Whether a command writes by what it finds, and has no way of its own.
+fn writes_by_lookups(command: &Command) -> bool
     ensures { IsTrue result → touches_keys command.now ≡ true }
 {
-    matches!(
-        command,
-        Command::Del(_) | Command::MSetNx(_) | Command::SetRange(_, _, _) | Command::Rename(_, _)
-    )
+    match command {
+        Command::Del(keys) => keys.as_slice().len() > 1,
+        Command::MSetNx(_) | Command::SetRange(_, _, _) | Command::Rename(_, _) => true,
+        _ => false,
+    }
 }
 
 /// What a command comes to, as [`place`] has it.
@@ -218,8 +219,8 @@ fn nothing_placed(alloc: Global) -> Placing
     }
 }
 
-/// Whether these writes are light, and go there: those that go to the tail have room in the tail pages of their stripes, each of which has
-/// room for all, and leave there the frames that writes leave.
+/// Whether these writes are light, and go there: the tail page of each stripe where one goes to the tail has room for all of them, and the
+/// frames are left there that a call keeps back which gives a value.
 fn have_tails<R: Shows, P: Parts<Shard<R>>>(parts: &mut P, placing: &Placing) -> bool
     requires open { P.is_open parts.old }
     requires there { AreThere (P.stripes_of parts.old) (P.part_of parts.old) (keys_written (writes_of placing.now)) }
@@ -332,7 +333,6 @@ fn place_next<R: Shows, P: Parts<Shard<R>>>(
                 parts,
                 placing.writes.as_slice(),
                 slice::from_ref(&looked),
-                staged,
                 &mut placing.targets,
             )?;
             Some(reply)
@@ -352,7 +352,6 @@ fn place_next<R: Shows, P: Parts<Shard<R>>>(
                 parts,
                 placing.writes.as_slice(),
                 &looked,
-                staged,
                 &mut placing.targets,
             )?;
             drop(looked);
@@ -360,13 +359,7 @@ fn place_next<R: Shows, P: Parts<Shard<R>>>(
         }
         Looks::AtNothing | Looks::AtItems(_) => {
             let reply = run_next(alloc, parts, command, staged, &mut placing.writes)?;
-            add_targets(
-                parts,
-                placing.writes.as_slice(),
-                &[],
-                staged,
-                &mut placing.targets,
-            )?;
+            add_targets(parts, placing.writes.as_slice(), &[], &mut placing.targets)?;
             Some(reply)
         }
     }
@@ -409,7 +402,6 @@ fn add_targets<R: Shows, P: Parts<Shard<R>>>(
     parts: &mut P,
     writes: &[Write],
     looked: &[Looked<'_>],
-    staged: &Staged<R>,
     targets: &mut Vec<Target>,
 ) -> Option<()>
     requires open { P.is_open parts.old }
@@ -422,7 +414,7 @@ fn add_targets<R: Shows, P: Parts<Shard<R>>>(
 {
     let mut from = 0;
     while let Some(write) = writes.get(targets.len()) {
-        let (target, next) = target_for(parts, write, looked, from, staged);
+        let (target, next) = target_for(parts, write, looked, from);
         let Ok(()) = targets.push(target) else {
             return None;
         };
@@ -437,7 +429,6 @@ fn target_for<R: Shows, P: Parts<Shard<R>>>(
     write: &Write,
     looked: &[Looked<'_>],
     from: usize,
-    staged: &Staged<R>,
 ) -> (Target, usize)
     requires open { P.is_open parts.old }
     requires there { IsSome (P.part_of parts.old (striping.stripe_of (P.stripes_of parts.old) write.now.0)) }
@@ -450,7 +441,7 @@ fn target_for<R: Shows, P: Parts<Shard<R>>>(
     match look_for(looked, from, write.key()) {
         Some((found, next)) => (target_with(&found, size), next),
         None => {
-            let found = look_up_key(parts, write.key(), staged);
+            let found = look_up_key(parts, write.key());
             (target_with(&found, size), from)
         }
     }
@@ -490,12 +481,8 @@ fn target_with(looked: &Looked<'_>, size: usize) -> Target
     }
 }
 
-/// Looks a key up for the spot alone.
-fn look_up_key<'a, R: Shows, P: Parts<Shard<R>>>(
-    parts: &mut P,
-    key: &'a Word,
-    staged: &Staged<R>,
-) -> Looked<'a>
+/// Looks a key up for the spot alone: in the mutable part, and no page is wanted.
+fn look_up_key<'a, R: Shows, P: Parts<Shard<R>>>(parts: &mut P, key: &'a Word) -> Looked<'a>
     requires open { P.is_open parts.old }
     requires there { IsSome (P.part_of parts.old (striping.stripe_of (P.stripes_of parts.old) key.now)) }
     ensures key { result.key.now ≡ key.entry.now }
@@ -505,7 +492,7 @@ fn look_up_key<'a, R: Shows, P: Parts<Shard<R>>>(
 {
     let hashed = Hashed::new(key);
     let stripe = stripe_at(&*parts, &hashed);
-    let (_, spot) = parts.part(stripe).look(&hashed, staged);
+    let spot = parts.part(stripe).spot(&hashed);
     Looked {
         key,
         stripe,
@@ -576,7 +563,7 @@ fn place_before<R: Shows, P: Parts<Shard<R>>>(
     place_at(parts, next, target);
 }
 
-/// Makes a write that goes there. Where others go, they still do.
+/// Makes a write that goes there. Writes of other keys go where they went, and where it goes over a record, that is still its key's newest.
 fn place_at<R: Shows, P: Parts<Shard<R>>>(parts: &mut P, write: &Write, target: &Target)
     requires open { P.is_open parts.old }
     requires target { GoesThereIn P.stripes_of P.part_of parts.old write.now target.now }
@@ -588,6 +575,8 @@ fn place_at<R: Shows, P: Parts<Shard<R>>>(parts: &mut P, write: &Write, target: 
     ensures grown { GrowsBy (P.stripes_of parts.old) write.now (P.part_of parts.old) (P.part_of parts.new) }
     ensures spots { (other text : Bytes) (at : Spot) → (other ≡ write.now.0 → ⊥) → IsSpotIn P.stripes_of P.part_of parts.old other text at
         → IsSpot (P.stripes_of parts.old) (logs_of (P.part_of parts.new)) other text at }
+    ensures place { IfSome target.now.spot (IsSpot (P.stripes_of parts.old) (logs_of (P.part_of parts.new)) write.now.0
+        (value_bytes write.now.1)) }
     ensures tails { (stripe weight : ℕ) → HasTail (logs_of (P.part_of parts.old)) stripe (weigh write.now + weight)
         → HasTail (logs_of (P.part_of parts.new)) stripe weight }
     ensures waits { SameWaits (P.part_of parts.old) (P.part_of parts.new) }

@@ -248,7 +248,7 @@ fn stand_in(there: bool) -> Option<&'static [u8]>
     if there { Some(b"") } else { None }
 }
 
-/// Keeps what a lookup told, where this is true, and says whether there was memory for it.
+/// Keeps what a lookup told, if it is to be kept, and says whether there was memory for that.
 fn is_kept<'a>(keeps: bool, looked: &mut Vec<Looked<'a>>, found: Looked<'a>) -> bool
     ensures { (n : ℕ) (logs : ℕ → Option HybridLog) → WereLookedUp n logs looked.old.items → WasLookedUp n logs found.entry
         → WereLookedUp n logs looked.new.items }

@@ -12,8 +12,10 @@ ghost use Rattle.transact.specs.Tables.{touches};
 ghost use Rattle.shards.specs.Devices.{StillServes};
 ghost use Rattle.shards.specs.Receipts.{kept_by};
 ghost use Rattle.shards.specs.Rooms.{purpose_of};
-ghost use Rattle.shards.specs.Shards.{SameWaits, weigh};
-ghost use Rattle.plans.specs.Settling.{IsSpotIn};
+ghost use Rattle.shards.specs.Shards.{SameWaits, logs_of, weigh};
+ghost use Rattle.words.specs.Store.{Bytes};
+ghost use Rattle.hybrid.specs.declared.stripe.find.Spot.{Spot};
+ghost use Rattle.plans.specs.Settling.{IsSpot, IsSpotIn};
 ghost use Rattle.plans.specs.Planning.{HasMissedIn, HaveFailed, IsStillHeld, IsValueIn, MayLookUp, MayPut};
 ghost use Rattle.plans.specs.Reserving.{GrowsBy, HasNoRoomToPut, HasRoomToPut, HasShedAt, IsRoomyFor, ReservesToPut};
 ghost use Rattle.plans.specs.Holding.{BecomesWritten};
@@ -137,7 +139,7 @@ pub fn install_looked_up<R: Shows, P: Parts<Shard<R>>>(
 }
 
 /// Gives a key a value in place, or deletes it where there is none, where its newest record stands and has room for that, and touches its
-/// marks. It takes no memory and wants no room.
+/// marks. It takes no memory and wants no room. What may be written in place still may.
 pub fn install_at<R: Shows, P: Parts<Shard<R>>>(
     parts: &mut P,
     key: &Hashed,
@@ -150,6 +152,8 @@ pub fn install_at<R: Shows, P: Parts<Shard<R>>>(
     requires fits { Fits key.now (option_copied value) }
     ensures became { BecomesWritten R.is_steady P.stripes_of P.part_of parts.old parts.new ((key.now, option_copied value.entry) ∷ []) }
     ensures grown { GrowsBy (P.stripes_of parts.old) (key.now, option_copied value.entry) (P.part_of parts.old) (P.part_of parts.new) }
+    ensures spots { (other text : Bytes) (at : Spot) → IsSpotIn P.stripes_of P.part_of parts.old other text at
+        → IsSpot (P.stripes_of parts.old) (logs_of (P.part_of parts.new)) other text at }
     ensures waits { SameWaits (P.part_of parts.old) (P.part_of parts.new) }
     ensures held { IsStillHeld P.is_open P.keeps parts.old parts.new }
 {

@@ -156,6 +156,15 @@ impl<R: Shows> Shard<R> {
             .look(key.hash(), key.key().as_slice(), staged)
     }
 
+    /// Where the newest record of a key stands, if it may be written in place. No older record is looked at.
+    #[inline]
+    pub fn spot(&self, key: &Hashed) -> Option<Spot>
+        ensures place { IfSome result (λ spot. IsInPlace (shard_log self.now) key.now spot.capacity spot.address) }
+        ensures none { IfNone result ((size address : ℕ) → IsInPlace (shard_log self.now) key.now size address → ⊥) }
+    {
+        self.log.stripe().spot(key.hash(), key.key().as_slice())
+    }
+
     /// Its log, with what becomes of its places.
     pub fn counted(&self) -> &CountedLog<R>
         ensures { result.now ≡ shard_counted self.now }

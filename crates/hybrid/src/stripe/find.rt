@@ -117,6 +117,21 @@ impl<R: Shows> Stripe<R> {
         }
     }
 
+    /// Where the newest record of a key stands, by its hash, if it lies in the mutable part. No older record is looked at.
+    pub fn spot(&self, hash: u64, key: &[u8]) -> Option<Spot>
+        requires hash { hash ≡ hash_of key.now }
+        ensures place { IfSome result (λ spot. IsInPlace self.now key.now spot.capacity spot.address) }
+        ensures none { IfNone result ((size address : ℕ) → IsInPlace self.now key.now size address → ⊥) }
+    {
+        match self.newest_mutable(hash, key) {
+            Some((address, record)) => Some(Spot {
+                address: address.number(),
+                capacity: record.capacity,
+            }),
+            None => None,
+        }
+    }
+
     // The spot of a record at this address that has room for so long a value, if it lies in the mutable part.
     #[inline]
     fn spot_at(&self, address: Address, capacity: usize) -> Option<Spot>

@@ -131,12 +131,13 @@ impl<R: Shows> Stripe<R> {
         needed <= self.free() && (needed == 0 || self.next_number() <= LAST_PAGE)
     }
 
-    /// Whether writes of this weight go into the tail page, and the frames are there that writes leave: then [`Stripe::reserve`] makes room
-    /// for them without doing anything.
+    /// Whether writes of this weight go into the tail page, and as many frames are expected as a call keeps back that gives a value: then
+    /// [`Stripe::reserve`] makes room for them without doing anything.
     pub fn fits_tail(&self, weight: usize) -> bool
         requires { weight ≤ WEIGHT_MAX }
         ensures fits { IsTrue result → weight + tail_bytes self.now ≤ PAGE_SIZE - HEADER_SIZE }
         ensures left { IsTrue result → spare purpose.Write ≤ expected self.now }
+        ensures exact { weight + tail_bytes self.now ≤ PAGE_SIZE - HEADER_SIZE → spare purpose.Write ≤ expected self.now → IsTrue result }
     {
         self.pages_for(weight) == 0 && self.spare_for(Purpose::Write) == 0
     }
