@@ -150,3 +150,25 @@ fn a_full_stripe_places_what_is_there(rt: HostRuntime) {
     let mut both = small(alloc).expect(&rt, "memory for a store");
     assert!(&rt; works_full(alloc, &mut both) == Some(true));
 }
+
+/// Whether a page that a deletion opened in a full stripe is kept from values, though it has room: none is placed there. What goes over the
+/// newest key is.
+fn keeps_back(alloc: Global, both: &mut Small) -> Option<bool> {
+    let newest = fill(alloc, both)?.checked_sub(1)?;
+    let is_full = fill_tail(alloc, both)?;
+    let is_opened = meets_full(alloc, both, "DEL k0")?.is_none();
+    let anew = places(alloc, both, "MSETNX new 1 newer 2")?;
+    let set = places(alloc, both, "SET new 1\nGET new")?;
+    let renamed = format!(in alloc; "RENAME k{newest} other").ok()?;
+    let renamed = places(alloc, both, renamed.as_str())?;
+    let over = format!(in alloc; "SETRANGE k{newest} 3 abc").ok()?;
+    let over = places(alloc, both, over.as_str())?;
+    Some(is_full && is_opened && !anew && !set && !renamed && over)
+}
+
+#[test]
+fn a_page_that_a_deletion_opened_is_kept_from_values(rt: HostRuntime) {
+    let alloc = rt.alloc();
+    let mut both = small(alloc).expect(&rt, "memory for a store");
+    assert!(&rt; keeps_back(alloc, &mut both) == Some(true));
+}
